@@ -1,0 +1,9 @@
+pub mod Filling
+pub mod FitLaws
+pub mod Rows
+pub mod Scaling
+pub mod Takes
+pub mod Groups
+pub mod Determined
+pub mod Valid
+pub mod Aside
