@@ -1,12 +1,10 @@
 -- The lowest-first claims, and the scheduler's reply, are determined.
-use Rattle.std.proofs.Common.{◌≡◌, ℕ, ◌+◌, ◌<◌, ◌≤◌, List, length, Option, Some, None, MatchOption, inl, inr, sym, ◌∙◌, ap, subst, arith}
-use mathlib.Core.Path.{transport, transport⁻¹}
+use Rattle.std.proofs.Common.{◌≡◌, ℕ, ◌+◌, ◌<◌, ◌≤◌, List, length, Option, Some, None, MatchOption, inl, inr, sym, ◌∙◌, subst, arith}
 use Rattle.flux_defs.specs.declared.vertices.Vertex.{Vertex}
 use Rattle.flux_defs.specs.declared.claims.Claim.{Claim}
 use Rattle.flux_defs.specs.declared.claims.Job.{Job}
 use Rattle.flux_defs.specs.declared.claims.Window.{Window}
 use Rattle.flux_defs.specs.declared.requests.Ask.{Ask}
-use Rattle.flux_defs.specs.declared.requests.Need.TheBlock.{hidden-the_row-Need-0}
 use Rattle.flux_defs.specs.declared.journal.Command.{Command}
 use Rattle.flux_defs.specs.declared.journal.Command.TheVariants as command
 use Rattle.flux_defs.specs.declared.journal.Reply.{Reply}
@@ -15,8 +13,7 @@ use Rattle.flux_defs.specs.Graph.{Everywhere}
 use Rattle.flux_defs.specs.Available.{IsAvailable}
 use Rattle.flux_defs.specs.Asks.{window_of, scene_of, FitsAsk, IsLowestFirst, IsEarliest}
 use Rattle.flux_defs.specs.Scheduler.{Setting, State, Where, Unless, IsAcceptedAs, AcceptedOrFull, Replies, accepted_reply, job_with, info_at}
-use Rattle.flux_laws.proofs.FitLaws.{lowest_row_once, lowest_row_fits}
-use Rattle.flux_laws.proofs.Rows.{lowest_list, fits_list}
+use Rattle.flux_laws.proofs.Lists.{lowest_list_once, lowest_list_fits}
 use Rattle.flux_laws.proofs.Takes.{takes_less}
 
 -- at most one answer is such
@@ -48,17 +45,11 @@ one x = record { once = λ a b p q. p ∙ sym q }
 pub lowest_once : (vertices : List Vertex) (jobs : List Job) (ask : Ask) (w : Window) (a b : List Claim) →
     IsLowestFirst vertices jobs ask w a → IsLowestFirst vertices jobs ask w b → a ≡ b
 lowest_once vertices jobs ask w a b x y =
-    let scene = scene_of vertices jobs ask in
-    let ok = IsAvailable scene w in
-    let row = λ (cs : List Claim) (l : IsLowestFirst vertices jobs ask w cs). transport⁻¹ (ap (λ (h : List Claim → Type 0). h cs) (lowest_list vertices ok ask.needs 1 Everywhere)) l in
-    lowest_row_once vertices ok (takes_less scene w) 1 Everywhere (hidden-the_row-Need-0 ask.needs) a b (row a x) (row b y)
+    let scene = scene_of vertices jobs ask in lowest_list_once vertices (IsAvailable scene w) (takes_less scene w) 1 Everywhere ask.needs a b x y
 
 pub lowest_fits : (vertices : List Vertex) (jobs : List Job) (ask : Ask) (w : Window) (claims : List Claim) →
     IsLowestFirst vertices jobs ask w claims → FitsAsk vertices (IsAvailable (scene_of vertices jobs ask) w) ask claims
-lowest_fits vertices jobs ask w claims low =
-    let ok = IsAvailable (scene_of vertices jobs ask) w in
-    let row = transport⁻¹ (ap (λ (h : List Claim → Type 0). h claims) (lowest_list vertices ok ask.needs 1 Everywhere)) low in
-    transport (ap (λ (h : List Claim → Type 0). h claims) (fits_list vertices ok ask.needs 1 Everywhere)) (lowest_row_fits vertices ok 1 Everywhere (hidden-the_row-Need-0 ask.needs) claims row)
+lowest_fits vertices jobs ask w claims low = lowest_list_fits vertices (IsAvailable (scene_of vertices jobs ask) w) 1 Everywhere ask.needs claims low
 
 pub earliest_once : (vertices : List Vertex) (jobs : List Job) (horizon : ℕ) (ask : Ask) (m a b : ℕ) →
     IsEarliest vertices jobs horizon ask m a → IsEarliest vertices jobs horizon ask m b → a ≡ b

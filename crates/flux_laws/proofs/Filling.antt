@@ -187,3 +187,45 @@ can_along can could low n along f = record { picks = f.picks; distinct = f.disti
     go : (ps : List Pick) → AllByRecursion (IsPickFrom can low) ps → AllByRecursion (IsPickFrom could low) ps
     go [] each = tt
     go (p ∷ ps) each = ((each.0.0, each.0.1, along p.0 p.1 each.0.2), go ps each.1)
+
+-- picks that can serve from a later vertex alone are from it on
+pub can_fill_from : (can : ℕ → ℕ → Type 0) (low high n : ℕ) → ((v q : ℕ) → 1 ≤ q → can v q → high ≤ v) → CanFill can low n → CanFill can high n
+can_fill_from can low high n later f = record { picks = f.picks; distinct = f.distinct; each = go f.picks f.each; serves = f.serves }
+  where
+    go : (ps : List Pick) → AllByRecursion (IsPickFrom can low) ps → AllByRecursion (IsPickFrom can high) ps
+    go [] each = tt
+    go (p ∷ ps) each = ((later p.0 p.1 each.0.1 each.0.2, each.0.1, each.0.2), go ps each.1)
+
+-- consecutive vertices, each serving 1
+abbrev pub run : ℕ → ℕ → List Pick
+run low zero = []
+run low (suc n) = (low, 1) ∷ run (low + 1) n
+
+-- they fill where each can serve 1 and not 2
+pub fills_run : (can : ℕ → ℕ → Type 0) → IsDownward can → ((v : ℕ) → can v 2 → ⊥) → (n low : ℕ) → ((v : ℕ) → low ≤ v → v < low + n → can v 1) → FillsFrom can low n (run low n)
+fills_run can down single zero low each = refl
+fills_run can down single (suc n) low each =
+    let less : n ≡ suc n - 1 = omega arith in
+    fills_with can down low (suc n) 1 (run (low + 1) n) (omega arith) (omega arith) (each low (omega arith) (omega arith)) (λ lt. single low)
+    (subst (λ (m : ℕ). FillsFrom can (low + 1) m (run (low + 1) n)) less (fills_run can down single n (low + 1) (λ v lo hi. each v (omega arith) (omega arith))))
+
+-- what the vertices from `low` on, so many of them, can serve together
+abbrev pub supply : (ℕ → ℕ) → ℕ → ℕ → ℕ
+supply most low zero = 0
+supply most low (suc count) = most low + supply most (low + 1) count
+
+-- where each vertex can serve so much at most, no more than their supply can be filled
+pub within_supply : (can : ℕ → ℕ → Type 0) → IsDownward can → (most : ℕ → ℕ) → ((v : ℕ) → can v (most v + 1) → ⊥) → (count low n : ℕ) →
+    ((v q : ℕ) → 1 ≤ q → can v q → v < low + count) → CanFill can low n → n ≤ supply most low count
+within_supply can down most full zero low n bound f =
+    elim (cases_lt 0 n) [
+      | inl some ↦ absurd (none_fills can down low n (λ v q h c. let lt : v < low + 0 = bound v q h c in omega arith) some f)
+      | inr none ↦ omega arith
+    ]
+within_supply can down most full (suc count) low n bound f =
+    elim (cases_lt n (most low)) [
+      | inl few ↦ omega arith
+      | inr many ↦ (
+          let rest : n - most low ≤ supply most (low + 1) count = within_supply can down most full count (low + 1) (n - most low)
+          (λ v q h c. let lt : v < low + suc count = bound v q h c in omega arith) (rest_can_fill can down low n (most low) many (full low) f) in omega arith)
+    ]

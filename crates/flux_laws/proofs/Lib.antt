@@ -1,6 +1,7 @@
 pub mod Filling
 pub mod FitLaws
 pub mod Rows
+pub mod Lists
 pub mod Scaling
 pub mod Takes
 pub mod Groups

@@ -1,0 +1,3 @@
+pub mod TwoNodes
+pub mod Slots
+pub mod Jobs
