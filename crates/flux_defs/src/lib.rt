@@ -21,3 +21,6 @@ pub use requests::{Ask, Need};
 pub use steps::Steps;
 pub use texts::Text;
 pub use vertices::Vertex;
+
+#[cfg(test)]
+mod tests;
