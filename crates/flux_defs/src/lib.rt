@@ -11,6 +11,7 @@ pub mod requests;
 pub mod steps;
 pub mod texts;
 pub mod vertices;
+pub mod views;
 
 pub use claims::{Claim, Job, Window};
 pub use gates::{Gate, OpenGate, Place};
@@ -21,6 +22,7 @@ pub use requests::{Ask, Need};
 pub use steps::Steps;
 pub use texts::Text;
 pub use vertices::Vertex;
+pub use views::{FreeView, NoJobs};
 
 #[cfg(test)]
 mod tests;
