@@ -1,0 +1,3 @@
+pub mod NamedGraph
+pub mod Tables
+pub mod Keeps

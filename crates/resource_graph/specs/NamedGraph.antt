@@ -1,0 +1,19 @@
+-- A graph with the texts of its vertices (RFC 4).
+use Rattle.std.specs.Prelude.{ℕ, List, ◌≡◌, length}
+use Rattle.flux_defs.specs.Graph.{ResourceGraph}
+use Rattle.flux_defs.specs.ValidGraph.{IsValidGraph}
+
+-- a graph, and by the number of the vertex: its name, its basename, its unit and its properties
+pub record NamedGraph : Type 0 where
+  pub resources : ResourceGraph
+  pub names : List (List ℕ)
+  pub bases : List (List ℕ)
+  pub units : List (List ℕ)
+  pub properties : List (List (List ℕ))
+
+-- the graph is valid, and each vertex has its texts
+pub record IsWhole (g : NamedGraph) : Type 0 where
+  pub valid : IsValidGraph g.resources g.names
+  pub bases : length g.bases ≡ length g.resources.vertices
+  pub units : length g.units ≡ length g.resources.vertices
+  pub properties : length g.properties ≡ length g.resources.vertices

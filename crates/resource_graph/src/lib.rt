@@ -1,0 +1,8 @@
+//! The resource graph (RFC 4), checked and numbered in preorder, with tables that answer each query at once.
+#![tactic(auto)]
+
+pub mod graph;
+pub mod raw;
+
+pub use graph::Graph;
+pub use raw::{GraphFault, RawVertex};
