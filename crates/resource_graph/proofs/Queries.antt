@@ -8,7 +8,8 @@ use Rattle.flux_defs.specs.declared.vertices.Vertex.{Vertex}
 use Rattle.flux_defs.specs.Graph.{ResourceGraph, is_at_or_below, is_below, HasKind}
 use Rattle.flux_defs.specs.ValidGraph.{IsValidGraph}
 use Rattle.graph_laws.proofs.Containment.{ParentsFirst, below_le, below_from, below_to, below_self}
-use Rattle.graph_laws.proofs.Preorder.{parents_first}
+use Rattle.graph_laws.proofs.Preorder.{parents_first, has_parent}
+use Rattle.resource_graph.specs.Lines.{line_of, KnowsParents}
 use Rattle.resource_graph.specs.Tables.{IsPast, Nests, IsNextOfKind, HasNoneOfKind, IsNextIn, HasNoneIn, ListsKind}
 
 pub same_tests : (a b : Bool) → (IsTrue a → IsTrue b) → (IsTrue b → IsTrue a) → a ≡ b
@@ -58,3 +59,16 @@ next_of_list vertices kind list from to (Some v) lists next = record {
     let le : v ≤ get_or list there.0 0 = next.least there.0 there.1 (omega arith) in
     omega arith
 }
+
+-- in a valid graph each parent is a vertex, and each line is short
+pub parents_known : (g : ResourceGraph) (names : List (List ℕ)) → IsValidGraph g names → KnowsParents g.vertices
+parents_known g names valid v p e =
+    let before : p < v = parents_first g valid.preorder v p e in
+    let within : v < length g.vertices = has_parent g.vertices v p e in omega arith
+
+pub lines_short : (g : ResourceGraph) (names : List (List ℕ)) → IsValidGraph g names → (v : ℕ) → v < length g.vertices → length (line_of g.vertices v) ≤ 16
+lines_short g names valid v lt =
+    valid.shallow v (get_or g.vertices v no_vertex) (slice_get-get_or g.vertices v no_vertex lt)
+  where
+    no_vertex : Vertex
+    no_vertex = record {kind = 0; size = 0; parent = None; id = None; rank = None}

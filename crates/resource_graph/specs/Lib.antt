@@ -1,3 +1,4 @@
+pub mod Lines
 pub mod NamedGraph
 pub mod Tables
 pub mod Keeps

@@ -1,11 +1,15 @@
 //! The graph and its queries.
-ghost use Rattle.std.specs.Prelude.{◌≡◌, ℕ, ◌<◌, ◌≤◌, ◌↔◌, IsTrue, length, slice_get, slice_index, MatchOption};
+ghost use Rattle.std.specs.Prelude.{◌≡◌, ℕ, ◌<◌, ◌≤◌, ◌↔◌, IsTrue, IfOk, length, reverse, slice_get, MatchOption};
 ghost use Rattle.std.specs.Option.{option_copied};
+ghost use Rattle.std.specs.List.{flat_map};
 ghost use Rattle.flux_defs.specs.Graph.{is_below, is_pool_kind};
-ghost use Rattle.resource_graph.specs.NamedGraph.{IsWhole};
+ghost use Rattle.resource_graph.specs.Lines.{AllBelow};
+ghost use Rattle.resource_graph.specs.NamedGraph.{IsWhole, name_step, path_text};
 ghost use Rattle.resource_graph.specs.Tables.{IsPast, IsNodeOf, IsRanked, IsNamedKind, Nests, IsNextOfKind, HasNoneOfKind, Rises, IsNextIn, HasNoneIn, IsPlaceOf, IsFirstPlace};
 
+use crate::lines::line_up;
 use flux_defs::{List, Text, Vertex};
+use std::alloc::{AllocError, Global};
 use std::collections::BTreeMap;
 use std::marker::Model;
 
@@ -162,6 +166,30 @@ impl Graph {
     {
         &self.properties.items()[vertex as usize]
     }
+
+    /// The vertex's path in the containment hierarchy: `/` and the name, from the root down.
+    pub fn path_of(&self, alloc: Global, vertex: u32) -> Result<Text, AllocError>
+        requires { vertex < length self.now.resources.vertices }
+        ensures { IfOk result (λ path. path ≡ path_text self.now vertex) }
+    {
+        let line = line_up(alloc, self.vertices.items(), vertex)?;
+        path_along(alloc, self.names.items(), line.as_slice())
+    }
+}
+
+/// `/` and the name of each vertex of the line, the last one first.
+fn path_along(alloc: Global, names: &[Text], line: &[u32]) -> Result<Text, AllocError>
+    requires { AllBelow (length names.now) line.now }
+    ensures { IfOk result (λ path. path ≡ flat_map (name_step names.now) (reverse line.now)) }
+{
+    let mut path = Vec::new(alloc);
+    let mut left = line.len();
+    while left > 0 {
+        left -= 1;
+        path.push(b'/')?;
+        path.extend_from_slice(names[line[left] as usize].bytes())?;
+    }
+    Ok(Text::of_vec(path))
 }
 
 /// The first place of the text.

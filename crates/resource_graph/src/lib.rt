@@ -2,6 +2,7 @@
 #![tactic(auto)]
 
 pub mod graph;
+mod lines;
 pub mod raw;
 
 pub use graph::Graph;
