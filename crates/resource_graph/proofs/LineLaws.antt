@@ -50,6 +50,10 @@ module _ (vertices : List Vertex) where
 pub parent_read : (vertices : List Vertex) (v : ℕ) (x : Vertex) → slice_get vertices v ≡ Some x → parent_of vertices v ≡ x.parent
 parent_read vertices v x e = ap (option_and_then (λ y. y.parent)) e
 
+-- what a read past the list's end stands for
+abbrev pub no_vertex : Vertex
+no_vertex = record { kind = 0; size = 0; parent = None; id = None; rank = None }
+
 -- the parent of a vertex within the list, however its place is read
 pub parent_at : (vertices : List Vertex) (v : ℕ) (d : Vertex) → v < length vertices → (get_or vertices v d).parent ≡ parent_of vertices v
 parent_at vertices v d lt = sym (parent_read vertices v (get_or vertices v d) (slice_get-get_or vertices v d lt))
@@ -80,3 +84,11 @@ climb_all vertices most done line whole o le climbed =
 pub climb_past : (vertices : List Vertex) (most : ℕ) (line whole : List ℕ) (o : Option ℕ) → ((v : ℕ) → o ≡ Some v → ⊥) → (line ++ chain vertices most o) ≡ whole → line ≡ whole
 climb_past vertices most line whole None not_some climbed = sym (append-nil line) ∙ (ap (λ l. line ++ l) (sym (chain-None vertices most)) ∙ climbed)
 climb_past vertices most line whole (Some v) not_some climbed = absurd (not_some v refl)
+
+-- where no parent was read there is none
+pub parent_at_none : (vertices : List Vertex) (v : ℕ) → v < length vertices → ((p : ℕ) → (get_or vertices v no_vertex).parent ≡ Some p → ⊥) → parent_of vertices v ≡ None
+parent_at_none vertices v lt not_some = at (get_or vertices v no_vertex).parent refl
+  where
+    at : (o : Option ℕ) → (get_or vertices v no_vertex).parent ≡ o → parent_of vertices v ≡ None
+    at None e = sym (parent_at vertices v no_vertex lt) ∙ e
+    at (Some p) e = absurd (not_some p e)

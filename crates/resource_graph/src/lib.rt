@@ -4,6 +4,7 @@
 pub mod graph;
 mod lines;
 pub mod raw;
+mod tables;
 
 pub use graph::Graph;
 pub use raw::{GraphFault, RawVertex};

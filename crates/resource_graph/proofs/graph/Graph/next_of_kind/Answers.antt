@@ -2,7 +2,7 @@ use Rattle.std.proofs.Common.{◌≡◌, ℕ, ◌<◌, List, length, get_or, Som
 use Rattle.std.proofs.lemmas.Option.{slice_get_read}
 use Rattle.flux_defs.specs.declared.vertices.Vertex.{Vertex}
 use Rattle.resource_graph.specs.Tables.{ListsKind, Rises}
-use Rattle.resource_graph.specs.Keeps.{HasLists}
+use Rattle.resource_graph.specs.Holds.{HasLists}
 use Rattle.resource_graph.proofs.Queries.{next_of_list}
 use Rattle.resource_graph.proofs.graph.Graph.next_of_kind.Goals as goal
 
