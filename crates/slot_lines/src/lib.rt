@@ -1,0 +1,6 @@
+//! Lines of one client that asks for slots of cores, and the lines that answer it.
+#![tactic(auto)]
+
+pub mod fields;
+pub mod lines;
+pub mod slots;
