@@ -3,4 +3,6 @@
 
 pub mod fields;
 pub mod lines;
+pub mod pieces;
+pub mod rows;
 pub mod slots;
