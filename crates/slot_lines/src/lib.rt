@@ -4,5 +4,6 @@
 pub mod fields;
 pub mod lines;
 pub mod pieces;
+pub mod replies;
 pub mod rows;
 pub mod slots;
