@@ -1,0 +1,4 @@
+pub mod Members
+pub mod Had
+pub mod Sounds
+pub mod Legal
