@@ -1,4 +1,4 @@
-use Rattle.std.proofs.Common.{◌<◌, length, subst, ap, sym}
+use Rattle.std.proofs.Common.{◌<◌, subst, ap, sym}
 use Rattle.flux_io.proofs.Fronts.{piece_at, nothing_at}
 use Rattle.flux_io.proofs.memory_source.SureSourceSource.pull.Goals as goal
 
