@@ -69,7 +69,13 @@ pub record Counted (A : Type 0) : Type 0 where
 abbrev pub counted_code : {A : Type 0} → Coded A → Coded (Counted A)
 counted_code {A} code = code_by (A × ℕ) (coded× code coded_ℕ) (λ c. (c.inner, c.faults)) (λ p. record { inner = p.0; faults = p.1 }) (λ _. refl)
 
--- a store of the system's files: its counts of faults and of refused names
-pub record StoreCounts : Type 0 where
+-- a store of the files that something opens, with its counts of faults and of refused names
+pub record CountedStore (A : Type 0) : Type 0 where
+  pub opener : A
   pub faults : ℕ
   pub refused : ℕ
+
+-- it is stored as the tuple of its fields
+abbrev pub counted_store_code : {A : Type 0} → Coded A → Coded (CountedStore A)
+counted_store_code {A} code = code_by (A × (ℕ × ℕ)) (coded× code (coded× coded_ℕ coded_ℕ)) (λ c. (c.opener, (c.faults, c.refused)))
+    (λ p. record { opener = p.0; faults = p.1.0; refused = p.1.1 }) (λ _. refl)

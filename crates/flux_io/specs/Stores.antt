@@ -49,3 +49,9 @@ refused_after count (Ok Absent) = next_count count
 refused_after count (Ok Long) = next_count count
 refused_after count (Ok Whole) = count
 refused_after count (Err fault) = count
+
+-- where the bytes of the name's file are known: `Whole` appends them, `Absent` doesn't come, and `Long` only where they are more than `most`
+pub record ReadsKnown (known : Option (List ℕ)) (most : ℕ) (old new : List ℕ) (result : Result Got FileFail) : Type 0 where
+  pub whole : result ≡ Ok Whole → IfSome known (λ bytes. new ≡ old ++ bytes)
+  pub absent : result ≡ Ok Absent → known ≡ None
+  pub long : result ≡ Ok Long → IfSome known (λ bytes. most < length bytes)

@@ -19,7 +19,7 @@ mod whole;
 pub use memory_files::{MemFiles, SureFiles};
 pub use memory_sink::{MemSink, SureSink};
 pub use memory_source::{MemSource, SureSource};
-pub use std_files::StdFiles;
+pub use std_files::{FileOpener, StdFiles, SystemFiles};
 pub use std_sink::StdSink;
 pub use std_source::StdSource;
 pub use stores::{FileFail, Files, Got};

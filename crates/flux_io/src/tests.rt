@@ -3,11 +3,12 @@
 ghost use Rattle.std.specs.Prelude.{◌≤◌, IfOk};
 
 use crate::{
-    Failed, FileFail, Files, Got, MemFiles, MemSink, MemSource, ReadAllFail, Sink, Source,
-    StdFiles, StdSink, StdSource, SureFiles, SureSink, SureSource, read_all, write_all,
+    Failed, FileFail, FileOpener, Files, Got, MemFiles, MemSink, MemSource, ReadAllFail, Sink,
+    Source, StdFiles, StdSink, StdSource, SureFiles, SureSink, SureSource, read_all, write_all,
 };
 use flux_defs::{List, Text};
 use std::alloc::{AllocError, Global};
+use std::cell::Cell;
 use std::io::{ErrorKind, Read, Write, pipe};
 use std::process::Abort;
 use std::test::Fail;
@@ -244,6 +245,47 @@ impl Write for Interrupted {
 
     fn flush(&mut self) -> io::Result<()> {
         Ok(())
+    }
+}
+
+/// What opens such streams, after calls of its own that a signal interrupts.
+#[derive(Drop)]
+struct InterruptedOpener {
+    calls: Cell<u32>,
+}
+
+impl FileOpener for InterruptedOpener {
+    ghost use Rattle.std.specs.Prelude.{None};
+
+    type File = Interrupted;
+
+    ghost content = { λ _ _. None };
+
+    fn open(&self, _name: &str) -> io::Result<Interrupted> {
+        let calls = self.calls.get();
+        if calls > 0 {
+            self.calls.set(calls - 1);
+            return Err(io::Error::from(ErrorKind::Interrupted));
+        }
+        Ok(Interrupted { calls: 0, bytes: 1 })
+    }
+}
+
+#[test]
+fn interrupted_openings_are_tried_again(rt: HostRuntime) {
+    for (calls, got) in [
+        (0, Ok(Got::Long)),
+        (1_000, Ok(Got::Long)),
+        (1_001, Err(FileFail::Failed)),
+    ] {
+        let mut files = StdFiles::of(InterruptedOpener {
+            calls: Cell::new(calls),
+        });
+        assert_eq!(rt;
+            files.read("name", &mut Vec::new(rt.alloc()), 9),
+            got,
+            "{calls} calls"
+        );
     }
 }
 
