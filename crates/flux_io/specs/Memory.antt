@@ -20,7 +20,8 @@ pub record FailingSource : Type 0 where
   pub calls : Schedule
   pub faults : ℕ
 
--- a sink: the bytes that it took, how many more it has memory for, the most that it takes in one call, and its count of faults
+-- a sink: the bytes that it took, how many more it has memory for, the most that it takes in one call,
+-- and its count of faults
 pub record SinkState : Type 0 where
   pub held : List ℕ
   pub room : ℕ
@@ -54,10 +55,12 @@ pub record GivesNext (old new : SourceState) (count : ℕ) (before after : List 
   pub rest : new ≡ record old { left = drop count old.left }
 
 -- a push took the first bytes, as many as a piece holds, and failed exactly where there is no room for these
-pub record TakesPiece {E : Type 0} (old new : SinkState) (bytes : List ℕ) (result : Result ℕ E) : Type 0 where
+pub record TakesPiece {E : Type 0} (old new : SinkState) (bytes : List ℕ)
+    (result : Result ℕ E) : Type 0 where
   pub failed : IsErr result ↔ (old.room < min (length bytes) old.piece)
   pub most : IfOk result (λ count. count ≡ min (length bytes) old.piece)
-  pub state : MatchResult result (λ count. new ≡ record old { held = old.held ++ take count bytes; room = old.room - count })
+  pub state : MatchResult result
+      (λ count. new ≡ record old { held = old.held ++ take count bytes; room = old.room - count })
       (λ _. new ≡ record old { faults = next_count old.faults })
 
 -- a reader or a writer of the standard library, with its count of faults
@@ -67,7 +70,8 @@ pub record Counted (A : Type 0) : Type 0 where
 
 -- it is stored as the pair of its fields
 abbrev pub counted_code : {A : Type 0} → Coded A → Coded (Counted A)
-counted_code {A} code = code_by (A × ℕ) (coded× code coded_ℕ) (λ c. (c.inner, c.faults)) (λ p. record { inner = p.0; faults = p.1 }) (λ _. refl)
+counted_code {A} code = code_by (A × ℕ) (coded× code coded_ℕ) (λ c. (c.inner, c.faults))
+    (λ p. record { inner = p.0; faults = p.1 }) (λ _. refl)
 
 -- a store of the files that something opens, with its counts of faults and of refused names
 pub record CountedStore (A : Type 0) : Type 0 where
@@ -77,5 +81,6 @@ pub record CountedStore (A : Type 0) : Type 0 where
 
 -- it is stored as the tuple of its fields
 abbrev pub counted_store_code : {A : Type 0} → Coded A → Coded (CountedStore A)
-counted_store_code {A} code = code_by (A × (ℕ × ℕ)) (coded× code (coded× coded_ℕ coded_ℕ)) (λ c. (c.opener, (c.faults, c.refused)))
+counted_store_code {A} code = code_by (A × (ℕ × ℕ)) (coded× code (coded× coded_ℕ coded_ℕ))
+    (λ c. (c.opener, (c.faults, c.refused)))
     (λ p. record { opener = p.0; faults = p.1.0; refused = p.1.1 }) (λ _. refl)

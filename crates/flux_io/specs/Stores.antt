@@ -16,16 +16,21 @@ abbrev pub file_of : Stored → List ℕ → Option (List ℕ)
 file_of [] name = None
 file_of (file ∷ files) name = if bytes_eq file.0 name then Some file.1 else file_of files name
 
--- `Whole` appends at most `most` bytes, any other answer none; where the store tells its files, the answer is so of the file
-pub record ReadsFile (told : Option Stored) (name : List ℕ) (most : ℕ) (old new : List ℕ) (result : Result Got FileFail) : Type 0 where
-  pub whole : result ≡ Ok Whole → IfSome told (λ files. (bytes : List ℕ) × (file_of files name ≡ Some bytes) × (length bytes ≤ most) × (new ≡ old ++ bytes))
+-- `Whole` appends at most `most` bytes, and any other answer none;
+-- where the store tells its files, `Whole` appends the file's bytes, `Absent` means no file and `Long` one of more bytes
+pub record ReadsFile (told : Option Stored) (name : List ℕ) (most : ℕ) (old new : List ℕ)
+    (result : Result Got FileFail) : Type 0 where
+  pub whole : result ≡ Ok Whole → IfSome told (λ files. (bytes : List ℕ) × (file_of files name ≡ Some bytes)
+      × (length bytes ≤ most) × (new ≡ old ++ bytes))
   pub appends : result ≡ Ok Whole → (bytes : List ℕ) × (length bytes ≤ most) × (new ≡ old ++ bytes)
   pub same : (result ≡ Ok Whole → ⊥) → new ≡ old
   pub absent : result ≡ Ok Absent → IfSome told (λ files. file_of files name ≡ None)
-  pub long : result ≡ Ok Long → IfSome told (λ files. (bytes : List ℕ) × (file_of files name ≡ Some bytes) × (most < length bytes))
+  pub long : result ≡ Ok Long → IfSome told (λ files. (bytes : List ℕ) × (file_of files name ≡ Some bytes)
+      × (most < length bytes))
 
 -- no count falls; `Failed` comes only where the faults rose, `Absent` and `Long` only where the refused names did
-pub record HasFileCause (faults_before faults_now refused_before refused_now : ℕ) (result : Result Got FileFail) : Type 0 where
+pub record HasFileCause (faults_before faults_now refused_before refused_now : ℕ)
+    (result : Result Got FileFail) : Type 0 where
   pub later : faults_before ≤ faults_now
   pub failed : result ≡ Err Failed → Rose faults_before faults_now
   pub refused_later : refused_before ≤ refused_now
@@ -35,7 +40,8 @@ pub record HasFileCause (faults_before faults_now refused_before refused_now : �
 -- the answer that a file of these bytes gives, or a name without a file, but that memory may be short for `Whole`
 abbrev pub AnswersFile : Option (List ℕ) → ℕ → Result Got FileFail → Type 0
 AnswersFile file most result = MatchOption file (result ≡ Ok Absent)
-    (λ bytes. (most < length bytes → result ≡ Ok Long) × (length bytes ≤ most → (result ≡ Ok Whole) ⊎ (result ≡ Err Memory)))
+    (λ bytes. (most < length bytes → result ≡ Ok Long)
+    × (length bytes ≤ most → (result ≡ Ok Whole) ⊎ (result ≡ Err Memory)))
 
 -- the count of faults after an answer: one more at `Failed`
 abbrev pub faults_after : ℕ → Result Got FileFail → ℕ
@@ -50,8 +56,9 @@ refused_after count (Ok Long) = next_count count
 refused_after count (Ok Whole) = count
 refused_after count (Err fault) = count
 
--- where the bytes of the name's file are known: `Whole` appends them, `Absent` doesn't come, and `Long` only where they are more than `most`
-pub record ReadsKnown (known : Option (List ℕ)) (most : ℕ) (old new : List ℕ) (result : Result Got FileFail) : Type 0 where
+-- where the bytes of a file are known: `Whole` appends them, `Absent` never comes, and `Long` only for more than `most`
+pub record ReadsKnown (known : Option (List ℕ)) (most : ℕ) (old new : List ℕ)
+    (result : Result Got FileFail) : Type 0 where
   pub whole : result ≡ Ok Whole → IfSome known (λ bytes. new ≡ old ++ bytes)
   pub absent : result ≡ Ok Absent → known ≡ None
   pub long : result ≡ Ok Long → IfSome known (λ bytes. most < length bytes)

@@ -117,13 +117,17 @@ impl Files for MemFiles {
     ghost refused = { λ mem. mem.store.refused };
 
     fn read(&mut self, name: &str, into: &mut Vec<u8>, most: u64) -> Result<Got, FileFail>
-        ensures file { ReadsFile (Some self.old.store.files) name.now most into.old.items into.new.items result }
+        ensures file { ReadsFile (Some self.old.store.files) name.now most
+            into.old.items into.new.items result }
         ensures same { Some self.new.store.files ≡ Some self.old.store.files }
-        ensures cause { HasFileCause self.old.faults self.new.faults self.old.store.refused self.new.store.refused result }
-        ensures failed { IsErrOf result FileFail.Failed ↔ Contains self.old.calls.fails (next_count self.old.calls.made) }
+        ensures cause { HasFileCause self.old.faults self.new.faults
+            self.old.store.refused self.new.store.refused result }
+        ensures failed { IsErrOf result FileFail.Failed
+            ↔ Contains self.old.calls.fails (next_count self.old.calls.made) }
         ensures answers { ¬ Contains self.old.calls.fails (next_count self.old.calls.made)
             → AnswersFile (file_of self.old.store.files name.now) most result }
-        ensures store { self.new.store ≡ record self.old.store { refused = refused_after self.old.store.refused result } }
+        ensures store { self.new.store
+            ≡ record self.old.store { refused = refused_after self.old.store.refused result } }
         ensures calls { self.new.calls ≡ next_call self.old.calls }
         ensures faults { self.new.faults ≡ faults_after self.old.faults result }
     {

@@ -26,9 +26,15 @@ impl Model for SureSink {
 
     ghost Value = { SinkState };
 
-    ghost view = { λ sink. record { held = sink.bytes.items; room = sink.room; piece = sink.piece; faults = sink.faults } };
+    ghost view = { λ sink. record {
+      held = sink.bytes.items;
+      room = sink.room;
+      piece = sink.piece;
+      faults = sink.faults;
+    } };
 
-    ghost invariant = { λ sink. (vec_len sink.bytes + sink.room ≤ vec_capacity sink.bytes) × (0 < sink.piece) };
+    ghost invariant = { λ sink. (vec_len sink.bytes + sink.room ≤ vec_capacity sink.bytes)
+        × (0 < sink.piece) };
 }
 
 impl SureSink {
@@ -91,7 +97,8 @@ impl Sink for SureSink {
         ensures bound { TakesSome result bytes.now }
         ensures bytes { WriteAppends (Some self.old.held) (Some self.new.held) result bytes.now }
         ensures cause { HasCause self.old.faults self.new.faults result }
-        ensures room { KeepsRoom (Some self.old.room) (Some self.new.room) self.old.faults self.new.faults result bytes.now }
+        ensures room { KeepsRoom (Some self.old.room) (Some self.new.room)
+            self.old.faults self.new.faults result bytes.now }
         ensures takes { TakesPiece self.old self.new bytes.now result }
     {
         let count = bytes.len().min(self.piece);
@@ -139,7 +146,8 @@ impl MemSink {
     /// # Errors
     /// Where no memory is left the sink is as before.
     pub fn reserve(&mut self, bytes: usize) -> Result<(), AllocError>
-        ensures ok { OnOk result (self.new.sink ≡ record self.old.sink { room = max self.old.sink.room bytes }) }
+        ensures ok { OnOk result
+            (self.new.sink ≡ record self.old.sink { room = max self.old.sink.room bytes }) }
         ensures err { OnErr result (self.new.sink ≡ self.old.sink) }
         ensures within { OnErr result (self.old.sink.room < bytes) }
         ensures calls { self.new.calls ≡ self.old.calls }
@@ -166,11 +174,13 @@ impl Sink for MemSink {
 
     fn push(&mut self, bytes: &[u8]) -> Result<usize, Failed>
         ensures bound { TakesSome result bytes.now }
-        ensures bytes { WriteAppends (Some self.old.sink.held) (Some self.new.sink.held) result bytes.now }
+        ensures bytes { WriteAppends (Some self.old.sink.held) (Some self.new.sink.held)
+            result bytes.now }
         ensures cause { HasCause self.old.sink.faults self.new.sink.faults result }
         ensures room { KeepsRoom None None self.old.sink.faults self.new.sink.faults result bytes.now }
         ensures listed { Contains self.old.calls.fails (next_count self.old.calls.made)
-            → IsErr result × (self.new.sink ≡ record self.old.sink { faults = next_count self.old.sink.faults }) }
+            → IsErr result
+            × (self.new.sink ≡ record self.old.sink { faults = next_count self.old.sink.faults }) }
         ensures takes { ¬ Contains self.old.calls.fails (next_count self.old.calls.made)
             → TakesPiece self.old.sink self.new.sink bytes.now result }
         ensures calls { self.new.calls ≡ next_call self.old.calls }

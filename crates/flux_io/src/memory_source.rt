@@ -118,10 +118,12 @@ impl Source for MemSource {
 
     fn pull(&mut self, into: &mut [u8]) -> Result<usize, Failed>
         ensures bound { ReadsAtMost result into.new }
-        ensures bytes { ReadConsumes (Some self.old.source.left) (Some self.new.source.left) result into.new }
+        ensures bytes { ReadConsumes (Some self.old.source.left) (Some self.new.source.left)
+            result into.new }
         ensures cause { HasCause self.old.faults self.new.faults result }
         ensures failed { IsErr result ↔ Contains self.old.calls.fails (next_count self.old.calls.made) }
-        ensures gives { MatchResult result (λ count. GivesNext self.old.source self.new.source count into.old into.new)
+        ensures gives { MatchResult result
+            (λ count. GivesNext self.old.source self.new.source count into.old into.new)
             (λ _. (self.new.source ≡ self.old.source) × (into.new ≡ into.old)) }
         ensures calls { self.new.calls ≡ next_call self.old.calls }
         ensures faults { self.new.faults ≡ count_after self.old.faults result }

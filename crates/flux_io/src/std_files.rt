@@ -1,7 +1,8 @@
 //! The files of the system as a store.
-ghost use Rattle.std.specs.Prelude.{◌≡◌, ◌≢◌, ℕ, IfErr, IfOk, IfSome, IsErrOf, List, None, Option, Some};
+ghost use Rattle.std.specs.Prelude.{◌≡◌, ℕ, IfErr, IfOk, IsErrOf, List, None, Option};
 ghost use Rattle.std.specs.IoError.{error_kind};
 ghost use Rattle.flux_io.specs.Stores.{HasFileCause, ReadsFile, ReadsKnown, faults_after, refused_after};
+ghost use Rattle.flux_io.specs.Streams.{HasLeft};
 
 use crate::std_source::{RETRIES, StdSource};
 use crate::stores::{FileFail, Files, Got};
@@ -19,8 +20,9 @@ pub trait FileOpener {
 
     /// Opens the file for reading. `NotFound` says that there is none.
     fn open(&self, name: &str) -> io::Result<Self::File>
-        ensures file { IfOk result (λ file. IfSome (content self.now name.now) (λ bytes. Self.File.remaining file ≡ Some bytes)) }
-        ensures found { IfSome (content self.now name.now) (λ _. IfErr result (λ e. error_kind e ≢ ErrorKind.NotFound)) };
+        ensures file { IfOk result (λ file. HasLeft (content self.now name.now) (Self.File.remaining file)) }
+        ensures found { IfErr result (λ e. error_kind e ≡ ErrorKind.NotFound
+            → content self.now name.now ≡ None) };
 }
 
 /// The files that a runtime reaches. It tells nothing of their bytes.
@@ -58,7 +60,11 @@ impl<O: FileOpener + Drop> Model for StdFiles<O> {
 
     ghost coded = { counted_store_code O.code };
 
-    ghost view = { λ store. record { opener = store.opener; faults = store.faults; refused = store.refused } };
+    ghost view = { λ store. record {
+      opener = store.opener;
+      faults = store.faults;
+      refused = store.refused;
+    } };
 }
 
 impl<R: rt::Files + Drop> StdFiles<SystemFiles<R>> {
@@ -93,7 +99,7 @@ enum OpenFail {
 
 /// Opens a file, and tries an interrupted call again.
 fn open_file<O: FileOpener>(opener: &O, name: &str) -> Result<O::File, OpenFail>
-    ensures file { IfOk result (λ file. IfSome (O.content opener.now name.now) (λ bytes. O.File.remaining file ≡ Some bytes)) }
+    ensures file { IfOk result (λ file. HasLeft (O.content opener.now name.now) (O.File.remaining file)) }
     ensures absent { IsErrOf result OpenFail.Absent → O.content opener.now name.now ≡ None }
 {
     for _ in 0..RETRIES + 1 {
@@ -120,9 +126,14 @@ impl<O: FileOpener + Drop> Files for StdFiles<O> {
 
     fn read(&mut self, name: &str, into: &mut Vec<u8>, most: u64) -> Result<Got, FileFail>
         ensures file { ReadsFile None name.now most into.old.items into.new.items result }
-        ensures cause { HasFileCause self.old.faults self.new.faults self.old.refused self.new.refused result }
-        ensures known { ReadsKnown (O.content self.old.opener name.now) most into.old.items into.new.items result }
-        ensures counts { self.new ≡ record self.old { faults = faults_after self.old.faults result; refused = refused_after self.old.refused result } }
+        ensures cause { HasFileCause self.old.faults self.new.faults
+            self.old.refused self.new.refused result }
+        ensures known { ReadsKnown (O.content self.old.opener name.now) most
+            into.old.items into.new.items result }
+        ensures counts { self.new ≡ record self.old {
+          faults = faults_after self.old.faults result;
+          refused = refused_after self.old.refused result;
+        } }
     {
         let file = match open_file(&self.opener, name) {
             Ok(file) => file,

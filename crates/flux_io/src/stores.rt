@@ -42,5 +42,6 @@ pub trait Files {
     fn read(&mut self, name: &str, into: &mut Vec<u8>, most: u64) -> Result<Got, FileFail>
         ensures file { ReadsFile (told self.old) name.now most into.old.items into.new.items result }
         ensures same { told self.new ≡ told self.old }
-        ensures cause { HasFileCause (faults self.old) (faults self.new) (refused self.old) (refused self.new) result };
+        ensures cause { HasFileCause (faults self.old) (faults self.new)
+            (refused self.old) (refused self.new) result };
 }

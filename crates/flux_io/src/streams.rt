@@ -48,5 +48,6 @@ pub trait Sink {
         ensures bound { TakesSome result bytes.now }
         ensures bytes { WriteAppends (held self.old) (held self.new) result bytes.now }
         ensures cause { HasCause (faults self.old) (faults self.new) result }
-        ensures room { KeepsRoom (room self.old) (room self.new) (faults self.old) (faults self.new) result bytes.now };
+        ensures room { KeepsRoom (room self.old) (room self.new) (faults self.old) (faults self.new)
+            result bytes.now };
 }

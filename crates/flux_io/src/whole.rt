@@ -40,7 +40,8 @@ pub fn read_all<S: Source>(alloc: Global, source: &mut S, most: u64) -> Result<T
     ensures end { OnOk result (IsAtEnd (S.left source.new)) }
     ensures later { S.faults source.old ≤ S.faults source.new }
     ensures failed { IsErrOf result ReadAllFail.Failed → Rose (S.faults source.old) (S.faults source.new) }
-    ensures long { IsErrOf result ReadAllFail.Long → IfSome (S.left source.old) (λ bytes. most < length bytes) }
+    ensures long { IsErrOf result ReadAllFail.Long
+        → IfSome (S.left source.old) (λ bytes. most < length bytes) }
     ensures front { LosesFront (S.left source.old) (S.left source.new) }
 {
     let mut taken = Vec::new(alloc);
@@ -56,13 +57,16 @@ pub(crate) fn append_all<S: Source>(
     into: &mut Vec<u8>,
     most: u64,
 ) -> Result<(), ReadAllFail>
-    ensures whole { OnOk result (IfSome (S.left source.old) (λ bytes. into.new.items ≡ into.old.items ++ bytes)) }
-    ensures appends { OnOk result ((bytes : List ℕ) × (length bytes ≤ most) × (into.new.items ≡ into.old.items ++ bytes)) }
+    ensures whole { OnOk result (IfSome (S.left source.old)
+        (λ bytes. into.new.items ≡ into.old.items ++ bytes)) }
+    ensures appends { OnOk result ((bytes : List ℕ) × (length bytes ≤ most)
+        × (into.new.items ≡ into.old.items ++ bytes)) }
     ensures same { OnErr result (into.new.items ≡ into.old.items) }
     ensures end { OnOk result (IsAtEnd (S.left source.new)) }
     ensures later { S.faults source.old ≤ S.faults source.new }
     ensures failed { IsErrOf result ReadAllFail.Failed → Rose (S.faults source.old) (S.faults source.new) }
-    ensures long { IsErrOf result ReadAllFail.Long → IfSome (S.left source.old) (λ bytes. most < length bytes) }
+    ensures long { IsErrOf result ReadAllFail.Long
+        → IfSome (S.left source.old) (λ bytes. most < length bytes) }
     ensures front { LosesFront (S.left source.old) (S.left source.new) }
 {
     let start = into.len();
@@ -86,7 +90,8 @@ fn take_all<S: Source>(
     ensures end { OnOk result (IsAtEnd (S.left source.new)) }
     ensures later { S.faults source.old ≤ S.faults source.new }
     ensures failed { IsErrOf result ReadAllFail.Failed → Rose (S.faults source.old) (S.faults source.new) }
-    ensures long { IsErrOf result ReadAllFail.Long → IfSome (S.left source.old) (λ bytes. most < length bytes) }
+    ensures long { IsErrOf result ReadAllFail.Long
+        → IfSome (S.left source.old) (λ bytes. most < length bytes) }
 {
     let largest = into.len().saturating_add(most as usize);
     let Ok(mut buffer) = new_buffer(alloc) else {
@@ -130,8 +135,10 @@ pub fn write_all<O: Sink>(out: &mut O, text: &Text) -> Result<(), Failed>
     ensures whole { OnOk result (Appends (O.held out.old) (O.held out.new) text.now) }
     ensures front { TakesFront (O.held out.old) (O.held out.new) (O.room out.old) (O.room out.new) text.now }
     ensures cause { HasCause (O.faults out.old) (O.faults out.new) result }
-    ensures room { IfSome (O.room out.old) (λ room. OnOk result (O.room out.new ≡ Some (room - length text.now))) }
-    ensures fits { IfSome (O.room out.old) (λ room. length text.now ≤ room → IsOk result × (O.faults out.new ≡ O.faults out.old)) }
+    ensures room { IfSome (O.room out.old)
+        (λ room. OnOk result (O.room out.new ≡ Some (room - length text.now))) }
+    ensures fits { IfSome (O.room out.old) (λ room. length text.now ≤ room
+        → IsOk result × (O.faults out.new ≡ O.faults out.old)) }
 {
     let mut rest = text.bytes();
     'pieces: while !rest.is_empty() {
