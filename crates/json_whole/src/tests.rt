@@ -1,0 +1,3 @@
+use super::*;
+use std::test::Fail;
+
