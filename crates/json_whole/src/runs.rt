@@ -92,9 +92,7 @@ fn is_negative(run: &[u8]) -> bool
     ensures { result ≡ is_negative run.now }
 {
     match run {
-        [b'-', digits @ ..] => {
-            are_digits(digits) && !fits(digits, 0) && fits(digits, 1 << 63)
-        }
+        [b'-', digits @ ..] => { are_digits(digits) && !fits(digits, 0) && fits(digits, 1 << 63) }
         _ => false,
     }
 }

@@ -1,7 +1,7 @@
 //! A JSON text as a value.
 ghost use Rattle.std.specs.Prelude.{◌≡◌, Some, None, IfOk, IsErrOf};
 ghost use Rattle.serde_json.specs.View.{view};
-ghost use Rattle.json_whole.specs.Whole.{value_of};
+ghost use Rattle.json_whole.specs.Whole.{value_in, value_of};
 
 use crate::plain_form::plain;
 use serde_json::Value;
@@ -16,17 +16,26 @@ pub enum ValueFault {
     Memory,
 }
 
+/// The value of a JSON text.
+fn json_value(alloc: Global, text: &[u8]) -> Result<Value, ValueFault>
+    ensures value { IfOk result (λ v. value_in text.now ≡ Some (view v)) }
+    ensures not_json { IsErrOf result ValueFault.NotJson → value_in text.now ≡ None }
+{
+    match Value::from_slice(alloc, text) {
+        Ok(value) => Ok(value),
+        Err(e) if e.is_memory() => Err(ValueFault::Memory),
+        Err(_) => Err(ValueFault::NotJson),
+    }
+}
+
 /// The value of a text's plain form. Where an object repeats a key, the last value counts.
+#[tactic(auto, unfolding(crate::specs::Whole::value_of))]
 pub fn read_value(alloc: Global, bytes: &[u8]) -> Result<Value, ValueFault>
     ensures value { IfOk result (λ v. value_of bytes.now ≡ Some (view v)) }
     ensures not_json { IsErrOf result ValueFault.NotJson → value_of bytes.now ≡ None }
 {
-    let Ok(text) = plain(alloc, bytes) else {
-        return Err(ValueFault::Memory);
-    };
-    match Value::from_slice(alloc, text.bytes()) {
-        Ok(value) => Ok(value),
-        Err(e) if e.is_memory() => Err(ValueFault::Memory),
-        Err(_) => Err(ValueFault::NotJson),
+    match plain(alloc, bytes) {
+        Ok(text) => json_value(alloc, text.bytes()),
+        Err(_) => Err(ValueFault::Memory),
     }
 }

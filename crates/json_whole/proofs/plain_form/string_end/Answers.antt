@@ -8,7 +8,7 @@ returns-then-byte-eq34-clause-same c = (rw c.if-escaped.false at c.bytes.invaria
 
 pub bytes-preserved : goal.bytes-preserved
 bytes-preserved c = elim c.if-escaped.branch [
-  then-escaped w ↦ rw w.escaped-is ((rw w.if-escaped.true at c.bytes.invariant) ∙ after_escape c.args.text.now c.bytes.at c.bytes-test.true)
+  | then-escaped w ↦ rw w.escaped-is ((rw w.if-escaped.true at c.bytes.invariant) ∙ after_escape c.args.text.now c.bytes.at c.bytes-test.true)
   | else-escaped+else-byte-eq34 w ↦ rw w.escaped-is ((rw w.if-escaped.false at c.bytes.invariant) ∙ at_other c.args.text.now c.bytes.at c.bytes-test.true w.if-byte-eq34.false)
 ]
 
