@@ -1,11 +1,10 @@
 -- The plain form, a byte, a string or a run at a time.
-use Rattle.std.proofs.Common.{◌≡◌, ◌≢◌, ◌<◌, ◌≤◌, ℕ, ◌+◌, List, [], ◌∷◌, ◌++◌, length, take, drop, get_or, Bool, true, false, cond, ◌==◌, refl, sym, ap, ◌∙◌, arith, rules, append_assoc, one-add, add-zero, length-drop, take_all, drop_of_length-le, ne_eqb}
-use Rattle.std.specs.List.{prefix_len}
+use Rattle.std.proofs.Common.{◌≡◌, ◌≢◌, ◌<◌, ◌≤◌, ℕ, ◌+◌, List, [], ◌∷◌, ◌++◌, length, take, drop, get_or, Bool, true, false, cond, ◌==◌, refl, sym, ap, ◌∙◌, arith, append_assoc, one-add, add-zero, length-drop, take_all, drop_of_length-le, ne_eqb}
 use Rattle.std.proofs.Math.Seq.{take-add}
 use Rattle.std.proofs.lemmas.List.{drop-drop, drop_more, get_or-drop, take_more}
 use Rattle.json.specs.Word.{after_number}
 use Rattle.json_whole.specs.Run.{begins_run, is_run_byte, run_len, first_run, written}
-use Rattle.json_whole.specs.Plain.{Place, outside, in_run, in_string, escaped, next_outside, next_place, written_at, plain_from, plain_of}
+use Rattle.json_whole.specs.Plain.{Place, outside, in_run, in_string, escaped, next_place, written_at, plain_from, plain_of}
 use Rattle.json_whole.specs.Forms.{plain_behind}
 
 pub plain_end : (place : Place) → plain_from place [] ≡ []

@@ -1,6 +1,6 @@
 -- The plain form of a text: strings and all else stay, and each run of number bytes outside strings is written as
 -- a number that 64 bits hold or as a list of its text.
-use Rattle.std.specs.Prelude.{ℕ, ◌||◌, ◌==◌, List, [], ◌∷◌, ◌++◌, if◌then◌else◌}
+use Rattle.std.specs.Prelude.{ℕ, ◌==◌, List, [], ◌∷◌, ◌++◌, if◌then◌else◌}
 use Rattle.json.specs.Ascii as ascii
 use Rattle.json_whole.specs.Run.{begins_run, is_run_byte, first_run, written}
 

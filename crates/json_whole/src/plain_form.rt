@@ -54,7 +54,7 @@ fn run_start(text: &[u8], from: usize) -> usize
 
 /// How many bytes stay at the front, before the first run that is written otherwise, and the form of that run. Where
 /// all bytes stay, the run is the empty one at the end.
-fn stays(text: &[u8]) -> (usize, Form)
+fn kept_front(text: &[u8]) -> (usize, Form)
     ensures within { result.0 ≤ length text.now }
     ensures same { plain_of text.now ≡ plain_behind outside result.0 text.now }
     ensures run { result.0 < length text.now → IsTrue (begins_run (slice_index text.now result.0)) }
@@ -80,7 +80,7 @@ fn write_piece(out: &mut Vec<u8>, text: &[u8]) -> Result<usize, AllocError>
     ensures within { IfOk result (λ n. n ≤ length text.now) }
     ensures written { IfOk result (λ n. out.new.items ++ plain_of (drop n text.now) ≡ out.old.items ++ plain_of text.now) }
 {
-    let (len, form) = stays(text);
+    let (len, form) = kept_front(text);
     let run = first_run(&text[len..]);
     out.extend_from_slice(&text[..len])?;
     write_run(out, form, run)?;

@@ -16,7 +16,7 @@ pub enum ValueFault {
     Memory,
 }
 
-/// The value of a JSON text.
+/// The value of a JSON text, as it stands.
 fn json_value(alloc: Global, text: &[u8]) -> Result<Value, ValueFault>
     ensures value { IfOk result (λ v. value_in text.now ≡ Some (view v)) }
     ensures not_json { IsErrOf result ValueFault.NotJson → value_in text.now ≡ None }
@@ -28,7 +28,9 @@ fn json_value(alloc: Global, text: &[u8]) -> Result<Value, ValueFault>
     }
 }
 
-/// The value of a text's plain form. Where an object repeats a key, the last value counts.
+/// The value of a text's plain form (RFC 8259). Where an object repeats a key, the last value counts. NotJson comes
+/// exactly where the plain form isn't a JSON text in UTF-8 in which at most 127 arrays and objects stand within one
+/// another and each escape of a surrogate has its partner (sections 7 to 9), Memory where no memory is left.
 #[tactic(auto, unfolding(crate::specs::Whole::value_of))]
 pub fn read_value(alloc: Global, bytes: &[u8]) -> Result<Value, ValueFault>
     ensures value { IfOk result (λ v. value_of bytes.now ≡ Some (view v)) }

@@ -1,4 +1,4 @@
-use Rattle.std.proofs.Common.{◌∙◌, arith, rules}
+use Rattle.std.proofs.Common.{arith}
 use Rattle.std.proofs.lemmas.Grind.{common_steps}
 use Rattle.json_whole.proofs.Steps.{plain_end}
 use Rattle.json_whole.proofs.plain_form.plain.Goals as goal

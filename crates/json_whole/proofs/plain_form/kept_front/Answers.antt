@@ -1,7 +1,7 @@
-use Rattle.std.proofs.Common.{◌∙◌, sym, drop_of_length-le, arith, rules}
+use Rattle.std.proofs.Common.{sym, drop_of_length-le, arith}
 use Rattle.std.proofs.lemmas.Grind.{common_steps}
 use Rattle.json_whole.proofs.Steps.{no_run, run_stays}
-use Rattle.json_whole.proofs.plain_form.stays.Goals as goal
+use Rattle.json_whole.proofs.plain_form.kept_front.Goals as goal
 
 pub runs-preserved : goal.runs-preserved
 runs-preserved c = grind (arith, common_steps, run_stays c.args.text.now c.run_start-start.result c.run_start-start.ensures.run)
