@@ -51,7 +51,7 @@ between xs at h e quote = let one = outside_one xs at h e in rw (ne_eqb _ _ quot
 
 -- ---- a run
 
-not_begun : (x : ℕ) → is_run_byte x ≡ false → begins_run x ≡ false
+pub not_begun : (x : ℕ) → is_run_byte x ≡ false → begins_run x ≡ false
 not_begun x e = grind arith
 
 -- what is passed over of a run, by whether the next byte belongs to it
@@ -73,7 +73,7 @@ no_run = refl
 begun_is_run : (x : ℕ) → begins_run x ≡ true → is_run_byte x ≡ true
 begun_is_run x e = grind arith
 
-begun_not_quote : (x : ℕ) → begins_run x ≡ true → (x == 34) ≡ false
+pub begun_not_quote : (x : ℕ) → begins_run x ≡ true → (x == 34) ≡ false
 begun_not_quote x e = grind arith
 
 begun_here : (x : ℕ) (xs : List ℕ) → begins_run x ≡ true → plain_of (x ∷ xs) ≡ written (first_run (x ∷ xs)) ++ plain_from in_run xs

@@ -11,6 +11,6 @@ written_as Same run = run
 written_as Digits run = take (digit_count run) run
 written_as Listed run = listed run
 
--- the text, in plain form from `at` on, where a byte at the place stands
+-- the bytes before `at` as they are, and the plain form of the rest, which begins at the place
 abbrev pub plain_behind : Place → ℕ → List ℕ → List ℕ
 plain_behind place at text = take at text ++ plain_from place (drop at text)

@@ -1,6 +1,7 @@
 //! A JSON text as a value.
-ghost use Rattle.std.specs.Prelude.{◌≡◌, Some, None, IfOk, IsErrOf};
+ghost use Rattle.std.specs.Prelude.{◌≡◌, false, Some, None, IfOk, IsErrOf};
 ghost use Rattle.serde_json.specs.View.{view};
+ghost use Rattle.serde_json.specs.Written.{has_float};
 ghost use Rattle.json_whole.specs.Whole.{value_in, value_of};
 
 use crate::plain_form::plain;
@@ -30,10 +31,12 @@ fn json_value(alloc: Global, text: &[u8]) -> Result<Value, ValueFault>
 
 /// The value of a text's plain form (RFC 8259). Where an object repeats a key, the last value counts. NotJson comes
 /// exactly where the plain form isn't a JSON text in UTF-8 in which at most 127 arrays and objects stand within one
-/// another and each escape of a surrogate has its partner (sections 7 to 9), Memory where no memory is left.
+/// another and each escape of a surrogate has its partner (sections 7 to 9), Memory where no memory is left. No number
+/// of the value is a float.
 #[tactic(auto, unfolding(crate::specs::Whole::value_of))]
 pub fn read_value(alloc: Global, bytes: &[u8]) -> Result<Value, ValueFault>
     ensures value { IfOk result (λ v. value_of bytes.now ≡ Some (view v)) }
+    ensures whole { IfOk result (λ v. has_float (view v) ≡ false) }
     ensures not_json { IsErrOf result ValueFault.NotJson → value_of bytes.now ≡ None }
 {
     match plain(alloc, bytes) {
