@@ -1,0 +1,7 @@
+pub mod Numerals
+pub mod Steps
+pub mod Reading
+pub mod Tokens
+pub mod Words
+pub mod Exact
+pub mod Lexed

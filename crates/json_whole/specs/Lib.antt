@@ -1,0 +1,5 @@
+pub mod Run
+pub mod Plain
+pub mod Whole
+pub mod Field
+pub mod Forms

@@ -1,0 +1,102 @@
+//! The plain form of a text.
+ghost use Rattle.std.specs.Prelude.{◌≡◌, ◌<◌, ◌≤◌, ◌++◌, IsTrue, length, slice_index, drop, IfOk};
+ghost use Rattle.json_whole.specs.Run.{begins_run, first_run, written};
+ghost use Rattle.json_whole.specs.Plain.{in_string, outside, plain_of};
+ghost use Rattle.json_whole.specs.Forms.{plain_behind, written_as};
+
+use crate::runs::{Form, begins_run, first_run, form_of, write_run};
+use flux_defs::Text;
+use std::alloc::{AllocError, Global};
+
+/// The place behind the closing quote of a string whose opening one stands right before `from`, or the text's end
+/// where the string has none.
+fn string_end(text: &[u8], from: usize) -> usize
+    requires { from ≤ length text.now }
+    ensures passed { from ≤ result }
+    ensures within { result ≤ length text.now }
+    ensures same { plain_behind in_string from text.now ≡ plain_behind outside result text.now }
+{
+    let mut escaped = false;
+    'bytes: for at in from..text.len() {
+        let byte = text[at];
+        if escaped {
+            escaped = false;
+        } else if byte == b'"' {
+            return at + 1;
+        } else {
+            escaped = byte == b'\\';
+        }
+    }
+    text.len()
+}
+
+/// The place from `from` on where the first run begins, or the text's end. Strings are passed over whole.
+fn run_start(text: &[u8], from: usize) -> usize
+    requires { from ≤ length text.now }
+    ensures passed { from ≤ result }
+    ensures within { result ≤ length text.now }
+    ensures same { plain_behind outside from text.now ≡ plain_behind outside result text.now }
+    ensures run { result < length text.now → IsTrue (begins_run (slice_index text.now result)) }
+{
+    let mut at = from;
+    'bytes: while at < text.len() {
+        let byte = text[at];
+        if begins_run(byte) {
+            return at;
+        }
+        at += 1;
+        if byte == b'"' {
+            at = string_end(text, at);
+        }
+    }
+    at
+}
+
+/// How many bytes stay at the front, before the first run that is written otherwise, and the form of that run. Where
+/// all bytes stay, the run is the empty one at the end.
+fn kept_front(text: &[u8]) -> (usize, Form)
+    ensures within { result.0 ≤ length text.now }
+    ensures same { plain_of text.now ≡ plain_behind outside result.0 text.now }
+    ensures run { result.0 < length text.now → IsTrue (begins_run (slice_index text.now result.0)) }
+    ensures form { let run = first_run (drop result.0 text.now) in written_as result.1 run ≡ written run }
+{
+    let mut at = 0;
+    'runs: while at < text.len() {
+        let start = run_start(text, at);
+        let run = first_run(&text[start..]);
+        match form_of(run) {
+            Form::Same => at = start + run.len(),
+            form => return (start, form),
+        }
+    }
+    (at, Form::Same)
+}
+
+/// Adds the plain form of bytes at the front of a text, and says how many they were: those that stay, and the run
+/// behind them.
+fn write_piece(out: &mut Vec<u8>, text: &[u8]) -> Result<usize, AllocError>
+    requires { 0 < length text.now }
+    ensures some { IfOk result (λ n. 0 < n) }
+    ensures within { IfOk result (λ n. n ≤ length text.now) }
+    ensures written { IfOk result (λ n. out.new.items ++ plain_of (drop n text.now) ≡ out.old.items ++ plain_of text.now) }
+{
+    let (len, form) = kept_front(text);
+    let run = first_run(&text[len..]);
+    out.extend_from_slice(&text[..len])?;
+    write_run(out, form, run)?;
+    Ok(len + run.len())
+}
+
+/// The plain form of a text: strings and all else stay, and a run of number bytes outside strings is written as
+/// a whole number that 64 bits hold, or as a list of its text where it is another number (RFC 8259, section 6).
+/// So `3600.0` becomes `3600`, and `1.5` becomes `["1.5"]`. A run that is no number stays.
+pub fn plain(alloc: Global, bytes: &[u8]) -> Result<Text, AllocError>
+    ensures { IfOk result (λ text. text ≡ plain_of bytes.now) }
+{
+    let mut out = Vec::with_capacity(alloc, bytes.len())?;
+    let mut at = 0;
+    'pieces: while at < bytes.len() {
+        at += write_piece(&mut out, &bytes[at..])?;
+    }
+    Ok(Text::of_vec(out))
+}
