@@ -1,0 +1,4 @@
+pub mod Items
+pub mod Numbers
+pub mod Faults
+pub mod Idsets

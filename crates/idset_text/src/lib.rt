@@ -1,0 +1,10 @@
+//! Texts that stand for ids and for hosts: idsets (RFC 22) and hostlists (RFC 29) in the scheduler's profile.
+#![tactic(auto)]
+
+mod faults;
+mod idsets;
+mod items;
+mod numbers;
+
+pub use faults::TextFault;
+pub use idsets::{Range, read_idset};
