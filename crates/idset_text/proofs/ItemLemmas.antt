@@ -1,7 +1,13 @@
 -- A text and its pieces.
-use Rattle.std.proofs.Common.{◌≡◌, ℕ, ◌+◌, ◌-◌, ◌<◌, ◌≤◌, Bool, true, false, not, ◌&&◌, cond, eqb, List, [], ◌∷◌, ◌++◌, length, take, drop, get_or, refl, sym, ap, ◌∙◌, append_assoc, arith}
-use Rattle.std.proofs.lemmas.List.{append-nil, drop_more, take_more, drop_all, take_all, length-drop, take-append-drop}
-use Rattle.idset_text.specs.Items.{is_inside, with_front, pieces, pieces_after}
+use Rattle.std.proofs.Common.{◌≡◌, ℕ, suc, ◌+◌, ◌-◌, ◌<◌, ◌≤◌, ◌⊎◌, Bool, true, false, not, ◌&&◌, ◌==◌, cond, eqb, ltb, List, [], ◌∷◌, ◌++◌, length, take, drop, get_or, Option, Some, None, refl, sym, ap, ◌∙◌, inl, inr, append_assoc, arith}
+use Rattle.std.specs.List.{list_all, join_with_byte, position, position_or_len}
+use Rattle.std.specs.Char.{is_ascii_digit}
+use Rattle.std.proofs.lemmas.Bool.{and_parts, not-true, lt-ltb, le-ltb, ne_eqb, eqb-true}
+use Rattle.std.proofs.lemmas.List.{append-nil, drop_more, take_more, drop_all, take_all, take_at, length-drop, length-append, take-append-drop, get_or_append_left, get_or_at}
+use Rattle.std.proofs.lemmas.List.Quantifiers.{position-Some}
+use Rattle.std.proofs.lemmas.List.Sums.{position_or_len_is}
+use Rattle.idset_text.specs.Items.{is_inside, with_front, pieces, pieces_after, is_dash, ends_at, ends_of}
+use Rattle.idset_text.proofs.NumberLemmas.{digit_bounds, digit_at_place}
 
 -- two fronts are one
 pub with_front-with_front : (a b : List ℕ) (parts : List (List ℕ)) → with_front a (with_front b parts) ≡ with_front (a ++ b) parts
@@ -60,3 +66,87 @@ pub split_at_comma : (text : List ℕ) (n : ℕ) → n < length text → get_or 
 split_at_comma text n lt comma =
     let parted : drop n text ≡ 44 ∷ drop (n + 1) text = drop_more text n 0 lt ∙ ap (λ (b : ℕ). b ∷ drop (n + 1) text) comma in
     sym (take-append-drop n text) ∙ ap (λ (rest : List ℕ). take n text ++ rest) parted ∙ ap (λ (rest : List ℕ). take n text ++ 44 ∷ rest) (sym (rest_is text (n + 1)))
+
+-- ---- pieces that were joined
+
+-- a byte that neither parts nor opens nor closes
+abbrev pub is_plain : ℕ → Bool
+is_plain byte = not (byte == 44) && not (byte == 91) && not (byte == 93)
+
+plain_parts : (byte : ℕ) → is_plain byte ≡ true → (eqb byte 44 ≡ false) × (eqb byte 91 ≡ false) × (eqb byte 93 ≡ false)
+plain_parts byte plain =
+    let both = and_parts _ _ plain in
+    let first = and_parts _ _ both.0 in
+    (not-true _ first.0, not-true _ first.1, not-true _ both.1)
+
+-- a plain byte joins the piece behind it
+pub pieces-plain : (inside : Bool) (byte : ℕ) (rest : List ℕ) → is_plain byte ≡ true → pieces inside (byte ∷ rest) ≡ with_front (byte ∷ []) (pieces inside rest)
+pieces-plain inside byte rest plain =
+    let parts = plain_parts byte plain in
+    ap (λ (t : Bool). cond (t && not inside) ([] ∷ pieces false rest) (with_front (byte ∷ []) (pieces (is_inside inside byte) rest))) parts.0
+    ∙ ap (λ (t : Bool). with_front (byte ∷ []) (pieces (cond t true (cond (eqb byte 93) false inside)) rest)) parts.1
+    ∙ ap (λ (t : Bool). with_front (byte ∷ []) (pieces (cond t false inside) rest)) parts.2
+
+-- plain bytes join it too
+pub pieces-plain_front : (inside : Bool) (front rest : List ℕ) → list_all is_plain front ≡ true → pieces inside (front ++ rest) ≡ with_front front (pieces inside rest)
+pieces-plain_front inside [] rest plain = sym (with_front-nil inside rest)
+pieces-plain_front inside (byte ∷ front) rest plain =
+    let both = and_parts _ _ plain in
+    pieces-plain inside byte (front ++ rest) both.0
+    ∙ ap (with_front (byte ∷ [])) (pieces-plain_front inside front rest both.1)
+    ∙ with_front-with_front (byte ∷ []) front (pieces inside rest)
+
+-- plain pieces that were joined are cut apart again
+pub pieces-join : (piece : List ℕ) (others : List (List ℕ)) → list_all (list_all is_plain) (piece ∷ others) ≡ true → pieces false (join_with_byte 44 (piece ∷ others)) ≡ piece ∷ others
+pieces-join piece [] plain =
+    ap (pieces false) (sym (append-nil piece))
+    ∙ pieces-plain_front false piece [] (and_parts _ _ plain).0
+    ∙ ap (λ (x : List ℕ). x ∷ []) (append-nil piece)
+pieces-join piece (next ∷ others) plain =
+    pieces-plain_front false piece (44 ∷ join_with_byte 44 (next ∷ others)) (and_parts _ _ plain).0
+    ∙ ap (λ (x : List ℕ). x ∷ pieces false (join_with_byte 44 (next ∷ others))) (append-nil piece)
+    ∙ ap (λ (xs : List (List ℕ)). piece ∷ xs) (pieces-join next others (and_parts _ _ plain).1)
+
+-- ---- ends
+
+-- where a dash stands first
+pub ends_of-joined : (first last : List ℕ) → list_all is_ascii_digit first ≡ true → ends_of (first ++ 45 ∷ last) ≡ (first, last)
+ends_of-joined first last digits =
+    let whole = first ++ 45 ∷ last in
+    let place : position_or_len is_dash whole ≡ length first =
+        position_or_len_is is_dash whole (length first) 0 (omega (arith, length-append first (45 ∷ last)))
+        (λ k lt. ap is_dash (get_or_append_left first (45 ∷ last) 0 k lt) ∙ digit_is_no_dash _ (digit_at_place first k digits lt))
+        (λ lt. ap is_dash (get_or_at first 45 last 0 (length first) refl)) in
+    let found : position is_dash whole ≡ Some (length first) =
+        ap (λ (p : ℕ). cond (ltb p (length whole)) (Some p) None) place ∙ ap (λ (t : Bool). cond t (Some (length first)) None) (lt-ltb _ _ (omega (arith, length-append first (45 ∷ last)))) in
+    ap (ends_at whole) found
+    ∙ ap (λ (x : List ℕ). (x, drop (length first + 1) whole)) (take_at first (45 ∷ last) (length first) refl)
+    ∙ ap (λ (x : List ℕ). (first, x)) (drop_behind first 45 last)
+  where
+    digit_is_no_dash : (byte : ℕ) → is_ascii_digit byte ≡ true → is_dash byte ≡ false
+    digit_is_no_dash byte digit = let bounds = digit_bounds byte digit in ne_eqb byte 45 (λ e. omega (arith, bounds.0))
+    drop_behind : (first : List ℕ) (byte : ℕ) (last : List ℕ) → drop (length first + 1) (first ++ byte ∷ last) ≡ last
+    drop_behind [] byte last = refl
+    drop_behind (b ∷ first) byte last = ap (λ (n : ℕ). drop n (b ∷ (first ++ byte ∷ last))) (let e : suc (length first) + 1 ≡ suc (length first + 1) = omega arith in e) ∙ drop_behind first byte last
+
+-- digits alone are both ends
+pub ends_of-digits : (bytes : List ℕ) → list_all is_ascii_digit bytes ≡ true → ends_of bytes ≡ (bytes, bytes)
+ends_of-digits bytes digits =
+    let place : position_or_len is_dash bytes ≡ length bytes =
+        position_or_len_is is_dash bytes (length bytes) 0 (omega arith)
+        (λ k lt. digit_is_no_dash _ (digit_at_place bytes k digits lt))
+        (λ lt. absurd (omega arith)) in
+    ap (ends_at bytes) (ap (λ (p : ℕ). cond (ltb p (length bytes)) (Some p) None) place ∙ ap (λ (t : Bool). cond t (Some (length bytes)) None) (le-ltb _ _ (omega arith)))
+  where
+    digit_is_no_dash : (byte : ℕ) → is_ascii_digit byte ≡ true → is_dash byte ≡ false
+    digit_is_no_dash byte digit = let bounds = digit_bounds byte digit in ne_eqb byte 45 (λ e. omega (arith, bounds.0))
+
+-- the ends make up the item
+pub ends_make_up : (bytes : List ℕ) → (((ends_of bytes).0 ≡ bytes) × ((ends_of bytes).1 ≡ bytes)) ⊎ (bytes ≡ (ends_of bytes).0 ++ 45 ∷ (ends_of bytes).1)
+ends_make_up bytes = by_place (position is_dash bytes) refl
+  where
+    by_place : (o : Option ℕ) → position is_dash bytes ≡ o → (((ends_at bytes o).0 ≡ bytes) × ((ends_at bytes o).1 ≡ bytes)) ⊎ (bytes ≡ (ends_at bytes o).0 ++ 45 ∷ (ends_at bytes o).1)
+    by_place None e = inl (refl, refl)
+    by_place (Some i) e =
+        let at = position-Some is_dash bytes i 0 e in
+        inr (sym (take-append-drop i bytes) ∙ ap (λ (x : List ℕ). take i bytes ++ x) (drop_more bytes i 0 at.0 ∙ ap (λ (b : ℕ). b ∷ drop (i + 1) bytes) (eqb-true _ _ at.1)))

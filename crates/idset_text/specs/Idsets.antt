@@ -1,5 +1,5 @@
 -- Idsets (RFC 22): which texts are idsets, and which ids they stand for.
-use Rattle.std.specs.Prelude.{ℕ, zero, suc, ◌+◌, ◌-◌, ◌==◌, nat_lt, nat_le, Bool, not, ◌&&◌, if◌then◌else◌, List, [], ◌∷◌, ◌++◌, length, take, drop, slice_index, Option, Some, None, Result, Ok, Err, map, decimal}
+use Rattle.std.specs.Prelude.{◌≡◌, ◌≤◌, ℕ, zero, suc, ◌+◌, ◌-◌, ◌==◌, nat_lt, nat_le, Bool, not, ◌&&◌, if◌then◌else◌, List, [], ◌∷◌, ◌++◌, length, take, drop, slice_index, Option, Some, None, Result, Ok, Err, map, decimal}
 use Rattle.std.specs.List.{flat_map, join_with_byte}
 use Rattle.std.specs.Option.{option_and_then}
 use Rattle.idset_text.specs.declared.idsets.Range.{Range}
@@ -48,6 +48,10 @@ idset_of (byte ∷ bytes) = let text = byte ∷ bytes in
 
 -- ---- the meaning
 
+-- whether an id lies in a range
+abbrev pub is_within : Range → ℕ → Bool
+is_within range id = nat_le range.lo id && nat_le id range.hi
+
 -- so many ids from one on
 abbrev pub ids_from : ℕ → ℕ → List ℕ
 ids_from zero id = []
@@ -62,20 +66,35 @@ ids_of ranges = flat_map ids_between ranges
 
 -- ---- the text
 
--- an id before runs: it joins the first run where that begins with the next id, and else is a run of its own
-abbrev pub with_id : ℕ → List Range → List Range
-with_id id [] = record { lo = id; hi = id } ∷ []
-with_id id (run ∷ runs) = if run.lo == id + 1 then (record { lo = id; hi = run.hi } ∷ runs) else (record { lo = id; hi = id } ∷ run ∷ runs)
+-- a run before others: it goes on as the first of these where that begins with the next id
+abbrev pub with_run : Range → List Range → List Range
+with_run run [] = run ∷ []
+with_run run (next ∷ runs) = if next.lo == run.hi + 1 then (record { lo = run.lo; hi = next.hi } ∷ runs) else (run ∷ next ∷ runs)
+
+-- one id as a run
+abbrev pub run_of : ℕ → Range
+run_of id = record { lo = id; hi = id }
 
 -- the longest runs of ids that follow one another
 abbrev pub runs_of : List ℕ → List Range
 runs_of [] = []
-runs_of (id ∷ ids) = with_id id (runs_of ids)
+runs_of (id ∷ ids) = with_run (run_of id) (runs_of ids)
 
 -- a run of one is its id, a longer one has its ends with a dash (45) between
 abbrev pub range_text : Range → List ℕ
 range_text range = if range.lo == range.hi then decimal range.lo else (decimal range.lo ++ 45 ∷ decimal range.hi)
 
 -- the runs with commas (44) between
+abbrev pub runs_text : List Range → List ℕ
+runs_text runs = join_with_byte 44 (map range_text runs)
+
 abbrev pub idset_text : List ℕ → List ℕ
-idset_text ids = join_with_byte 44 (map range_text (runs_of ids))
+idset_text ids = runs_text (runs_of ids)
+
+-- the text is an idset of these ids
+abbrev pub IsIdsetOf : List ℕ → List ℕ → Type 0
+IsIdsetOf text ids = (ranges : List Range) × (idset_of text ≡ Ok ranges) × (ids_of ranges ≡ ids)
+
+-- no idset of these ids is shorter
+abbrev pub IsShortestOf : List ℕ → List ℕ → Type 0
+IsShortestOf text ids = (other : List ℕ) → IsIdsetOf other ids → length text ≤ length other

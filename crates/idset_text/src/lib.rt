@@ -7,4 +7,4 @@ mod items;
 mod numbers;
 
 pub use faults::TextFault;
-pub use idsets::{Range, read_idset};
+pub use idsets::{Range, has_id, read_idset, write_idset};
