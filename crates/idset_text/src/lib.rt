@@ -2,9 +2,11 @@
 #![tactic(auto)]
 
 mod faults;
+mod hostlists;
 mod idsets;
 mod items;
 mod numbers;
 
 pub use faults::TextFault;
+pub use hostlists::{Hosts, read_hostlist};
 pub use idsets::{Range, has_id, read_idset, write_idset};
