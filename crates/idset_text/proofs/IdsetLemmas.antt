@@ -9,14 +9,14 @@ use Rattle.idset_text.specs.Idsets.{is_within, ids_from, ids_between, ids_of, wi
 
 -- ---- which ids ranges have
 
-there : (x id : ℕ) (ids : List ℕ) → Contains ids id → Contains (x ∷ ids) id
+pub there : (x id : ℕ) (ids : List ℕ) → Contains ids id → Contains (x ∷ ids) id
 there x id ids has = (suc has.0, omega (arith, has.1), has.2)
 
-first_or_later : (x id : ℕ) (ids : List ℕ) → Contains (x ∷ ids) id → (x ≡ id) ⊎ Contains ids id
+pub first_or_later : (x id : ℕ) (ids : List ℕ) → Contains (x ∷ ids) id → (x ≡ id) ⊎ Contains ids id
 first_or_later x id ids (zero, lt, e) = inl e
 first_or_later x id ids (suc k, lt, e) = inr (k, omega (arith, lt), e)
 
-ids_from-has : (count lo id : ℕ) → lo ≤ id → id < lo + count → Contains (ids_from count lo) id
+pub ids_from-has : (count lo id : ℕ) → lo ≤ id → id < lo + count → Contains (ids_from count lo) id
 ids_from-has zero lo id low high = absurd (omega arith)
 ids_from-has (suc count) lo id low high =
     elim (cases_eq lo id) [
@@ -24,7 +24,7 @@ ids_from-has (suc count) lo id low high =
       | inr other ↦ there lo id (ids_from count (lo + 1)) (ids_from-has count (lo + 1) id (omega arith) (omega arith))
     ]
 
-ids_from-bounds : (count lo id : ℕ) → Contains (ids_from count lo) id → (lo ≤ id) × (id < lo + count)
+pub ids_from-bounds : (count lo id : ℕ) → Contains (ids_from count lo) id → (lo ≤ id) × (id < lo + count)
 ids_from-bounds zero lo id has = absurd (omega (arith, has.1))
 ids_from-bounds (suc count) lo id has =
     elim (first_or_later lo id (ids_from count (lo + 1)) has) [

@@ -2,3 +2,4 @@ pub mod ItemLemmas
 pub mod NumberLemmas
 pub mod IdsetLemmas
 pub mod IdsetTexts
+pub mod HostLemmas

@@ -1,5 +1,5 @@
 -- Hostlists (RFC 29): which texts are hostlists, and which names they stand for.
-use Rattle.std.specs.Prelude.{◌≡◌, ℕ, ◌+◌, ◌-◌, ◌==◌, nat_lt, nat_le, Bool, true, false, not, ◌&&◌, ◌||◌, if◌then◌else◌, List, [], ◌∷◌, ◌++◌, length, take, drop, replicate, slice_index, Option, Some, None, Result, Ok, Err, map, decimal, MatchOption}
+use Rattle.std.specs.Prelude.{◌≡◌, ◌≤◌, ℕ, ◌+◌, ◌-◌, ◌==◌, nat_lt, nat_le, Bool, true, false, not, ◌&&◌, ◌||◌, if◌then◌else◌, List, [], ◌∷◌, ◌++◌, length, take, drop, replicate, slice_index, Option, Some, None, Result, Ok, Err, map, decimal, MatchOption}
 use Rattle.std.specs.List.{flat_map, list_all, position, suffix_len}
 use Rattle.std.specs.Option.{option_and_then, option_map}
 use Rattle.std.specs.Char.{is_ascii_alphanumeric, is_ascii_digit}
@@ -89,6 +89,19 @@ names_from prefix width count lo = map (λ number. prefix ++ padded width number
 abbrev pub own_names : Hosts → List (List ℕ)
 own_names (One name) = name ∷ []
 own_names (Many prefix lo hi width) = names_from prefix width (hi + 1 - lo) lo
+
+-- digits of the width, or more of them with no zero leading
+abbrev pub has_width : ℕ → List ℕ → Bool
+has_width width digits = (length digits == width) || (nat_lt width (length digits) && not (has_leading_zero digits))
+
+-- whether digits are such a padded number
+abbrev pub is_one_of : ℕ → ℕ → Bool → Option ℕ → Bool
+is_one_of lo hi is_wide (Some number) = nat_le lo number && nat_le number hi && is_wide
+is_one_of lo hi is_wide None = false
+
+-- the digits are one of the numbers, padded to the width
+abbrev pub IsOneOf : ℕ → ℕ → ℕ → List ℕ → Type 0
+IsOneOf lo hi width digits = (number : ℕ) × (lo ≤ number) × (number ≤ hi) × (digits ≡ padded width number)
 
 -- the names that hosts stand for, in order
 abbrev pub names_of : List Hosts → List (List ℕ)

@@ -1,11 +1,11 @@
 //! Hostlists: texts of host names (RFC 29).
-ghost use Rattle.std.specs.Prelude.{◌≡◌, ℕ, ◌+◌, ◌<◌, ◌≤◌, ◌↔◌, ◌∷◌, ◌++◌, ◌==◌, ◌||◌, not, nat_le, length, decimal, position, All, Contains, IsTrue, IfOk, IfSome, OnOk};
+ghost use Rattle.std.specs.Prelude.{◌≡◌, ℕ, List, MatchOption, ◌+◌, ◌≤◌, ◌↔◌, ◌∷◌, ◌++◌, ◌==◌, ◌||◌, not, nat_le, nat_lt, ◌&&◌, ◌<◌, false, length, decimal, position, All, Contains, IsTrue, IfOk, IfSome, OnOk};
 ghost use Rattle.std.specs.List.{list_all, suffix_len};
 ghost use Rattle.std.specs.Char.{is_ascii_digit};
 ghost use Rattle.idset_text.specs.Faults.{Gives};
 ghost use Rattle.idset_text.specs.Items.{items_of};
-ghost use Rattle.idset_text.specs.Numbers.{has_leading_zero};
-ghost use Rattle.idset_text.specs.Hostlists.{is_name_byte, is_name, host_number, padded, width_of, numbers_of, list_place, hosts_of_list, hosts_of_item, hosts_of, hostlist_of, Adds};
+ghost use Rattle.idset_text.specs.Numbers.{has_leading_zero, number_of};
+ghost use Rattle.idset_text.specs.Hostlists.{is_name_byte, is_name, host_number, padded, width_of, numbers_of, list_place, hosts_of_list, hosts_of_item, hosts_of, hostlist_of, has_width, is_one_of, IsOneOf, own_names, names_of, digits_place, prefix_of, digits_of, follows, is_alike, continues, run_text, texts_from, hostlist_texts, Adds};
 
 use crate::faults::TextFault;
 use crate::items::{ends, first_item};
@@ -211,5 +211,170 @@ pub fn read_hostlist(alloc: Global, text: &[u8]) -> Result<List<Hosts>, TextFaul
     match text {
         [] => Ok(List::new(alloc)),
         _ => read_hosts(alloc, text),
+    }
+}
+
+/// Whether the digits are as many as the width, or more with no zero leading.
+fn is_wide(width: usize, digits: &[u8]) -> bool
+    ensures { result ≡ has_width width digits.now }
+{
+    digits.len() == width || width < digits.len() && !leads_with_zero(digits)
+}
+
+/// The test of `is_number_within`.
+fn passes(lo: u32, hi: u32, width: usize, digits: &[u8]) -> bool
+    ensures { result ≡ is_one_of lo hi (has_width width digits.now) (number_of digits.now) }
+{
+    match number(digits) {
+        Some(number) => lo <= number && number <= hi && is_wide(width, digits),
+        None => false,
+    }
+}
+
+/// Whether the digits are one of the numbers from `lo` to `hi`, padded to the width.
+fn is_number_within(lo: u32, hi: u32, width: usize, digits: &[u8]) -> bool
+    ensures { IsTrue result ↔ IsOneOf lo hi width digits.now }
+{
+    passes(lo, hi, width, digits)
+}
+
+/// What stands behind a prefix; `None` where the name doesn't begin with it.
+fn behind<'a>(name: &'a [u8], prefix: &[u8]) -> Option<&'a [u8]>
+    ensures { MatchOption result ((rest : List ℕ) → name.now ≡ prefix.now ++ rest → ⊥) (λ rest. name.now ≡ prefix.now ++ rest.now) }
+{
+    name.strip_prefix(prefix)
+}
+
+impl Hosts {
+    /// Whether the name is one of these hosts'.
+    fn contains(&self, name: &[u8]) -> bool
+        ensures { IsTrue result ↔ Contains (own_names self.now) name.now }
+    {
+        match self {
+            Hosts::One { name: own } => own.bytes() == name,
+            Hosts::Many {
+                prefix,
+                lo,
+                hi,
+                width,
+            } => match behind(name, prefix.bytes()) {
+                Some(digits) => is_number_within(*lo, *hi, *width as usize, digits),
+                None => false,
+            },
+        }
+    }
+}
+
+/// Whether the name is one of those that the hosts stand for. No range is expanded.
+pub fn has_host(hosts: &List<Hosts>, name: &[u8]) -> bool
+    ensures { IsTrue result ↔ Contains (names_of hosts.now) name.now }
+{
+    'hosts: for item in hosts.items() {
+        if item.contains(name) {
+            return true;
+        }
+    }
+    false
+}
+
+/// Where the digits at a name's end begin.
+fn place_of_digits(name: &[u8]) -> usize
+    ensures { result ≡ digits_place name.now }
+{
+    let mut place = name.len();
+    'digits: while place > 0 && name[place - 1].is_ascii_digit() {
+        place -= 1;
+    }
+    place
+}
+
+/// A name's prefix and its longest end of digits.
+fn parts(name: &[u8]) -> (&[u8], &[u8])
+    ensures prefix { result.0.now ≡ prefix_of name.now }
+    ensures digits { result.1.now ≡ digits_of name.now }
+{
+    let place = place_of_digits(name);
+    (&name[..place], &name[place..])
+}
+
+/// Whether both write numbers of hosts, and the second is the next one.
+fn is_next(last: &[u8], next: &[u8]) -> bool
+    ensures { result ≡ follows (host_number last.now) (host_number next.now) }
+{
+    match (number_of_host(last), number_of_host(next)) {
+        (Some(last), Some(next)) => u64::from(next) == u64::from(last) + 1,
+        _ => false,
+    }
+}
+
+/// Whether digits are equally many, or no zero leads either.
+fn are_alike(first: &[u8], next: &[u8]) -> bool
+    ensures { result ≡ is_alike first.now next.now }
+{
+    next.len() == first.len() || !leads_with_zero(first) && !leads_with_zero(next)
+}
+
+/// Whether a name continues the run from `first` to `last`.
+fn does_continue(first: &[u8], last: &[u8], next: &[u8]) -> bool
+    ensures { result ≡ continues first.now last.now next.now }
+{
+    let (prefix, digits) = parts(next);
+    let (last_prefix, last_digits) = parts(last);
+    let (_, first_digits) = parts(first);
+    last_prefix == prefix && is_next(last_digits, digits) && are_alike(first_digits, digits)
+}
+
+/// The text of a run: its one name, or where it has many its prefix with the digits of its ends in brackets.
+fn text_of_run(alloc: Global, many: bool, first: &[u8], last: &[u8]) -> Result<Text, AllocError>
+    ensures { IfOk result (λ text. text ≡ run_text many first.now last.now) }
+{
+    if !many {
+        return Text::of(alloc, first);
+    }
+    let (prefix, first_digits) = parts(first);
+    let (_, last_digits) = parts(last);
+    let mut text = Vec::from_slice(alloc, prefix)?;
+    text.push(b'[')?;
+    text.extend_from_slice(first_digits)?;
+    text.push(b'-')?;
+    text.extend_from_slice(last_digits)?;
+    text.push(b']')?;
+    Ok(Text::of_vec(text))
+}
+
+/// The texts of the names from the first on.
+fn texts_of(alloc: Global, first: &[u8], others: &[Text]) -> Result<Vec<Text>, AllocError>
+    ensures { IfOk result (λ texts. texts.items ≡ texts_from false first.now first.now others.now) }
+{
+    let mut texts = Vec::new(alloc);
+    let mut first = first;
+    let mut last = first;
+    let mut many = false;
+    'names: for name in others {
+        let next = name.bytes();
+        if does_continue(first, last, next) {
+            many = true;
+        } else {
+            texts.push(text_of_run(alloc, many, first, last)?)?;
+            first = next;
+            many = false;
+        }
+        last = next;
+    }
+    texts.push(text_of_run(alloc, many, first, last)?)?;
+    Ok(texts)
+}
+
+/// The hostlists of names, one for each run of names with one prefix and numbers that follow one another (RFC 29).
+/// Read in order they give the names again, if each is a name.
+pub fn write_hostlist(alloc: Global, names: &List<Text>) -> Result<List<Text>, AllocError>
+    ensures texts { IfOk result (λ texts. texts ≡ hostlist_texts names.now) }
+{
+    match names.items() {
+        [] => Ok(List::new(alloc)),
+        [first, others @ ..] => {
+            let texts = texts_of(alloc, first.bytes(), others)?;
+            Ok(List::of_vec(texts))
+        }
     }
 }
