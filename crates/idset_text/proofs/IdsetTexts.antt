@@ -175,7 +175,7 @@ ids_rise least (id ∷ ids) low h small =
 
 -- ---- the ids of runs
 
-ids_from-add : (m n lo : ℕ) → ids_from (m + n) lo ≡ ids_from m lo ++ ids_from n (lo + m)
+pub ids_from-add : (m n lo : ℕ) → ids_from (m + n) lo ≡ ids_from m lo ++ ids_from n (lo + m)
 ids_from-add zero n lo = ap (λ (k : ℕ). ids_from k lo) (omega arith) ∙ ap (ids_from n) (omega arith)
 ids_from-add (suc m) n lo =
     let e : suc m + n ≡ suc (m + n) = omega arith in
@@ -207,7 +207,7 @@ ids_of-runs_of least (id ∷ ids) r =
 
 -- ---- the text is read as the runs
 
-digits_plain : (bytes : List ℕ) → are_digits bytes ≡ true → list_all is_plain bytes ≡ true
+pub digits_plain : (bytes : List ℕ) → are_digits bytes ≡ true → list_all is_plain bytes ≡ true
 digits_plain [] d = refl
 digits_plain (byte ∷ bytes) d =
     let both = and_parts _ _ d in

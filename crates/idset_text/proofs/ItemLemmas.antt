@@ -109,37 +109,40 @@ pieces-join piece (next ∷ others) plain =
 
 -- ---- ends
 
+-- the first byte that passes
+pub position-first : (test : ℕ → Bool) (first : List ℕ) (byte : ℕ) (last : List ℕ) → ((k : ℕ) → k < length first → test (get_or first k 0) ≡ false) → test byte ≡ true → position test (first ++ byte ∷ last) ≡ Some (length first)
+position-first test first byte last none passes =
+    let whole = first ++ byte ∷ last in
+    let long : length first < length whole = omega (arith, length-append first (byte ∷ last)) in
+    let place : position_or_len test whole ≡ length first =
+        position_or_len_is test whole (length first) 0 (omega arith)
+        (λ k lt. ap test (get_or_append_left first (byte ∷ last) 0 k lt) ∙ none k lt)
+        (λ lt. ap test (get_or_at first byte last 0 (length first) refl) ∙ passes) in
+    ap (λ (p : ℕ). cond (ltb p (length whole)) (Some p) None) place ∙ ap (λ (t : Bool). cond t (Some (length first)) None) (lt-ltb _ _ long)
+
+-- no byte that passes
+pub position-none : (test : ℕ → Bool) (bytes : List ℕ) → ((k : ℕ) → k < length bytes → test (get_or bytes k 0) ≡ false) → position test bytes ≡ None
+position-none test bytes none =
+    let place : position_or_len test bytes ≡ length bytes = position_or_len_is test bytes (length bytes) 0 (omega arith) none (λ lt. absurd (omega arith)) in
+    ap (λ (p : ℕ). cond (ltb p (length bytes)) (Some p) None) place ∙ ap (λ (t : Bool). cond t (Some (length bytes)) None) (le-ltb _ _ (omega arith))
+
+pub drop-behind : (first : List ℕ) (byte : ℕ) (last : List ℕ) → drop (length first + 1) (first ++ byte ∷ last) ≡ last
+drop-behind [] byte last = refl
+drop-behind (b ∷ first) byte last = ap (λ (n : ℕ). drop n (b ∷ (first ++ byte ∷ last))) (let e : suc (length first) + 1 ≡ suc (length first + 1) = omega arith in e) ∙ drop-behind first byte last
+
+digit_is_no_dash : (bytes : List ℕ) → list_all is_ascii_digit bytes ≡ true → (k : ℕ) → k < length bytes → is_dash (get_or bytes k 0) ≡ false
+digit_is_no_dash bytes digits k lt = let bounds = digit_bounds (get_or bytes k 0) (digit_at_place bytes k digits lt) in ne_eqb (get_or bytes k 0) 45 (λ e. omega (arith, bounds.0))
+
 -- where a dash stands first
 pub ends_of-joined : (first last : List ℕ) → list_all is_ascii_digit first ≡ true → ends_of (first ++ 45 ∷ last) ≡ (first, last)
 ends_of-joined first last digits =
-    let whole = first ++ 45 ∷ last in
-    let place : position_or_len is_dash whole ≡ length first =
-        position_or_len_is is_dash whole (length first) 0 (omega (arith, length-append first (45 ∷ last)))
-        (λ k lt. ap is_dash (get_or_append_left first (45 ∷ last) 0 k lt) ∙ digit_is_no_dash _ (digit_at_place first k digits lt))
-        (λ lt. ap is_dash (get_or_at first 45 last 0 (length first) refl)) in
-    let found : position is_dash whole ≡ Some (length first) =
-        ap (λ (p : ℕ). cond (ltb p (length whole)) (Some p) None) place ∙ ap (λ (t : Bool). cond t (Some (length first)) None) (lt-ltb _ _ (omega (arith, length-append first (45 ∷ last)))) in
-    ap (ends_at whole) found
-    ∙ ap (λ (x : List ℕ). (x, drop (length first + 1) whole)) (take_at first (45 ∷ last) (length first) refl)
-    ∙ ap (λ (x : List ℕ). (first, x)) (drop_behind first 45 last)
-  where
-    digit_is_no_dash : (byte : ℕ) → is_ascii_digit byte ≡ true → is_dash byte ≡ false
-    digit_is_no_dash byte digit = let bounds = digit_bounds byte digit in ne_eqb byte 45 (λ e. omega (arith, bounds.0))
-    drop_behind : (first : List ℕ) (byte : ℕ) (last : List ℕ) → drop (length first + 1) (first ++ byte ∷ last) ≡ last
-    drop_behind [] byte last = refl
-    drop_behind (b ∷ first) byte last = ap (λ (n : ℕ). drop n (b ∷ (first ++ byte ∷ last))) (let e : suc (length first) + 1 ≡ suc (length first + 1) = omega arith in e) ∙ drop_behind first byte last
+    ap (ends_at (first ++ 45 ∷ last)) (position-first is_dash first 45 last (digit_is_no_dash first digits) refl)
+    ∙ ap (λ (x : List ℕ). (x, drop (length first + 1) (first ++ 45 ∷ last))) (take_at first (45 ∷ last) (length first) refl)
+    ∙ ap (λ (x : List ℕ). (first, x)) (drop-behind first 45 last)
 
 -- digits alone are both ends
 pub ends_of-digits : (bytes : List ℕ) → list_all is_ascii_digit bytes ≡ true → ends_of bytes ≡ (bytes, bytes)
-ends_of-digits bytes digits =
-    let place : position_or_len is_dash bytes ≡ length bytes =
-        position_or_len_is is_dash bytes (length bytes) 0 (omega arith)
-        (λ k lt. digit_is_no_dash _ (digit_at_place bytes k digits lt))
-        (λ lt. absurd (omega arith)) in
-    ap (ends_at bytes) (ap (λ (p : ℕ). cond (ltb p (length bytes)) (Some p) None) place ∙ ap (λ (t : Bool). cond t (Some (length bytes)) None) (le-ltb _ _ (omega arith)))
-  where
-    digit_is_no_dash : (byte : ℕ) → is_ascii_digit byte ≡ true → is_dash byte ≡ false
-    digit_is_no_dash byte digit = let bounds = digit_bounds byte digit in ne_eqb byte 45 (λ e. omega (arith, bounds.0))
+ends_of-digits bytes digits = ap (ends_at bytes) (position-none is_dash bytes (digit_is_no_dash bytes digits))
 
 -- the ends make up the item
 pub ends_make_up : (bytes : List ℕ) → (((ends_of bytes).0 ≡ bytes) × ((ends_of bytes).1 ≡ bytes)) ⊎ (bytes ≡ (ends_of bytes).0 ++ 45 ∷ (ends_of bytes).1)

@@ -3,3 +3,4 @@ pub mod NumberLemmas
 pub mod IdsetLemmas
 pub mod IdsetTexts
 pub mod HostLemmas
+pub mod HostlistTexts

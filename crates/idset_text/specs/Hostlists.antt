@@ -135,10 +135,7 @@ continues first last next = bytes_eq (prefix_of last) (prefix_of next) && follow
 
 -- a run of one is its name, a longer one has the digits of its ends in brackets (91, 93) with a dash (45) between
 abbrev pub run_text : Bool → List ℕ → List ℕ → List ℕ
-run_text many first last = if many then (first_part ++ 45 ∷ digits_of last ++ 93 ∷ []) else first
-  where
-    first_part : List ℕ
-    first_part = prefix_of first ++ 91 ∷ digits_of first
+run_text many first last = if many then (prefix_of first ++ 91 ∷ digits_of first ++ 45 ∷ digits_of last ++ 93 ∷ []) else first
 
 -- the texts of a run that goes from `first` to `last` so far, and of the names behind it
 abbrev pub texts_from : Bool → List ℕ → List ℕ → List (List ℕ) → List (List ℕ)

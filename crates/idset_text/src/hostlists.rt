@@ -5,7 +5,7 @@ ghost use Rattle.std.specs.Char.{is_ascii_digit};
 ghost use Rattle.idset_text.specs.Faults.{Gives};
 ghost use Rattle.idset_text.specs.Items.{items_of};
 ghost use Rattle.idset_text.specs.Numbers.{has_leading_zero, number_of};
-ghost use Rattle.idset_text.specs.Hostlists.{is_name_byte, is_name, host_number, padded, width_of, numbers_of, list_place, hosts_of_list, hosts_of_item, hosts_of, hostlist_of, has_width, is_one_of, IsOneOf, own_names, names_of, digits_place, prefix_of, digits_of, follows, is_alike, continues, run_text, texts_from, hostlist_texts, Adds};
+ghost use Rattle.idset_text.specs.Hostlists.{is_name_byte, is_name, host_number, padded, width_of, numbers_of, list_place, hosts_of_list, hosts_of_item, hosts_of, hostlist_of, has_width, is_one_of, IsOneOf, own_names, names_of, digits_place, prefix_of, digits_of, follows, is_alike, continues, run_text, texts_from, hostlist_texts, AreHostlistsOf, Adds};
 
 use crate::faults::TextFault;
 use crate::items::{ends, first_item};
@@ -365,16 +365,22 @@ fn texts_of(alloc: Global, first: &[u8], others: &[Text]) -> Result<Vec<Text>, A
     Ok(texts)
 }
 
+/// The texts of the names.
+fn texts_of_all(alloc: Global, names: &[Text]) -> Result<Vec<Text>, AllocError>
+    ensures { IfOk result (λ texts. texts.items ≡ hostlist_texts names.now) }
+{
+    match names {
+        [] => Ok(Vec::new(alloc)),
+        [first, others @ ..] => texts_of(alloc, first.bytes(), others),
+    }
+}
+
 /// The hostlists of names, one for each run of names with one prefix and numbers that follow one another (RFC 29).
 /// Read in order they give the names again, if each is a name.
 pub fn write_hostlist(alloc: Global, names: &List<Text>) -> Result<List<Text>, AllocError>
     ensures texts { IfOk result (λ texts. texts ≡ hostlist_texts names.now) }
+    ensures again { IfOk result (λ texts. All (λ name. IsTrue (is_name name)) names.now → AreHostlistsOf texts names.now) }
 {
-    match names.items() {
-        [] => Ok(List::new(alloc)),
-        [first, others @ ..] => {
-            let texts = texts_of(alloc, first.bytes(), others)?;
-            Ok(List::of_vec(texts))
-        }
-    }
+    let texts = texts_of_all(alloc, names.items())?;
+    Ok(List::of_vec(texts))
 }
