@@ -86,9 +86,9 @@ width_is_padded width n digits written e =
     elim (or_cases (eqb (length digits) width) (ltb width (length digits) && not (has_leading_zero digits)) e) [
       | inl same ↦ sym (padded-written digits n written) ∙ ap (λ (k : ℕ). padded k n) (eqb-true _ _ same)
       | inr plain ↦
-        let both = and_parts _ _ plain in
-        let longer : width < length digits = ltb-true _ _ both.0 in
-        sym (padded-plain width n digits (omega arith) (not-true _ both.1) written)
+          let both = and_parts _ _ plain in
+          let longer : width < length digits = ltb-true _ _ both.0 in
+          sym (padded-plain width n digits (omega arith) (not-true _ both.1) written)
     ]
 
 -- ---- one of the numbers

@@ -80,7 +80,7 @@ list_place-listed prefix list p =
     let last : get_or text (length text - 1) 0 ≡ 93 = ap (λ (t : List ℕ). get_or t (length text - 1) 0) parted ∙ get_or_push (prefix ++ 91 ∷ list) 93 0 (length text - 1) before in
     ap (λ (t : Bool). cond t (position (λ byte. eqb byte 91) text) None) (eq-eqb _ _ last)
     ∙ position-first (λ byte. eqb byte 91) prefix 91 (list ++ 93 ∷ [])
-        (λ k lt. ne_eqb (get_or prefix k 0) 91 (λ e. both_ways (is_name_byte (get_or prefix k 0)) (ap is_name_byte e) (AllPass-from_list_all is_name_byte prefix p k 0 lt))) refl
+    (λ k lt. ne_eqb (get_or prefix k 0) 91 (λ e. both_ways (is_name_byte (get_or prefix k 0)) (ap is_name_byte e) (AllPass-from_list_all is_name_byte prefix p k 0 lt))) refl
 
 or_second : (a b : Bool) → b ≡ true → (a || b) ≡ true
 or_second true b e = refl
@@ -190,7 +190,8 @@ run_begins first lo read =
     let padding : padded (width_of (digits_of first)) lo ≡ digits_of first = padded-own (digits_of first) lo (host_number_written (digits_of first) lo read) in
     let one : lo + 1 - lo ≡ 1 = omega arith in
     record {
-      lo = lo; hi = lo;
+      lo = lo;
+      hi = lo;
       prefix = refl;
       first_number = read;
       last_number = read;
@@ -222,12 +223,15 @@ continues_parts : (first last next : List ℕ) → continues first last next ≡
 continues_parts first last next e =
     let both = and_parts _ _ e in
     let front = and_parts _ _ both.0 in
-    let some = some_last (host_number (digits_of last)) (host_number (digits_of next)) front.1 in
-    (some.0, some.1, record {
-      prefix = (bytes_eq-Decides (prefix_of last) (prefix_of next)).0 front.0;
-      number = followed (host_number (digits_of next)) some.0 (ap (λ (o : Option ℕ). follows o (host_number (digits_of next))) (sym some.1) ∙ front.1);
-      alike = both.1;
-    })
+    let some = some_last (host_number (digits_of last)) (host_number (digits_of next)) front.1 in (
+      some.0,
+      some.1,
+      record {
+        prefix = (bytes_eq-Decides (prefix_of last) (prefix_of next)).0 front.0;
+        number = followed (host_number (digits_of next)) some.0 (ap (λ (o : Option ℕ). follows o (host_number (digits_of next))) (sym some.1) ∙ front.1);
+        alike = both.1;
+      },
+    )
 
 -- the next name has the run's width
 next_padded : (first next : List ℕ) (lo n : ℕ) → WritesNumber first lo → WritesNumber next n → lo ≤ n → is_alike first next ≡ true
@@ -236,6 +240,7 @@ next_padded first next lo n a b le alike = by_zero (has_leading_zero first) refl
   where
     same_len : eqb (length next) (length first) ≡ true → length next ≡ length first
     same_len e = eqb-true _ _ e
+
     by_zero : (z : Bool) → has_leading_zero first ≡ z → (next ≡ padded (cond z (length first) 0) n) × (z ≡ true → length next ≡ length first)
     by_zero true e =
         let len : length next ≡ length first = elim (or_cases _ _ alike) [
@@ -246,9 +251,9 @@ next_padded first next lo n a b le alike = by_zero (has_leading_zero first) refl
     by_zero false e =
         let lead : has_leading_zero next ≡ false = elim (or_cases _ _ alike) [
           | inl same ↦ elim (cases_Bool (has_leading_zero next)) [
-              | inl led ↦ absurd (no_zero_above first next lo n a b e (same_len same) le led)
-              | inr none ↦ none
-            ]
+            | inl led ↦ absurd (no_zero_above first next lo n a b e (same_len same) le led)
+            | inr none ↦ none
+          ]
           | inr plain ↦ not-true (has_leading_zero next) (and_parts _ _ plain).1
         ] in
         (sym (padded-plain 0 n next (omega arith) lead b), λ t. absurd cc)
@@ -265,7 +270,8 @@ run_goes_on first last next seen run e =
     let place : run.lo + (run.hi + 1 - run.lo) ≡ run.hi + 1 = omega (arith, run.ordered) in
     let name : next ≡ prefix_of first ++ padded width (run.hi + 1) = sym (name_is next) ∙ ap (λ (p : List ℕ). p ++ digits_of next) prefix ∙ ap (λ (ds : List ℕ). prefix_of first ++ ds) pad.0 in
     record {
-      lo = run.lo; hi = run.hi + 1;
+      lo = run.lo;
+      hi = run.hi + 1;
       prefix = prefix;
       first_number = run.first_number;
       last_number = number;
@@ -273,9 +279,9 @@ run_goes_on first last next seen run e =
       padding = pad.0;
       wide = pad.1;
       names = ap (λ (names : List (List ℕ)). names ++ next ∷ []) run.names
-        ∙ ap (λ (x : List ℕ). names_from (prefix_of first) width (run.hi + 1 - run.lo) run.lo ++ x ∷ []) (name ∙ ap (λ (k : ℕ). prefix_of first ++ padded width k) (sym place))
-        ∙ sym (names_from-add (prefix_of first) width (run.hi + 1 - run.lo) run.lo)
-        ∙ ap (λ (k : ℕ). names_from (prefix_of first) width k run.lo) (sym count);
+          ∙ ap (λ (x : List ℕ). names_from (prefix_of first) width (run.hi + 1 - run.lo) run.lo ++ x ∷ []) (name ∙ ap (λ (k : ℕ). prefix_of first ++ padded width k) (sym place))
+          ∙ sym (names_from-add (prefix_of first) width (run.hi + 1 - run.lo) run.lo)
+          ∙ ap (λ (k : ℕ). names_from (prefix_of first) width k run.lo) (sym count);
     }
   where
     some_same : (a b : ℕ) → Some a ≡ Some b → a ≡ b
@@ -346,8 +352,10 @@ texts_read (next ∷ names) many first last seen f l h run =
   where
     is_next : is_name next ≡ true
     is_next = All-head (λ name. IsTrue (is_name name)) next names h
+
     others : AreNames names
     others = All-tail (λ name. IsTrue (is_name name)) next names h
+
     by_test : (b : Bool) → continues first last next ≡ b → (RunOf first next (seen ++ next ∷ []) → AreHostlistsOf (texts_from true first next names) ((seen ++ next ∷ []) ++ names)) → AreHostlistsOf (texts_from false next next names) (next ∷ names)
         → AreHostlistsOf (cond b (texts_from true first next names) (run_text many first last ∷ texts_from false next next names)) (seen ++ next ∷ names)
     by_test true e longer apart =

@@ -37,10 +37,10 @@ has_when_within [] id e = absurd cc
 has_when_within (range ∷ ranges) id e =
     elim (or_cases (is_within range id) (list_any (λ range. is_within range id) ranges) e) [
       | inl here ↦
-        let bounds = and_parts _ _ here in
-        let low : range.lo ≤ id = leb-true _ _ bounds.0 in
-        let high : id ≤ range.hi = leb-true _ _ bounds.1 in
-        Contains-append_left (ids_between range) (ids_of ranges) id (ids_from-has (range.hi + 1 - range.lo) range.lo id low (omega arith))
+          let bounds = and_parts _ _ here in
+          let low : range.lo ≤ id = leb-true _ _ bounds.0 in
+          let high : id ≤ range.hi = leb-true _ _ bounds.1 in
+          Contains-append_left (ids_between range) (ids_of ranges) id (ids_from-has (range.hi + 1 - range.lo) range.lo id low (omega arith))
       | inr later ↦ Contains-append_right (ids_between range) (ids_of ranges) id (has_when_within ranges id later)
     ]
 
@@ -49,10 +49,10 @@ within_when_has [] id has = absurd (omega (arith, has.1))
 within_when_has (range ∷ ranges) id has =
     elim (Contains-append_cases (ids_between range) (ids_of ranges) id has) [
       | inl here ↦
-        let bounds = ids_from-bounds (range.hi + 1 - range.lo) range.lo id here in
-        let low : range.lo ≤ id = bounds.0 in
-        let high : id ≤ range.hi = omega (arith, bounds.0, bounds.1) in
-        ap (λ (t : Bool). t || list_any (λ range. is_within range id) ranges) (and_from _ _ (le-leb _ _ low) (le-leb _ _ high))
+          let bounds = ids_from-bounds (range.hi + 1 - range.lo) range.lo id here in
+          let low : range.lo ≤ id = bounds.0 in
+          let high : id ≤ range.hi = omega (arith, bounds.0, bounds.1) in
+          ap (λ (t : Bool). t || list_any (λ range. is_within range id) ranges) (and_from _ _ (le-leb _ _ low) (le-leb _ _ high))
       | inr later ↦ or_later (is_within range id) (list_any (λ range. is_within range id) ranges) (within_when_has ranges id later)
     ]
   where

@@ -34,13 +34,14 @@ id_was_written bytes n e = by_zero (has_leading_zero bytes) refl e
   where
     small_one : ℕ → Option ℕ
     small_one number = cond (ltb number 4294967295) (Some number) None
+
     by_zero : (b : Bool) → has_leading_zero bytes ≡ b → cond b None (option_and_then (λ number. cond (ltb number 4294967295) (Some number) None) (number_of bytes)) ≡ Some n → (bytes ≡ decimal n) × (n < 4294967295)
     by_zero true lead f = absurd cc
     by_zero false lead f = option_and_then_some (λ number. cond (ltb number 4294967295) (Some number) None) (number_of bytes) n f
         (λ x read kept.
-            let test = cond_some (ltb x 4294967295) x n kept in
-            let same : number_of bytes ≡ Some n = read ∙ ap (λ (v : ℕ). Some v) test.1 in
-            (digits_are_decimal bytes n lead (number_was_written bytes n same), omega (arith, ltb-true x 4294967295 test.0, test.1)))
+        let test = cond_some (ltb x 4294967295) x n kept in
+        let same : number_of bytes ≡ Some n = read ∙ ap (λ (v : ℕ). Some v) test.1 in
+        (digits_are_decimal bytes n lead (number_was_written bytes n same), omega (arith, ltb-true x 4294967295 test.0, test.1)))
 
 -- ---- ranges
 
@@ -109,10 +110,10 @@ range_was_written bytes range e =
       is = record { ordered = ids.2; small = last.1 };
       long = elim (ends_make_up bytes) [
         | inl whole ↦
-          let same : id_of (ends_of bytes).0 ≡ id_of (ends_of bytes).1 = ap id_of (whole.0 ∙ sym whole.1) in
-          let one : range.lo ≡ range.hi = some_same range.lo range.hi (sym ids.0 ∙ same ∙ ids.1) in
-          let short : length (range_text range) ≡ length (decimal range.lo) = ap (λ (t : Bool). length (cond t (decimal range.lo) (decimal range.lo ++ 45 ∷ decimal range.hi))) (eq-eqb _ _ one) in
-          omega (arith, short, first_len, ap length whole.0)
+            let same : id_of (ends_of bytes).0 ≡ id_of (ends_of bytes).1 = ap id_of (whole.0 ∙ sym whole.1) in
+            let one : range.lo ≡ range.hi = some_same range.lo range.hi (sym ids.0 ∙ same ∙ ids.1) in
+            let short : length (range_text range) ≡ length (decimal range.lo) = ap (λ (t : Bool). length (cond t (decimal range.lo) (decimal range.lo ++ 45 ∷ decimal range.hi))) (eq-eqb _ _ one) in
+            omega (arith, short, first_len, ap length whole.0)
         | inr parts ↦ omega (arith, range_text-short range.lo range.hi, first_len, last_len, ap length parts, length-append (ends_of bytes).0 (45 ∷ (ends_of bytes).1))
       ];
     }
@@ -129,9 +130,9 @@ pub above_was_written : (least : ℕ) (bytes : List ℕ) (range : Range) → ran
 above_was_written least bytes range e =
     option_and_then_some (λ r. cond (leb least r.lo) (Some r) None) (range_of bytes) range e
     (λ x read kept.
-        let test = cond_some (leb least x.lo) x range kept in
-        let low : x.lo ≡ range.lo = ap (λ (r : Range). r.lo) test.1 in
-        (omega (arith, leb-true least x.lo test.0), range_was_written bytes range (read ∙ ap (λ (r : Range). Some r) test.1)))
+    let test = cond_some (leb least x.lo) x range kept in
+    let low : x.lo ≡ range.lo = ap (λ (r : Range). r.lo) test.1 in
+    (omega (arith, leb-true least x.lo test.0), range_was_written bytes range (read ∙ ap (λ (r : Range). Some r) test.1)))
 
 -- ---- ranges that rise
 
@@ -169,9 +170,11 @@ increasing_tail id ids h k lt =
 
 pub ids_rise : (least : ℕ) (ids : List ℕ) → (0 < length ids → least ≤ get_or ids 0 0) → IsStrictlyIncreasing ids → All (λ id. id < 4294967295) ids → IdsRise least ids
 ids_rise least [] low h small = tt
-ids_rise least (id ∷ ids) low h small =
-    (low (omega arith), All-head (λ x. x < 4294967295) id ids small,
-      ids_rise (id + 1) ids (λ some. let p : id < get_or (id ∷ ids) (0 + 1) 0 = h 0 (omega arith) in let q : id < get_or ids 0 0 = p in omega (arith, q)) (increasing_tail id ids h) (All-tail (λ x. x < 4294967295) id ids small))
+ids_rise least (id ∷ ids) low h small = (
+  low (omega arith),
+  All-head (λ x. x < 4294967295) id ids small,
+  ids_rise (id + 1) ids (λ some. let p : id < get_or (id ∷ ids) (0 + 1) 0 = h 0 (omega arith) in let q : id < get_or ids 0 0 = p in omega (arith, q)) (increasing_tail id ids h) (All-tail (λ x. x < 4294967295) id ids small),
+)
 
 -- ---- the ids of runs
 
@@ -325,6 +328,7 @@ were_read least at (part ∷ parts) ranges e = by_range (λ next rest read. were
         let P : List Range → Type 0 = λ rs. WereRead least (part ∷ parts) rs in
         subst P (ok_same (range ∷ rest) ranges f) (record { rise = (here.0, here.1.is, behind.rise); long = omega (arith, here.1.long, behind.long) })
     by_others later range first (Err fault) read f = absurd cc
+
     by_range : ((next : ℕ) (rest : List Range) → ranges_of next (placed (at + length part + 1) parts) ≡ Ok rest → WereRead next parts rest)
         → (o : Option Range) → range_from least part ≡ o → with_range at o (λ x. ranges_of (x.hi + 1) (placed (at + length part + 1) parts)) ≡ Ok ranges → WereRead least (part ∷ parts) ranges
     by_range later None first f = absurd cc
@@ -353,9 +357,9 @@ cost-runs_of least (range ∷ ranges) r =
     let count : range.hi + 1 - range.lo ≡ suc (range.hi - range.lo) = omega (arith, r.1.ordered) in
     let high : range.lo + (range.hi - range.lo) ≡ range.hi = omega (arith, r.1.ordered) in
     let runs : runs_of (ids_of (range ∷ ranges)) ≡ with_run range (runs_of (ids_of ranges)) =
-        ap (λ (k : ℕ). runs_of (ids_from k range.lo ++ ids_of ranges)) count
-        ∙ runs_of-ids_from (range.hi - range.lo) range.lo (ids_of ranges)
-        ∙ ap (λ (hi : ℕ). with_run (record { lo = range.lo; hi = hi }) (runs_of (ids_of ranges))) high in
+    ap (λ (k : ℕ). runs_of (ids_from k range.lo ++ ids_of ranges)) count
+    ∙ runs_of-ids_from (range.hi - range.lo) range.lo (ids_of ranges)
+    ∙ ap (λ (hi : ℕ). with_run (record { lo = range.lo; hi = hi }) (runs_of (ids_of ranges))) high in
     omega (arith, ap cost runs, cost-with_run range (runs_of (ids_of ranges)), cost-runs_of (range.hi + 1) ranges r.2)
 
 length-runs_text : (runs : List Range) → length (runs_text runs) ≤ cost runs - 1
@@ -370,8 +374,10 @@ shortest_of (byte ∷ bytes) ranges e = by_test (is_bracketed (byte ∷ bytes)) 
   where
     text : List ℕ
     text = byte ∷ bytes
+
     short : (least : ℕ) → Rises least ranges → length (idset_text (ids_of ranges)) ≤ cost ranges - 1
     short least rise = omega (arith, length-runs_text (runs_of (ids_of ranges)), cost-runs_of least ranges rise)
+
     by_test : (b : Bool) → cond b (ranges_of 0 (items_of 1 (take (length (byte ∷ bytes) - 2) bytes))) (ranges_of 0 (items_of 0 (byte ∷ bytes))) ≡ Ok ranges → length (idset_text (ids_of ranges)) ≤ length (byte ∷ bytes)
     by_test true f =
         let inner = take (length (byte ∷ bytes) - 2) bytes in

@@ -47,6 +47,7 @@ with_front-nil inside (byte ∷ bytes) = kept ((eqb byte 44) && not inside) (pie
     front_kept : (byte : ℕ) (parts : List (List ℕ)) → with_front [] (with_front (byte ∷ []) parts) ≡ with_front (byte ∷ []) parts
     front_kept byte [] = refl
     front_kept byte (part ∷ parts) = refl
+
     kept : (b : Bool) (parts : List (List ℕ)) → with_front [] (cond b ([] ∷ pieces false bytes) (with_front (byte ∷ []) parts)) ≡ cond b ([] ∷ pieces false bytes) (with_front (byte ∷ []) parts)
     kept true parts = refl
     kept false parts = front_kept byte parts
@@ -115,9 +116,9 @@ position-first test first byte last none passes =
     let whole = first ++ byte ∷ last in
     let long : length first < length whole = omega (arith, length-append first (byte ∷ last)) in
     let place : position_or_len test whole ≡ length first =
-        position_or_len_is test whole (length first) 0 (omega arith)
-        (λ k lt. ap test (get_or_append_left first (byte ∷ last) 0 k lt) ∙ none k lt)
-        (λ lt. ap test (get_or_at first byte last 0 (length first) refl) ∙ passes) in
+    position_or_len_is test whole (length first) 0 (omega arith)
+    (λ k lt. ap test (get_or_append_left first (byte ∷ last) 0 k lt) ∙ none k lt)
+    (λ lt. ap test (get_or_at first byte last 0 (length first) refl) ∙ passes) in
     ap (λ (p : ℕ). cond (ltb p (length whole)) (Some p) None) place ∙ ap (λ (t : Bool). cond t (Some (length first)) None) (lt-ltb _ _ long)
 
 -- no byte that passes

@@ -67,7 +67,11 @@ fn number_of_host(digits: &[u8]) -> Option<u32>
     ensures value { result ≡ host_number digits.now }
     ensures short { IfSome result (λ _. length digits.now ≤ 9) }
 {
-    if digits.len() <= 9 { number(digits) } else { None }
+    if digits.len() <= 9 {
+        number(digits)
+    } else {
+        None
+    }
 }
 
 /// How many digits a number has.
@@ -83,7 +87,11 @@ fn width(digits: &[u8]) -> usize
     ensures value { result ≡ width_of digits.now }
     ensures short { result ≤ length digits.now }
 {
-    if leads_with_zero(digits) { digits.len() } else { 0 }
+    if leads_with_zero(digits) {
+        digits.len()
+    } else {
+        0
+    }
 }
 
 /// Whether the name of a prefix of so many bytes and a padded number is short enough.
@@ -137,7 +145,12 @@ fn place_of_list(item: &[u8]) -> Option<usize>
 }
 
 /// Adds the hosts of a prefix with the numbers of a list; false where one of its pieces is none.
-fn push_list(alloc: Global, hosts: &mut Vec<Hosts>, prefix: &[u8], list: &[u8]) -> Result<bool, AllocError>
+fn push_list(
+    alloc: Global,
+    hosts: &mut Vec<Hosts>,
+    prefix: &[u8],
+    list: &[u8],
+) -> Result<bool, AllocError>
     ensures { IfOk result (λ read. Adds read hosts.old.items hosts.new.items (hosts_of_list prefix.now list.now)) }
 {
     if !prefix.is_empty() && !is_host_name(prefix) {
@@ -173,7 +186,12 @@ fn push_item(alloc: Global, hosts: &mut Vec<Hosts>, item: &[u8]) -> Result<bool,
         return Ok(true);
     }
     match place_of_list(item) {
-        Some(place) => push_list(alloc, hosts, &item[..place], &item[place + 1..item.len() - 1]),
+        Some(place) => push_list(
+            alloc,
+            hosts,
+            &item[..place],
+            &item[place + 1..item.len() - 1],
+        ),
         None => Ok(false),
     }
 }

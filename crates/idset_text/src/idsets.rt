@@ -51,7 +51,11 @@ fn item_range(item: &[u8]) -> Option<Range>
     let (first, last) = ends(item);
     let lo = id(first)?;
     let hi = id(last)?;
-    if lo <= hi { Some(Range { lo, hi }) } else { None }
+    if lo <= hi {
+        Some(Range { lo, hi })
+    } else {
+        None
+    }
 }
 
 /// The range that an item writes, if it begins at `least` or above.

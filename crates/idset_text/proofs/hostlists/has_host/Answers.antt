@@ -26,9 +26,10 @@ hosts-preserved c = λ has.
 pub returns : goal.returns
 returns c =
     let hosts = c.items-item-items.result.now in
-    let P : List Hosts → Type 0 = λ rest. Contains (names_of rest) c.args.name.now in
-    (λ h. absurd cc,
+    let P : List Hosts → Type 0 = λ rest. Contains (names_of rest) c.args.name.now in (
+      λ h. absurd cc,
       λ has.
-        let left : Contains (names_of (drop c.hosts.item-index hosts)) c.args.name.now = c.hosts.invariant (subst P (sym c.items-item-items.ensures) has) in
-        let none = subst P (drop_all c.hosts.item-index hosts (omega arith)) left in
-        absurd (omega (arith, none.1)))
+          let left : Contains (names_of (drop c.hosts.item-index hosts)) c.args.name.now = c.hosts.invariant (subst P (sym c.items-item-items.ensures) has) in
+          let none = subst P (drop_all c.hosts.item-index hosts (omega arith)) left in
+          absurd (omega (arith, none.1)),
+    )
