@@ -1,6 +1,6 @@
 -- What an idset's text reads as, and why no other text of its ids is shorter.
 use Rattle.std.proofs.Common.{◌≡◌, ℕ, zero, suc, ◌+◌, ◌-◌, ◌<◌, ◌≤◌, ◌⊎◌, Bool, true, false, not, ◌&&◌, cond, eqb, leb, ltb, List, [], ◌∷◌, ◌++◌, length, get_or, take, drop, Option, Some, None, Result, Ok, Err, refl, sym, ap, subst, ◌∙◌, inl, inr, append_assoc, arith, All}
-use Rattle.std.specs.Prelude.{map, slice_index}
+use Rattle.std.specs.Prelude.{map, slice_index, IfOk}
 use Rattle.std.specs.Fmt.{decimal}
 use Rattle.std.specs.List.{list_all, join_with_byte}
 use Rattle.std.specs.List.Sorted.{IsStrictlyIncreasing}
@@ -8,16 +8,18 @@ use Rattle.std.specs.Option.{option_and_then}
 use Rattle.std.specs.Char.{is_ascii_digit}
 use Rattle.std.proofs.lemmas.Bool.{and_parts, and_from, and_left, leb-true, le-leb, lt-ltb, ltb-true, eqb-true, eqb-false, eq-eqb, ne_eqb}
 use Rattle.std.proofs.lemmas.Option.{cond_some, option_and_then_some}
-use Rattle.std.proofs.lemmas.List.{length-append, length-take, get_or_append_left, append-nil}
+use Rattle.std.proofs.lemmas.List.{length-append, length-take, get_or_append_left, get_or_push, take_at, take-append-drop, drop_more, drop_all, append-nil}
 use Rattle.std.proofs.lemmas.List.Elements.{All-tail, All-head}
 use Rattle.std.proofs.lemmas.List.Folds.{list_all-append}
 use Rattle.std.proofs.lemmas.Fmt.{decimal_nonempty}
 use Rattle.idset_text.specs.declared.idsets.Range.{Range}
+use Rattle.idset_text.specs.declared.faults.TextFault.{TextFault}
+use Rattle.idset_text.specs.Faults.{Gives}
 use Rattle.idset_text.specs.Items.{Item, pieces, with_front, placed, with_first, items_of, ends_of, is_inside}
 use Rattle.idset_text.specs.Numbers.{value_of, are_digits, has_leading_zero, number_of}
-use Rattle.idset_text.specs.Idsets.{id_of, range_between, range_of, range_from, with_range, ranges_of, is_bracketed, idset_of, ids_from, ids_between, ids_of, with_run, run_of, runs_of, range_text, runs_text, idset_text, IsIdsetOf, IsShortestOf}
+use Rattle.idset_text.specs.Idsets.{id_of, range_between, range_of, range_from, with_range, ranges_of, is_bracketed, idset_of, IsRange, Rises, IsItem, AreItems, IsCommaList, IsIdset, ids_from, ids_between, ids_of, with_run, run_of, runs_of, range_text, runs_text, idset_text, IsIdsetOf, IsShortestOf}
 use Rattle.idset_text.proofs.NumberLemmas.{number_of-decimal, has_leading_zero-decimal, are_digits-decimal, WritesNumber, number_was_written, digits_are_decimal, digit_bounds, digit_at_place}
-use Rattle.idset_text.proofs.ItemLemmas.{is_plain, pieces-join, ends_of-joined, ends_of-digits, ends_make_up}
+use Rattle.idset_text.proofs.ItemLemmas.{is_plain, pieces-join, join-pieces, ends_of-joined, ends_of-digits, ends_make_up}
 use Rattle.idset_text.proofs.IdsetLemmas.{with_run-with_run}
 
 -- ---- ids
@@ -45,30 +47,33 @@ id_was_written bytes n e = by_zero (has_leading_zero bytes) refl e
 
 -- ---- ranges
 
--- what a range that was read keeps
-pub record IsRange (range : Range) : Type 0 where
-  pub ordered : range.lo ≤ range.hi
-  pub small : range.hi < 4294967295
-
 range_between-ids : (range : Range) → IsRange range → range_between (Some range.lo) (Some range.hi) ≡ Some range
 range_between-ids range is = ap (λ (t : Bool). cond t (Some range) None) (le-leb range.lo range.hi is.ordered)
 
--- a range's text reads as the range
-pub range_of-range_text : (range : Range) → IsRange range → range_of (range_text range) ≡ Some range
-range_of-range_text range is = by_test (eqb range.lo range.hi) refl
+-- a range's own text is an item of it
+item-range_text : (range : Range) → IsRange range → IsItem (range_text range) range
+item-range_text range is = (is, by_test (eqb range.lo range.hi) refl)
   where
-    by_test : (b : Bool) → eqb range.lo range.hi ≡ b → range_of (cond b (decimal range.lo) (decimal range.lo ++ 45 ∷ decimal range.hi)) ≡ Some range
-    by_test true e =
-        let same : range.lo ≡ range.hi = eqb-true _ _ e in
-        ap (λ (ends : List ℕ × List ℕ). range_between (id_of ends.0) (id_of ends.1)) (ends_of-digits (decimal range.lo) (are_digits-decimal range.lo (omega (arith, is.ordered, is.small))))
-        ∙ ap (λ (o : Option ℕ). range_between o o) (id_of-decimal range.lo (omega (arith, is.ordered, is.small)))
-        ∙ ap (λ (n : ℕ). range_between (Some range.lo) (Some n)) same
-        ∙ range_between-ids range is
-    by_test false e =
-        ap (λ (ends : List ℕ × List ℕ). range_between (id_of ends.0) (id_of ends.1)) (ends_of-joined (decimal range.lo) (decimal range.hi) (are_digits-decimal range.lo (omega (arith, is.ordered, is.small))))
-        ∙ ap (λ (o : Option ℕ). range_between o (id_of (decimal range.hi))) (id_of-decimal range.lo (omega (arith, is.ordered, is.small)))
-        ∙ ap (λ (o : Option ℕ). range_between (Some range.lo) o) (id_of-decimal range.hi is.small)
-        ∙ range_between-ids range is
+    by_test : (b : Bool) → eqb range.lo range.hi ≡ b → ((cond b (decimal range.lo) (decimal range.lo ++ 45 ∷ decimal range.hi) ≡ decimal range.lo) × (range.lo ≡ range.hi)) ⊎ (cond b (decimal range.lo) (decimal range.lo ++ 45 ∷ decimal range.hi) ≡ decimal range.lo ++ 45 ∷ decimal range.hi)
+    by_test true e = inl (refl, eqb-true _ _ e)
+    by_test false e = inr refl
+
+-- an item is read as its range
+pub range_of-item : (item : List ℕ) (range : Range) → IsItem item range → range_of item ≡ Some range
+range_of-item item range (is, inl (alone, same)) =
+    let small : range.lo < 4294967295 = omega (arith, is.ordered, is.small) in
+    ap range_of alone
+    ∙ ap (λ (ends : List ℕ × List ℕ). range_between (id_of ends.0) (id_of ends.1)) (ends_of-digits (decimal range.lo) (are_digits-decimal range.lo (omega arith)))
+    ∙ ap (λ (o : Option ℕ). range_between o o) (id_of-decimal range.lo small)
+    ∙ ap (λ (n : ℕ). range_between (Some range.lo) (Some n)) same
+    ∙ range_between-ids range is
+range_of-item item range (is, inr both) =
+    let small : range.lo < 4294967295 = omega (arith, is.ordered, is.small) in
+    ap range_of both
+    ∙ ap (λ (ends : List ℕ × List ℕ). range_between (id_of ends.0) (id_of ends.1)) (ends_of-joined (decimal range.lo) (decimal range.hi) (are_digits-decimal range.lo (omega arith)))
+    ∙ ap (λ (o : Option ℕ). range_between o (id_of (decimal range.hi))) (id_of-decimal range.lo small)
+    ∙ ap (λ (o : Option ℕ). range_between (Some range.lo) o) (id_of-decimal range.hi is.small)
+    ∙ range_between-ids range is
 
 -- how long a range's text may be, and must be
 range_text-short : (lo hi : ℕ) → length (range_text (record { lo = lo; hi = hi })) ≤ length (decimal lo) + 1 + length (decimal hi)
@@ -94,56 +99,44 @@ between_ids (Some lo) (Some hi) range e =
     let high : hi ≡ range.hi = ap (λ (r : Range). r.hi) test.1 in
     (ap (λ (n : ℕ). Some n) low, ap (λ (n : ℕ). Some n) high, omega (arith, leb-true lo hi test.0))
 
--- an item's text is no shorter than its range's
-pub record WritesRange (bytes : List ℕ) (range : Range) : Type 0 where
-  pub is : IsRange range
-  pub long : length (range_text range) ≤ length bytes
+-- an item is no shorter than its range's own text
+item_long : (item : List ℕ) (range : Range) → IsItem item range → length (range_text range) ≤ length item
+item_long item range (is, inl (alone, same)) =
+    let short : length (range_text range) ≡ length (decimal range.lo) = ap (λ (t : Bool). length (cond t (decimal range.lo) (decimal range.lo ++ 45 ∷ decimal range.hi))) (eq-eqb _ _ same) in
+    omega (arith, short, ap length alone)
+item_long item range (is, inr both) = omega (arith, range_text-short range.lo range.hi, ap length both, length-append (decimal range.lo) (45 ∷ decimal range.hi))
 
-pub range_was_written : (bytes : List ℕ) (range : Range) → range_of bytes ≡ Some range → WritesRange bytes range
-range_was_written bytes range e =
+-- what is read as a range is an item of it
+pub item_was_written : (bytes : List ℕ) (range : Range) → range_of bytes ≡ Some range → IsItem bytes range
+item_was_written bytes range e =
     let ids = between_ids (id_of (ends_of bytes).0) (id_of (ends_of bytes).1) range e in
     let first = id_was_written (ends_of bytes).0 range.lo ids.0 in
     let last = id_was_written (ends_of bytes).1 range.hi ids.1 in
-    let first_len : length (ends_of bytes).0 ≡ length (decimal range.lo) = ap length first.0 in
-    let last_len : length (ends_of bytes).1 ≡ length (decimal range.hi) = ap length last.0 in
-    record {
-      is = record { ordered = ids.2; small = last.1 };
-      long = elim (ends_make_up bytes) [
+    (record { ordered = ids.2; small = last.1 },
+      elim (ends_make_up bytes) [
         | inl whole ↦
-            let same : id_of (ends_of bytes).0 ≡ id_of (ends_of bytes).1 = ap id_of (whole.0 ∙ sym whole.1) in
-            let one : range.lo ≡ range.hi = some_same range.lo range.hi (sym ids.0 ∙ same ∙ ids.1) in
-            let short : length (range_text range) ≡ length (decimal range.lo) = ap (λ (t : Bool). length (cond t (decimal range.lo) (decimal range.lo ++ 45 ∷ decimal range.hi))) (eq-eqb _ _ one) in
-            omega (arith, short, first_len, ap length whole.0)
-        | inr parts ↦ omega (arith, range_text-short range.lo range.hi, first_len, last_len, ap length parts, length-append (ends_of bytes).0 (45 ∷ (ends_of bytes).1))
-      ];
-    }
+          let same : id_of (ends_of bytes).0 ≡ id_of (ends_of bytes).1 = ap id_of (whole.0 ∙ sym whole.1) in
+          inl (sym whole.0 ∙ first.0, some_same range.lo range.hi (sym ids.0 ∙ same ∙ ids.1))
+        | inr parts ↦ inr (parts ∙ ap (λ (x : List ℕ). x ++ 45 ∷ (ends_of bytes).1) first.0 ∙ ap (λ (x : List ℕ). decimal range.lo ++ 45 ∷ x) last.0)
+      ])
   where
     some_same : (a b : ℕ) → Some a ≡ Some b → a ≡ b
     some_same a b f = cc
 
-pub range_from-range_text : (least : ℕ) (range : Range) → least ≤ range.lo → IsRange range → range_from least (range_text range) ≡ Some range
-range_from-range_text least range low is =
-    ap (option_and_then (λ r. cond (leb least r.lo) (Some r) None)) (range_of-range_text range is)
+pub range_from-item : (least : ℕ) (item : List ℕ) (range : Range) → least ≤ range.lo → IsItem item range → range_from least item ≡ Some range
+range_from-item least item range low is =
+    ap (option_and_then (λ r. cond (leb least r.lo) (Some r) None)) (range_of-item item range is)
     ∙ ap (λ (t : Bool). cond t (Some range) None) (le-leb least range.lo low)
 
-pub above_was_written : (least : ℕ) (bytes : List ℕ) (range : Range) → range_from least bytes ≡ Some range → (least ≤ range.lo) × WritesRange bytes range
+pub above_was_written : (least : ℕ) (bytes : List ℕ) (range : Range) → range_from least bytes ≡ Some range → (least ≤ range.lo) × IsItem bytes range
 above_was_written least bytes range e =
     option_and_then_some (λ r. cond (leb least r.lo) (Some r) None) (range_of bytes) range e
     (λ x read kept.
-    let test = cond_some (leb least x.lo) x range kept in
-    let low : x.lo ≡ range.lo = ap (λ (r : Range). r.lo) test.1 in
-    (omega (arith, leb-true least x.lo test.0), range_was_written bytes range (read ∙ ap (λ (r : Range). Some r) test.1)))
+        let test = cond_some (leb least x.lo) x range kept in
+        let low : x.lo ≡ range.lo = ap (λ (r : Range). r.lo) test.1 in
+        (omega (arith, leb-true least x.lo test.0), item_was_written bytes range (read ∙ ap (λ (r : Range). Some r) test.1)))
 
 -- ---- ranges that rise
-
--- each range is above the one before, the first at least at `least`
-abbrev pub Rises : ℕ → List Range → Type 0
-Rises least [] = Unit {0}
-Rises least (range ∷ ranges) = (least ≤ range.lo) × IsRange range × Rises (range.hi + 1) ranges
-
-rises-lower : (least lower : ℕ) (ranges : List Range) → lower ≤ least → Rises least ranges → Rises lower ranges
-rises-lower least lower [] le r = tt
-rises-lower least lower (range ∷ ranges) le r = (omega (arith, r.0), r.1, r.2)
 
 -- ids that rise, as ranges do
 abbrev pub IdsRise : ℕ → List ℕ → Type 0
@@ -220,22 +213,38 @@ digits_plain (byte ∷ bytes) d =
 decimal_plain : (n : ℕ) → n < 4294967295 → list_all is_plain (decimal n) ≡ true
 decimal_plain n lt = digits_plain (decimal n) (are_digits-decimal n (omega arith))
 
-range_text_plain : (range : Range) → IsRange range → list_all is_plain (range_text range) ≡ true
-range_text_plain range is = by_test (eqb range.lo range.hi)
-  where
-    by_test : (b : Bool) → list_all is_plain (cond b (decimal range.lo) (decimal range.lo ++ 45 ∷ decimal range.hi)) ≡ true
-    by_test true = decimal_plain range.lo (omega (arith, is.ordered, is.small))
-    by_test false = list_all-append is_plain (decimal range.lo) (45 ∷ decimal range.hi) ∙ and_from _ _ (decimal_plain range.lo (omega (arith, is.ordered, is.small))) (decimal_plain range.hi is.small)
+item_plain : (item : List ℕ) (range : Range) → IsItem item range → list_all is_plain item ≡ true
+item_plain item range (is, inl (alone, same)) = ap (list_all is_plain) alone ∙ decimal_plain range.lo (omega (arith, is.ordered, is.small))
+item_plain item range (is, inr both) =
+    ap (list_all is_plain) both ∙ list_all-append is_plain (decimal range.lo) (45 ∷ decimal range.hi)
+    ∙ and_from _ _ (decimal_plain range.lo (omega (arith, is.ordered, is.small))) (decimal_plain range.hi is.small)
 
-texts_plain : (least : ℕ) (runs : List Range) → Rises least runs → list_all (list_all is_plain) (map range_text runs) ≡ true
-texts_plain least [] r = refl
-texts_plain least (run ∷ runs) r = and_from _ _ (range_text_plain run r.1) (texts_plain (run.hi + 1) runs r.2)
+items_plain : (least : ℕ) (items : List (List ℕ)) (ranges : List Range) → AreItems least items ranges → list_all (list_all is_plain) items ≡ true
+items_plain least [] [] are = refl
+items_plain least [] (range ∷ ranges) are = absurd are
+items_plain least (item ∷ items) [] are = absurd are
+items_plain least (item ∷ items) (range ∷ ranges) are = and_from _ _ (item_plain item range are.1) (items_plain (range.hi + 1) items ranges are.2)
 
-ranges_of-texts : (least at : ℕ) (runs : List Range) → Rises least runs → ranges_of least (placed at (map range_text runs)) ≡ Ok runs
-ranges_of-texts least at [] r = refl
-ranges_of-texts least at (run ∷ runs) r =
-    ap (λ (o : Option Range). with_range at o (λ x. ranges_of (x.hi + 1) (placed (at + length (range_text run) + 1) (map range_text runs)))) (range_from-range_text least run r.0 r.1)
-    ∙ ap (with_first (run ∷ [])) (ranges_of-texts (run.hi + 1) (at + length (range_text run) + 1) runs r.2)
+-- items are read as their ranges
+ranges_of-items : (least at : ℕ) (items : List (List ℕ)) (ranges : List Range) → AreItems least items ranges → ranges_of least (placed at items) ≡ Ok ranges
+ranges_of-items least at [] [] are = refl
+ranges_of-items least at [] (range ∷ ranges) are = absurd are
+ranges_of-items least at (item ∷ items) [] are = absurd are
+ranges_of-items least at (item ∷ items) (range ∷ ranges) are =
+    ap (λ (o : Option Range). with_range at o (λ x. ranges_of (x.hi + 1) (placed (at + length item + 1) items))) (range_from-item least item range are.0 are.1)
+    ∙ ap (with_first (range ∷ [])) (ranges_of-items (range.hi + 1) (at + length item + 1) items ranges are.2)
+
+-- the items of a list are read as its ranges
+ranges_of-comma_list : (at : ℕ) (text : List ℕ) (ranges : List Range) → IsCommaList text ranges → ranges_of 0 (items_of at text) ≡ Ok ranges
+ranges_of-comma_list at text ranges (item, items, are, joined) =
+    ap (λ (t : List ℕ). ranges_of 0 (items_of at t)) joined
+    ∙ ap (λ (ps : List (List ℕ)). ranges_of 0 (placed at ps)) (pieces-join item items (items_plain 0 (item ∷ items) ranges are))
+    ∙ ranges_of-items 0 at (item ∷ items) ranges are
+
+-- the texts of rising runs are items of them
+texts_are_items : (least : ℕ) (runs : List Range) → Rises least runs → AreItems least (map range_text runs) runs
+texts_are_items least [] r = tt
+texts_are_items least (run ∷ runs) r = (r.0, item-range_text run r.1, texts_are_items (run.hi + 1) runs r.2)
 
 -- what begins with no bracket is its items
 idset_of-plain : (text : List ℕ) → 0 < length text → (get_or text 0 0 ≡ 91 → ⊥) → idset_of text ≡ ranges_of 0 (items_of 0 text)
@@ -248,32 +257,50 @@ record Begins (text digits : List ℕ) : Type 0 where
   rest : List ℕ
   parts : text ≡ digits ++ rest
 
-range_begins : (range : Range) → Begins (range_text range) (decimal range.lo)
-range_begins range = by_test (eqb range.lo range.hi)
-  where
-    by_test : (b : Bool) → Begins (cond b (decimal range.lo) (decimal range.lo ++ 45 ∷ decimal range.hi)) (decimal range.lo)
-    by_test true = record { rest = []; parts = sym (append-nil (decimal range.lo)) }
-    by_test false = record { rest = 45 ∷ decimal range.hi; parts = refl }
+item_begins : (item : List ℕ) (range : Range) → IsItem item range → Begins item (decimal range.lo)
+item_begins item range (is, inl (alone, same)) = record { rest = []; parts = alone ∙ sym (append-nil (decimal range.lo)) }
+item_begins item range (is, inr both) = record { rest = 45 ∷ decimal range.hi; parts = both }
 
-runs_begin : (run : Range) (runs : List Range) → Begins (runs_text (run ∷ runs)) (decimal run.lo)
-runs_begin run [] = range_begins run
-runs_begin run (next ∷ runs) =
-    let first = range_begins run in
-    record { rest = first.rest ++ 44 ∷ runs_text (next ∷ runs); parts = ap (λ (t : List ℕ). t ++ 44 ∷ runs_text (next ∷ runs)) first.parts ∙ append_assoc (decimal run.lo) first.rest (44 ∷ runs_text (next ∷ runs)) }
+join_begins : (item : List ℕ) (items : List (List ℕ)) (range : Range) → IsItem item range → Begins (join_with_byte 44 (item ∷ items)) (decimal range.lo)
+join_begins item [] range is = item_begins item range is
+join_begins item (next ∷ items) range is =
+    let first = item_begins item range is in
+    record { rest = first.rest ++ 44 ∷ join_with_byte 44 (next ∷ items); parts = ap (λ (t : List ℕ). t ++ 44 ∷ join_with_byte 44 (next ∷ items)) first.parts ∙ append_assoc (decimal range.lo) first.rest (44 ∷ join_with_byte 44 (next ∷ items)) }
+
+-- a comma list is read without brackets
+idset_of-comma_list : (text : List ℕ) (ranges : List Range) → IsCommaList text ranges → idset_of text ≡ Ok ranges
+idset_of-comma_list text [] (item, items, are, joined) = absurd are
+idset_of-comma_list text (range ∷ ranges) (item, items, are, joined) =
+    let begins = join_begins item items range are.1 in
+    let small : range.lo < 4294967295 = omega (arith, are.1.0.ordered, are.1.0.small) in
+    let some : 0 < length (decimal range.lo) = decimal_nonempty range.lo (omega arith) in
+    let digit = digit_bounds (get_or (decimal range.lo) 0 0) (digit_at_place (decimal range.lo) 0 (are_digits-decimal range.lo (omega arith)) some) in
+    let whole : text ≡ decimal range.lo ++ begins.rest = joined ∙ begins.parts in
+    let first : get_or text 0 0 ≡ get_or (decimal range.lo) 0 0 = ap (λ (t : List ℕ). get_or t 0 0) whole ∙ get_or_append_left (decimal range.lo) begins.rest 0 0 some in
+    idset_of-plain text (omega (arith, ap length whole, length-append (decimal range.lo) begins.rest)) (λ e. omega (arith, first, digit.1))
+    ∙ ranges_of-comma_list 0 text (range ∷ ranges) (item, items, are, joined)
+
+-- and between brackets
+idset_of-bracketed : (inner : List ℕ) (ranges : List Range) → IsCommaList inner ranges → idset_of (91 ∷ (inner ++ 93 ∷ [])) ≡ Ok ranges
+idset_of-bracketed inner ranges list =
+    let bytes : List ℕ = inner ++ 93 ∷ [] in
+    let text : List ℕ = 91 ∷ bytes in
+    let before : length (91 ∷ inner) ≡ length text - 1 = omega (arith, length-append inner (93 ∷ [])) in
+    let last : get_or text (length text - 1) 0 ≡ 93 = get_or_push (91 ∷ inner) 93 0 (length text - 1) before in
+    ap (λ (t : Bool). cond t (ranges_of 0 (items_of 1 (take (length text - 2) bytes))) (ranges_of 0 (items_of 0 text))) (eq-eqb _ _ last)
+    ∙ ap (λ (t : List ℕ). ranges_of 0 (items_of 1 t)) (take_at inner (93 ∷ []) (length text - 2) (omega (arith, length-append inner (93 ∷ []))))
+    ∙ ranges_of-comma_list 1 inner ranges list
+
+-- what is in the grammar is read
+pub idset_is_read : (text : List ℕ) (ranges : List Range) → IsIdset text ranges → idset_of text ≡ Ok ranges
+idset_is_read text ranges (inl (none, no_ranges)) = ap idset_of none ∙ ap (λ (rs : List Range). Ok rs) (sym no_ranges)
+idset_is_read text ranges (inr (inl list)) = idset_of-comma_list text ranges list
+idset_is_read text ranges (inr (inr (inner, list, bracketed))) = ap idset_of bracketed ∙ idset_of-bracketed inner ranges list
 
 -- rising runs are read from their text
 pub idset_of-runs_text : (runs : List Range) → Rises 0 runs → idset_of (runs_text runs) ≡ Ok runs
 idset_of-runs_text [] r = refl
-idset_of-runs_text (run ∷ runs) r =
-    let text = runs_text (run ∷ runs) in
-    let begins = runs_begin run runs in
-    let small : run.lo < 4294967295 = omega (arith, r.1.ordered, r.1.small) in
-    let some : 0 < length (decimal run.lo) = decimal_nonempty run.lo (omega arith) in
-    let digit = digit_bounds (get_or (decimal run.lo) 0 0) (digit_at_place (decimal run.lo) 0 (are_digits-decimal run.lo (omega arith)) some) in
-    let first : get_or text 0 0 ≡ get_or (decimal run.lo) 0 0 = ap (λ (t : List ℕ). get_or t 0 0) begins.parts ∙ get_or_append_left (decimal run.lo) begins.rest 0 0 some in
-    idset_of-plain text (omega (arith, ap length begins.parts, length-append (decimal run.lo) begins.rest)) (λ e. omega (arith, first, digit.1))
-    ∙ ap (λ (ps : List (List ℕ)). ranges_of 0 (placed 0 ps)) (pieces-join (range_text run) (map range_text runs) (texts_plain 0 (run ∷ runs) r))
-    ∙ ranges_of-texts 0 0 (run ∷ runs) r
+idset_of-runs_text (run ∷ runs) r = idset_of-comma_list (runs_text (run ∷ runs)) (run ∷ runs) (range_text run, map range_text runs, texts_are_items 0 (run ∷ runs) r, refl)
 
 -- reading what was written gives the ids again
 pub written_again : (ids : List ℕ) → IsStrictlyIncreasing ids → All (λ id. id < 4294967295) ids → IsIdsetOf (idset_text ids) ids
@@ -308,31 +335,78 @@ size-pieces inside (byte ∷ bytes) =
     by_test true parted joined = parted
     by_test false parted joined = joined
 
--- ranges that were read rise, and their texts are no longer than what was read
-record WereRead (least : ℕ) (parts : List (List ℕ)) (ranges : List Range) : Type 0 where
-  rise : Rises least ranges
-  long : cost ranges ≤ size parts
-
 ok_same : {X : Type 0} (x y : X) → ◌≡◌ {A = Result X ℕ} (Ok x) (Ok y) → x ≡ y
 ok_same x y e = cc
 
-were_read : (least at : ℕ) (parts : List (List ℕ)) (ranges : List Range) → ranges_of least (placed at parts) ≡ Ok ranges → WereRead least parts ranges
-were_read least at [] ranges e = let P : List Range → Type 0 = λ rs. WereRead least [] rs in subst P (ok_same [] ranges e) (record { rise = tt; long = omega arith })
-were_read least at (part ∷ parts) ranges e = by_range (λ next rest read. were_read next (at + length part + 1) parts rest read) (range_from least part) refl e
+-- pieces that are read as ranges are items of them
+were_items : (least at : ℕ) (parts : List (List ℕ)) (ranges : List Range) → ranges_of least (placed at parts) ≡ Ok ranges → AreItems least parts ranges
+were_items least at [] ranges e = let P : List Range → Type 0 = λ rs. AreItems least [] rs in subst P (ok_same [] ranges e) tt
+were_items least at (part ∷ parts) ranges e = by_range (λ next rest read. were_items next (at + length part + 1) parts rest read) (range_from least part) refl e
   where
-    by_others : ((next : ℕ) (rest : List Range) → ranges_of next (placed (at + length part + 1) parts) ≡ Ok rest → WereRead next parts rest) → (range : Range) → range_from least part ≡ Some range
-        → (r : Result (List Range) ℕ) → ranges_of (range.hi + 1) (placed (at + length part + 1) parts) ≡ r → with_first (range ∷ []) r ≡ Ok ranges → WereRead least (part ∷ parts) ranges
+    by_others : ((next : ℕ) (rest : List Range) → ranges_of next (placed (at + length part + 1) parts) ≡ Ok rest → AreItems next parts rest) → (range : Range) → range_from least part ≡ Some range
+        → (r : Result (List Range) ℕ) → ranges_of (range.hi + 1) (placed (at + length part + 1) parts) ≡ r → with_first (range ∷ []) r ≡ Ok ranges → AreItems least (part ∷ parts) ranges
     by_others later range first (Ok rest) read f =
-        let behind = later (range.hi + 1) rest read in
         let here = above_was_written least part range first in
-        let P : List Range → Type 0 = λ rs. WereRead least (part ∷ parts) rs in
-        subst P (ok_same (range ∷ rest) ranges f) (record { rise = (here.0, here.1.is, behind.rise); long = omega (arith, here.1.long, behind.long) })
+        let P : List Range → Type 0 = λ rs. AreItems least (part ∷ parts) rs in
+        subst P (ok_same (range ∷ rest) ranges f) (here.0, here.1, later (range.hi + 1) rest read)
     by_others later range first (Err fault) read f = absurd cc
-
-    by_range : ((next : ℕ) (rest : List Range) → ranges_of next (placed (at + length part + 1) parts) ≡ Ok rest → WereRead next parts rest)
-        → (o : Option Range) → range_from least part ≡ o → with_range at o (λ x. ranges_of (x.hi + 1) (placed (at + length part + 1) parts)) ≡ Ok ranges → WereRead least (part ∷ parts) ranges
+    by_range : ((next : ℕ) (rest : List Range) → ranges_of next (placed (at + length part + 1) parts) ≡ Ok rest → AreItems next parts rest)
+        → (o : Option Range) → range_from least part ≡ o → with_range at o (λ x. ranges_of (x.hi + 1) (placed (at + length part + 1) parts)) ≡ Ok ranges → AreItems least (part ∷ parts) ranges
     by_range later None first f = absurd cc
     by_range later (Some range) first f = by_others later range first (ranges_of (range.hi + 1) (placed (at + length part + 1) parts)) refl f
+
+-- items' ranges rise, and their own texts are no longer than the items
+record Costs (least : ℕ) (items : List (List ℕ)) (ranges : List Range) : Type 0 where
+  rise : Rises least ranges
+  long : cost ranges ≤ size items
+
+items_cost : (least : ℕ) (items : List (List ℕ)) (ranges : List Range) → AreItems least items ranges → Costs least items ranges
+items_cost least [] [] are = record { rise = tt; long = omega arith }
+items_cost least [] (range ∷ ranges) are = absurd are
+items_cost least (item ∷ items) [] are = absurd are
+items_cost least (item ∷ items) (range ∷ ranges) are =
+    let later = items_cost (range.hi + 1) items ranges are.2 in
+    record { rise = (are.0, are.1.0, later.rise); long = omega (arith, item_long item range are.1, later.long) }
+
+were_read : (least at : ℕ) (parts : List (List ℕ)) (ranges : List Range) → ranges_of least (placed at parts) ≡ Ok ranges → Costs least parts ranges
+were_read least at parts ranges e = items_cost least parts ranges (were_items least at parts ranges e)
+
+-- what is read is a comma list
+comma_list_was_read : (at : ℕ) (text : List ℕ) (ranges : List Range) → ranges_of 0 (items_of at text) ≡ Ok ranges → IsCommaList text ranges
+comma_list_was_read at text ranges e = by_pieces (pieces false text) (join-pieces false text) (were_items 0 at (pieces false text) ranges e) (size-pieces false text)
+  where
+    by_pieces : (parts : List (List ℕ)) → join_with_byte 44 parts ≡ text → AreItems 0 parts ranges → size parts ≡ length text + 1 → IsCommaList text ranges
+    by_pieces [] joined are long = absurd (omega arith)
+    by_pieces (item ∷ items) joined are long = (item, items, are, sym joined)
+
+-- a text between brackets is '[', what stands within, and ']'
+bracket_parts : (byte : ℕ) (bytes : List ℕ) → is_bracketed (byte ∷ bytes) ≡ true → byte ∷ bytes ≡ 91 ∷ (take (length (byte ∷ bytes) - 2) bytes ++ 93 ∷ [])
+bracket_parts byte [] e = let both = and_parts _ _ e in absurd (omega (arith, eqb-true byte 91 both.0, eqb-true byte 93 both.1))
+bracket_parts byte (next ∷ bytes) e =
+    let both = and_parts _ _ e in
+    let rest : List ℕ = next ∷ bytes in
+    let n : ℕ = length bytes in
+    let place : length (byte ∷ rest) - 1 ≡ suc n = omega arith in
+    let last : get_or rest n 0 ≡ 93 = ap (λ (k : ℕ). get_or (byte ∷ rest) k 0) (sym place) ∙ eqb-true _ _ both.1 in
+    let parted : drop n rest ≡ 93 ∷ [] = drop_more rest n 0 (omega arith) ∙ ap (λ (b : ℕ). b ∷ drop (n + 1) rest) last ∙ ap (λ (x : List ℕ). 93 ∷ x) (drop_all (n + 1) rest (omega arith)) in
+    let inner : length (byte ∷ rest) - 2 ≡ n = omega arith in
+    ap (λ (b : ℕ). b ∷ rest) (eqb-true byte 91 both.0)
+    ∙ ap (λ (x : List ℕ). 91 ∷ x) (sym (take-append-drop n rest) ∙ ap (λ (x : List ℕ). take n rest ++ x) parted ∙ ap (λ (k : ℕ). take k rest ++ 93 ∷ []) (sym inner))
+
+-- what is read is in the grammar
+pub idset_was_read : (text : List ℕ) (ranges : List Range) → idset_of text ≡ Ok ranges → IsIdset text ranges
+idset_was_read [] ranges e = inl (refl, sym (ok_same [] ranges e))
+idset_was_read (byte ∷ bytes) ranges e = by_test (is_bracketed (byte ∷ bytes)) refl e
+  where
+    by_test : (b : Bool) → is_bracketed (byte ∷ bytes) ≡ b → cond b (ranges_of 0 (items_of 1 (take (length (byte ∷ bytes) - 2) bytes))) (ranges_of 0 (items_of 0 (byte ∷ bytes))) ≡ Ok ranges → IsIdset (byte ∷ bytes) ranges
+    by_test true is f = inr (inr (take (length (byte ∷ bytes) - 2) bytes, comma_list_was_read 1 (take (length (byte ∷ bytes) - 2) bytes) ranges f, bracket_parts byte bytes is))
+    by_test false is f = inr (inl (comma_list_was_read 0 (byte ∷ bytes) ranges f))
+
+-- what is read rises
+pub idset_rises : (text : List ℕ) (ranges : List Range) → IsIdset text ranges → Rises 0 ranges
+idset_rises text ranges (inl (none, no_ranges)) = let P : List Range → Type 0 = λ rs. Rises 0 rs in subst P (sym no_ranges) tt
+idset_rises text ranges (inr (inl (item, items, are, joined))) = (items_cost 0 (item ∷ items) ranges are).rise
+idset_rises text ranges (inr (inr (inner, (item, items, are, joined), bracketed))) = (items_cost 0 (item ∷ items) ranges are).rise
 
 -- runs that are joined to one have a text that is no longer
 cost-with_run : (run : Range) (runs : List Range) → cost (with_run run runs) ≤ length (range_text run) + 1 + cost runs
@@ -389,3 +463,16 @@ shortest_of (byte ∷ bytes) ranges e = by_test (is_bracketed (byte ∷ bytes)) 
 
 pub written_shortest : (ids : List ℕ) → IsShortestOf (idset_text ids) ids
 written_shortest ids other (ranges, read, same) = let P : List ℕ → Type 0 = λ xs. length (idset_text xs) ≤ length other in subst P same (shortest_of other ranges read)
+
+-- ---- a reader's answer
+
+pub found_by : (text : List ℕ) (r : Result (List Range) TextFault) → Gives r (idset_of text) → IfOk r (λ ranges. IsIdset text ranges)
+found_by text (Ok ranges) e = idset_was_read text ranges e
+found_by text (Err fault) e = tt
+
+pub only_by : (text : List ℕ) (r : Result (List Range) TextFault) (ranges : List Range) → Gives r (idset_of text) → IsIdset text ranges → Gives r (Ok ranges)
+only_by text r ranges e is = let P : Result (List Range) ℕ → Type 0 = λ read. Gives r read in subst P (idset_is_read text ranges is) e
+
+pub rising_by : (text : List ℕ) (r : Result (List Range) TextFault) → Gives r (idset_of text) → IfOk r (λ ranges. Rises 0 ranges)
+rising_by text (Ok ranges) e = idset_rises text ranges (idset_was_read text ranges e)
+rising_by text (Err fault) e = tt

@@ -108,6 +108,38 @@ pieces-join piece (next ∷ others) plain =
     ∙ ap (λ (x : List ℕ). x ∷ pieces false (join_with_byte 44 (next ∷ others))) (append-nil piece)
     ∙ ap (λ (xs : List (List ℕ)). piece ∷ xs) (pieces-join next others (and_parts _ _ plain).1)
 
+-- there is always a piece
+some_pieces : (inside : Bool) (text : List ℕ) → 0 < length (pieces inside text)
+some_pieces inside [] = omega arith
+some_pieces inside (byte ∷ bytes) = by_test ((eqb byte 44) && not inside) (pieces (is_inside inside byte) bytes)
+  where
+    in_front : (parts : List (List ℕ)) → 0 < length (with_front (byte ∷ []) parts)
+    in_front [] = omega arith
+    in_front (part ∷ parts) = omega arith
+    by_test : (b : Bool) (parts : List (List ℕ)) → 0 < length (cond b ([] ∷ pieces false bytes) (with_front (byte ∷ []) parts))
+    by_test true parts = omega arith
+    by_test false parts = in_front parts
+
+join-with_front : (byte : ℕ) (parts : List (List ℕ)) → join_with_byte 44 (with_front (byte ∷ []) parts) ≡ byte ∷ join_with_byte 44 parts
+join-with_front byte [] = refl
+join-with_front byte (part ∷ []) = refl
+join-with_front byte (part ∷ next ∷ parts) = refl
+
+-- the pieces with commas between are the text
+pub join-pieces : (inside : Bool) (text : List ℕ) → join_with_byte 44 (pieces inside text) ≡ text
+join-pieces inside [] = refl
+join-pieces inside (byte ∷ bytes) =
+    by_test ((eqb byte 44) && not inside) refl (join-pieces false bytes)
+    (join-with_front byte (pieces (is_inside inside byte) bytes) ∙ ap (λ (x : List ℕ). byte ∷ x) (join-pieces (is_inside inside byte) bytes))
+  where
+    behind_comma : (parts : List (List ℕ)) → join_with_byte 44 parts ≡ bytes → (0 < length parts) → join_with_byte 44 ([] ∷ parts) ≡ 44 ∷ bytes
+    behind_comma [] joined some = absurd (omega arith)
+    behind_comma (part ∷ parts) joined some = ap (λ (x : List ℕ). 44 ∷ x) joined
+    by_test : (b : Bool) → (eqb byte 44) && not inside ≡ b → join_with_byte 44 (pieces false bytes) ≡ bytes → join_with_byte 44 (with_front (byte ∷ []) (pieces (is_inside inside byte) bytes)) ≡ byte ∷ bytes
+        → join_with_byte 44 (cond b ([] ∷ pieces false bytes) (with_front (byte ∷ []) (pieces (is_inside inside byte) bytes))) ≡ byte ∷ bytes
+    by_test true e parted joined = behind_comma (pieces false bytes) parted (some_pieces false bytes) ∙ ap (λ (b : ℕ). b ∷ bytes) (sym (eqb-true byte 44 (and_parts _ _ e).0))
+    by_test false e parted joined = joined
+
 -- ---- ends
 
 -- the first byte that passes

@@ -1,12 +1,43 @@
 -- Idsets (RFC 22): which texts are idsets, and which ids they stand for.
-use Rattle.std.specs.Prelude.{◌≡◌, ◌≤◌, ℕ, zero, suc, ◌+◌, ◌-◌, ◌==◌, nat_lt, nat_le, Bool, not, ◌&&◌, if◌then◌else◌, List, [], ◌∷◌, ◌++◌, length, take, drop, slice_index, Option, Some, None, Result, Ok, Err, map, decimal}
+use Rattle.std.specs.Prelude.{◌≡◌, ◌<◌, ◌≤◌, ◌⊎◌, ⊤, ℕ, zero, suc, ◌+◌, ◌-◌, ◌==◌, nat_lt, nat_le, Bool, not, ◌&&◌, if◌then◌else◌, List, [], ◌∷◌, ◌++◌, length, take, drop, slice_index, Option, Some, None, Result, Ok, Err, map, decimal}
 use Rattle.std.specs.List.{flat_map, join_with_byte}
 use Rattle.std.specs.Option.{option_and_then}
 use Rattle.idset_text.specs.declared.idsets.Range.{Range}
 use Rattle.idset_text.specs.Items.{Item, items_of, ends_of, with_first}
 use Rattle.idset_text.specs.Numbers.{has_leading_zero, number_of}
 
--- ---- the grammar
+-- ---- the grammar, by what is spelled
+
+-- what each range of an idset keeps
+pub record IsRange (range : Range) : Type 0 where
+  pub ordered : range.lo ≤ range.hi
+  pub small : range.hi < 4294967295
+
+-- each range lies above the one before, the first at `least` or above
+abbrev pub Rises : ℕ → List Range → Type 0
+Rises least [] = ⊤
+Rises least (range ∷ ranges) = (least ≤ range.lo) × IsRange range × Rises (range.hi + 1) ranges
+
+-- an item is an id in decimal digits, or two with a dash (45) between
+abbrev pub IsItem : List ℕ → Range → Type 0
+IsItem item range = IsRange range × (((item ≡ decimal range.lo) × (range.lo ≡ range.hi)) ⊎ (item ≡ decimal range.lo ++ 45 ∷ decimal range.hi))
+
+-- the items are those of rising ranges
+abbrev pub AreItems : ℕ → List (List ℕ) → List Range → Type 0
+AreItems least [] [] = ⊤
+AreItems least [] (range ∷ ranges) = ⊥
+AreItems least (item ∷ items) [] = ⊥
+AreItems least (item ∷ items) (range ∷ ranges) = (least ≤ range.lo) × IsItem item range × AreItems (range.hi + 1) items ranges
+
+-- a list of items with commas (44) between
+abbrev pub IsCommaList : List ℕ → List Range → Type 0
+IsCommaList text ranges = (item : List ℕ) × (items : List (List ℕ)) × AreItems 0 (item ∷ items) ranges × (text ≡ join_with_byte 44 (item ∷ items))
+
+-- an idset is empty, or such a list, maybe between one '[' (91) and one ']' (93)
+abbrev pub IsIdset : List ℕ → List Range → Type 0
+IsIdset text ranges = ((text ≡ []) × (ranges ≡ [])) ⊎ (IsCommaList text ranges ⊎ ((inner : List ℕ) × IsCommaList inner ranges × (text ≡ 91 ∷ (inner ++ 93 ∷ []))))
+
+-- ---- the grammar, item by item
 
 -- an id: digits without a leading zero, up to 4294967294
 abbrev pub id_of : List ℕ → Option ℕ

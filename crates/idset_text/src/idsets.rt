@@ -1,10 +1,10 @@
 //! Idsets: texts of ids (RFC 22).
-ghost use Rattle.std.specs.Prelude.{◌≡◌, ℕ, ◌+◌, ◌<◌, ◌^◌, ◌↔◌, ◌∷◌, ◌++◌, length, decimal, All, Contains, IsTrue, IfOk, IfSome, OnOk};
+ghost use Rattle.std.specs.Prelude.{◌≡◌, Ok, ℕ, ◌+◌, ◌<◌, ◌^◌, ◌↔◌, ◌∷◌, ◌++◌, length, decimal, All, Contains, IsTrue, IfOk, IfSome, OnOk};
 ghost use Rattle.std.specs.List.{list_any};
 ghost use Rattle.std.specs.List.Sorted.{IsStrictlyIncreasing};
 ghost use Rattle.idset_text.specs.Faults.{Gives};
 ghost use Rattle.idset_text.specs.Items.{items_of};
-ghost use Rattle.idset_text.specs.Idsets.{id_of, range_of, range_from, ranges_of, idset_of, is_within, ids_of, range_text, idset_text, IsIdsetOf, IsShortestOf};
+ghost use Rattle.idset_text.specs.Idsets.{id_of, range_of, range_from, ranges_of, idset_of, IsIdset, Rises, is_within, ids_of, range_text, idset_text, IsIdsetOf, IsShortestOf};
 
 use crate::faults::TextFault;
 use crate::items::{ends, first_item};
@@ -93,9 +93,8 @@ fn read_ranges(alloc: Global, text: &[u8], start: usize) -> Result<List<Range>, 
     }
 }
 
-/// The ranges of an idset, rising and apart: nothing, or a comma list of `ID` and `LO-HI`, maybe in one pair of brackets,
-/// with ids up to 4294967294 and without leading zeros, each item above the one before (RFC 22).
-pub fn read_idset(alloc: Global, text: &[u8]) -> Result<List<Range>, TextFault>
+/// What the text is read as.
+fn read(alloc: Global, text: &[u8]) -> Result<List<Range>, TextFault>
     ensures { Gives result (idset_of text.now) }
 {
     match text {
@@ -103,6 +102,21 @@ pub fn read_idset(alloc: Global, text: &[u8]) -> Result<List<Range>, TextFault>
         [b'[', inner @ .., b']'] => read_ranges(alloc, inner, 1),
         _ => read_ranges(alloc, text, 0),
     }
+}
+
+/// The ranges of an idset, rising and apart: nothing, or a comma list of `ID` and `LO-HI`, maybe in one pair of brackets,
+/// with ids up to 4294967294 and without leading zeros, each item above the one before (RFC 22). The fault `Form` names
+/// the first byte of the first item that breaks this; brackets that stand round the whole text belong to no item.
+pub fn read_idset(alloc: Global, text: &[u8]) -> Result<List<Range>, TextFault>
+    // What is read is in the grammar, and what is in the grammar is read, unless memory runs out.
+    ensures found { IfOk result (λ ranges. IsIdset text.now ranges) }
+    ensures only { (ranges : List Range) → IsIdset text.now ranges → Gives result (Ok ranges) }
+    ensures rising { IfOk result (λ ranges. Rises 0 ranges) }
+
+    // A fault stands at the first item that breaks the grammar.
+    ensures exact { Gives result (idset_of text.now) }
+{
+    read(alloc, text)
 }
 
 /// Whether one of the ranges has the id.
