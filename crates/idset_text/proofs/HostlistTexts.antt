@@ -32,17 +32,17 @@ name_byte_plain : (byte : ℕ) → is_name_byte byte ≡ true → is_plain byte 
 name_byte_plain byte h =
     and_from _ _ (and_from _ _ (ap not (ne_eqb byte 44 (λ e. both_ways (is_name_byte byte) (ap is_name_byte e) h))) (ap not (ne_eqb byte 91 (λ e. both_ways (is_name_byte byte) (ap is_name_byte e) h)))) (ap not (ne_eqb byte 93 (λ e. both_ways (is_name_byte byte) (ap is_name_byte e) h)))
 
-name_bytes_plain : (bytes : List ℕ) → list_all is_name_byte bytes ≡ true → list_all is_plain bytes ≡ true
+pub name_bytes_plain : (bytes : List ℕ) → list_all is_name_byte bytes ≡ true → list_all is_plain bytes ≡ true
 name_bytes_plain [] h = refl
 name_bytes_plain (byte ∷ bytes) h = let both = and_parts _ _ h in and_from _ _ (name_byte_plain byte both.0) (name_bytes_plain bytes both.1)
 
 -- what a name keeps
-record NameParts (name : List ℕ) : Type 0 where
-  some : 0 < length name
-  short : length name ≤ 255
-  bytes : list_all is_name_byte name ≡ true
+pub record NameParts (name : List ℕ) : Type 0 where
+  pub some : 0 < length name
+  pub short : length name ≤ 255
+  pub bytes : list_all is_name_byte name ≡ true
 
-name_parts : (name : List ℕ) → is_name name ≡ true → NameParts name
+pub name_parts : (name : List ℕ) → is_name name ≡ true → NameParts name
 name_parts name h =
     let both = and_parts _ _ h in
     let first = and_parts _ _ both.0 in
@@ -60,7 +60,7 @@ hostlist_of-name (byte ∷ bytes) h =
 -- ---- a run's text
 
 -- a prefix and the ends of its numbers, as they stand in a text
-abbrev listed : List ℕ → List ℕ → List ℕ
+abbrev pub listed : List ℕ → List ℕ → List ℕ
 listed prefix list = prefix ++ 91 ∷ (list ++ 93 ∷ [])
 
 pieces-listed : (prefix list : List ℕ) → list_all is_plain prefix ≡ true → list_all is_plain list ≡ true → pieces false (listed prefix list) ≡ listed prefix list ∷ []
@@ -87,11 +87,11 @@ or_second true b e = refl
 or_second false b e = e
 
 -- a prefix of a name is one, or nothing
-prefix_is_fine : (prefix : List ℕ) → list_all is_name_byte prefix ≡ true → length prefix ≤ 255 → (eqb (length prefix) 0 || is_name prefix) ≡ true
+pub prefix_is_fine : (prefix : List ℕ) → list_all is_name_byte prefix ≡ true → length prefix ≤ 255 → (eqb (length prefix) 0 || is_name prefix) ≡ true
 prefix_is_fine [] p short = refl
 prefix_is_fine (byte ∷ prefix) p short = or_second (eqb (length (byte ∷ prefix)) 0) (is_name (byte ∷ prefix)) (and_from _ _ (and_from _ _ (lt-ltb 0 (length (byte ∷ prefix)) (omega arith)) (le-leb (length (byte ∷ prefix)) 255 short)) p)
 
-hosts_of_item-listed : (prefix list : List ℕ) (hosts : Option (List Hosts)) → list_all is_name_byte prefix ≡ true → hosts_of_list prefix list ≡ hosts → hosts_of_item (listed prefix list) ≡ hosts
+pub hosts_of_item-listed : (prefix list : List ℕ) (hosts : Option (List Hosts)) → list_all is_name_byte prefix ≡ true → hosts_of_list prefix list ≡ hosts → hosts_of_item (listed prefix list) ≡ hosts
 hosts_of_item-listed prefix list hosts p read =
     let text : List ℕ = listed prefix list in
     let len : length text - 1 - (length prefix + 1) ≡ length list = omega (arith, length-append prefix (91 ∷ (list ++ 93 ∷ [])), length-append list (93 ∷ [])) in
@@ -112,7 +112,7 @@ record Reads (prefix first last : List ℕ) (lo hi : ℕ) : Type 0 where
   last_number : host_number last ≡ Some hi
   fit : fits (length prefix) first last lo hi ≡ true
 
-ends_plain : (first last : List ℕ) → are_digits first ≡ true → are_digits last ≡ true → list_all is_plain (first ++ 45 ∷ last) ≡ true
+pub ends_plain : (first last : List ℕ) → are_digits first ≡ true → are_digits last ≡ true → list_all is_plain (first ++ 45 ∷ last) ≡ true
 ends_plain first last f l = list_all-append is_plain first (45 ∷ last) ∙ and_from _ _ (digits_plain first f) (digits_plain last l)
 
 hosts_of_list-run : (prefix first last : List ℕ) (lo hi : ℕ) → Reads prefix first last lo hi → hosts_of_list prefix (first ++ 45 ∷ last) ≡ Some (Many prefix lo hi (width_of first) ∷ [])
@@ -126,7 +126,7 @@ hosts_of_list-run prefix first last lo hi r =
     ∙ ap (λ (o : Option ℕ). option_and_then one (option_and_then (λ h. cond (fits (length prefix) first last lo h) (Some (record { lo = lo; hi = h; width = width_of first })) None) o)) r.last_number
     ∙ ap (λ (t : Bool). option_and_then one (cond t (Some (record { lo = lo; hi = hi; width = width_of first })) None)) r.fit
 
-hostlist_of-some : (text : List ℕ) → 0 < length text → hostlist_of text ≡ hosts_of (items_of 0 text)
+pub hostlist_of-some : (text : List ℕ) → 0 < length text → hostlist_of text ≡ hosts_of (items_of 0 text)
 hostlist_of-some [] some = absurd (omega arith)
 hostlist_of-some (byte ∷ bytes) some = refl
 

@@ -74,7 +74,7 @@ split_at_comma text n lt comma =
 abbrev pub is_plain : ℕ → Bool
 is_plain byte = not (byte == 44) && not (byte == 91) && not (byte == 93)
 
-plain_parts : (byte : ℕ) → is_plain byte ≡ true → (eqb byte 44 ≡ false) × (eqb byte 91 ≡ false) × (eqb byte 93 ≡ false)
+pub plain_parts : (byte : ℕ) → is_plain byte ≡ true → (eqb byte 44 ≡ false) × (eqb byte 91 ≡ false) × (eqb byte 93 ≡ false)
 plain_parts byte plain =
     let both = and_parts _ _ plain in
     let first = and_parts _ _ both.0 in
@@ -109,7 +109,7 @@ pieces-join piece (next ∷ others) plain =
     ∙ ap (λ (xs : List (List ℕ)). piece ∷ xs) (pieces-join next others (and_parts _ _ plain).1)
 
 -- there is always a piece
-some_pieces : (inside : Bool) (text : List ℕ) → 0 < length (pieces inside text)
+pub some_pieces : (inside : Bool) (text : List ℕ) → 0 < length (pieces inside text)
 some_pieces inside [] = omega arith
 some_pieces inside (byte ∷ bytes) = by_test ((eqb byte 44) && not inside) (pieces (is_inside inside byte) bytes)
   where

@@ -4,3 +4,4 @@ pub mod IdsetLemmas
 pub mod IdsetTexts
 pub mod HostLemmas
 pub mod HostlistTexts
+pub mod HostGrammar

@@ -1,6 +1,6 @@
 -- Hostlists (RFC 29): which texts are hostlists, and which names they stand for.
-use Rattle.std.specs.Prelude.{◌≡◌, ◌≤◌, ℕ, ◌+◌, ◌-◌, ◌==◌, nat_lt, nat_le, Bool, true, false, not, ◌&&◌, ◌||◌, if◌then◌else◌, List, [], ◌∷◌, ◌++◌, length, take, drop, replicate, slice_index, Option, Some, None, Result, Ok, Err, map, decimal, MatchOption}
-use Rattle.std.specs.List.{flat_map, list_all, position, suffix_len}
+use Rattle.std.specs.Prelude.{◌≡◌, ◌<◌, ◌≤◌, ◌⊎◌, All, IsTrue, ℕ, ◌+◌, ◌-◌, ◌==◌, nat_lt, nat_le, Bool, true, false, not, ◌&&◌, ◌||◌, if◌then◌else◌, List, [], ◌∷◌, ◌++◌, length, take, drop, replicate, slice_index, Option, Some, None, Result, Ok, Err, map, decimal, MatchOption}
+use Rattle.std.specs.List.{flat_map, list_all, join_with_byte, position, suffix_len, AllZip}
 use Rattle.std.specs.Option.{option_and_then, option_map}
 use Rattle.std.specs.Char.{is_ascii_alphanumeric, is_ascii_digit}
 use Rattle.std.specs.Str.{bytes_eq}
@@ -8,7 +8,7 @@ use Rattle.idset_text.specs.declared.hostlists.Hosts.{Hosts}
 use Rattle.idset_text.specs.declared.hostlists.Hosts.TheVariants.{One, Many}
 use Rattle.idset_text.specs.declared.hostlists.Numbers.{Numbers}
 use Rattle.idset_text.specs.Items.{Item, items_of, pieces, ends_of, with_first}
-use Rattle.idset_text.specs.Numbers.{has_leading_zero, number_of}
+use Rattle.idset_text.specs.Numbers.{value_of, are_digits, has_leading_zero, number_of}
 use Rattle.idset_text.specs.Idsets.{ids_from}
 
 -- ---- names and numbers
@@ -32,7 +32,7 @@ padded width number = replicate (width - length (decimal number)) 48 ++ decimal 
 abbrev pub width_of : List ℕ → ℕ
 width_of digits = if has_leading_zero digits then length digits else 0
 
--- ---- the grammar
+-- ---- the grammar, item by item
 
 -- the ends don't fall, a padded first end has as many digits as the last, and the longest name isn't too long
 abbrev pub fits : ℕ → List ℕ → List ℕ → ℕ → ℕ → Bool
@@ -106,6 +106,45 @@ IsOneOf lo hi width digits = (number : ℕ) × (lo ≤ number) × (number ≤ hi
 -- the names that hosts stand for, in order
 abbrev pub names_of : List Hosts → List (List ℕ)
 names_of hosts = flat_map own_names hosts
+
+-- ---- the grammar, by what is spelled
+
+-- 1 to 9 digits of this value
+pub record IsNumber (bytes : List ℕ) (number : ℕ) : Type 0 where
+  pub some : 0 < length bytes
+  pub few : length bytes ≤ 9
+  pub digits : are_digits bytes ≡ true
+  pub value : value_of bytes ≡ number
+
+-- a piece of a list is a number, or two with a dash (45) between that don't fall; where a zero leads the first, both
+-- have as many digits, which is the width; no name is longer than 255 bytes
+pub record Lists (prefix piece first last : List ℕ) (lo hi width : ℕ) : Type 0 where
+  pub low : IsNumber first lo
+  pub high : IsNumber last hi
+  pub ordered : lo ≤ hi
+  pub width_is : width ≡ width_of first
+  pub wide : has_leading_zero first ≡ true → length last ≡ length first
+  pub short : All (λ name. length name ≤ 255) (names_from prefix width (hi + 1 - lo) lo)
+  pub spelled : ((piece ≡ first) × (last ≡ first)) ⊎ (piece ≡ first ++ 45 ∷ last)
+
+abbrev pub IsPiece : List ℕ → List ℕ → Hosts → Type 0
+IsPiece prefix piece (One name) = ⊥
+IsPiece prefix piece (Many own lo hi width) = (own ≡ prefix) × (first : List ℕ) × (last : List ℕ) × Lists prefix piece first last lo hi width
+
+-- an item is a name, or a name or nothing with a list of pieces between '[' (91) and ']' (93), commas (44) between them
+abbrev pub IsHostItem : List ℕ → List Hosts → Type 0
+IsHostItem item hosts = (IsTrue (is_name item) × (hosts ≡ One item ∷ []))
+    ⊎ ((prefix : List ℕ) × (piece : List ℕ) × (others : List (List ℕ)) × ((prefix ≡ []) ⊎ IsTrue (is_name prefix)) × AllZip (IsPiece prefix) (piece ∷ others) hosts
+        × (item ≡ prefix ++ 91 ∷ (join_with_byte 44 (piece ∷ others) ++ 93 ∷ [])))
+
+-- the hosts are those of the items, in order
+abbrev pub AreHostItems : List (List ℕ) → List Hosts → Type 0
+AreHostItems [] hosts = hosts ≡ []
+AreHostItems (item ∷ items) hosts = (own : List Hosts) × (others : List Hosts) × IsHostItem item own × AreHostItems items others × (hosts ≡ own ++ others)
+
+-- a hostlist is empty, or items with commas between
+abbrev pub IsHostlist : List ℕ → List Hosts → Type 0
+IsHostlist text hosts = ((text ≡ []) × (hosts ≡ [])) ⊎ ((item : List ℕ) × (items : List (List ℕ)) × AreHostItems (item ∷ items) hosts × (text ≡ join_with_byte 44 (item ∷ items)))
 
 -- ---- the texts
 

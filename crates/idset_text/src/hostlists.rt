@@ -1,11 +1,11 @@
 //! Hostlists: texts of host names (RFC 29).
-ghost use Rattle.std.specs.Prelude.{◌≡◌, ℕ, List, MatchOption, ◌+◌, ◌≤◌, ◌↔◌, ◌∷◌, ◌++◌, ◌==◌, ◌||◌, not, nat_le, nat_lt, ◌&&◌, ◌<◌, false, length, decimal, position, All, Contains, IsTrue, IfOk, IfSome, OnOk};
+ghost use Rattle.std.specs.Prelude.{◌≡◌, ℕ, Ok, MatchOption, ◌+◌, ◌≤◌, ◌↔◌, ◌∷◌, ◌++◌, ◌==◌, ◌||◌, not, nat_le, nat_lt, ◌&&◌, ◌<◌, false, length, decimal, position, All, Contains, IsTrue, IfOk, IfSome, OnOk};
 ghost use Rattle.std.specs.List.{list_all, suffix_len};
 ghost use Rattle.std.specs.Char.{is_ascii_digit};
 ghost use Rattle.idset_text.specs.Faults.{Gives};
 ghost use Rattle.idset_text.specs.Items.{items_of};
 ghost use Rattle.idset_text.specs.Numbers.{has_leading_zero, number_of};
-ghost use Rattle.idset_text.specs.Hostlists.{is_name_byte, is_name, host_number, padded, width_of, numbers_of, list_place, hosts_of_list, hosts_of_item, hosts_of, hostlist_of, has_width, is_one_of, IsOneOf, own_names, names_of, digits_place, prefix_of, digits_of, follows, is_alike, continues, run_text, texts_from, hostlist_texts, AreHostlistsOf, Adds};
+ghost use Rattle.idset_text.specs.Hostlists.{is_name_byte, is_name, host_number, padded, width_of, numbers_of, list_place, hosts_of_list, hosts_of_item, hosts_of, hostlist_of, IsHostlist, has_width, is_one_of, IsOneOf, own_names, names_of, digits_place, prefix_of, digits_of, follows, is_alike, continues, run_text, texts_from, hostlist_texts, AreHostlistsOf, Adds};
 
 use crate::faults::TextFault;
 use crate::items::{ends, first_item};
@@ -219,17 +219,30 @@ fn read_hosts(alloc: Global, text: &[u8]) -> Result<List<Hosts>, TextFault>
     }
 }
 
-/// The hosts of a hostlist, in order: nothing, or a comma list of names and of a prefix with a comma list of `N` and
-/// `LO-HI` in brackets. A name has 1 to 255 letters, digits, `_`, `-` and `.`; a prefix is a name or empty; numbers have
-/// 1 to 9 digits, and where a zero leads `N` or `LO`, `HI` has as many digits and the names' numbers are padded to them
-/// (RFC 29).
-pub fn read_hostlist(alloc: Global, text: &[u8]) -> Result<List<Hosts>, TextFault>
+/// What the text is read as.
+fn read(alloc: Global, text: &[u8]) -> Result<List<Hosts>, TextFault>
     ensures { Gives result (hostlist_of text.now) }
 {
     match text {
         [] => Ok(List::new(alloc)),
         _ => read_hosts(alloc, text),
     }
+}
+
+/// The hosts of a hostlist, in order: nothing, or a comma list of names and of a prefix with a comma list of `N` and
+/// `LO-HI` in brackets. A name has 1 to 255 letters, digits, `_`, `-` and `.`; a prefix is a name or empty; numbers have
+/// 1 to 9 digits, and where a zero leads `N` or `LO`, `HI` has as many digits and the names' numbers are padded to them.
+/// No host's name is longer than 255 bytes (RFC 29). The fault `Form` names the first byte of the first item that breaks
+/// this; commas in brackets part no items.
+pub fn read_hostlist(alloc: Global, text: &[u8]) -> Result<List<Hosts>, TextFault>
+    // What is read is in the grammar, and what is in the grammar is read, unless memory runs out.
+    ensures found { IfOk result (λ hosts. IsHostlist text.now hosts) }
+    ensures only { (hosts : List Hosts) → IsHostlist text.now hosts → Gives result (Ok hosts) }
+
+    // A fault stands at the first item that breaks the grammar.
+    ensures exact { Gives result (hostlist_of text.now) }
+{
+    read(alloc, text)
 }
 
 /// Whether the digits are as many as the width, or more with no zero leading.
