@@ -1,12 +1,12 @@
 -- What is read as hosts is in the grammar of hostlists, and what is in the grammar is read.
-use Rattle.std.proofs.Common.{◌≡◌, ℕ, zero, suc, ◌+◌, ◌-◌, ◌<◌, ◌≤◌, ◌^◌, ◌⊎◌, ◌≢◌, Bool, true, false, not, ◌&&◌, ◌||◌, cond, eqb, leb, ltb, List, [], ◌∷◌, ◌++◌, length, get_or, take, drop, Option, Some, None, Result, Ok, Err, refl, sym, ap, subst, ◌∙◌, inl, inr, append_assoc, arith, All}
-use Rattle.std.specs.Prelude.{map, IsTrue, IfOk}
+use Rattle.std.proofs.Common.{◌≡◌, ℕ, zero, suc, ◌+◌, ◌-◌, ◌<◌, ◌≤◌, ◌^◌, ◌⊎◌, ◌≢◌, Bool, true, false, not, ◌&&◌, ◌||◌, cond, eqb, leb, List, [], ◌∷◌, ◌++◌, length, get_or, take, drop, Option, Some, None, Result, Ok, Err, refl, sym, ap, subst, ◌∙◌, inl, inr, append_assoc, arith, All}
+use Rattle.std.specs.Prelude.{IsTrue, IfOk}
 use Rattle.std.specs.Fmt.{decimal}
 use Rattle.std.specs.List.{list_all, join_with_byte, position, AllZip}
 use Rattle.std.specs.Option.{option_and_then, option_map}
-use Rattle.std.proofs.lemmas.Bool.{and_parts, and_from, and_right, or_cases, cases_Bool, not-true, leb-true, le-leb, eqb-true, eqb-false, eq-eqb, ne_eqb}
+use Rattle.std.proofs.lemmas.Bool.{and_parts, and_from, or_cases, not-true, leb-true, le-leb, eqb-true, eq-eqb}
 use Rattle.std.proofs.lemmas.Option.{cond_some, option_and_then_some}
-use Rattle.std.proofs.lemmas.List.{length-append, length-drop, length-take, get_or-drop, take-append-drop, take_at, drop_more, drop_all, append-nil}
+use Rattle.std.proofs.lemmas.List.{length-append, length-drop, get_or-drop, take-append-drop, drop_more, drop_all, append-nil}
 use Rattle.std.proofs.lemmas.List.Elements.{All-nil, All-cons, All-contains}
 use Rattle.std.proofs.lemmas.List.Quantifiers.{position-Some}
 use Rattle.std.proofs.lemmas.List.Folds.{list_all-append}
@@ -18,13 +18,13 @@ use Rattle.idset_text.specs.declared.hostlists.Hosts.TheVariants.{One, Many}
 use Rattle.idset_text.specs.declared.hostlists.Numbers.{Numbers}
 use Rattle.idset_text.specs.Faults.{Gives}
 use Rattle.idset_text.specs.Items.{pieces, placed, with_first, with_front, items_of, ends_of, is_inside}
-use Rattle.idset_text.specs.Numbers.{value_of, are_digits, has_leading_zero, number_of}
+use Rattle.idset_text.specs.Numbers.{value_of, has_leading_zero, number_of}
 use Rattle.idset_text.specs.Hostlists.{is_name_byte, is_name, host_number, padded, width_of, fits, numbers_between, numbers_of, hosts_of_pieces, hosts_of_list, list_place, hosts_of_item, with_hosts, hosts_of, hostlist_of, names_from, IsNumber, Lists, IsPiece, IsHostItem, AreHostItems, IsHostlist}
-use Rattle.idset_text.proofs.NumberLemmas.{own_digits, number_of_digits, WritesNumber, number_was_written}
-use Rattle.idset_text.proofs.ItemLemmas.{is_plain, plain_parts, pieces-plain, pieces-plain_front, pieces-join, join-pieces, some_pieces, with_front-with_front, ends_of-joined, ends_of-digits, ends_make_up}
+use Rattle.idset_text.proofs.NumberLemmas.{own_digits, number_of_digits, number_was_written}
+use Rattle.idset_text.proofs.ItemLemmas.{is_plain, plain_parts, pieces-plain_front, pieces-join, join-pieces, some_pieces, with_front-with_front, ends_of-joined, ends_of-digits, ends_make_up}
 use Rattle.idset_text.proofs.IdsetTexts.{digits_plain}
 use Rattle.idset_text.proofs.HostLemmas.{decimal_is_written, length-padded, many_has}
-use Rattle.idset_text.proofs.HostlistTexts.{name_bytes_plain, NameParts, name_parts, prefix_is_fine, listed, hosts_of_item-listed, hostlist_of-some, ends_plain}
+use Rattle.idset_text.proofs.HostlistTexts.{name_bytes_plain, name_parts, prefix_is_fine, listed, hosts_of_item-listed, hostlist_of-some, ends_plain}
 
 -- ---- numbers
 
@@ -66,7 +66,7 @@ all_short prefix width hi (suc count) lo le small short =
 last_short : (prefix : List ℕ) (width lo hi : ℕ) → lo ≤ hi → All (λ name. length name ≤ 255) (names_from prefix width (hi + 1 - lo) lo) → length prefix + length (padded width hi) ≤ 255
 last_short prefix width lo hi le short =
     let own : length (prefix ++ padded width hi) ≤ 255 =
-        All-contains (λ name. length name ≤ 255) (names_from prefix width (hi + 1 - lo) lo) (prefix ++ padded width hi) short (many_has prefix (padded width hi) (prefix ++ padded width hi) lo hi width refl (hi, le, omega arith, refl)) in
+    All-contains (λ name. length name ≤ 255) (names_from prefix width (hi + 1 - lo) lo) (prefix ++ padded width hi) short (many_has prefix (padded width hi) (prefix ++ padded width hi) lo hi width refl (hi, le, omega arith, refl)) in
     omega (arith, own, length-append prefix (padded width hi))
 
 -- ---- pieces
@@ -81,18 +81,21 @@ piece_was_read : (prefix piece : List ℕ) (numbers : Numbers) → numbers_of (l
 piece_was_read prefix piece numbers e =
     option_and_then_some (λ lo. option_and_then (λ hi. cond (fits (length prefix) first last lo hi) (Some (record { lo = lo; hi = hi; width = width_of first })) None) (host_number last)) (host_number first) numbers e
     (λ lo low rest. option_and_then_some (λ hi. cond (fits (length prefix) first last lo hi) (Some (record { lo = lo; hi = hi; width = width_of first })) None) (host_number last) numbers rest
-      (λ hi high kept.
-        let test = cond_some (fits (length prefix) first last lo hi) (record { lo = lo; hi = hi; width = width_of first }) numbers kept in
-        let P : Numbers → Type 0 = λ ns. WasPiece prefix piece ns in
-        subst P test.1 (was lo hi (number_is first lo low) (number_is last hi high) test.0)))
+    (λ hi high kept.
+    let test = cond_some (fits (length prefix) first last lo hi) (record { lo = lo; hi = hi; width = width_of first }) numbers kept in
+    let P : Numbers → Type 0 = λ ns. WasPiece prefix piece ns in
+    subst P test.1 (was lo hi (number_is first lo low) (number_is last hi high) test.0)))
   where
     first : List ℕ
     first = (ends_of piece).0
+
     last : List ℕ
     last = (ends_of piece).1
+
     wide_by : (z : Bool) → (not z || eqb (length (ends_of piece).1) (length (ends_of piece).0)) ≡ true → z ≡ true → length (ends_of piece).1 ≡ length (ends_of piece).0
     wide_by true e is = eqb-true _ _ e
     wide_by false e is = absurd cc
+
     was : (lo hi : ℕ) → IsNumber (ends_of piece).0 lo → IsNumber (ends_of piece).1 hi → fits (length prefix) (ends_of piece).0 (ends_of piece).1 lo hi ≡ true → WasPiece prefix piece (record { lo = lo; hi = hi; width = width_of (ends_of piece).0 })
     was lo hi low high fit =
         let both = and_parts _ _ fit in
@@ -124,6 +127,7 @@ pieces_were_read prefix (part ∷ parts) hosts e =
   where
     some_same : (a b : List Hosts) → Some a ≡ Some b → a ≡ b
     some_same a b f = cc
+
     by_others : (numbers : Numbers) → WasPiece prefix part numbers → (o : Option (List Hosts)) → ((others : List Hosts) → hosts_of_pieces prefix parts ≡ Some others → AllZip (IsPiece prefix) parts others) → hosts_of_pieces prefix parts ≡ o
         → option_map (λ others. Many prefix numbers.lo numbers.hi numbers.width ∷ others) o ≡ Some hosts → AllZip (IsPiece prefix) (part ∷ parts) hosts
     by_others numbers was None later read f = absurd cc
@@ -133,9 +137,9 @@ pieces_were_read prefix (part ∷ parts) hosts e =
 
 ends_of-lists : (prefix piece first last : List ℕ) (lo hi width : ℕ) → Lists prefix piece first last lo hi width → ends_of piece ≡ (first, last)
 ends_of-lists prefix piece first last lo hi width is = elim is.spelled [
-    | inl alone ↦ ap ends_of alone.0 ∙ ends_of-digits first is.low.digits ∙ ap (λ (x : List ℕ). (first, x)) (sym alone.1)
-    | inr both ↦ ap ends_of both ∙ ends_of-joined first last is.low.digits
-  ]
+  | inl alone ↦ ap ends_of alone.0 ∙ ends_of-digits first is.low.digits ∙ ap (λ (x : List ℕ). (first, x)) (sym alone.1)
+  | inr both ↦ ap ends_of both ∙ ends_of-joined first last is.low.digits
+]
 
 piece_is_read : (prefix piece first last : List ℕ) (lo hi width : ℕ) → Lists prefix piece first last lo hi width → numbers_of (length prefix) piece ≡ Some (record { lo = lo; hi = hi; width = width })
 piece_is_read prefix piece first last lo hi width is =
@@ -148,6 +152,7 @@ piece_is_read prefix piece first last lo hi width is =
     wide_by : (z : Bool) → (z ≡ true → length last ≡ length first) → (not z || eqb (length last) (length first)) ≡ true
     wide_by true wide = eq-eqb _ _ (wide refl)
     wide_by false wide = refl
+
     fit : fits (length prefix) first last lo hi ≡ true
     fit = and_from _ _ (and_from _ _ (le-leb lo hi is.ordered) (wide_by (has_leading_zero first) is.wide))
         (le-leb (length prefix + length (padded (width_of first) hi)) 255 (last_short prefix (width_of first) lo hi is.ordered (let P : ℕ → Type 0 = λ w. All (λ name. length name ≤ 255) (names_from prefix w (hi + 1 - lo) lo) in subst P is.width_is is.short)))
@@ -164,9 +169,9 @@ pieces_are_read prefix (part ∷ parts) (Many own lo hi width ∷ hosts) are =
 
 piece_plain : (prefix piece first last : List ℕ) (lo hi width : ℕ) → Lists prefix piece first last lo hi width → list_all is_plain piece ≡ true
 piece_plain prefix piece first last lo hi width is = elim is.spelled [
-    | inl alone ↦ ap (list_all is_plain) alone.0 ∙ digits_plain first is.low.digits
-    | inr both ↦ ap (list_all is_plain) both ∙ ends_plain first last is.low.digits is.high.digits
-  ]
+  | inl alone ↦ ap (list_all is_plain) alone.0 ∙ digits_plain first is.low.digits
+  | inr both ↦ ap (list_all is_plain) both ∙ ends_plain first last is.low.digits is.high.digits
+]
 
 pieces_plain : (prefix : List ℕ) (parts : List (List ℕ)) (hosts : List Hosts) → AllZip (IsPiece prefix) parts hosts → list_all (list_all is_plain) parts ≡ true
 pieces_plain prefix [] [] are = refl
@@ -220,6 +225,7 @@ pieces-inside [] rest s = sym (kept rest)
     nothing : (parts : List (List ℕ)) → 0 < length parts → with_front [] parts ≡ parts
     nothing [] some = absurd (omega arith)
     nothing (part ∷ parts) some = refl
+
     kept : (rest : List ℕ) → with_front [] (pieces true rest) ≡ pieces true rest
     kept rest = nothing (pieces true rest) (some_pieces true rest)
 pieces-inside (byte ∷ front) rest s =
@@ -329,6 +335,7 @@ list_was_read prefix list hosts e = by_test (eqb (length prefix) 0 || is_name pr
     by_parts : (parts : List (List ℕ)) → 0 < length parts → join_with_byte 44 parts ≡ list → (eqb (length prefix) 0 || is_name prefix) ≡ true → hosts_of_pieces prefix parts ≡ Some hosts → WasList prefix list hosts
     by_parts [] some joined fine f = absurd (omega arith)
     by_parts (piece ∷ others) some joined fine f = record { piece = piece; others = others; fine = fine_prefix prefix fine; are = pieces_were_read prefix (piece ∷ others) hosts f; joined = joined }
+
     by_test : (b : Bool) → (eqb (length prefix) 0 || is_name prefix) ≡ b → cond b (hosts_of_pieces prefix (pieces false list)) None ≡ Some hosts → WasList prefix list hosts
     by_test true fine f = by_parts (pieces false list) (some_pieces false list) (join-pieces false list) fine f
     by_test false fine f = absurd cc
@@ -338,13 +345,14 @@ item_was_read item hosts e = by_test (is_name item) refl e
   where
     some_same : (a b : List Hosts) → Some a ≡ Some b → a ≡ b
     some_same a b f = cc
+
     by_test : (b : Bool) → is_name item ≡ b → cond b (Some (One item ∷ [])) (option_and_then (λ place. hosts_of_list (take place item) (take (length item - 1 - (place + 1)) (drop (place + 1) item))) (list_place item)) ≡ Some hosts → IsHostItem item hosts
     by_test true is f = inl (is, sym (some_same (One item ∷ []) hosts f))
     by_test false is f =
         option_and_then_some (λ place. hosts_of_list (take place item) (take (length item - 1 - (place + 1)) (drop (place + 1) item))) (list_place item) hosts f
         (λ place found read.
-            let was = list_was_read (take place item) (take (length item - 1 - (place + 1)) (drop (place + 1) item)) hosts read in
-            inr (take place item, was.piece, was.others, was.fine, was.are, list_parts item place found ∙ ap (λ (x : List ℕ). take place item ++ 91 ∷ (x ++ 93 ∷ [])) (sym was.joined)))
+        let was = list_was_read (take place item) (take (length item - 1 - (place + 1)) (drop (place + 1) item)) hosts read in
+        inr (take place item, was.piece, was.others, was.fine, was.are, list_parts item place found ∙ ap (λ (x : List ℕ). take place item ++ 91 ∷ (x ++ 93 ∷ [])) (sym was.joined)))
 
 ok_hosts : (x y : List Hosts) → ◌≡◌ {A = Result (List Hosts) ℕ} (Ok x) (Ok y) → x ≡ y
 ok_hosts x y e = cc
@@ -357,6 +365,7 @@ items_were_read at (part ∷ parts) hosts e = by_item (λ others f. items_were_r
         → (r : Result (List Hosts) ℕ) → hosts_of (placed (at + length part + 1) parts) ≡ r → with_first own r ≡ Ok hosts → AreHostItems (part ∷ parts) hosts
     by_others later own here (Ok others) read f = (own, others, item_was_read part own here, later others read, sym (ok_hosts (own ++ others) hosts f))
     by_others later own here (Err fault) read f = absurd cc
+
     by_item : ((others : List Hosts) → hosts_of (placed (at + length part + 1) parts) ≡ Ok others → AreHostItems parts others) → (o : Option (List Hosts)) → hosts_of_item part ≡ o
         → with_hosts at o (hosts_of (placed (at + length part + 1) parts)) ≡ Ok hosts → AreHostItems (part ∷ parts) hosts
     by_item later None here f = absurd cc

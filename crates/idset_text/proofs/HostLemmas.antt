@@ -1,16 +1,17 @@
 -- Padded numbers, and the names that hosts stand for.
-use Rattle.std.proofs.Common.{◌≡◌, ◌≢◌, ℕ, zero, suc, ◌+◌, ◌-◌, ◌*◌, ◌<◌, ◌≤◌, ◌^◌, ◌⊎◌, ◌↔◌, Bool, true, false, not, ◌&&◌, ◌||◌, cond, eqb, leb, ltb, List, [], ◌∷◌, ◌++◌, length, get_or, take, drop, replicate, Option, Some, None, refl, sym, ap, subst, ◌∙◌, inl, inr, append_assoc, arith}
+use Rattle.std.proofs.Common.{◌≡◌, ℕ, zero, suc, ◌+◌, ◌-◌, ◌<◌, ◌≤◌, Bool, true, false, not, ◌&&◌, ◌||◌, eqb, ltb, List, [], ◌∷◌, ◌++◌, length, get_or, replicate, Option, Some, None, refl, sym, ap, subst, ◌∙◌, inl, inr, arith}
 use Rattle.std.specs.Prelude.{Contains, map}
 use Rattle.std.specs.Fmt.{decimal}
+use Rattle.std.specs.Char.{is_ascii_digit}
 use Rattle.std.proofs.lemmas.Bool.{cases_lt, or_cases, and_parts, and_from, leb-true, le-leb, lt-ltb, ltb-true, eqb-true, eq-eqb, not-true}
-use Rattle.std.proofs.lemmas.List.{length-append, length-replicate, append_cancel_left}
+use Rattle.std.proofs.lemmas.List.{length-append, length-replicate}
 use Rattle.std.proofs.lemmas.List.Elements.{Contains-append_left, Contains-append_right, Contains-append_cases}
 use Rattle.std.proofs.lemmas.Fmt.{decimal_nonempty, digits_value-decimal}
 use Rattle.idset_text.specs.declared.hostlists.Hosts.{Hosts}
 use Rattle.idset_text.specs.declared.hostlists.Hosts.TheVariants.{One, Many}
 use Rattle.idset_text.specs.Numbers.{value_of, are_digits, has_leading_zero, number_of}
 use Rattle.idset_text.specs.Idsets.{ids_from}
-use Rattle.idset_text.specs.Hostlists.{padded, has_width, is_one_of, IsOneOf, names_from, own_names, names_of}
+use Rattle.idset_text.specs.Hostlists.{padded, has_width, is_one_of, IsOneOf, own_names, names_of}
 use Rattle.idset_text.proofs.NumberLemmas.{own_digits, number_of_digits, are_digits-decimal, has_leading_zero-decimal, WritesNumber, number_was_written, digits_are_decimal}
 use Rattle.idset_text.proofs.IdsetLemmas.{there, first_or_later, ids_from-has, ids_from-bounds}
 
@@ -62,7 +63,7 @@ padded-written (digit ∷ next ∷ digits) n written = by_zero (λ rest. padded-
     by_zero rest_is true e =
         let zero-digit : digit ≡ 48 = eqb-true _ _ e in
         let value : value_of (next ∷ digits) ≡ n = ap (λ (d : ℕ). value_of (d ∷ next ∷ digits)) (sym zero-digit) ∙ written.value in
-        let rest : padded (length (next ∷ digits)) n ≡ next ∷ digits = rest_is (record { some = omega arith; digits = (and_parts _ _ written.digits).1; value = value; small = written.small }) in
+        let rest : padded (length (next ∷ digits)) n ≡ next ∷ digits = rest_is (record { some = omega arith; digits = (and_parts (is_ascii_digit digit) (are_digits (next ∷ digits)) written.digits).1; value = value; small = written.small }) in
         let long : length (decimal n) ≤ length (next ∷ digits) = omega (arith, ap length rest, length-padded (length (next ∷ digits)) n) in
         let count : length (digit ∷ next ∷ digits) - length (decimal n) ≡ suc (length (next ∷ digits) - length (decimal n)) = omega arith in
         ap (λ (k : ℕ). replicate k 48 ++ decimal n) count ∙ ap (λ (ds : List ℕ). 48 ∷ ds) rest ∙ ap (λ (d : ℕ). d ∷ next ∷ digits) (sym zero-digit)

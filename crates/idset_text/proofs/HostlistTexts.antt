@@ -1,12 +1,11 @@
 -- What the texts of runs read as.
-use Rattle.std.proofs.Common.{◌≡◌, ℕ, zero, suc, ◌+◌, ◌-◌, ◌<◌, ◌≤◌, ◌^◌, ◌⊎◌, Bool, true, false, not, ◌&&◌, ◌||◌, cond, eqb, leb, ltb, List, [], ◌∷◌, ◌++◌, length, get_or, take, drop, Option, Some, None, Result, Ok, Err, refl, sym, ap, subst, ◌∙◌, inl, inr, append_assoc, arith, All}
+use Rattle.std.proofs.Common.{◌≡◌, ℕ, ◌+◌, ◌-◌, ◌<◌, ◌≤◌, ◌^◌, Bool, true, false, not, ◌&&◌, ◌||◌, cond, eqb, leb, List, [], ◌∷◌, ◌++◌, length, get_or, take, drop, Option, Some, None, Ok, refl, sym, ap, subst, ◌∙◌, inl, inr, append_assoc, arith, All}
 use Rattle.std.specs.Prelude.{map, IsTrue}
 use Rattle.std.specs.Fmt.{decimal}
-use Rattle.std.specs.List.{list_all, position, suffix_len}
-use Rattle.std.specs.Option.{option_and_then, option_map}
+use Rattle.std.specs.List.{list_all, position}
+use Rattle.std.specs.Option.{option_and_then}
 use Rattle.std.specs.Char.{is_ascii_digit}
-use Rattle.std.specs.Str.{bytes_eq}
-use Rattle.std.proofs.lemmas.Bool.{and_parts, and_from, and_right, or_cases, cases_Bool, not-true, both_ways, leb-true, le-leb, lt-ltb, ltb-true, eqb-true, eqb-false, eq-eqb, ne_eqb}
+use Rattle.std.proofs.lemmas.Bool.{and_parts, and_from, and_right, or_cases, cases_Bool, not-true, both_ways, leb-true, le-leb, lt-ltb, ltb-true, eqb-true, eq-eqb, ne_eqb}
 use Rattle.std.proofs.lemmas.Slice.Eq.{bytes_eq-Decides}
 use Rattle.std.proofs.lemmas.List.{length-append, take-append-drop, take_at, get_or_at, get_or_push, append-nil, map-append}
 use Rattle.std.proofs.lemmas.List.Elements.{All-head, All-tail}
@@ -17,10 +16,10 @@ use Rattle.std.proofs.lemmas.Fmt.{length-decimal-le}
 use Rattle.idset_text.specs.declared.hostlists.Hosts.{Hosts}
 use Rattle.idset_text.specs.declared.hostlists.Hosts.TheVariants.{One, Many}
 use Rattle.idset_text.specs.declared.hostlists.Numbers.{Numbers}
-use Rattle.idset_text.specs.Items.{pieces, placed, with_first, with_front, items_of, ends_of}
+use Rattle.idset_text.specs.Items.{pieces, placed, with_front, items_of}
 use Rattle.idset_text.specs.Numbers.{value_of, are_digits, has_leading_zero, number_of}
 use Rattle.idset_text.specs.Idsets.{ids_from}
-use Rattle.idset_text.specs.Hostlists.{is_name_byte, is_name, host_number, padded, width_of, fits, numbers_between, numbers_of, hosts_of_pieces, hosts_of_list, list_place, hosts_of_item, with_hosts, hosts_of, hostlist_of, names_from, own_names, names_of, digits_place, prefix_of, digits_of, follows, is_alike, continues, run_text, texts_from, hostlist_texts, AreHostlistsOf}
+use Rattle.idset_text.specs.Hostlists.{is_name_byte, is_name, host_number, padded, width_of, fits, numbers_between, hosts_of_pieces, hosts_of_list, list_place, hosts_of_item, with_hosts, hosts_of, hostlist_of, names_from, names_of, digits_place, prefix_of, digits_of, follows, is_alike, continues, run_text, texts_from, hostlist_texts, AreHostlistsOf}
 use Rattle.idset_text.proofs.NumberLemmas.{own_digits, WritesNumber, number_was_written, digits_are_decimal}
 use Rattle.idset_text.proofs.ItemLemmas.{is_plain, pieces-plain_front, pieces-join, position-first, drop-behind, ends_of-joined}
 use Rattle.idset_text.proofs.IdsetTexts.{digits_plain, ids_from-add}
@@ -165,7 +164,7 @@ no_zero_above first (digit ∷ other ∷ digits) lo n a b plain len le led =
     let is_zero : digit ≡ 48 = eqb-true digit 48 led in
     let rest : List ℕ = other ∷ digits in
     let value : value_of rest ≡ n = ap (λ (d : ℕ). value_of (d ∷ rest)) (sym is_zero) ∙ b.value in
-    let small : value_of rest < 10 ^ length rest = digits_value_short own_digits rest (length rest) (and_parts _ _ b.digits).1 (omega arith) in
+    let small : value_of rest < 10 ^ length rest = digits_value_short own_digits rest (length rest) (and_parts (is_ascii_digit digit) (are_digits rest) b.digits).1 (omega arith) in
     let written : length first ≡ length (decimal lo) = ap length (digits_are_decimal first lo plain a) in
     let short : length (decimal lo) ≤ length rest = length-decimal-le (length rest) lo (omega arith) (omega (arith, small, value, le)) (omega (arith, a.small)) in
     omega (arith, len, written, short)

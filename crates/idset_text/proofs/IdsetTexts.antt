@@ -1,12 +1,11 @@
 -- What an idset's text reads as, and why no other text of its ids is shorter.
 use Rattle.std.proofs.Common.{◌≡◌, ℕ, zero, suc, ◌+◌, ◌-◌, ◌<◌, ◌≤◌, ◌⊎◌, Bool, true, false, not, ◌&&◌, cond, eqb, leb, ltb, List, [], ◌∷◌, ◌++◌, length, get_or, take, drop, Option, Some, None, Result, Ok, Err, refl, sym, ap, subst, ◌∙◌, inl, inr, append_assoc, arith, All}
-use Rattle.std.specs.Prelude.{map, slice_index, IfOk}
+use Rattle.std.specs.Prelude.{map, IfOk}
 use Rattle.std.specs.Fmt.{decimal}
 use Rattle.std.specs.List.{list_all, join_with_byte}
 use Rattle.std.specs.List.Sorted.{IsStrictlyIncreasing}
 use Rattle.std.specs.Option.{option_and_then}
-use Rattle.std.specs.Char.{is_ascii_digit}
-use Rattle.std.proofs.lemmas.Bool.{and_parts, and_from, and_left, leb-true, le-leb, lt-ltb, ltb-true, eqb-true, eqb-false, eq-eqb, ne_eqb}
+use Rattle.std.proofs.lemmas.Bool.{and_parts, and_from, and_left, leb-true, le-leb, lt-ltb, ltb-true, eqb-true, eq-eqb, ne_eqb}
 use Rattle.std.proofs.lemmas.Option.{cond_some, option_and_then_some}
 use Rattle.std.proofs.lemmas.List.{length-append, length-take, get_or_append_left, get_or_push, take_at, take-append-drop, drop_more, drop_all, append-nil}
 use Rattle.std.proofs.lemmas.List.Elements.{All-tail, All-head}
@@ -15,10 +14,10 @@ use Rattle.std.proofs.lemmas.Fmt.{decimal_nonempty}
 use Rattle.idset_text.specs.declared.idsets.Range.{Range}
 use Rattle.idset_text.specs.declared.faults.TextFault.{TextFault}
 use Rattle.idset_text.specs.Faults.{Gives}
-use Rattle.idset_text.specs.Items.{Item, pieces, with_front, placed, with_first, items_of, ends_of, is_inside}
-use Rattle.idset_text.specs.Numbers.{value_of, are_digits, has_leading_zero, number_of}
+use Rattle.idset_text.specs.Items.{pieces, with_front, placed, with_first, items_of, ends_of, is_inside}
+use Rattle.idset_text.specs.Numbers.{are_digits, has_leading_zero, number_of}
 use Rattle.idset_text.specs.Idsets.{id_of, range_between, range_of, range_from, with_range, ranges_of, is_bracketed, idset_of, IsRange, Rises, IsItem, AreItems, IsCommaList, IsIdset, ids_from, ids_between, ids_of, with_run, run_of, runs_of, range_text, runs_text, idset_text, IsIdsetOf, IsShortestOf}
-use Rattle.idset_text.proofs.NumberLemmas.{number_of-decimal, has_leading_zero-decimal, are_digits-decimal, WritesNumber, number_was_written, digits_are_decimal, digit_bounds, digit_at_place}
+use Rattle.idset_text.proofs.NumberLemmas.{number_of-decimal, has_leading_zero-decimal, are_digits-decimal, number_was_written, digits_are_decimal, digit_bounds, digit_at_place}
 use Rattle.idset_text.proofs.ItemLemmas.{is_plain, pieces-join, join-pieces, ends_of-joined, ends_of-digits, ends_make_up}
 use Rattle.idset_text.proofs.IdsetLemmas.{with_run-with_run}
 
@@ -111,14 +110,15 @@ pub item_was_written : (bytes : List ℕ) (range : Range) → range_of bytes ≡
 item_was_written bytes range e =
     let ids = between_ids (id_of (ends_of bytes).0) (id_of (ends_of bytes).1) range e in
     let first = id_was_written (ends_of bytes).0 range.lo ids.0 in
-    let last = id_was_written (ends_of bytes).1 range.hi ids.1 in
-    (record { ordered = ids.2; small = last.1 },
+    let last = id_was_written (ends_of bytes).1 range.hi ids.1 in (
+      record { ordered = ids.2; small = last.1 },
       elim (ends_make_up bytes) [
         | inl whole ↦
-          let same : id_of (ends_of bytes).0 ≡ id_of (ends_of bytes).1 = ap id_of (whole.0 ∙ sym whole.1) in
-          inl (sym whole.0 ∙ first.0, some_same range.lo range.hi (sym ids.0 ∙ same ∙ ids.1))
+            let same : id_of (ends_of bytes).0 ≡ id_of (ends_of bytes).1 = ap id_of (whole.0 ∙ sym whole.1) in
+            inl (sym whole.0 ∙ first.0, some_same range.lo range.hi (sym ids.0 ∙ same ∙ ids.1))
         | inr parts ↦ inr (parts ∙ ap (λ (x : List ℕ). x ++ 45 ∷ (ends_of bytes).1) first.0 ∙ ap (λ (x : List ℕ). decimal range.lo ++ 45 ∷ x) last.0)
-      ])
+      ],
+    )
   where
     some_same : (a b : ℕ) → Some a ≡ Some b → a ≡ b
     some_same a b f = cc
@@ -132,9 +132,9 @@ pub above_was_written : (least : ℕ) (bytes : List ℕ) (range : Range) → ran
 above_was_written least bytes range e =
     option_and_then_some (λ r. cond (leb least r.lo) (Some r) None) (range_of bytes) range e
     (λ x read kept.
-        let test = cond_some (leb least x.lo) x range kept in
-        let low : x.lo ≡ range.lo = ap (λ (r : Range). r.lo) test.1 in
-        (omega (arith, leb-true least x.lo test.0), item_was_written bytes range (read ∙ ap (λ (r : Range). Some r) test.1)))
+    let test = cond_some (leb least x.lo) x range kept in
+    let low : x.lo ≡ range.lo = ap (λ (r : Range). r.lo) test.1 in
+    (omega (arith, leb-true least x.lo test.0), item_was_written bytes range (read ∙ ap (λ (r : Range). Some r) test.1)))
 
 -- ---- ranges that rise
 
@@ -350,6 +350,7 @@ were_items least at (part ∷ parts) ranges e = by_range (λ next rest read. wer
         let P : List Range → Type 0 = λ rs. AreItems least (part ∷ parts) rs in
         subst P (ok_same (range ∷ rest) ranges f) (here.0, here.1, later (range.hi + 1) rest read)
     by_others later range first (Err fault) read f = absurd cc
+
     by_range : ((next : ℕ) (rest : List Range) → ranges_of next (placed (at + length part + 1) parts) ≡ Ok rest → AreItems next parts rest)
         → (o : Option Range) → range_from least part ≡ o → with_range at o (λ x. ranges_of (x.hi + 1) (placed (at + length part + 1) parts)) ≡ Ok ranges → AreItems least (part ∷ parts) ranges
     by_range later None first f = absurd cc
@@ -381,9 +382,9 @@ comma_list_was_read at text ranges e = by_pieces (pieces false text) (join-piece
 
 -- a text between brackets is '[', what stands within, and ']'
 bracket_parts : (byte : ℕ) (bytes : List ℕ) → is_bracketed (byte ∷ bytes) ≡ true → byte ∷ bytes ≡ 91 ∷ (take (length (byte ∷ bytes) - 2) bytes ++ 93 ∷ [])
-bracket_parts byte [] e = let both = and_parts _ _ e in absurd (omega (arith, eqb-true byte 91 both.0, eqb-true byte 93 both.1))
+bracket_parts byte [] e = let both = and_parts (eqb byte 91) (eqb byte 93) e in absurd (omega (arith, eqb-true byte 91 both.0, eqb-true byte 93 both.1))
 bracket_parts byte (next ∷ bytes) e =
-    let both = and_parts _ _ e in
+    let both = and_parts (eqb byte 91) (eqb (get_or (byte ∷ next ∷ bytes) (length (byte ∷ next ∷ bytes) - 1) 0) 93) e in
     let rest : List ℕ = next ∷ bytes in
     let n : ℕ = length bytes in
     let place : length (byte ∷ rest) - 1 ≡ suc n = omega arith in

@@ -1,5 +1,5 @@
 -- A text and its pieces.
-use Rattle.std.proofs.Common.{◌≡◌, ℕ, suc, ◌+◌, ◌-◌, ◌<◌, ◌≤◌, ◌⊎◌, Bool, true, false, not, ◌&&◌, ◌==◌, cond, eqb, ltb, List, [], ◌∷◌, ◌++◌, length, take, drop, get_or, Option, Some, None, refl, sym, ap, ◌∙◌, inl, inr, append_assoc, arith}
+use Rattle.std.proofs.Common.{◌≡◌, ℕ, suc, ◌+◌, ◌-◌, ◌<◌, ◌⊎◌, Bool, true, false, not, ◌&&◌, ◌==◌, cond, eqb, ltb, List, [], ◌∷◌, ◌++◌, length, take, drop, get_or, Option, Some, None, refl, sym, ap, ◌∙◌, inl, inr, append_assoc, arith}
 use Rattle.std.specs.List.{list_all, join_with_byte, position, position_or_len}
 use Rattle.std.specs.Char.{is_ascii_digit}
 use Rattle.std.proofs.lemmas.Bool.{and_parts, not-true, lt-ltb, le-ltb, ne_eqb, eqb-true}
@@ -116,6 +116,7 @@ some_pieces inside (byte ∷ bytes) = by_test ((eqb byte 44) && not inside) (pie
     in_front : (parts : List (List ℕ)) → 0 < length (with_front (byte ∷ []) parts)
     in_front [] = omega arith
     in_front (part ∷ parts) = omega arith
+
     by_test : (b : Bool) (parts : List (List ℕ)) → 0 < length (cond b ([] ∷ pieces false bytes) (with_front (byte ∷ []) parts))
     by_test true parts = omega arith
     by_test false parts = in_front parts
@@ -135,6 +136,7 @@ join-pieces inside (byte ∷ bytes) =
     behind_comma : (parts : List (List ℕ)) → join_with_byte 44 parts ≡ bytes → (0 < length parts) → join_with_byte 44 ([] ∷ parts) ≡ 44 ∷ bytes
     behind_comma [] joined some = absurd (omega arith)
     behind_comma (part ∷ parts) joined some = ap (λ (x : List ℕ). 44 ∷ x) joined
+
     by_test : (b : Bool) → (eqb byte 44) && not inside ≡ b → join_with_byte 44 (pieces false bytes) ≡ bytes → join_with_byte 44 (with_front (byte ∷ []) (pieces (is_inside inside byte) bytes)) ≡ byte ∷ bytes
         → join_with_byte 44 (cond b ([] ∷ pieces false bytes) (with_front (byte ∷ []) (pieces (is_inside inside byte) bytes))) ≡ byte ∷ bytes
     by_test true e parted joined = behind_comma (pieces false bytes) parted (some_pieces false bytes) ∙ ap (λ (b : ℕ). b ∷ bytes) (sym (eqb-true byte 44 (and_parts _ _ e).0))

@@ -1,4 +1,4 @@
-use Rattle.std.proofs.Common.{◌≡◌, sym, ap, ◌∙◌, true}
+use Rattle.std.proofs.Common.{◌≡◌, sym, ap, ◌∙◌}
 use Rattle.std.specs.List.{list_any}
 use Rattle.idset_text.specs.Idsets.{is_within}
 use Rattle.idset_text.proofs.IdsetLemmas.{has_when_within, within_when_has}

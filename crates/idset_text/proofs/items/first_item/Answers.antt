@@ -1,6 +1,4 @@
-use Rattle.std.proofs.Common.{◌≡◌, ◌+◌, ◌<◌, ◌-◌, ◌∷◌, length, drop, take, false, sym, ap, ◌∙◌, arith}
-use Rattle.std.proofs.lemmas.List.{take_all, length-drop}
-use Rattle.idset_text.specs.Items.{pieces}
+use Rattle.std.proofs.Common.{arith}
 use Rattle.idset_text.proofs.ItemLemmas.{rest_whole, split_at_comma}
 use Rattle.idset_text.proofs.items.first_item.Goals as goal
 
