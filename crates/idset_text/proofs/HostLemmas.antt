@@ -8,7 +8,7 @@ use Rattle.std.proofs.lemmas.List.{length-append, length-replicate}
 use Rattle.std.proofs.lemmas.List.Elements.{Contains-append_left, Contains-append_right, Contains-append_cases}
 use Rattle.std.proofs.lemmas.Fmt.{decimal_nonempty, digits_value-decimal}
 use Rattle.idset_text.specs.declared.hostlists.Hosts.{Hosts}
-use Rattle.idset_text.specs.declared.hostlists.Hosts.TheVariants.{One, Many}
+use Rattle.idset_text.specs.declared.hostlists.Hosts.TheVariants.{Many}
 use Rattle.idset_text.specs.Numbers.{value_of, are_digits, has_leading_zero, number_of}
 use Rattle.idset_text.specs.Idsets.{ids_from}
 use Rattle.idset_text.specs.Hostlists.{padded, has_width, is_one_of, IsOneOf, own_names, names_of}
@@ -142,10 +142,6 @@ many_had prefix name lo hi width has =
     let found = name_of_number prefix name width (ids_from (hi + 1 - lo) lo) has in
     let bounds = ids_from-bounds (hi + 1 - lo) lo found.0 found.1 in
     (padded width found.0, found.2, (found.0, bounds.0, omega (arith, bounds.0, bounds.1), refl))
-
-pub one_had : (own name : List ℕ) → Contains (own_names (One own)) name → own ≡ name
-one_had own name (zero, lt, e) = e
-one_had own name (suc k, lt, e) = absurd (omega (arith, lt))
 
 -- the names of one of the hosts are among those of all
 pub has_at : (hosts : List Hosts) (i : ℕ) (host : Hosts) (name : List ℕ) → i < length hosts → host ≡ get_or hosts i host → Contains (own_names host) name → Contains (names_of hosts) name

@@ -3,7 +3,7 @@ use Rattle.std.proofs.Common.{◌≡◌, ℕ, suc, ◌+◌, ◌-◌, ◌<◌, �
 use Rattle.std.specs.List.{list_all, join_with_byte, position, position_or_len}
 use Rattle.std.specs.Char.{is_ascii_digit}
 use Rattle.std.proofs.lemmas.Bool.{and_parts, not-true, lt-ltb, le-ltb, ne_eqb, eqb-true}
-use Rattle.std.proofs.lemmas.List.{append-nil, drop_more, take_more, drop_all, take_all, take_at, length-drop, length-append, take-append-drop, get_or_append_left, get_or_at}
+use Rattle.std.proofs.lemmas.List.{append-nil, drop_more, take_all, take_at, length-drop, length-append, take-append-drop, get_or_append_left, get_or_at}
 use Rattle.std.proofs.lemmas.List.Quantifiers.{position-Some}
 use Rattle.std.proofs.lemmas.List.Sums.{position_or_len_is}
 use Rattle.idset_text.specs.Items.{is_inside, with_front, pieces, pieces_after, is_dash, ends_at, ends_of}
@@ -13,31 +13,6 @@ use Rattle.idset_text.proofs.NumberLemmas.{digit_bounds, digit_at_place}
 pub with_front-with_front : (a b : List ℕ) (parts : List (List ℕ)) → with_front a (with_front b parts) ≡ with_front (a ++ b) parts
 with_front-with_front a b [] = refl
 with_front-with_front a b (part ∷ parts) = ap (λ (x : List ℕ). x ∷ parts) (sym (append_assoc a b part))
-
--- one more byte that parts nothing
-pub pieces_more : (text : List ℕ) (inside : Bool) (i byte : ℕ) → i < length text → get_or text i 0 ≡ byte → pieces inside (byte ∷ drop (i + 1) text) ≡ with_front (byte ∷ []) (pieces (is_inside inside byte) (drop (i + 1) text))
-    → with_front (take i text) (pieces inside (drop i text)) ≡ with_front (take (i + 1) text) (pieces (is_inside inside byte) (drop (i + 1) text))
-pieces_more text inside i byte lt is one =
-    let parted : drop i text ≡ byte ∷ drop (i + 1) text = drop_more text i 0 lt ∙ ap (λ (b : ℕ). b ∷ drop (i + 1) text) is in
-    let longer : take (i + 1) text ≡ take i text ++ byte ∷ [] = take_more text i 0 lt ∙ ap (λ (b : ℕ). take i text ++ b ∷ []) is in
-    ap (λ (rest : List ℕ). with_front (take i text) (pieces inside rest)) parted ∙ ap (with_front (take i text)) one
-    ∙ with_front-with_front (take i text) (byte ∷ []) (pieces (is_inside inside byte) (drop (i + 1) text))
-    ∙ ap (λ (front : List ℕ). with_front front (pieces (is_inside inside byte) (drop (i + 1) text))) (sym longer)
-
--- a comma outside brackets ends the first piece
-pub pieces_at_comma : (text : List ℕ) (i : ℕ) → i < length text → get_or text i 0 ≡ 44 → with_front (take i text) (pieces false (drop i text)) ≡ take i text ∷ pieces_after (drop i text)
-pieces_at_comma text i lt is =
-    let parted : drop i text ≡ 44 ∷ drop (i + 1) text = drop_more text i 0 lt ∙ ap (λ (b : ℕ). b ∷ drop (i + 1) text) is in
-    ap (λ (rest : List ℕ). with_front (take i text) (pieces false rest)) parted
-    ∙ ap (λ (front : List ℕ). front ∷ pieces false (drop (i + 1) text)) (append-nil (take i text))
-    ∙ ap (λ (rest : List ℕ). take i text ∷ pieces_after rest) (sym parted)
-
--- the text's end does too
-pub pieces_at_end : (text : List ℕ) (inside : Bool) → with_front (take (length text) text) (pieces inside (drop (length text) text)) ≡ take (length text) text ∷ pieces_after (drop (length text) text)
-pieces_at_end text inside =
-    ap (λ (rest : List ℕ). with_front (take (length text) text) (pieces inside rest)) (drop_all (length text) text (omega arith))
-    ∙ ap (λ (front : List ℕ). front ∷ []) (append-nil (take (length text) text))
-    ∙ ap (λ (rest : List ℕ). take (length text) text ∷ pieces_after rest) (sym (drop_all (length text) text (omega arith)))
 
 -- no front changes nothing
 pub with_front-nil : (inside : Bool) (bytes : List ℕ) → with_front [] (pieces inside bytes) ≡ pieces inside bytes

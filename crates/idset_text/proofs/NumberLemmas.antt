@@ -2,9 +2,9 @@
 use Rattle.std.proofs.Common.{◌≡◌, ℕ, ◌+◌, ◌*◌, ◌-◌, ◌<◌, ◌≤◌, ◌^◌, Bool, true, false, cond, List, [], ◌∷◌, length, take, get_or, Some, None, refl, sym, ap, ◌∙◌, inl, inr, arith, rules}
 use Rattle.std.specs.Char.{is_ascii_digit, digit_value}
 use Rattle.std.specs.Fmt.{decimal}
-use Rattle.std.proofs.lemmas.Bool.{and_left, and_right, and_from, and_parts, lt-ltb, le-ltb, leb-true, ltb-true, ne_eqb, eqb-false, cases_lt}
+use Rattle.std.proofs.lemmas.Bool.{and_right, and_from, and_parts, lt-ltb, le-ltb, leb-true, ltb-true, ne_eqb, eqb-false, cases_lt}
 use Rattle.std.proofs.lemmas.Option.{cond_some}
-use Rattle.std.proofs.lemmas.List.Folds.{list_all_at, list_all_more}
+use Rattle.std.proofs.lemmas.List.Folds.{list_all_more}
 use Rattle.std.proofs.lemmas.List.Sums.{AllPass-from_list_all}
 use Rattle.std.proofs.lemmas.Str.Parse.{IsNumeralModel, numerals_by_value, digits_value-take-le}
 use Rattle.std.proofs.lemmas.Fmt.{digits_decimal, digits_value-decimal, decimal-digits_value, decimal_digit, decimal_nonempty, first_decimal}
@@ -14,11 +14,6 @@ use Rattle.idset_text.specs.Numbers.{value_of, are_digits, has_leading_zero, num
 
 none_of : {A : Type 0} (b : Bool) (x : A) → b ≡ false → cond b (Some x) None ≡ None
 none_of b x e = ap (λ (t : Bool). cond t (Some x) None) e
-
--- a byte that is no digit spoils the number
-pub number_with_other : (bytes : List ℕ) (i : ℕ) → i < length bytes → is_ascii_digit (get_or bytes i 0) ≡ false → number_of bytes ≡ None
-number_with_other bytes i lt e =
-    none_of _ (value_of bytes) (and_left _ _ (and_right _ _ (list_all_at is_ascii_digit bytes i 0 lt e)))
 
 -- a front of 2 ^ 32 or more does too
 pub number_too_large : (bytes : List ℕ) (i : ℕ) → 4294967296 ≤ value_of (take i bytes) → number_of bytes ≡ None
