@@ -1,0 +1,14 @@
+//! Texts that stand for ids and for hosts: idsets (RFC 22) and hostlists (RFC 29) in the scheduler's profile.
+#![tactic(auto)]
+
+mod faults;
+mod hostlists;
+mod idsets;
+mod items;
+mod numbers;
+#[cfg(test)]
+mod tests;
+
+pub use faults::TextFault;
+pub use hostlists::{Hosts, has_host, read_hostlist, write_hostlist};
+pub use idsets::{Range, has_id, read_idset, write_idset};
