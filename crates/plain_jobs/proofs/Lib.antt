@@ -1,3 +1,4 @@
 pub mod Spans
 pub mod Points
 pub mod Free
+pub mod AnyNumbers
