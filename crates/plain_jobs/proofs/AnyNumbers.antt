@@ -1,11 +1,11 @@
 -- Containment of any two numbers: past the graph nothing is below another.
-use Rattle.std.proofs.Common.{◌≡◌, ◌≢◌, ℕ, zero, suc, ◌+◌, ◌<◌, ◌≤◌, Bool, true, false, ◌||◌, not, ◌&&◌, ◌==◌, nat_eq, List, length, Option, Some, None, slice_get, option_and_then, ◌⊎◌, inl, inr, refl, sym, ◌∙◌, ap, subst, arith, IsTrue, true≢false}
+use Rattle.std.proofs.Common.{◌≡◌, ◌≢◌, ℕ, zero, suc, ◌≤◌, Bool, true, false, not, ◌&&◌, List, length, Some, None, option_and_then, ◌⊎◌, inl, inr, refl, sym, ◌∙◌, ap, arith, IsTrue}
 use Rattle.std.proofs.lemmas.Bool.{cases_lt}
 use Rattle.std.proofs.lemmas.Option.{slice_get_past}
 use Rattle.flux_defs.specs.declared.vertices.Vertex.{Vertex}
-use Rattle.flux_defs.specs.Graph.{ResourceGraph, parent_of, has_on_chain, is_at_or_below, is_below}
+use Rattle.flux_defs.specs.Graph.{ResourceGraph, parent_of, is_at_or_below, is_below}
 use Rattle.flux_defs.specs.ValidGraph.{StandsInPreorder}
-use Rattle.graph_laws.proofs.Containment.{ParentsFirst, on_chain, at_or_below-opens, below_le, unequal_from, steps_of, up-None, up}
+use Rattle.graph_laws.proofs.Containment.{on_chain, at_or_below-opens, below_le, unequal_from, steps_of, up-None, up}
 use Rattle.graph_laws.proofs.Preorder.{parents_first}
 
 -- a number is at or below itself, in a graph with a vertex

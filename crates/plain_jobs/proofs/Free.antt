@@ -1,11 +1,12 @@
 -- What is free of a vertex over a window.
-use Rattle.std.proofs.Common.{◌≡◌, ℕ, zero, suc, ◌+◌, ◌-◌, ◌<◌, ◌≤◌, min, if◌then◌else◌, Bool, true, false, List, [], ◌∷◌, ◌↔◌, refl, sym, ◌∙◌, ap, subst, arith, IsTrue, true≢false, Option, Some, None, slice_get, length, get_or}
+use Rattle.std.proofs.Common.{◌≡◌, ℕ, ◌-◌, ◌^◌, ◌<◌, ◌≤◌, min, if◌then◌else◌, Bool, true, false, List, ◌↔◌, refl, sym, ◌∙◌, ap, arith, IsTrue, true≢false, Some, slice_get, length, get_or}
 use Rattle.std.specs.Option.{option_map_or}
 use Rattle.std.proofs.lemmas.Option.{slice_get-get_or}
 use Rattle.flux_defs.specs.declared.vertices.Vertex.{Vertex}
 use Rattle.flux_defs.specs.declared.claims.Job.{Job}
 use Rattle.flux_defs.specs.declared.claims.Window.{Window}
 use Rattle.flux_defs.specs.Graph.{is_pool_kind, is_pool, size_of}
+use Rattle.flux_defs.specs.ValidGraph.{HasFairSizes}
 use Rattle.flux_defs.specs.Closed.{Scene, no_bars, is_closed, IsClosedOver}
 use Rattle.flux_defs.specs.Free.{free_at, taken_at, IsFreeOver}
 use Rattle.plain_jobs.specs.Spans.{IsMostTaken}
@@ -55,11 +56,15 @@ module _ (vertices : List Vertex) (jobs : List Job) (w : Window) (v : ℕ) where
   }
 
 -- the vertex that was read off the list
-pub size_read : (vertices items : List Vertex) (v : ℕ) (x : Vertex) → items ≡ vertices → v < length vertices → x ≡ get_or items v x → size_of vertices v ≡ x.size
-size_read vertices items v x e lt is =
-    ap (λ o. option_map_or (λ y. y.size) o 0) (slice_get-get_or vertices v x lt) ∙ ap (λ (y : Vertex). y.size) (ap (λ vs. get_or vs v x) (sym e) ∙ sym is)
+module _ (vertices items : List Vertex) (v : ℕ) (blank : Vertex) (e : items ≡ vertices) (lt : v < length vertices) where
+  there : slice_get vertices v ≡ Some (get_or items v blank)
+  there = slice_get-get_or vertices v blank lt ∙ ap (λ vs. Some (get_or vs v blank)) (sym e)
 
-pub pool_read : (vertices items : List Vertex) (v : ℕ) (x : Vertex) → items ≡ vertices → v < length vertices → x ≡ get_or items v x → is_pool vertices v ≡ is_pool_kind vertices x.kind
-pool_read vertices items v x e lt is =
-    ap (λ o. option_map_or (λ y. is_pool_kind vertices y.kind) o false) (slice_get-get_or vertices v x lt)
-    ∙ ap (λ (y : Vertex). is_pool_kind vertices y.kind) (ap (λ vs. get_or vs v x) (sym e) ∙ sym is)
+  pub size_read : size_of vertices v ≡ (get_or items v blank).size
+  size_read = ap (λ o. option_map_or (λ x. x.size) o 0) there
+
+  pub pool_read : is_pool vertices v ≡ is_pool_kind vertices (get_or items v blank).kind
+  pool_read = ap (λ o. option_map_or (λ x. is_pool_kind vertices x.kind) o false) there
+
+  pub size_fits : (kinds : List (List ℕ)) → HasFairSizes (record { kinds = kinds; vertices = vertices }) → (get_or items v blank).size ≤ 18446744073709551615
+  size_fits kinds fair = let le : (get_or items v blank).size ≤ 2 ^ 46 = fair.most v (get_or items v blank) there in omega arith
