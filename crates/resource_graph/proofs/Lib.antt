@@ -1,0 +1,6 @@
+pub mod Lists
+pub mod Queries
+pub mod LineLaws
+pub mod TableLaws
+pub mod PastLaws
+pub mod MarkLaws

@@ -1,0 +1,74 @@
+-- From the tables to what the queries answer.
+use Rattle.std.proofs.Common.{◌≡◌, ◌≢◌, ℕ, suc, ◌+◌, ◌*◌, ◌<◌, ◌≤◌, ◌↔◌, ◌&&◌, ◌==◌, Bool, true, false, not, List, length, get_or, Option, Some, None, inl, inr, refl, sym, ◌∙◌, ap, subst, arith, ltb, IsTrue, Vec, MatchOption, true≢false}
+use Rattle.std.specs.Prelude.{slice_get}
+use Rattle.std.specs.Option.{IsSomeAnd, option_map_or}
+use Rattle.std.proofs.lemmas.Bool.{cases_lt, and_parts, and_from, and_left, and_right, false_from_ne_true, le-ltb, lt-ltb, ltb-true, ltb-false, not_from_true, eq-eqb}
+use Rattle.std.proofs.lemmas.Option.{slice_get_within, slice_get-get_or}
+use Rattle.flux_defs.specs.declared.vertices.Vertex.{Vertex}
+use Rattle.flux_defs.specs.Graph.{ResourceGraph, is_at_or_below, is_below, HasKind}
+use Rattle.flux_defs.specs.ValidGraph.{IsValidGraph}
+use Rattle.graph_laws.proofs.Containment.{ParentsFirst, below_le, below_from, below_to, below_self}
+use Rattle.graph_laws.proofs.Preorder.{parents_first, has_parent}
+use Rattle.resource_graph.specs.Lines.{line_of, KnowsParents}
+use Rattle.resource_graph.specs.Tables.{IsPast, Nests, IsNextOfKind, HasNoneOfKind, IsNextIn, HasNoneIn, ListsKind}
+
+pub same_tests : (a b : Bool) → (IsTrue a → IsTrue b) → (IsTrue b → IsTrue a) → a ≡ b
+same_tests true true f g = refl
+same_tests true false f g = absurd (true≢false (sym (f refl)))
+same_tests false true f g = absurd (true≢false (sym (g refl)))
+same_tests false false f g = refl
+
+module _ (vertices : List Vertex) (first : ParentsFirst vertices) where
+  -- nothing is below a vertex that does not stand before it
+  pub below_later : (u v : ℕ) → v ≤ u → is_below vertices v u ≡ false
+  below_later u v le =
+      false_from_ne_true (is_below vertices v u) (λ h.
+        let b = below_to vertices first v u h in
+        let le' : u ≤ v = below_le vertices first v u b.0 in
+        b.1 (omega arith))
+
+  -- below is a range
+  pub below_range : (u v after : ℕ) → IsPast vertices u after → v < length vertices → u < v → ltb v after ≡ is_below vertices v u
+  below_range u v after past lt before =
+      same_tests (ltb v after) (is_below vertices v u)
+      (λ h. let le : v < after = ltb-true v after h in below_from vertices first v u (λ e. omega arith) (past.covered v (omega arith) le))
+      (λ h. let b = below_to vertices first v u h in lt-ltb v after (past.whole v lt b.0))
+
+-- what has a kind is a vertex
+pub kind_within : (vertices : List Vertex) (kind v : ℕ) → HasKind vertices kind v → (x : Vertex) × (slice_get vertices v ≡ Some x) × (x.kind ≡ kind)
+kind_within vertices kind v h = at (slice_get vertices v) refl h
+  where
+    at : (o : Option Vertex) → slice_get vertices v ≡ o → IsSomeAnd o (λ x. x.kind ≡ kind) → (x : Vertex) × (slice_get vertices v ≡ Some x) × (x.kind ≡ kind)
+    at None e p = absurd p
+    at (Some x) e p = (x, e, p)
+
+-- the next of a list of a kind is the next of that kind
+pub next_of_list : (vertices : List Vertex) (kind : ℕ) (list : List ℕ) (from to : ℕ) (found : Option ℕ) → ListsKind vertices kind list →
+    MatchOption found (HasNoneIn list from to) (λ v. IsNextIn list from to v) →
+    MatchOption found (HasNoneOfKind vertices kind from to) (λ v. IsNextOfKind vertices kind from to v)
+next_of_list vertices kind list from to None lists none = λ u has low high.
+    let there = lists.all u has in
+    none there.0 there.1 (let e : get_or list there.0 0 ≡ u = there.2 in omega arith) (let e : get_or list there.0 0 ≡ u = there.2 in omega arith)
+next_of_list vertices kind list from to (Some v) lists next = record {
+  of_kind = subst (λ (w : ℕ). HasKind vertices kind w) next.there.2 (lists.only next.there.0 next.there.1);
+  low = next.low;
+  high = next.high;
+  least = λ u has low.
+    let there = lists.all u has in
+    let e : get_or list there.0 0 ≡ u = there.2 in
+    let le : v ≤ get_or list there.0 0 = next.least there.0 there.1 (omega arith) in
+    omega arith
+}
+
+-- in a valid graph each parent is a vertex, and each line is short
+pub parents_known : (g : ResourceGraph) (names : List (List ℕ)) → IsValidGraph g names → KnowsParents g.vertices
+parents_known g names valid v p e =
+    let before : p < v = parents_first g valid.preorder v p e in
+    let within : v < length g.vertices = has_parent g.vertices v p e in omega arith
+
+pub lines_short : (g : ResourceGraph) (names : List (List ℕ)) → IsValidGraph g names → (v : ℕ) → v < length g.vertices → length (line_of g.vertices v) ≤ 16
+lines_short g names valid v lt =
+    valid.shallow v (get_or g.vertices v no_vertex) (slice_get-get_or g.vertices v no_vertex lt)
+  where
+    no_vertex : Vertex
+    no_vertex = record {kind = 0; size = 0; parent = None; id = None; rank = None}

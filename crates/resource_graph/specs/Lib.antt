@@ -1,0 +1,6 @@
+pub mod Lines
+pub mod NamedGraph
+pub mod Tables
+pub mod Preorder
+pub mod Holds
+pub mod Keeps

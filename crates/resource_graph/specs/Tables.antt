@@ -1,0 +1,76 @@
+-- What the queries of a graph answer, and what its tables hold.
+use Rattle.std.specs.Prelude.{◌≡◌, ◌≢◌, ℕ, ◌<◌, ◌≤◌, ◌↔◌, Bool, false, List, length, Option, Some, None, MatchOption, slice_get, slice_index, slice_index_or, IsTrue}
+use Rattle.std.specs.Ordering.{nat_cmp}
+use Rattle.std.specs.BTreeMap.{BTreeMap, get}
+use Rattle.std.specs.declared.alloc.Global.{Global}
+use Rattle.flux_defs.specs.declared.vertices.Vertex.{Vertex}
+use Rattle.flux_defs.specs.Graph.{ResourceGraph, is_at_or_below, is_below, HasKind, IsNode, is_pool_kind}
+use Rattle.flux_defs.specs.ValidGraph.{HasRank}
+
+-- `after` is the number after the last vertex at or below v: exactly the vertices from v on and before it are at or below v
+pub record IsPast (vertices : List Vertex) (v after : ℕ) : Type 0 where
+  pub later : v < after
+  pub within : after ≤ length vertices
+  pub covered : (w : ℕ) → v ≤ w → w < after → IsTrue (is_at_or_below vertices w v)
+  pub whole : (w : ℕ) → w < length vertices → IsTrue (is_at_or_below vertices w v) → w < after
+
+-- the node that v is or lies below, and none exactly where v is not in a node
+abbrev pub IsNodeOf : List Vertex → ℕ → Option ℕ → Type 0
+IsNodeOf vertices v found =
+    MatchOption found ((n : ℕ) → IsNode vertices n → IsTrue (is_at_or_below vertices v n) → ⊥) (λ n. IsNode vertices n × IsTrue (is_at_or_below vertices v n))
+
+-- the node of this rank, and none exactly where no node has it
+abbrev pub IsRanked : ResourceGraph → ℕ → Option ℕ → Type 0
+IsRanked g rank found = MatchOption found ((v : ℕ) → HasRank g rank v → ⊥) (λ v. HasRank g rank v)
+
+-- the type that is called so, and none exactly where no type is
+abbrev pub IsNamedKind : ResourceGraph → List ℕ → Option ℕ → Type 0
+IsNamedKind g name found = MatchOption found ((k : ℕ) → slice_get g.kinds k ≢ Some name) (λ k. slice_get g.kinds k ≡ Some name)
+
+-- some vertex of the lower kind is below some vertex of the upper one
+abbrev pub Nests : List Vertex → ℕ → ℕ → Type 0
+Nests vertices upper lower = (u : ℕ) × (v : ℕ) × HasKind vertices upper u × HasKind vertices lower v × IsTrue (is_below vertices v u)
+
+-- v is the least vertex of the kind from `from` on and before `to`
+pub record IsNextOfKind (vertices : List Vertex) (kind from to v : ℕ) : Type 0 where
+  pub of_kind : HasKind vertices kind v
+  pub low : from ≤ v
+  pub high : v < to
+  pub least : (u : ℕ) → HasKind vertices kind u → from ≤ u → v ≤ u
+
+-- no vertex of the kind stands from `from` on and before `to`
+abbrev pub HasNoneOfKind : List Vertex → ℕ → ℕ → ℕ → Type 0
+HasNoneOfKind vertices kind from to = (u : ℕ) → HasKind vertices kind u → from ≤ u → u < to → ⊥
+
+-- each number of the list is less than each later one
+abbrev pub Rises : List ℕ → Type 0
+Rises list = (i j : ℕ) → i < j → j < length list → slice_index list i < slice_index list j
+
+-- the numbers before the place are less than `from`, and those from it on are not
+pub record IsPlaceOf (list : List ℕ) (from place : ℕ) : Type 0 where
+  pub within : place ≤ length list
+  pub before : (i : ℕ) → i < place → slice_index list i < from
+  pub after : (i : ℕ) → place ≤ i → i < length list → from ≤ slice_index list i
+
+-- v is the least number of the list from `from` on and before `to`
+pub record IsNextIn (list : List ℕ) (from to v : ℕ) : Type 0 where
+  pub there : (i : ℕ) × (i < length list) × (slice_index list i ≡ v)
+  pub low : from ≤ v
+  pub high : v < to
+  pub least : (i : ℕ) → i < length list → from ≤ slice_index list i → v ≤ slice_index list i
+
+-- the list has no number from `from` on and before `to`
+abbrev pub HasNoneIn : List ℕ → ℕ → ℕ → Type 0
+HasNoneIn list from to = (i : ℕ) → i < length list → from ≤ slice_index list i → slice_index list i < to → ⊥
+
+-- the list has exactly the vertices of the kind, rising
+pub record ListsKind (vertices : List Vertex) (kind : ℕ) (list : List ℕ) : Type 0 where
+  pub only : (i : ℕ) → i < length list → HasKind vertices kind (slice_index list i)
+  pub all : (v : ℕ) → HasKind vertices kind v → (i : ℕ) × (i < length list) × (slice_index list i ≡ v)
+  pub rising : Rises list
+
+-- the first place of the text, and none exactly where it stands at no place
+abbrev pub IsFirstPlace : List (List ℕ) → List ℕ → Option ℕ → Type 0
+IsFirstPlace texts wanted found =
+    MatchOption found ((k : ℕ) → slice_get texts k ≢ Some wanted)
+    (λ k. (slice_get texts k ≡ Some wanted) × ((j : ℕ) → j < k → slice_get texts j ≢ Some wanted))

@@ -1,0 +1,229 @@
+//! The graph and its queries.
+ghost use Rattle.std.specs.Prelude.{◌≡◌, ℕ, ◌<◌, ◌≤◌, ◌↔◌, IsTrue, IfOk, length, reverse, slice_get, MatchOption};
+ghost use Rattle.std.specs.Option.{option_copied};
+ghost use Rattle.std.specs.List.{flat_map};
+ghost use Rattle.flux_defs.specs.Graph.{is_below, is_pool_kind};
+ghost use Rattle.resource_graph.specs.Lines.{AllBelow};
+ghost use Rattle.resource_graph.specs.NamedGraph.{IsWhole, name_step, path_text};
+ghost use Rattle.resource_graph.specs.Tables.{IsPast, IsNodeOf, IsRanked, IsNamedKind, Nests, IsNextOfKind, HasNoneOfKind, Rises, IsNextIn, HasNoneIn, IsPlaceOf, IsFirstPlace};
+
+use crate::lines::line_up;
+use flux_defs::{List, Text, Vertex};
+use std::alloc::{AllocError, Global};
+use std::collections::BTreeMap;
+use std::marker::Model;
+
+/// A valid resource graph: vertices in preorder, with their texts. Contracts see its types and vertices, and by the
+/// vertex's number its name, basename, unit and properties.
+#[derive(Debug, Drop)]
+pub struct Graph {
+    kinds: List<Text>,
+    vertices: List<Vertex>,
+    names: List<Text>,
+    bases: List<Text>,
+    units: List<Text>,
+    properties: List<List<Text>>,
+    past: Vec<u32>,
+    nodes: Vec<Option<u32>>,
+    lists: Vec<Vec<u32>>,
+    ranked: BTreeMap<u32, u32>,
+    pools: Vec<bool>,
+    nested: Vec<bool>,
+}
+
+impl Model for Graph {
+    ghost use Rattle.resource_graph.specs.NamedGraph.{NamedGraph};
+
+    ghost Value = { NamedGraph };
+
+    ghost use Rattle.resource_graph.specs.Keeps.{graph_of, Keeps};
+
+    ghost view = { graph_of };
+
+    ghost invariant = { Keeps };
+}
+
+impl Graph {
+    /// Its vertices, by their numbers in preorder.
+    pub fn vertices(&self) -> &List<Vertex>
+        ensures value { result.now ≡ self.now.resources.vertices }
+        ensures valid { IsWhole self.now }
+    {
+        &self.vertices
+    }
+
+    /// How many vertices it has.
+    pub fn len(&self) -> u32
+        ensures { result ≡ length self.now.resources.vertices }
+    {
+        self.vertices.len() as u32
+    }
+
+    /// The type that is called so.
+    pub fn kind_of(&self, name: &[u8]) -> Option<u32>
+        ensures { IsNamedKind self.now.resources name.now result }
+    {
+        let kind = text_at(self.kinds.items(), name)?;
+        Some(kind as u32)
+    }
+
+    /// What the type is called, and `None` exactly past the last type.
+    pub fn kind_name(&self, kind: u32) -> Option<&Text>
+        ensures { option_copied result ≡ slice_get self.now.resources.kinds kind }
+    {
+        self.kinds.get(kind as usize)
+    }
+
+    /// Whether it is a pool type: some vertex of it has a size other than 1.
+    pub fn is_pool(&self, kind: u32) -> bool
+        ensures { result ≡ is_pool_kind self.now.resources.vertices kind }
+    {
+        self.pools.get(kind as usize).copied().unwrap_or(false)
+    }
+
+    /// Whether some vertex of the lower type is below some vertex of the upper one.
+    pub fn nests(&self, upper: u32, lower: u32) -> bool
+        ensures { IsTrue result ↔ Nests self.now.resources.vertices upper lower }
+    {
+        let kinds = self.kinds.len();
+        if upper as usize >= kinds || lower as usize >= kinds {
+            return false;
+        }
+        self.nested[upper as usize * kinds + lower as usize]
+    }
+
+    /// Whether the lower vertex is below the upper one.
+    pub fn below(&self, upper: u32, lower: u32) -> bool
+        requires upper_in { upper < length self.now.resources.vertices }
+        requires lower_in { lower < length self.now.resources.vertices }
+        ensures { result ≡ is_below self.now.resources.vertices lower upper }
+    {
+        upper < lower && lower < self.past[upper as usize]
+    }
+
+    /// The number after the last vertex at or below this one.
+    pub fn past(&self, vertex: u32) -> u32
+        requires { vertex < length self.now.resources.vertices }
+        ensures { IsPast self.now.resources.vertices vertex result }
+    {
+        self.past[vertex as usize]
+    }
+
+    /// The least vertex of the type from `from` on and before `to`.
+    pub fn next_of_kind(&self, kind: u32, from: u32, to: u32) -> Option<u32>
+        ensures { MatchOption result (HasNoneOfKind self.now.resources.vertices kind from to) (λ v. IsNextOfKind self.now.resources.vertices kind from to v) }
+    {
+        if kind as usize >= self.lists.len() {
+            return None;
+        }
+        let list = &self.lists[kind as usize];
+        next_in(list.as_slice(), from, to)
+    }
+
+    /// The node that the vertex is or lies below.
+    pub fn node_of(&self, vertex: u32) -> Option<u32>
+        requires { vertex < length self.now.resources.vertices }
+        ensures { IsNodeOf self.now.resources.vertices vertex result }
+    {
+        self.nodes[vertex as usize]
+    }
+
+    /// The node of this rank.
+    pub fn node_of_rank(&self, rank: u32) -> Option<u32>
+        ensures { IsRanked self.now.resources rank result }
+    {
+        self.ranked.get(&rank).copied()
+    }
+
+    /// What the vertex is called.
+    pub fn name_of(&self, vertex: u32) -> &Text
+        requires { vertex < length self.now.resources.vertices }
+        ensures { slice_get self.now.names vertex ≡ Some result.now }
+    {
+        &self.names.items()[vertex as usize]
+    }
+
+    /// The vertex's basename.
+    pub fn base_of(&self, vertex: u32) -> &Text
+        requires { vertex < length self.now.resources.vertices }
+        ensures { slice_get self.now.bases vertex ≡ Some result.now }
+    {
+        &self.bases.items()[vertex as usize]
+    }
+
+    /// The unit of the vertex's size.
+    pub fn unit_of(&self, vertex: u32) -> &Text
+        requires { vertex < length self.now.resources.vertices }
+        ensures { slice_get self.now.units vertex ≡ Some result.now }
+    {
+        &self.units.items()[vertex as usize]
+    }
+
+    /// The vertex's properties.
+    pub fn properties_of(&self, vertex: u32) -> &List<Text>
+        requires { vertex < length self.now.resources.vertices }
+        ensures { slice_get self.now.properties vertex ≡ Some result.now }
+    {
+        &self.properties.items()[vertex as usize]
+    }
+
+    /// The vertex's path in the containment hierarchy: `/` and the name, from the root down.
+    pub fn path_of(&self, alloc: Global, vertex: u32) -> Result<Text, AllocError>
+        requires { vertex < length self.now.resources.vertices }
+        ensures { IfOk result (λ path. path ≡ path_text self.now vertex) }
+    {
+        let line = line_up(alloc, self.vertices.items(), vertex)?;
+        path_along(alloc, self.names.items(), line.as_slice())
+    }
+}
+
+/// `/` and the name of each vertex of the line, the last one first.
+fn path_along(alloc: Global, names: &[Text], line: &[u32]) -> Result<Text, AllocError>
+    requires { AllBelow (length names.now) line.now }
+    ensures { IfOk result (λ path. path ≡ flat_map (name_step names.now) (reverse line.now)) }
+{
+    let mut path = Vec::new(alloc);
+    let mut left = line.len();
+    while left > 0 {
+        left -= 1;
+        path.push(b'/')?;
+        path.extend_from_slice(names[line[left] as usize].bytes())?;
+    }
+    Ok(Text::of_vec(path))
+}
+
+/// The first place of the text.
+pub(crate) fn text_at(texts: &[Text], wanted: &[u8]) -> Option<usize>
+    ensures found { IsFirstPlace texts.now wanted.now result }
+{
+    for (place, text) in texts.iter().enumerate() {
+        if text.bytes() == wanted {
+            return Some(place);
+        }
+    }
+    None
+}
+
+/// The least number of a rising list from `from` on and before `to`.
+fn next_in(list: &[u32], from: u32, to: u32) -> Option<u32>
+    requires { Rises list.now }
+    ensures { MatchOption result (HasNoneIn list.now from to) (λ v. IsNextIn list.now from to v) }
+{
+    let place = place_of(list, from);
+    if place >= list.len() {
+        return None;
+    }
+    let v = list[place];
+    if v >= to {
+        return None;
+    }
+    Some(v)
+}
+
+/// How many numbers of a rising list are less than `from`.
+fn place_of(list: &[u32], from: u32) -> usize
+    requires { Rises list.now }
+    ensures { IsPlaceOf list.now from result }
+{
+    list.partition_point(|v| *v < from)
+}

@@ -1,0 +1,10 @@
+//! The resource graph (RFC 4), checked and numbered in preorder, with tables that answer each query at once.
+#![tactic(auto)]
+
+pub mod graph;
+mod lines;
+pub mod raw;
+mod tables;
+
+pub use graph::Graph;
+pub use raw::{GraphFault, RawVertex};
