@@ -45,12 +45,24 @@ module _ (scene : Scene) (w : Window) (v : ℕ) where
   hold_open true touched o h k = absurd (true≢false o)
   hold_open false touched o h k = available_hold false touched h k
 
-  -- where it is closed, no hold is available
-  pub hold_closed : (closed : Bool) → closed ≡ true → (IsTrue closed ↔ IsClosedIn scene w v) → (IsTrue (not closed) ↔ IsAvailable scene w (Hold v))
-  hold_closed closed o h = (
-    λ t. absurd (not_to closed t o),
-    λ each. (available_pass closed h).1 (λ m lo hi. (and_parts _ _ (each m lo hi)).0),
+  -- a need of vertices claims nothing of a closed vertex
+  pub admits_none : (hold closed : Bool) → closed ≡ true → (IsTrue closed ↔ IsClosedIn scene w v) → (IsTrue false ↔ IsAvailable scene w (if hold then Hold v else Pass v))
+  admits_none true closed o h = (
+    λ t. absurd (true≢false (sym t)),
+    λ each. absurd (not_to closed ((available_pass closed h).1 (λ m lo hi. (and_parts _ _ (each m lo hi)).0)) o),
   )
+  admits_none false closed o h = (λ t. absurd (true≢false (sym t)), λ each. absurd (not_to closed ((available_pass closed h).1 each) o))
+
+  -- it passes one that isn't closed
+  pub admits_pass : (hold closed : Bool) → hold ≡ false → closed ≡ false → (IsTrue closed ↔ IsClosedIn scene w v) → (IsTrue true ↔ IsAvailable scene w (if hold then Hold v else Pass v))
+  admits_pass true closed f o h = absurd (true≢false f)
+  admits_pass false closed f o h = (λ t. (available_pass closed h).0 (not_from closed (λ u. true≢false (sym u ∙ o))), λ each. refl)
+
+  -- and holds one that isn't touched either
+  pub admits_hold : (hold closed touched : Bool) → hold ≡ true → closed ≡ false → (IsTrue closed ↔ IsClosedIn scene w v) → (IsTrue touched ↔ IsTouchedIn scene w v) →
+      (IsTrue (not touched) ↔ IsAvailable scene w (if hold then Hold v else Pass v))
+  admits_hold true closed touched t o h k = hold_open closed touched o h k
+  admits_hold false closed touched t o h k = absurd (true≢false (sym t))
 
   -- a take of q, where the least that is free is as much
   pub available_take : (q n : ℕ) → IsFreeIn scene w v n → ((q ≤ n) ↔ IsAvailable scene w (Take v q))
@@ -69,36 +81,33 @@ or_no : (a : Bool) → IsTrue (a || false) → IsTrue a
 or_no true h = refl
 or_no false h = h
 
-or_false : (a b : Bool) → IsTrue (a || b) → (IsTrue (a || false) → ⊥) → IsTrue b
-or_false true b h n = absurd (n refl)
-or_false false b h n = h
-
-not_false : (b : Bool) → b ≡ false → IsTrue b → ⊥
-not_false b e h = true≢false (sym h ∙ e)
+or_swap : (a b : Bool) → b ≡ false → IsTrue (a || b) → IsTrue (a || false)
+or_swap true b f h = refl
+or_swap false b f h = absurd (true≢false (sym h ∙ f))
 
 -- an ask's bars close and touch vertices beside the jobs
 module _ (vertices : List Vertex) (jobs : List Job) (barred : List ℕ) (w : Window) (v : ℕ) (opens : w.from < w.to) where
   abbrev pub scene : Scene
   scene = record { vertices = vertices; jobs = jobs; barred = barred }
 
-  pub closed_by_job : (a : Bool) → a ≡ true → (IsTrue a ↔ IsClosedOver vertices jobs w v) → (IsTrue a ↔ IsClosedIn scene w v)
-  closed_by_job a e h = (λ _. let s = h.0 e in (s.0, s.1, s.2, or_left _ _ (or_no (some_live_claim jobs s.0 (holds_over vertices v)) s.3)), λ _. e)
+  -- a barred vertex is closed, and one at or above a barred one touched
+  pub closed_barred : (b : Bool) → b ≡ true → b ≡ list_any (is_at_or_below vertices v) barred → (IsTrue b ↔ IsClosedIn scene w v)
+  closed_barred b t e = (λ _. (w.from, omega arith, opens, or_right (some_live_claim jobs w.from (holds_over vertices v)) _ (sym e ∙ t)), λ _. t)
 
-  pub closed_by_bar : (a b : Bool) → a ≡ false → (IsTrue a ↔ IsClosedOver vertices jobs w v) → b ≡ list_any (is_at_or_below vertices v) barred →
-      (IsTrue b ↔ IsClosedIn scene w v)
-  closed_by_bar a b e h f = (
-    λ t. (w.from, omega arith, opens, or_right (some_live_claim jobs w.from (holds_over vertices v)) _ (sym f ∙ t)),
-    λ s. f ∙ or_false (some_live_claim jobs s.0 (holds_over vertices v)) _ s.3 (λ t. not_false a e (h.1 (s.0, s.1, s.2, t))),
+  pub touched_barred : (b : Bool) → b ≡ true → b ≡ list_any (λ u. is_at_or_below vertices u v) barred → (IsTrue b ↔ IsTouchedIn scene w v)
+  touched_barred b t e = (λ _. (w.from, omega arith, opens, or_right (some_live_claim jobs w.from (is_on_or_below vertices v)) _ (sym e ∙ t)), λ _. t)
+
+  -- of any other vertex the jobs decide
+  pub closed_unbarred : (a b : Bool) → b ≡ false → b ≡ list_any (is_at_or_below vertices v) barred → (IsTrue a ↔ IsClosedOver vertices jobs w v) → (IsTrue a ↔ IsClosedIn scene w v)
+  closed_unbarred a b f e h = (
+    λ t. let s = h.0 t in (s.0, s.1, s.2, or_left _ _ (or_no (some_live_claim jobs s.0 (holds_over vertices v)) s.3)),
+    λ s. h.1 (s.0, s.1, s.2, or_swap (some_live_claim jobs s.0 (holds_over vertices v)) (list_any (is_at_or_below vertices v) barred) (sym e ∙ f) s.3),
   )
 
-  pub touched_by_job : (a : Bool) → a ≡ true → (IsTrue a ↔ IsTouchedOver vertices jobs w v) → (IsTrue a ↔ IsTouchedIn scene w v)
-  touched_by_job a e h = (λ _. let s = h.0 e in (s.0, s.1, s.2, or_left _ _ (or_no (some_live_claim jobs s.0 (is_on_or_below vertices v)) s.3)), λ _. e)
-
-  pub touched_by_bar : (a b : Bool) → a ≡ false → (IsTrue a ↔ IsTouchedOver vertices jobs w v) → b ≡ list_any (λ u. is_at_or_below vertices u v) barred →
-      (IsTrue b ↔ IsTouchedIn scene w v)
-  touched_by_bar a b e h f = (
-    λ t. (w.from, omega arith, opens, or_right (some_live_claim jobs w.from (is_on_or_below vertices v)) _ (sym f ∙ t)),
-    λ s. f ∙ or_false (some_live_claim jobs s.0 (is_on_or_below vertices v)) _ s.3 (λ t. not_false a e (h.1 (s.0, s.1, s.2, t))),
+  pub touched_unbarred : (a b : Bool) → b ≡ false → b ≡ list_any (λ u. is_at_or_below vertices u v) barred → (IsTrue a ↔ IsTouchedOver vertices jobs w v) → (IsTrue a ↔ IsTouchedIn scene w v)
+  touched_unbarred a b f e h = (
+    λ t. let s = h.0 t in (s.0, s.1, s.2, or_left _ _ (or_no (some_live_claim jobs s.0 (is_on_or_below vertices v)) s.3)),
+    λ s. h.1 (s.0, s.1, s.2, or_swap (some_live_claim jobs s.0 (is_on_or_below vertices v)) (list_any (λ u. is_at_or_below vertices u v) barred) (sym e ∙ f) s.3),
   )
 
   -- what is free of a vertex that isn't closed
