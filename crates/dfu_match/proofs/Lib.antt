@@ -1,1 +1,3 @@
 pub mod BarLaws
+pub mod PlaceLaws
+pub mod CountLaws

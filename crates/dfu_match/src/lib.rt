@@ -2,5 +2,7 @@
 #![tactic(auto)]
 
 mod bars;
+mod counting;
+mod places;
 mod search;
 
