@@ -38,7 +38,7 @@ fn reach<F: FreeView, L: Ledger>(
         let Some(vertex) = s.graph.next_of_kind(kind, at, span.to) else {
             return reached;
         };
-        reached += serves(s, need, vertex, most - reached, steps);
+        reached += u128::from(serves(s, need, vertex, most - reached, steps));
         at = vertex + 1;
     }
     reached
@@ -52,7 +52,7 @@ pub(crate) fn serves<F: FreeView, L: Ledger>(
     vertex: u32,
     most: u128,
     steps: &mut Steps<L>,
-) -> u128
+) -> u64
     requires vertex { vertex < length s.now.graph.now.resources.vertices }
     requires of_need { IsOfNeed s.now.graph.now.resources.vertices need.now vertex }
     requires valid { IsValidNeed s.now.graph.now.resources.vertices need.now }
@@ -67,14 +67,14 @@ pub(crate) fn serves<F: FreeView, L: Ledger>(
             if !admits(s, *hold, vertex, steps) {
                 return 0;
             }
-            u128::from(copies(s, needs, vertex, 1, steps))
+            copies(s, needs, vertex, 1, steps)
         }
-        Need::Pool { .. } => u128::from(free(s, vertex, steps)).min(most),
+        Need::Pool { .. } => u128::from(free(s, vertex, steps)).min(most) as u64,
         Need::Spread { needs, .. } => {
             if !admits(s, false, vertex, steps) {
                 return 0;
             }
-            u128::from(copies(s, needs, vertex, most as u64, steps))
+            copies(s, needs, vertex, most as u64, steps)
         }
     }
 }

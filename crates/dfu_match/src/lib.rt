@@ -3,6 +3,9 @@
 
 mod bars;
 mod counting;
+mod matching;
 mod places;
 mod search;
+mod writing;
 
+pub use matching::match_at;

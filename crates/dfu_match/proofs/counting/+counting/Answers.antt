@@ -132,15 +132,15 @@ reach-loop-reached-preserved g t c =
     let is = found vs (λ claim. ⊥) (place_of c.args.place) need c.in-Some.kind c.span_of-span.result.from c.loop-reached.at c.span_of-span.result.to c.in-Some-next_of_kind.vertex c.span_of-span.ensures.covers
     c.loop-reached.invariant.from c.span_of-span.ensures.within of_kind next in
     record {
-      within = (let few = c.serves-reached.ensures.within in let before = c.loop-reached.invariant.within in omega arith);
+      within = (let few = c.serves.ensures.within in let same = c.from-reached.ensures in let before = c.loop-reached.invariant.within in omega arith);
       from = (let before = c.loop-reached.invariant.from in omega arith);
       reached = λ jobs stands.
           let ok : Claim → Type 0 = open_to vs jobs c.args.s.now.barred.now c.args.s.now.window in
           let place = place_of c.args.place in
-          reached_next _ (serves_less vs ok (takes_less _ _) place need) c.args.most c.in-Some-next_of_kind.vertex c.loop-reached.reached c.serves-reached.result
+          reached_next _ (serves_less vs ok (takes_less _ _) place need) c.args.most c.in-Some-next_of_kind.vertex c.loop-reached.reached c.from-reached.result
           (reached_over _ (serves_less vs ok (takes_less _ _) place need) c.args.most c.loop-reached.at c.in-Some-next_of_kind.vertex c.loop-reached.reached low
           (none_skipped vs ok place need c.in-Some.kind c.loop-reached.at c.span_of-span.result.to c.in-Some-next_of_kind.vertex of_kind next) (c.loop-reached.invariant.reached jobs stands))
-          (c.serves-reached.ensures.greatest jobs stands place is.1);
+          (rw c.from-reached.ensures (c.serves.ensures.greatest jobs stands place is.1));
     }
 
 pub reach-returns-clause-greatest : goal.reach-returns-clause-greatest
@@ -186,7 +186,7 @@ serves-returns-else-not-admits-clause-greatest g t c = λ jobs stands place with
     let is = rw c.in-Vert.is at c.requires.of_need in
     let one = laws.vertex_open vs ok place c.in-Vert.kind c.in-Vert.count c.in-Vert.hold c.in-Vert.needs c.args.vertex c.args.most c.copies.result c.requires.some within is
     ((c.admits.ensures jobs stands).0 c.if-not-admits.false) (c.copies.ensures.greatest jobs stands) in
-    rw (c.in-Vert.is, c.from.ensures) one
+    rw c.in-Vert.is one
 
 pub serves-returns-in-Pool-clause-greatest : goal.serves-returns-in-Pool-clause-greatest
 serves-returns-in-Pool-clause-greatest g t c = λ jobs stands place within.
@@ -194,7 +194,7 @@ serves-returns-in-Pool-clause-greatest g t c = λ jobs stands place within.
     let ok : Claim → Type 0 = open_to vs jobs c.args.s.now.barred.now c.args.s.now.window in
     let is = rw c.in-Pool.is at c.requires.of_need in
     let some = laws.pool_serves vs ok place c.in-Pool.kind c.in-Pool.quantity c.args.vertex c.args.most c.free.result c.min.result within is
-    (λ q. available_take (meets vs jobs c.args.s.now.barred.now) c.args.s.now.window c.args.vertex q c.free.result (c.free.ensures jobs stands)) (rw c.from-in-Pool.ensures at c.min.ensures) in
+    (λ q. available_take (meets vs jobs c.args.s.now.barred.now) c.args.s.now.window c.args.vertex q c.free.result (c.free.ensures jobs stands)) (rw c.from.ensures at c.min.ensures) in
     rw c.in-Pool.is some
 
 pub serves-returns-then-not-admits-2-clause-greatest : goal.serves-returns-then-not-admits-2-clause-greatest
@@ -212,4 +212,4 @@ serves-returns-else-not-admits-2-clause-greatest g t c = λ jobs stands place wi
     let is = rw c.in-Spread.is at c.requires.of_need in
     let some = laws.node_open vs ok place c.in-Spread.count c.in-Spread.needs c.args.vertex c.args.most c.copies-in-Spread.result within is
     ((c.admits-in-Spread.ensures jobs stands).0 c.if-not-admits-2.false) (c.copies-in-Spread.ensures.greatest jobs stands) in
-    rw (c.in-Spread.is, c.from-in-Spread.ensures) some
+    rw c.in-Spread.is some
