@@ -4,3 +4,4 @@ pub mod Tables
 pub mod Preorder
 pub mod Holds
 pub mod Keeps
+pub mod Made
