@@ -4,3 +4,5 @@ pub mod LineLaws
 pub mod TableLaws
 pub mod PastLaws
 pub mod MarkLaws
+pub mod PathLaws
+pub mod SortLaws

@@ -3,6 +3,7 @@
 
 pub mod graph;
 mod lines;
+mod order;
 pub mod raw;
 mod tables;
 
