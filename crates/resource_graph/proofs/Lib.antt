@@ -6,3 +6,4 @@ pub mod PastLaws
 pub mod MarkLaws
 pub mod PathLaws
 pub mod SortLaws
+pub mod ArrangeLaws

@@ -5,3 +5,5 @@ pub mod Preorder
 pub mod Holds
 pub mod Keeps
 pub mod Made
+pub mod Faults
+pub mod Raw
