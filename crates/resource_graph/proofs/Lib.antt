@@ -7,3 +7,4 @@ pub mod MarkLaws
 pub mod PathLaws
 pub mod SortLaws
 pub mod ArrangeLaws
+pub mod ValidLaws
