@@ -8,3 +8,6 @@ pub mod PathLaws
 pub mod SortLaws
 pub mod ArrangeLaws
 pub mod ValidLaws
+pub mod KindLaws
+pub mod MadeLaws
+pub mod BuildLaws

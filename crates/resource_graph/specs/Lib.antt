@@ -7,3 +7,4 @@ pub mod Keeps
 pub mod Made
 pub mod Faults
 pub mod Raw
+pub mod Arranged
