@@ -1,5 +1,5 @@
 -- What a rising list of barred nodes says of the vertices at, above and below them.
-use Rattle.std.proofs.Common.{◌≡◌, ◌≢◌, ℕ, zero, suc, ◌<◌, ◌≤◌, Bool, true, false, List, [], ◌∷◌, length, get_or, nat_eq, Option, Some, None, MatchOption, slice_get, slice_index, is_some, IsTrue, true≢false, inl, inr, refl, sym, ◌∙◌, ap, subst, arith, nat_lt}
+use Rattle.std.proofs.Common.{◌≡◌, ◌≢◌, ℕ, zero, suc, ◌<◌, ◌≤◌, Bool, true, false, List, [], ◌∷◌, length, get_or, nat_eq, Option, Some, None, slice_get, slice_index, is_some, IsTrue, true≢false, inl, inr, refl, sym, ◌∙◌, ap, subst, arith, nat_lt}
 use Rattle.std.specs.List.{list_any, AllByRecursion}
 use Rattle.std.specs.Option.{IsSomeAnd, option_map_or}
 use Rattle.std.proofs.lemmas.Bool.{cases_lt}
@@ -14,7 +14,7 @@ use Rattle.flux_defs.specs.ValidGraph.{IsValidGraph}
 use Rattle.graph_laws.proofs.Containment.{below_le, line, below_from}
 use Rattle.graph_laws.proofs.Preorder.{parents_first}
 use Rattle.flux_laws.proofs.Valid.{nodes_alike}
-use Rattle.resource_graph.specs.Tables.{IsPlaceOf, IsPast, IsNodeOf}
+use Rattle.resource_graph.specs.Tables.{IsPlaceOf, IsPast}
 use Rattle.dfu_match.specs.Bars.{is_node_at, AreNodesOf, RisesStrictly, IsLeastFrom, FindsLeast}
 
 -- the least number from `from` on stands at the place before which all are less

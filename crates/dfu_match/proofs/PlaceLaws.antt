@@ -1,17 +1,17 @@
 -- Which vertices are in a place, and of a need.
-use Rattle.std.proofs.Common.{◌≡◌, ◌≢◌, ℕ, ◌+◌, ◌<◌, ◌≤◌, ◌↔◌, List, length, Option, Some, None, slice_get, refl, sym, ◌∙◌, ap, subst, arith, IsTrue}
+use Rattle.std.proofs.Common.{◌≡◌, ◌≢◌, ℕ, ◌+◌, ◌<◌, ◌≤◌, ◌↔◌, List, length, Option, Some, None, slice_get, refl, sym, ◌∙◌, ap, arith}
 use Rattle.std.specs.Prelude.{codes, IsSome}
 use Rattle.std.specs.Option.{IsSomeAnd}
 use Rattle.flux_defs.specs.declared.vertices.Vertex.{Vertex}
 use Rattle.flux_defs.specs.declared.claims.Claim.{Claim}
 use Rattle.flux_defs.specs.declared.requests.Need.{Need}
-use Rattle.flux_defs.specs.Graph.{ResourceGraph, Place, Everywhere, Beneath, IsIn, HasKind, IsNode, is_at_or_below, is_below}
+use Rattle.flux_defs.specs.Graph.{ResourceGraph, Place, Everywhere, Beneath, IsIn, HasKind, IsNode}
 use Rattle.flux_defs.specs.ValidGraph.{IsValidGraph, HasType}
 use Rattle.flux_defs.specs.Needs.{IsOfNeed}
 use Rattle.flux_defs.specs.Lowest.{CanServe}
 use Rattle.graph_laws.proofs.Containment.{below_le, below_from, below_to}
 use Rattle.graph_laws.proofs.Preorder.{parents_first}
-use Rattle.resource_graph.specs.Tables.{IsPast, IsNamedKind, IsNextOfKind, HasNoneOfKind}
+use Rattle.resource_graph.specs.Tables.{IsPast, IsNextOfKind, HasNoneOfKind}
 use Rattle.match_laws.proofs.Walk.{NoneBetween}
 use Rattle.match_laws.proofs.NeedLists.{server}
 use Rattle.dfu_match.specs.Searches.{Covers, IsKindOfNeed}
@@ -25,7 +25,7 @@ module _ (g : ResourceGraph) (names : List (List ℕ)) (valid : IsValidGraph g n
   pub covers_below : (u past : ℕ) → IsPast g.vertices u past → Covers g.vertices (Beneath u) (u + 1) past
   covers_below u past p v lt = (
     λ h. (let b = below_to g.vertices (parents_first g valid.preorder) v u h.1 in
-    (let le : u ≤ v = below_le g.vertices (parents_first g valid.preorder) v u b.0 in let ne : v ≢ u = b.1 in omega arith, p.whole v lt b.0)),
+        (let le : u ≤ v = below_le g.vertices (parents_first g valid.preorder) v u b.0 in let ne : v ≢ u = b.1 in omega arith, p.whole v lt b.0)),
     λ h. (lt, (let lo : u + 1 ≤ v = h.0 in below_from g.vertices (parents_first g valid.preorder) v u (λ e. omega arith) (p.covered v (omega arith) h.1))),
   )
 

@@ -1,17 +1,16 @@
 -- What writing keeps: the piece of each vertex, the group of each need, and the claims of all.
-use Rattle.std.proofs.Common.{◌≡◌, ℕ, ◌+◌, ◌-◌, ◌*◌, ◌<◌, ◌≤◌, Bool, true, false, List, [], ◌∷◌, ◌++◌, MatchBool, refl, sym, ◌∙◌, ap, subst, arith, append_assoc, append-nil, take, length}
+use Rattle.std.proofs.Common.{◌≡◌, ℕ, ◌*◌, ◌≤◌, Bool, true, false, List, [], ◌∷◌, ◌++◌, refl, sym, ◌∙◌, ap, subst, arith, append_assoc, append-nil, take, length}
 use Rattle.std.proofs.Math.Seq.{take-append_seam}
 use Rattle.std.proofs.Math.Nat.{mul-le-mul}
 use Rattle.flux_defs.specs.declared.vertices.Vertex.{Vertex}
 use Rattle.flux_defs.specs.declared.claims.Claim.{Claim}
-use Rattle.flux_defs.specs.declared.claims.Claim.TheVariants.{Take, Hold, Pass}
-use Rattle.flux_defs.specs.declared.requests.Need.{Need, Vert, Pool, Spread}
-use Rattle.flux_defs.specs.Graph.{Place, Beneath, IsIn, HasKind, IsNode}
-use Rattle.flux_defs.specs.Needs.{amount_of}
+use Rattle.flux_defs.specs.declared.claims.Claim.TheVariants.{Hold}
+use Rattle.flux_defs.specs.declared.requests.Need.{Need, Vert, Spread}
+use Rattle.flux_defs.specs.Graph.{Place, Beneath, IsIn, HasKind}
 use Rattle.flux_defs.specs.Lowest.{CanServe, FollowsPass, LowestPiece, Lowest}
 use Rattle.flux_laws.proofs.Lists.{lowest_list_fits}
 use Rattle.match_laws.specs.Offers.{IsGreatest, Offers, Extends, SomeFits}
-use Rattle.match_laws.proofs.NeedLists.{greatest_none, greatest_one, copies_serve, writes_hold, writes_pass, writes_copies}
+use Rattle.match_laws.proofs.NeedLists.{greatest_none, copies_serve, writes_hold, writes_pass, writes_copies}
 use Rattle.dfu_match.specs.Searches.{claim_on}
 use Rattle.dfu_match.proofs.CountLaws.{vertex_open}
 

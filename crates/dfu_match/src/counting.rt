@@ -99,7 +99,13 @@ pub(crate) fn copies<F: FreeView, L: Ledger>(
     let mut best = most;
     for need in needs.items() {
         let amount = amount_of(need);
-        let reached = reach(s, need, Some(vertex), u128::from(best) * u128::from(amount), steps);
+        let reached = reach(
+            s,
+            need,
+            Some(vertex),
+            u128::from(best) * u128::from(amount),
+            steps,
+        );
         best = whole_times(reached, amount, best);
         if best == 0 {
             return 0;

@@ -85,7 +85,12 @@ pub(crate) fn free<F: FreeView, L: Ledger>(s: &Search<F>, vertex: u32, steps: &m
 }
 
 /// Whether the vertex may be held, or passed.
-pub(crate) fn admits<F: FreeView, L: Ledger>(s: &Search<F>, hold: bool, vertex: u32, steps: &mut Steps<L>) -> bool
+pub(crate) fn admits<F: FreeView, L: Ledger>(
+    s: &Search<F>,
+    hold: bool,
+    vertex: u32,
+    steps: &mut Steps<L>,
+) -> bool
     requires { vertex < length s.now.graph.now.resources.vertices }
     ensures { (jobs : List Job) → F.stands_for s.now.view.now jobs →
         (IsTrue result ↔ open_to s.now.graph.now.resources.vertices jobs s.now.barred.now s.now.window (claim_on hold vertex)) }

@@ -1,5 +1,5 @@
 -- Where more is available, more fits.
-use Rattle.std.proofs.Common.{◌≡◌, ℕ, ◌*◌, true, false, List, [], ◌∷◌}
+use Rattle.std.proofs.Common.{ℕ, ◌*◌, true, false, List, [], ◌∷◌}
 use Rattle.flux_defs.specs.declared.vertices.Vertex.{Vertex}
 use Rattle.flux_defs.specs.declared.claims.Claim.{Claim}
 use Rattle.flux_defs.specs.declared.claims.Claim.TheVariants.{Take, Hold, Pass}

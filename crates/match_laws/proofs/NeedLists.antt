@@ -1,20 +1,18 @@
 -- What a search needs to know of lists of needs: each need is looked for alone.
-use Rattle.std.proofs.Common.{◌≡◌, ℕ, zero, suc, ◌+◌, ◌*◌, ◌<◌, ◌≤◌, Bool, true, false, List, [], ◌∷◌, ◌++◌, refl, sym, ◌∙◌, ap, subst, arith, append_assoc, append-nil, length, drop, drop-cons, get_or, ◌↔◌}
+use Rattle.std.proofs.Common.{◌≡◌, ℕ, zero, suc, ◌+◌, ◌*◌, ◌<◌, ◌≤◌, Bool, true, false, List, [], ◌∷◌, ◌++◌, refl, sym, ◌∙◌, ap, subst, arith, append_assoc, append-nil, length, drop, drop-cons, get_or}
 use mathlib.Core.Path.{transport, transport⁻¹}
-use Rattle.std.proofs.lemmas.List.{drop_all}
 use Rattle.std.specs.List.{AllByRecursion}
 use Rattle.flux_defs.specs.declared.vertices.Vertex.{Vertex}
 use Rattle.flux_defs.specs.declared.claims.Claim.{Claim}
-use Rattle.flux_defs.specs.declared.claims.Claim.TheVariants.{Take, Hold, Pass}
+use Rattle.flux_defs.specs.declared.claims.Claim.TheVariants.{Hold, Pass}
 use Rattle.flux_defs.specs.declared.requests.Need.{Need, Vert, Vert', Pool, Spread, Spread'}
-use Rattle.flux_defs.specs.Graph.{Place, Everywhere, Beneath, IsIn, HasKind, IsNode}
+use Rattle.flux_defs.specs.Graph.{Place, Beneath, IsIn, HasKind, IsNode}
 use Rattle.flux_defs.specs.Needs.{amount_of, IsOfNeed}
-use Rattle.flux_defs.specs.Fits.{Group, Piece, Fits, SharedPiece}
-use Rattle.flux_defs.specs.Lowest.{FillsFrom, CanServe, FollowsPass, LowestPiece, Lowest}
+use Rattle.flux_defs.specs.Fits.{Piece}
+use Rattle.flux_defs.specs.Lowest.{CanServe, LowestPiece, Lowest}
 use Rattle.flux_laws.proofs.Filling.{CanFill, can_fill_less}
-use Rattle.flux_laws.proofs.FitLaws.{TakesLess, SomePiece, group_fills, filled_group, serves_less}
-use Rattle.flux_laws.proofs.Rows.{VertPiece, SpreadPiece, piece_Vert, piece_Spread, lowest_Vert, lowest_Spread}
-use Rattle.flux_laws.proofs.Lists.{lowest_list_fits}
+use Rattle.flux_laws.proofs.FitLaws.{TakesLess, group_fills, filled_group, serves_less}
+use Rattle.flux_laws.proofs.Rows.{piece_Vert, piece_Spread, lowest_Vert, lowest_Spread}
 use Rattle.match_laws.specs.Offers.{IsGreatest, Offers, SomeGroup, SomeFits, LowestGroup, VertexClaims}
 
 -- the greatest of one fact is the greatest of another that says the same

@@ -1,11 +1,11 @@
 -- Walks over the vertices that take from each all that it offers: what they keep, over an abstract `can v q`.
-use Rattle.std.proofs.Common.{◌≡◌, ◌≢◌, ℕ, zero, suc, ◌+◌, ◌-◌, ◌<◌, ◌≤◌, List, [], ◌∷◌, ◌++◌, ◌⊎◌, inl, inr, refl, sym, ◌∙◌, ap, subst, arith, append_assoc, append-nil}
+use Rattle.std.proofs.Common.{◌≡◌, ℕ, zero, suc, ◌+◌, ◌-◌, ◌<◌, ◌≤◌, List, [], ◌∷◌, ◌++◌, inl, inr, refl, sym, ◌∙◌, ap, subst, arith, append_assoc, append-nil}
 use Rattle.std.proofs.lemmas.Bool.{cases_lt}
 use Rattle.std.specs.List.{AllByRecursion}
 use Rattle.flux_defs.specs.declared.claims.Claim.{Claim}
 use Rattle.flux_defs.specs.Fits.{Pick, served, NoneFor, AreDistinct, Pieces}
 use Rattle.flux_defs.specs.Lowest.{FillsFrom}
-use Rattle.flux_laws.proofs.Filling.{CanFill, IsPickFrom, IsDownward, rest_can_fill, fills_with, fills_past, none_fills, lower, can_fill_less}
+use Rattle.flux_laws.proofs.Filling.{CanFill, IsPickFrom, IsDownward, rest_can_fill, fills_with, fills_past}
 use Rattle.match_laws.specs.Offers.{IsGreatest, Offers}
 
 -- the vertices from `low` on and before `high` can serve nothing

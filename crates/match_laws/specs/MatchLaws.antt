@@ -1,11 +1,9 @@
 -- The laws that a search for claims rests on, as statements.
-use Rattle.std.specs.Prelude.{◌≡◌, ℕ, ◌*◌, ◌<◌, List, ◌↔◌}
+use Rattle.std.specs.Prelude.{ℕ, ◌*◌, List, ◌↔◌}
 use Rattle.std.specs.List.{AllByRecursion}
 use Rattle.flux_defs.specs.declared.vertices.Vertex.{Vertex}
 use Rattle.flux_defs.specs.declared.claims.Claim.{Claim}
-use Rattle.flux_defs.specs.declared.claims.Job.{Job}
 use Rattle.flux_defs.specs.declared.claims.Window.{Window}
-use Rattle.flux_defs.specs.declared.requests.Ask.{Ask}
 use Rattle.flux_defs.specs.declared.requests.Need.{Need}
 use Rattle.flux_defs.specs.Graph.{Place}
 use Rattle.flux_defs.specs.Needs.{amount_of}

@@ -1,10 +1,9 @@
 -- What one vertex offers a need, how far a need can be filled, and the lowest-first group of one need.
-use Rattle.std.specs.Prelude.{◌≡◌, ℕ, ◌+◌, ◌*◌, ◌<◌, ◌≤◌, Bool, List, [], ◌∷◌, ◌++◌, MatchBool}
+use Rattle.std.specs.Prelude.{◌≡◌, ℕ, ◌+◌, ◌<◌, ◌≤◌, Bool, List, [], ◌++◌, MatchBool}
 use Rattle.flux_defs.specs.declared.vertices.Vertex.{Vertex}
 use Rattle.flux_defs.specs.declared.claims.Claim.{Claim}
 use Rattle.flux_defs.specs.declared.requests.Need.{Need}
 use Rattle.flux_defs.specs.Graph.{Place, Beneath}
-use Rattle.flux_defs.specs.Needs.{amount_of}
 use Rattle.flux_defs.specs.Fits.{Pick, Pieces, Group, Piece, HeldPiece, SharedPiece, Fits}
 use Rattle.flux_defs.specs.Lowest.{FillsFrom, CanServe, LowestPiece}
 

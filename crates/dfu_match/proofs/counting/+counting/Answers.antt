@@ -1,4 +1,4 @@
-use Rattle.std.proofs.Common.{arith, rules, ◌≡◌, ℕ, ◌+◌, ◌*◌, ◌<◌, ◌≤◌, ◌^◌, List, ◌∷◌, length, drop, refl, sym, ◌∙◌, subst, inl, inr, true≢false}
+use Rattle.std.proofs.Common.{arith, rules, ◌≡◌, ◌+◌, ◌<◌, ◌≤◌, ◌^◌, List, ◌∷◌, drop, refl, sym, ◌∙◌, inl, inr, true≢false}
 use Rattle.std.proofs.lemmas.List.{drop_all}
 use denote.Param.Weighed.{most}
 use Rattle.flux_defs.specs.declared.claims.Claim.{Claim}
@@ -9,7 +9,7 @@ use Rattle.flux_defs.specs.Needs.{amount_of, AreValidNeeds}
 use Rattle.flux_laws.proofs.Takes.{takes_less}
 use Rattle.flux_laws.proofs.FitLaws.{serves_less}
 use Rattle.match_laws.proofs.Walk.{reached_start, reached_over, reached_next, reached_all, reached_end}
-use Rattle.match_laws.proofs.NeedLists.{greatest_along, greatest_none, group_to, group_from}
+use Rattle.match_laws.proofs.NeedLists.{greatest_along, group_to, group_from}
 use Rattle.match_laws.proofs.ViewLaws.{available_take}
 use Rattle.match_laws.proofs.Sizes.{size_Vert, size_Spread, size_item}
 use Rattle.dfu_match.specs.Searches.{open_to, meets, place_of}
@@ -25,12 +25,23 @@ copies-reach-reached-requires g t c κs h =
     let split : drop i items ≡ need ∷ drop (i + 1) items = laws.item_split items i need c.loop-need-test.true c.need-item.is in
     let valid : AreValidNeeds c.args.s.now.graph.now.resources.vertices items = rw c.items-need-items.ensures c.requires.valid in
     let small : amount_of need < 2 ^ 64 = rw (← c.amount_of-amount.ensures) c.amount_of-amount.type_inv in
-    let size : the_size need ≤ most the_size c.args.needs.now = size_item c.args.needs.now i need (drop (i + 1) items) (rw (← c.items-need-items.ensures) split) in
-    (omega (arith, size, c.decreases), (search rules, (search rules, (c.requires.vertex, (
-      laws.valid_at c.args.s.now.graph.now.resources.vertices items i need (drop (i + 1) items) split valid,
-      rw (c.from.ensures, c.from-in-loop-need.ensures, c.amount_of-amount.ensures)
-          (laws.may_ask_at c.args.most c.loop-need.best items i need (drop (i + 1) items) c.loop-need.invariant.within split small (rw c.items-need-items.ensures c.requires.may)),
-    )))))
+    let size : the_size need ≤ most the_size c.args.needs.now = size_item c.args.needs.now i need (drop (i + 1) items) (rw (← c.items-need-items.ensures) split) in (
+      omega (arith, size, c.decreases),
+      (
+        search rules,
+        (
+          search rules,
+          (
+            c.requires.vertex,
+            (
+              laws.valid_at c.args.s.now.graph.now.resources.vertices items i need (drop (i + 1) items) split valid,
+              rw (c.from.ensures, c.from-in-loop-need.ensures, c.amount_of-amount.ensures)
+                  (laws.may_ask_at c.args.most c.loop-need.best items i need (drop (i + 1) items) c.loop-need.invariant.within split small (rw c.items-need-items.ensures c.requires.may)),
+            ),
+          ),
+        ),
+      ),
+    )
 
 pub copies-whole_times-best-requires-clause-some : goal.copies-whole_times-best-requires-clause-some
 copies-whole_times-best-requires-clause-some g t c =
@@ -163,21 +174,43 @@ serves-returns-then-not-admits-clause-greatest g t c = λ jobs stands place with
 pub serves-copies-requires : goal.serves-copies-requires
 serves-copies-requires g t c κs h =
     let vs = c.args.s.now.graph.now.resources.vertices in
-    let lt : most the_size c.in-Vert.needs < the_size c.args.need.now = rw c.in-Vert.is (size_Vert c.in-Vert.kind c.in-Vert.count c.in-Vert.hold c.in-Vert.needs) in
-    (omega (arith, lt, c.decreases), (search rules, (search rules, (c.requires.vertex, (
-      laws.valid_inside vs c.in-Vert.kind c.in-Vert.count c.in-Vert.hold c.in-Vert.needs (rw c.in-Vert.is at c.requires.valid),
-      inl refl,
-    )))))
+    let lt : most the_size c.in-Vert.needs < the_size c.args.need.now = rw c.in-Vert.is (size_Vert c.in-Vert.kind c.in-Vert.count c.in-Vert.hold c.in-Vert.needs) in (
+      omega (arith, lt, c.decreases),
+      (
+        search rules,
+        (
+          search rules,
+          (
+            c.requires.vertex,
+            (
+              laws.valid_inside vs c.in-Vert.kind c.in-Vert.count c.in-Vert.hold c.in-Vert.needs (rw c.in-Vert.is at c.requires.valid),
+              inl refl,
+            ),
+          ),
+        ),
+      ),
+    )
 
 pub serves-copies-requires-in-Spread : goal.serves-copies-requires-in-Spread
 serves-copies-requires-in-Spread g t c κs h =
     let vs = c.args.s.now.graph.now.resources.vertices in
     let lt : most the_size c.in-Spread.needs < the_size c.args.need.now = rw c.in-Spread.is (size_Spread c.in-Spread.count c.in-Spread.needs) in
-    let valid = rw c.in-Spread.is at c.requires.valid in
-    (omega (arith, lt, c.decreases), (search rules, (search rules, (c.requires.vertex, (
-      laws.valid_copy vs c.in-Spread.count c.in-Spread.needs valid,
-      inr (laws.plain_copy vs c.in-Spread.count c.in-Spread.needs valid),
-    )))))
+    let valid = rw c.in-Spread.is at c.requires.valid in (
+      omega (arith, lt, c.decreases),
+      (
+        search rules,
+        (
+          search rules,
+          (
+            c.requires.vertex,
+            (
+              laws.valid_copy vs c.in-Spread.count c.in-Spread.needs valid,
+              inr (laws.plain_copy vs c.in-Spread.count c.in-Spread.needs valid),
+            ),
+          ),
+        ),
+      ),
+    )
 
 pub serves-returns-else-not-admits-clause-greatest : goal.serves-returns-else-not-admits-clause-greatest
 serves-returns-else-not-admits-clause-greatest g t c = λ jobs stands place within.

@@ -1,4 +1,4 @@
-use Rattle.std.proofs.Common.{◌-◌, ◌≡◌, ◌*◌, ◌≤◌, List, drop, ◌++◌}
+use Rattle.std.proofs.Common.{◌-◌, ◌*◌, ◌≤◌, List, drop}
 use Rattle.flux_defs.specs.declared.claims.Job.{Job}
 use Rattle.flux_defs.specs.Needs.{amount_of}
 use Rattle.flux_defs.specs.Lowest.{CanServe, LowestPiece}
