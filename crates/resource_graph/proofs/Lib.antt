@@ -4,3 +4,10 @@ pub mod LineLaws
 pub mod TableLaws
 pub mod PastLaws
 pub mod MarkLaws
+pub mod PathLaws
+pub mod SortLaws
+pub mod ArrangeLaws
+pub mod ValidLaws
+pub mod KindLaws
+pub mod MadeLaws
+pub mod BuildLaws

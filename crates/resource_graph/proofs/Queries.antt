@@ -6,10 +6,11 @@ use Rattle.std.proofs.lemmas.Bool.{cases_lt, and_parts, and_from, and_left, and_
 use Rattle.std.proofs.lemmas.Option.{slice_get_within, slice_get-get_or}
 use Rattle.flux_defs.specs.declared.vertices.Vertex.{Vertex}
 use Rattle.flux_defs.specs.Graph.{ResourceGraph, is_at_or_below, is_below, HasKind}
-use Rattle.flux_defs.specs.ValidGraph.{IsValidGraph}
+use Rattle.flux_defs.specs.ValidGraph.{IsValidGraph, StandsInPreorder}
 use Rattle.graph_laws.proofs.Containment.{ParentsFirst, below_le, below_from, below_to, below_self}
 use Rattle.graph_laws.proofs.Preorder.{parents_first, has_parent}
 use Rattle.resource_graph.specs.Lines.{line_of, KnowsParents}
+use Rattle.resource_graph.specs.Preorder.{InPreorder}
 use Rattle.resource_graph.specs.Tables.{IsPast, Nests, IsNextOfKind, HasNoneOfKind, IsNextIn, HasNoneIn, ListsKind}
 
 pub same_tests : (a b : Bool) → (IsTrue a → IsTrue b) → (IsTrue b → IsTrue a) → a ≡ b
@@ -72,3 +73,9 @@ lines_short g names valid v lt =
   where
     no_vertex : Vertex
     no_vertex = record {kind = 0; size = 0; parent = None; id = None; rank = None}
+
+-- preorder doesn't speak of the types' names
+pub in_preorder : (g : ResourceGraph) (vertices : List Vertex) → vertices ≡ g.vertices → StandsInPreorder g → InPreorder vertices
+in_preorder g vertices same o =
+    let here : InPreorder g.vertices = record { some = o.some; root = o.root; next = o.next } in
+    subst (λ (l : List Vertex). InPreorder l) (sym same) here

@@ -4,3 +4,7 @@ pub mod Tables
 pub mod Preorder
 pub mod Holds
 pub mod Keeps
+pub mod Made
+pub mod Faults
+pub mod Raw
+pub mod Arranged

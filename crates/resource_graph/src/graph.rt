@@ -5,9 +5,11 @@ ghost use Rattle.std.specs.List.{flat_map};
 ghost use Rattle.flux_defs.specs.Graph.{is_below, is_pool_kind};
 ghost use Rattle.resource_graph.specs.Lines.{AllBelow};
 ghost use Rattle.resource_graph.specs.NamedGraph.{IsWhole, name_step, path_text};
+ghost use Rattle.resource_graph.specs.Made.{named_graph};
 ghost use Rattle.resource_graph.specs.Tables.{IsPast, IsNodeOf, IsRanked, IsNamedKind, Nests, IsNextOfKind, HasNoneOfKind, Rises, IsNextIn, HasNoneIn, IsPlaceOf, IsFirstPlace};
 
 use crate::lines::line_up;
+use crate::tables::{list_table, nested_table, node_table, past_table, pool_table, rank_table};
 use flux_defs::{List, Text, Vertex};
 use std::alloc::{AllocError, Global};
 use std::collections::BTreeMap;
@@ -43,7 +45,54 @@ impl Model for Graph {
     ghost invariant = { Keeps };
 }
 
+/// By the vertex's number, its texts.
+#[derive(Debug, Drop)]
+pub(crate) struct Texts {
+    pub names: List<Text>,
+    pub bases: List<Text>,
+    pub units: List<Text>,
+    pub properties: List<List<Text>>,
+}
+
 impl Graph {
+    /// The graph of these types, vertices and texts.
+    pub(crate) fn with_tables(
+        alloc: Global,
+        kinds: List<Text>,
+        vertices: List<Vertex>,
+        texts: Texts,
+    ) -> Result<Graph, AllocError>
+        requires { IsWhole (named_graph kinds vertices texts) }
+        ensures { IfOk result (λ graph. graph ≡ named_graph kinds vertices texts) }
+    {
+        let past = past_table(alloc, vertices.items())?;
+        let nodes = node_table(alloc, vertices.items())?;
+        let lists = list_table(alloc, vertices.items(), kinds.len())?;
+        let ranked = rank_table(alloc, vertices.items())?;
+        let pools = pool_table(alloc, vertices.items(), kinds.len())?;
+        let nested = nested_table(alloc, vertices.items(), kinds.len())?;
+        let Texts {
+            names,
+            bases,
+            units,
+            properties,
+        } = texts;
+        Ok(Graph {
+            kinds,
+            vertices,
+            names,
+            bases,
+            units,
+            properties,
+            past,
+            nodes,
+            lists,
+            ranked,
+            pools,
+            nested,
+        })
+    }
+
     /// Its vertices, by their numbers in preorder.
     pub fn vertices(&self) -> &List<Vertex>
         ensures value { result.now ≡ self.now.resources.vertices }

@@ -1,8 +1,11 @@
 //! The resource graph (RFC 4), checked and numbered in preorder, with tables that answer each query at once.
 #![tactic(auto)]
 
+mod arrange;
+mod build;
 pub mod graph;
 mod lines;
+mod order;
 pub mod raw;
 mod tables;
 

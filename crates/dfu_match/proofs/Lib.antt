@@ -1,0 +1,4 @@
+pub mod BarLaws
+pub mod PlaceLaws
+pub mod CountLaws
+pub mod WriteLaws

@@ -1,0 +1,248 @@
+use Rattle.std.proofs.Common.{arith, rules, ◌≡◌, ◌+◌, ◌<◌, ◌≤◌, ◌^◌, List, ◌∷◌, drop, refl, sym, ◌∙◌, inl, inr, true≢false}
+use Rattle.std.proofs.lemmas.List.{drop_all}
+use denote.Param.Weighed.{most}
+use Rattle.flux_defs.specs.declared.claims.Claim.{Claim}
+use Rattle.flux_defs.specs.declared.requests.Need.{Need}
+use Rattle.flux_defs.proofs.requests.Need.TheLaws.{the_size}
+use Rattle.flux_defs.specs.Graph.{Beneath}
+use Rattle.flux_defs.specs.Needs.{amount_of, AreValidNeeds}
+use Rattle.flux_laws.proofs.Takes.{takes_less}
+use Rattle.flux_laws.proofs.FitLaws.{serves_less}
+use Rattle.match_laws.proofs.Walk.{reached_start, reached_over, reached_next, reached_all, reached_end}
+use Rattle.match_laws.proofs.NeedLists.{greatest_along, group_to, group_from}
+use Rattle.match_laws.proofs.ViewLaws.{available_take}
+use Rattle.match_laws.proofs.Sizes.{size_Vert, size_Spread, size_item}
+use Rattle.dfu_match.specs.Searches.{open_to, meets, place_of}
+use Rattle.dfu_match.proofs.PlaceLaws.{none_before, none_skipped, none_after, none_at_all, found}
+use Rattle.dfu_match.proofs.CountLaws as laws
+use Rattle.dfu_match.proofs.counting.+counting.Goals as goal
+
+pub copies-reach-reached-requires : goal.copies-reach-reached-requires
+copies-reach-reached-requires g t c κs h =
+    let items : List Need = c.items-need-items.result.now in
+    let i = c.loop-need.need-index in
+    let need = c.need-item.result in
+    let split : drop i items ≡ need ∷ drop (i + 1) items = laws.item_split items i need c.loop-need-test.true c.need-item.is in
+    let valid : AreValidNeeds c.args.s.now.graph.now.resources.vertices items = rw c.items-need-items.ensures c.requires.valid in
+    let small : amount_of need < 2 ^ 64 = rw (← c.amount_of-amount.ensures) c.amount_of-amount.type_inv in
+    let size : the_size need ≤ most the_size c.args.needs.now = size_item c.args.needs.now i need (drop (i + 1) items) (rw (← c.items-need-items.ensures) split) in (
+      omega (arith, size, c.decreases),
+      (
+        search rules,
+        (
+          search rules,
+          (
+            c.requires.vertex,
+            (
+              laws.valid_at c.args.s.now.graph.now.resources.vertices items i need (drop (i + 1) items) split valid,
+              rw (c.from.ensures, c.from-in-loop-need.ensures, c.amount_of-amount.ensures)
+                  (laws.may_ask_at c.args.most c.loop-need.best items i need (drop (i + 1) items) c.loop-need.invariant.within split small (rw c.items-need-items.ensures c.requires.may)),
+            ),
+          ),
+        ),
+      ),
+    )
+
+pub copies-whole_times-best-requires-clause-some : goal.copies-whole_times-best-requires-clause-some
+copies-whole_times-best-requires-clause-some g t c =
+    let items : List Need = c.items-need-items.result.now in
+    let i = c.loop-need.need-index in
+    let need = c.need-item.result in
+    let split : drop i items ≡ need ∷ drop (i + 1) items = laws.item_split items i need c.loop-need-test.true c.need-item.is in
+    let valid : AreValidNeeds c.args.s.now.graph.now.resources.vertices items = rw c.items-need-items.ensures c.requires.valid in
+    rw c.amount_of-amount.ensures (laws.amount_some c.args.s.now.graph.now.resources.vertices need (laws.valid_at c.args.s.now.graph.now.resources.vertices items i need (drop (i + 1) items) split valid))
+
+pub copies-returns-then-best-eq0-clause-greatest : goal.copies-returns-then-best-eq0-clause-greatest
+copies-returns-then-best-eq0-clause-greatest g t c = λ jobs stands.
+    let vs = c.args.s.now.graph.now.resources.vertices in
+    let ok : Claim → Type 0 = open_to vs jobs c.args.s.now.barred.now c.args.s.now.window in
+    let items : List Need = c.items-need-items.result.now in
+    let i = c.loop-need.need-index in
+    let need = c.need-item.result in
+    let split : drop i items ≡ need ∷ drop (i + 1) items = laws.item_split items i need c.loop-need-test.true c.need-item.is in
+    let greatest = rw (c.from.ensures, c.from-in-loop-need.ensures, c.amount_of-amount.ensures) at (c.reach-reached.ensures.greatest jobs stands) in
+    let high = rw c.amount_of-amount.ensures at c.whole_times-best.ensures.high in
+    laws.copies_none vs ok (Beneath c.args.vertex) items c.args.needs.now c.args.most c.whole_times-best.result c.items-need-items.ensures c.if-best-eq0.true
+    (laws.full_next vs ok (takes_less _ _) (Beneath c.args.vertex) items i need (drop (i + 1) items) c.args.most c.loop-need.best c.reach-reached.result c.whole_times-best.result split greatest high
+    c.whole_times-best.ensures.within (c.loop-need.invariant.full jobs stands))
+
+pub copies-loop-need-preserved : goal.copies-loop-need-preserved
+copies-loop-need-preserved g t c =
+    let vs = c.args.s.now.graph.now.resources.vertices in
+    let items : List Need = c.items-need-items.result.now in
+    let i = c.loop-need.need-index in
+    let need = c.need-item.result in
+    let split : drop i items ≡ need ∷ drop (i + 1) items = laws.item_split items i need c.loop-need-test.true c.need-item.is in
+    let low = rw c.amount_of-amount.ensures at c.whole_times-best.ensures.low in
+    let high = rw c.amount_of-amount.ensures at c.whole_times-best.ensures.high in
+    record {
+      within = (let few = c.whole_times-best.ensures.within in let before = c.loop-need.invariant.within in omega arith);
+      enough = λ jobs stands.
+          let ok : Claim → Type 0 = open_to vs jobs c.args.s.now.barred.now c.args.s.now.window in
+          let greatest = rw (c.from.ensures, c.from-in-loop-need.ensures, c.amount_of-amount.ensures) at (c.reach-reached.ensures.greatest jobs stands) in
+          laws.enough_next vs ok (takes_less _ _) (Beneath c.args.vertex) items i need (drop (i + 1) items) c.loop-need.best c.reach-reached.result c.whole_times-best.result split greatest low
+          c.whole_times-best.ensures.within (c.loop-need.invariant.enough jobs stands);
+      full = λ jobs stands.
+          let ok : Claim → Type 0 = open_to vs jobs c.args.s.now.barred.now c.args.s.now.window in
+          let greatest = rw (c.from.ensures, c.from-in-loop-need.ensures, c.amount_of-amount.ensures) at (c.reach-reached.ensures.greatest jobs stands) in
+          laws.full_next vs ok (takes_less _ _) (Beneath c.args.vertex) items i need (drop (i + 1) items) c.args.most c.loop-need.best c.reach-reached.result c.whole_times-best.result split greatest high
+          c.whole_times-best.ensures.within (c.loop-need.invariant.full jobs stands);
+    }
+
+pub copies-returns-clause-greatest : goal.copies-returns-clause-greatest
+copies-returns-clause-greatest g t c = λ jobs stands.
+    let vs = c.args.s.now.graph.now.resources.vertices in
+    let ok : Claim → Type 0 = open_to vs jobs c.args.s.now.barred.now c.args.s.now.window in
+    let items : List Need = c.items-need-items.result.now in
+    laws.copies_end vs ok (Beneath c.args.vertex) items c.args.needs.now (drop c.loop-need.need-index items) c.args.most c.loop-need.best c.items-need-items.ensures
+    (drop_all c.loop-need.need-index items c.loop-need-test.false) c.loop-need.invariant.within (c.loop-need.invariant.enough jobs stands) (c.loop-need.invariant.full jobs stands)
+
+pub reach-returns-in_default-clause-greatest : goal.reach-returns-in_default-clause-greatest
+reach-returns-in_default-clause-greatest g t c = λ jobs stands.
+    let vs = c.args.s.now.graph.now.resources.vertices in
+    let ok : Claim → Type 0 = open_to vs jobs c.args.s.now.barred.now c.args.s.now.window in
+    let place = place_of c.args.place in
+    let need = c.args.need.now in
+    let never = none_at_all vs ok place need c.in_default.ensures in
+    greatest_along _ _ c.args.most 0 (group_from vs ok place need) (group_to vs ok place need)
+    (reached_end _ (serves_less vs ok (takes_less _ _) place need) c.args.most 0 0 (λ v q lo some can. never v q can)
+    (reached_start _ (serves_less vs ok (takes_less _ _) place need) c.args.most 0 (λ v q lo hi some can. never v q can)))
+
+pub reach-loop-reached-init : goal.reach-loop-reached-init
+reach-loop-reached-init g t c =
+    let vs = c.args.s.now.graph.now.resources.vertices in
+    record {
+      within = omega arith;
+      from = omega arith;
+      reached = λ jobs stands.
+          let ok : Claim → Type 0 = open_to vs jobs c.args.s.now.barred.now c.args.s.now.window in
+          let place = place_of c.args.place in
+          reached_start _ (serves_less vs ok (takes_less _ _) place c.args.need.now) c.args.most c.span_of-span.result.from
+          (none_before vs ok place c.args.need.now c.span_of-span.result.from c.span_of-span.result.to c.span_of-span.ensures.covers);
+    }
+
+pub reach-returns-in_default-next_of_kind-clause-greatest : goal.reach-returns-in_default-next_of_kind-clause-greatest
+reach-returns-in_default-next_of_kind-clause-greatest g t c = λ jobs stands.
+    let vs = c.args.s.now.graph.now.resources.vertices in
+    let ok : Claim → Type 0 = open_to vs jobs c.args.s.now.barred.now c.args.s.now.window in
+    let place = place_of c.args.place in
+    let need = c.args.need.now in
+    let of_kind = rw c.in-Some.is at c.kind_of.ensures in
+    greatest_along _ _ c.args.most c.loop-reached.reached (group_from vs ok place need) (group_to vs ok place need)
+    (reached_end _ (serves_less vs ok (takes_less _ _) place need) c.args.most c.loop-reached.at c.loop-reached.reached
+    (none_after vs ok place need c.in-Some.kind c.span_of-span.result.from c.loop-reached.at c.span_of-span.result.to c.span_of-span.ensures.covers of_kind c.in_default-next_of_kind.ensures)
+    (c.loop-reached.invariant.reached jobs stands))
+
+pub reach-loop-reached-preserved : goal.reach-loop-reached-preserved
+reach-loop-reached-preserved g t c =
+    let vs = c.args.s.now.graph.now.resources.vertices in
+    let need = c.args.need.now in
+    let of_kind = rw c.in-Some.is at c.kind_of.ensures in
+    let next = rw c.in-Some-next_of_kind.is at c.next_of_kind.ensures in
+    let low = next.low in
+    let is = found vs (λ claim. ⊥) (place_of c.args.place) need c.in-Some.kind c.span_of-span.result.from c.loop-reached.at c.span_of-span.result.to c.in-Some-next_of_kind.vertex c.span_of-span.ensures.covers
+    c.loop-reached.invariant.from c.span_of-span.ensures.within of_kind next in
+    record {
+      within = (let few = c.serves.ensures.within in let same = c.from-reached.ensures in let before = c.loop-reached.invariant.within in omega arith);
+      from = (let before = c.loop-reached.invariant.from in omega arith);
+      reached = λ jobs stands.
+          let ok : Claim → Type 0 = open_to vs jobs c.args.s.now.barred.now c.args.s.now.window in
+          let place = place_of c.args.place in
+          reached_next _ (serves_less vs ok (takes_less _ _) place need) c.args.most c.in-Some-next_of_kind.vertex c.loop-reached.reached c.from-reached.result
+          (reached_over _ (serves_less vs ok (takes_less _ _) place need) c.args.most c.loop-reached.at c.in-Some-next_of_kind.vertex c.loop-reached.reached low
+          (none_skipped vs ok place need c.in-Some.kind c.loop-reached.at c.span_of-span.result.to c.in-Some-next_of_kind.vertex of_kind next) (c.loop-reached.invariant.reached jobs stands))
+          (rw c.from-reached.ensures (c.serves.ensures.greatest jobs stands place is.1));
+    }
+
+pub reach-returns-clause-greatest : goal.reach-returns-clause-greatest
+reach-returns-clause-greatest g t c = λ jobs stands.
+    let vs = c.args.s.now.graph.now.resources.vertices in
+    let ok : Claim → Type 0 = open_to vs jobs c.args.s.now.barred.now c.args.s.now.window in
+    let place = place_of c.args.place in
+    let need = c.args.need.now in
+    greatest_along _ _ c.args.most c.loop-reached.reached (group_from vs ok place need) (group_to vs ok place need)
+    (reached_all _ (serves_less vs ok (takes_less _ _) place need) c.args.most c.loop-reached.at c.loop-reached.reached c.loop-reached-test.false (c.loop-reached.invariant.reached jobs stands))
+
+pub serves-returns-then-not-admits-clause-greatest : goal.serves-returns-then-not-admits-clause-greatest
+serves-returns-then-not-admits-clause-greatest g t c = λ jobs stands place within.
+    let vs = c.args.s.now.graph.now.resources.vertices in
+    let ok : Claim → Type 0 = open_to vs jobs c.args.s.now.barred.now c.args.s.now.window in
+    let none = laws.vertex_closed vs ok place c.in-Vert.kind c.in-Vert.count c.in-Vert.hold c.in-Vert.needs c.args.vertex c.args.most
+    (λ may. true≢false (sym ((c.admits.ensures jobs stands).1 may) ∙ c.if-not-admits.true)) in
+    rw c.in-Vert.is none
+
+pub serves-copies-requires : goal.serves-copies-requires
+serves-copies-requires g t c κs h =
+    let vs = c.args.s.now.graph.now.resources.vertices in
+    let lt : most the_size c.in-Vert.needs < the_size c.args.need.now = rw c.in-Vert.is (size_Vert c.in-Vert.kind c.in-Vert.count c.in-Vert.hold c.in-Vert.needs) in (
+      omega (arith, lt, c.decreases),
+      (
+        search rules,
+        (
+          search rules,
+          (
+            c.requires.vertex,
+            (
+              laws.valid_inside vs c.in-Vert.kind c.in-Vert.count c.in-Vert.hold c.in-Vert.needs (rw c.in-Vert.is at c.requires.valid),
+              inl refl,
+            ),
+          ),
+        ),
+      ),
+    )
+
+pub serves-copies-requires-in-Spread : goal.serves-copies-requires-in-Spread
+serves-copies-requires-in-Spread g t c κs h =
+    let vs = c.args.s.now.graph.now.resources.vertices in
+    let lt : most the_size c.in-Spread.needs < the_size c.args.need.now = rw c.in-Spread.is (size_Spread c.in-Spread.count c.in-Spread.needs) in
+    let valid = rw c.in-Spread.is at c.requires.valid in (
+      omega (arith, lt, c.decreases),
+      (
+        search rules,
+        (
+          search rules,
+          (
+            c.requires.vertex,
+            (
+              laws.valid_copy vs c.in-Spread.count c.in-Spread.needs valid,
+              inr (laws.plain_copy vs c.in-Spread.count c.in-Spread.needs valid),
+            ),
+          ),
+        ),
+      ),
+    )
+
+pub serves-returns-else-not-admits-clause-greatest : goal.serves-returns-else-not-admits-clause-greatest
+serves-returns-else-not-admits-clause-greatest g t c = λ jobs stands place within.
+    let vs = c.args.s.now.graph.now.resources.vertices in
+    let ok : Claim → Type 0 = open_to vs jobs c.args.s.now.barred.now c.args.s.now.window in
+    let is = rw c.in-Vert.is at c.requires.of_need in
+    let one = laws.vertex_open vs ok place c.in-Vert.kind c.in-Vert.count c.in-Vert.hold c.in-Vert.needs c.args.vertex c.args.most c.copies.result c.requires.some within is
+    ((c.admits.ensures jobs stands).0 c.if-not-admits.false) (c.copies.ensures.greatest jobs stands) in
+    rw c.in-Vert.is one
+
+pub serves-returns-in-Pool-clause-greatest : goal.serves-returns-in-Pool-clause-greatest
+serves-returns-in-Pool-clause-greatest g t c = λ jobs stands place within.
+    let vs = c.args.s.now.graph.now.resources.vertices in
+    let ok : Claim → Type 0 = open_to vs jobs c.args.s.now.barred.now c.args.s.now.window in
+    let is = rw c.in-Pool.is at c.requires.of_need in
+    let some = laws.pool_serves vs ok place c.in-Pool.kind c.in-Pool.quantity c.args.vertex c.args.most c.free.result c.min.result within is
+    (λ q. available_take (meets vs jobs c.args.s.now.barred.now) c.args.s.now.window c.args.vertex q c.free.result (c.free.ensures jobs stands)) (rw c.from.ensures at c.min.ensures) in
+    rw c.in-Pool.is some
+
+pub serves-returns-then-not-admits-2-clause-greatest : goal.serves-returns-then-not-admits-2-clause-greatest
+serves-returns-then-not-admits-2-clause-greatest g t c = λ jobs stands place within.
+    let vs = c.args.s.now.graph.now.resources.vertices in
+    let ok : Claim → Type 0 = open_to vs jobs c.args.s.now.barred.now c.args.s.now.window in
+    let none = laws.node_closed vs ok place c.in-Spread.count c.in-Spread.needs c.args.vertex c.args.most
+    (λ may. true≢false (sym ((c.admits-in-Spread.ensures jobs stands).1 may) ∙ c.if-not-admits-2.true)) in
+    rw c.in-Spread.is none
+
+pub serves-returns-else-not-admits-2-clause-greatest : goal.serves-returns-else-not-admits-2-clause-greatest
+serves-returns-else-not-admits-2-clause-greatest g t c = λ jobs stands place within.
+    let vs = c.args.s.now.graph.now.resources.vertices in
+    let ok : Claim → Type 0 = open_to vs jobs c.args.s.now.barred.now c.args.s.now.window in
+    let is = rw c.in-Spread.is at c.requires.of_need in
+    let some = laws.node_open vs ok place c.in-Spread.count c.in-Spread.needs c.args.vertex c.args.most c.copies-in-Spread.result within is
+    ((c.admits-in-Spread.ensures jobs stands).0 c.if-not-admits-2.false) (c.copies-in-Spread.ensures.greatest jobs stands) in
+    rw c.in-Spread.is some

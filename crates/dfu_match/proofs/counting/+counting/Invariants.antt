@@ -1,0 +1,32 @@
+use Rattle.std.proofs.Common.{◌-◌, ◌+◌, ◌<◌, ◌≤◌, List, ℕ, drop}
+use Rattle.flux_defs.specs.declared.claims.Job.{Job}
+use Rattle.flux_defs.specs.Graph.{Beneath}
+use Rattle.flux_defs.specs.Lowest.{CanServe}
+use Rattle.match_laws.specs.Offers.{SomeFits}
+use Rattle.match_laws.proofs.Walk.{Reached}
+use Rattle.match_laws.proofs.NeedLists.{AllFill}
+use Rattle.dfu_match.specs.Searches.{open_to, place_of}
+use Rattle.dfu_match.proofs.counting.+counting.Given as goal
+
+-- the needs so far can be filled for as many copies, and no list for more
+abbrev pub invariant-copies-loop-need : goal.invariant-copies-loop-need
+invariant-copies-loop-need g l = record {
+  within : l.best ≤ l.most;
+  enough : (jobs : List Job) → g.F.FreeView.stands_for l.s.view.now jobs → (k : ℕ) → k ≤ l.best →
+      AllFill l.s.graph.now.resources.vertices (open_to l.s.graph.now.resources.vertices jobs l.s.barred.now l.s.window) (Beneath l.vertex) k (drop l.need-index l.need-items) →
+      AllFill l.s.graph.now.resources.vertices (open_to l.s.graph.now.resources.vertices jobs l.s.barred.now l.s.window) (Beneath l.vertex) k l.need-items;
+  full : (jobs : List Job) → g.F.FreeView.stands_for l.s.view.now jobs → l.best < l.most →
+      SomeFits l.s.graph.now.resources.vertices (open_to l.s.graph.now.resources.vertices jobs l.s.barred.now l.s.window) (Beneath l.vertex) l.need-items (l.best + 1) → ⊥;
+}
+
+-- so much is reached before the vertex `at`
+abbrev pub invariant-reach-loop-reached : goal.invariant-reach-loop-reached
+invariant-reach-loop-reached g l = record {
+  within : l.reached ≤ l.most;
+  from : l.span.from ≤ l.at;
+  reached : (jobs : List Job) → g.F.FreeView.stands_for l.s.view.now jobs →
+      Reached (CanServe l.s.graph.now.resources.vertices (open_to l.s.graph.now.resources.vertices jobs l.s.barred.now l.s.window) (place_of l.fn.place) l.need) l.most l.at l.reached;
+}
+
+abbrev pub decreases-reach-loop-reached : goal.decreases-reach-loop-reached
+decreases-reach-loop-reached g l = l.span.to - l.at

@@ -1,0 +1,126 @@
+//! How far needs can be filled, without writing a claim: it takes no memory.
+ghost use Rattle.std.specs.Prelude.{◌≡◌, ◌+◌, ◌*◌, ◌<◌, ◌≤◌, length, List};
+ghost use Rattle.flux_defs.specs.declared.claims.Job.{Job};
+ghost use Rattle.flux_defs.specs.Graph.{Place, Beneath, IsIn};
+ghost use Rattle.flux_defs.specs.Needs.{IsOfNeed, IsValidNeed, AreValidNeeds};
+ghost use Rattle.flux_defs.specs.Lowest.{CanServe};
+ghost use Rattle.match_laws.specs.Offers.{IsGreatest, SomeGroup, SomeFits};
+ghost use Rattle.dfu_match.specs.Searches.{open_to, place_of, IsPlace, MayAsk, MayScale};
+
+use crate::places::{amount_of, kind_of, span_of};
+use crate::search::{Search, admits, free};
+use flux_defs::{FreeView, List, Need, Steps};
+use std::sync::ledger::Ledger;
+
+/// As much of the need as the place can serve, at most so much.
+#[cycle(counting)]
+fn reach<F: FreeView, L: Ledger>(
+    s: &Search<F>,
+    need: &Need,
+    place: Option<u32>,
+    most: u128,
+    steps: &mut Steps<L>,
+) -> u128
+    requires place { IsPlace s.now.graph.now.resources.vertices place }
+    requires valid { IsValidNeed s.now.graph.now.resources.vertices need.now }
+    requires may { MayAsk most need.now }
+    ensures within { result ≤ most }
+    ensures greatest { (jobs : List Job) → F.stands_for s.now.view.now jobs →
+        IsGreatest (SomeGroup s.now.graph.now.resources.vertices (open_to s.now.graph.now.resources.vertices jobs s.now.barred.now s.now.window) (place_of place) need.now) most result }
+{
+    let Some(kind) = kind_of(s.graph, need) else {
+        return 0;
+    };
+    let span = span_of(s.graph, place);
+    let mut reached = 0;
+    let mut at = span.from;
+    while reached < most {
+        let Some(vertex) = s.graph.next_of_kind(kind, at, span.to) else {
+            return reached;
+        };
+        reached += u128::from(serves(s, need, vertex, most - reached, steps));
+        at = vertex + 1;
+    }
+    reached
+}
+
+/// As much of the need as the vertex can serve, at most so much.
+#[cycle(counting)]
+pub(crate) fn serves<F: FreeView, L: Ledger>(
+    s: &Search<F>,
+    need: &Need,
+    vertex: u32,
+    most: u128,
+    steps: &mut Steps<L>,
+) -> u64
+    requires vertex { vertex < length s.now.graph.now.resources.vertices }
+    requires of_need { IsOfNeed s.now.graph.now.resources.vertices need.now vertex }
+    requires valid { IsValidNeed s.now.graph.now.resources.vertices need.now }
+    requires may { MayAsk most need.now }
+    requires some { 1 ≤ most }
+    ensures within { result ≤ most }
+    ensures greatest { (jobs : List Job) → F.stands_for s.now.view.now jobs → (place : Place) → IsIn s.now.graph.now.resources.vertices place vertex →
+        IsGreatest (CanServe s.now.graph.now.resources.vertices (open_to s.now.graph.now.resources.vertices jobs s.now.barred.now s.now.window) place need.now vertex) most result }
+{
+    match need {
+        Need::Vert { hold, needs, .. } => {
+            if !admits(s, *hold, vertex, steps) {
+                return 0;
+            }
+            copies(s, needs, vertex, 1, steps)
+        }
+        Need::Pool { .. } => u128::from(free(s, vertex, steps)).min(most) as u64,
+        Need::Spread { needs, .. } => {
+            if !admits(s, false, vertex, steps) {
+                return 0;
+            }
+            copies(s, needs, vertex, most as u64, steps)
+        }
+    }
+}
+
+/// The greatest number of copies of the needs that fit below the vertex, at most so many: each need bounds it by what it
+/// can be filled with.
+#[cycle(counting)]
+pub(crate) fn copies<F: FreeView, L: Ledger>(
+    s: &Search<F>,
+    needs: &List<Need>,
+    vertex: u32,
+    most: u64,
+    steps: &mut Steps<L>,
+) -> u64
+    requires vertex { vertex < length s.now.graph.now.resources.vertices }
+    requires valid { AreValidNeeds s.now.graph.now.resources.vertices needs.now }
+    requires may { MayScale most needs.now }
+    ensures within { result ≤ most }
+    ensures greatest { (jobs : List Job) → F.stands_for s.now.view.now jobs →
+        IsGreatest (SomeFits s.now.graph.now.resources.vertices (open_to s.now.graph.now.resources.vertices jobs s.now.barred.now s.now.window) (Beneath vertex) needs.now) most result }
+{
+    let mut best = most;
+    for need in needs.items() {
+        let amount = amount_of(need);
+        let reached = reach(
+            s,
+            need,
+            Some(vertex),
+            u128::from(best) * u128::from(amount),
+            steps,
+        );
+        best = whole_times(reached, amount, best);
+        if best == 0 {
+            return 0;
+        }
+    }
+    best
+}
+
+/// How many times the amount is in what was reached, which is at most so many times.
+fn whole_times(reached: u128, amount: u64, most: u64) -> u64
+    requires some { 1 ≤ amount }
+    requires within { reached ≤ most * amount }
+    ensures low { result * amount ≤ reached }
+    ensures high { reached < (result + 1) * amount }
+    ensures within { result ≤ most }
+{
+    (reached / u128::from(amount)) as u64
+}

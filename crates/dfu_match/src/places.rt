@@ -1,0 +1,56 @@
+//! Which vertices a need is looked for among.
+ghost use Rattle.std.specs.Prelude.{◌≡◌, ◌≤◌, length};
+ghost use Rattle.flux_defs.specs.Needs.{amount_of};
+ghost use Rattle.dfu_match.specs.Searches.{place_of, IsPlace, Covers, IsKindOfNeed};
+
+use flux_defs::Need;
+use resource_graph::Graph;
+
+/// The vertices from `from` on and before `to`.
+#[derive(Clone, Copy)]
+pub(crate) struct Span {
+    pub(crate) from: u32,
+    pub(crate) to: u32,
+}
+
+/// The vertices below this one, which follow it, or all.
+pub(crate) fn span_of(graph: &Graph, place: Option<u32>) -> Span
+    requires { IsPlace graph.now.resources.vertices place }
+    ensures covers { Covers graph.now.resources.vertices (place_of place) result.from result.to }
+    ensures within { result.to ≤ length graph.now.resources.vertices }
+{
+    let _valid = graph.vertices();
+    match place {
+        None => Span {
+            from: 0,
+            to: graph.len(),
+        },
+        Some(upper) => Span {
+            from: upper + 1,
+            to: graph.past(upper),
+        },
+    }
+}
+
+/// The kind of the need's vertices, that of nodes for a spread; none where the graph has no nodes.
+pub(crate) fn kind_of(graph: &Graph, need: &Need) -> Option<u32>
+    ensures { IsKindOfNeed graph.now.resources.vertices need.now result }
+{
+    let _valid = graph.vertices();
+    match need {
+        Need::Vert { kind, .. } => Some(*kind),
+        Need::Pool { kind, .. } => Some(*kind),
+        Need::Spread { .. } => graph.kind_of(b"node"),
+    }
+}
+
+/// The need's count or quantity.
+pub(crate) fn amount_of(need: &Need) -> u64
+    ensures { result ≡ amount_of need.now }
+{
+    match need {
+        Need::Vert { count, .. } => *count,
+        Need::Pool { quantity, .. } => *quantity,
+        Need::Spread { count, .. } => *count,
+    }
+}

@@ -1,0 +1,105 @@
+//! What a search looks at, and which claims are available to it.
+ghost use Rattle.std.specs.Prelude.{◌≡◌, ℕ, ◌<◌, ◌↔◌, IsTrue, length, List};
+ghost use Rattle.std.specs.List.{list_any};
+ghost use Rattle.flux_defs.specs.declared.claims.Job.{Job};
+ghost use Rattle.flux_defs.specs.declared.claims.Claim.{Claim};
+ghost use Rattle.flux_defs.specs.Graph.{is_at_or_below};
+ghost use Rattle.flux_defs.specs.Closed.{IsClosedIn, IsTouchedIn};
+ghost use Rattle.flux_defs.specs.Free.{IsFreeIn};
+ghost use Rattle.dfu_match.specs.Searches.{meets, open_to, claim_on};
+ghost use Rattle.dfu_match.specs.Bars.{AreNodesOf, RisesStrictly};
+
+use crate::bars::least_from;
+use flux_defs::{FreeView, List, Steps, Window};
+use resource_graph::Graph;
+use std::sync::ledger::Ledger;
+
+/// What a search looks at: the graph, a view over its vertices, the nodes that the ask bars, and a window.
+#[derive(Drop)]
+pub(crate) struct Search<'a, F: FreeView> {
+    pub(crate) graph: &'a Graph,
+    pub(crate) view: &'a F,
+    pub(crate) barred: &'a List<u32>,
+    pub(crate) window: Window,
+    ghost over: { F.graph view.now ≡ graph.now.resources.vertices },
+    ghost opens: { window.from < window.to },
+    ghost rising: { RisesStrictly barred.now },
+    ghost nodes: { AreNodesOf graph.now.resources.vertices barred.now },
+}
+
+/// Whether a barred node is the vertex or above it: the vertex's own node is barred.
+fn bars_over<F: FreeView>(s: &Search<F>, vertex: u32) -> bool
+    requires { vertex < length s.now.graph.now.resources.vertices }
+    ensures { result ≡ list_any (is_at_or_below s.now.graph.now.resources.vertices vertex) s.now.barred.now }
+{
+    let _valid = s.graph.vertices();
+    match s.graph.node_of(vertex) {
+        None => false,
+        Some(node) => match least_from(s.barred.items(), node) {
+            None => false,
+            Some(least) => least == node,
+        },
+    }
+}
+
+/// Whether a barred node is the vertex or below it: the least one from the vertex on stands before what follows it.
+fn bars_below<F: FreeView>(s: &Search<F>, vertex: u32) -> bool
+    requires { vertex < length s.now.graph.now.resources.vertices }
+    ensures { result ≡ list_any (λ u. is_at_or_below s.now.graph.now.resources.vertices u vertex) s.now.barred.now }
+{
+    let _valid = s.graph.vertices();
+    match least_from(s.barred.items(), vertex) {
+        None => false,
+        Some(lower) => lower < s.graph.past(vertex),
+    }
+}
+
+/// Whether the vertex is closed at some moment of the window.
+fn closed<F: FreeView, L: Ledger>(s: &Search<F>, vertex: u32, steps: &mut Steps<L>) -> bool
+    requires { vertex < length s.now.graph.now.resources.vertices }
+    ensures { (jobs : List Job) → F.stands_for s.now.view.now jobs →
+        (IsTrue result ↔ IsClosedIn (meets s.now.graph.now.resources.vertices jobs s.now.barred.now) s.now.window vertex) }
+{
+    bars_over(s, vertex) || s.view.closed_over(vertex, s.window, steps)
+}
+
+/// Whether the vertex is touched at some moment of the window.
+fn touched<F: FreeView, L: Ledger>(s: &Search<F>, vertex: u32, steps: &mut Steps<L>) -> bool
+    requires { vertex < length s.now.graph.now.resources.vertices }
+    ensures { (jobs : List Job) → F.stands_for s.now.view.now jobs →
+        (IsTrue result ↔ IsTouchedIn (meets s.now.graph.now.resources.vertices jobs s.now.barred.now) s.now.window vertex) }
+{
+    bars_below(s, vertex) || s.view.touched_over(vertex, s.window, steps)
+}
+
+/// The least that is free of the vertex at a moment of the window.
+pub(crate) fn free<F: FreeView, L: Ledger>(s: &Search<F>, vertex: u32, steps: &mut Steps<L>) -> u64
+    requires { vertex < length s.now.graph.now.resources.vertices }
+    ensures { (jobs : List Job) → F.stands_for s.now.view.now jobs →
+        IsFreeIn (meets s.now.graph.now.resources.vertices jobs s.now.barred.now) s.now.window vertex result }
+{
+    if bars_over(s, vertex) {
+        return 0;
+    }
+    s.view.free_over(vertex, s.window, steps)
+}
+
+/// Whether the vertex may be held, or passed.
+pub(crate) fn admits<F: FreeView, L: Ledger>(
+    s: &Search<F>,
+    hold: bool,
+    vertex: u32,
+    steps: &mut Steps<L>,
+) -> bool
+    requires { vertex < length s.now.graph.now.resources.vertices }
+    ensures { (jobs : List Job) → F.stands_for s.now.view.now jobs →
+        (IsTrue result ↔ open_to s.now.graph.now.resources.vertices jobs s.now.barred.now s.now.window (claim_on hold vertex)) }
+{
+    if closed(s, vertex, steps) {
+        return false;
+    }
+    if !hold {
+        return true;
+    }
+    !touched(s, vertex, steps)
+}

@@ -1,0 +1,182 @@
+//! Writes the lowest-first claims, each once, at the end of a list.
+ghost use Rattle.std.specs.Prelude.{◌≡◌, ◌*◌, ◌<◌, ◌≤◌, [], ◌∷◌, ◌++◌, false, length, List, IfOk, OnOk, MatchBool};
+ghost use Rattle.flux_defs.specs.declared.claims.Job.{Job};
+ghost use Rattle.flux_defs.specs.declared.claims.Claim.{Claim};
+ghost use Rattle.flux_defs.specs.Graph.{Place, Beneath, IsIn};
+ghost use Rattle.flux_defs.specs.Needs.{amount_of, IsOfNeed, IsValidNeed, AreValidNeeds};
+ghost use Rattle.flux_defs.specs.Lowest.{CanServe, FollowsPass, LowestPiece, Lowest};
+ghost use Rattle.match_laws.specs.Offers.{Extends, Offers, SomeGroup, SomeFits, LowestGroup};
+ghost use Rattle.dfu_match.specs.Searches.{open_to, place_of, IsPlace, MayAsk, MayScale, MayScaleNeed};
+
+use crate::counting::{copies, serves};
+use crate::places::{amount_of, kind_of, span_of};
+use crate::search::{Search, admits};
+use flux_defs::{Claim, FreeView, List, Need, Steps};
+use std::alloc::AllocError;
+use std::sync::ledger::Ledger;
+
+/// Writes the lowest-first claims of the needs scaled by `k` in the place. `false` exactly where no claims fit; what was
+/// written by then is of no use.
+#[cycle(writing)]
+pub(crate) fn write_needs<F: FreeView, L: Ledger>(
+    s: &Search<F>,
+    needs: &List<Need>,
+    k: u64,
+    place: Option<u32>,
+    out: &mut Vec<Claim>,
+    steps: &mut Steps<L>,
+) -> Result<bool, AllocError>
+    requires place { IsPlace s.now.graph.now.resources.vertices place }
+    requires valid { AreValidNeeds s.now.graph.now.resources.vertices needs.now }
+    requires may { MayScale k needs.now }
+    requires some { 1 ≤ k }
+    ensures { IfOk result (λ fit. Extends out.old.items out.new.items (λ claims. (jobs : List Job) → F.stands_for s.now.view.now jobs →
+        MatchBool fit
+        (Lowest s.now.graph.now.resources.vertices (open_to s.now.graph.now.resources.vertices jobs s.now.barred.now s.now.window) k (place_of place) needs.now claims)
+        (SomeFits s.now.graph.now.resources.vertices (open_to s.now.graph.now.resources.vertices jobs s.now.barred.now s.now.window) (place_of place) needs.now k → ⊥))) }
+{
+    for need in needs.items() {
+        let filled = write_group(s, need, k, place, out, steps)?;
+        if !filled {
+            return Ok(false);
+        }
+    }
+    Ok(true)
+}
+
+/// Writes the need's lowest-first group of `k` times its amount in the place. `false` exactly where there is no such
+/// group; what was written by then is of no use.
+#[cycle(writing)]
+fn write_group<F: FreeView, L: Ledger>(
+    s: &Search<F>,
+    need: &Need,
+    k: u64,
+    place: Option<u32>,
+    out: &mut Vec<Claim>,
+    steps: &mut Steps<L>,
+) -> Result<bool, AllocError>
+    requires place { IsPlace s.now.graph.now.resources.vertices place }
+    requires valid { IsValidNeed s.now.graph.now.resources.vertices need.now }
+    requires may { MayScaleNeed k need.now }
+    requires some { 1 ≤ k }
+    ensures { IfOk result (λ filled. Extends out.old.items out.new.items (λ claims. (jobs : List Job) → F.stands_for s.now.view.now jobs →
+        MatchBool filled
+        (LowestGroup s.now.graph.now.resources.vertices (open_to s.now.graph.now.resources.vertices jobs s.now.barred.now s.now.window) (place_of place) need.now (k * amount_of need.now) claims)
+        (SomeGroup s.now.graph.now.resources.vertices (open_to s.now.graph.now.resources.vertices jobs s.now.barred.now s.now.window) (place_of place) need.now (k * amount_of need.now) → ⊥))) }
+{
+    let Some(kind) = kind_of(s.graph, need) else {
+        return Ok(false);
+    };
+    let mut missing = u128::from(k) * u128::from(amount_of(need));
+    let span = span_of(s.graph, place);
+    let mut at = span.from;
+    while missing > 0 {
+        let Some(vertex) = s.graph.next_of_kind(kind, at, span.to) else {
+            return Ok(false);
+        };
+        let served = offer(s, need, vertex, missing, out, steps)?;
+        missing -= u128::from(served);
+        at = vertex + 1;
+    }
+    Ok(true)
+}
+
+/// Lets the vertex serve as much of the need as it can, at most so much, and writes its piece.
+#[cycle(writing)]
+fn offer<F: FreeView, L: Ledger>(
+    s: &Search<F>,
+    need: &Need,
+    vertex: u32,
+    most: u128,
+    out: &mut Vec<Claim>,
+    steps: &mut Steps<L>,
+) -> Result<u64, AllocError>
+    requires vertex { vertex < length s.now.graph.now.resources.vertices }
+    requires of_need { IsOfNeed s.now.graph.now.resources.vertices need.now vertex }
+    requires valid { IsValidNeed s.now.graph.now.resources.vertices need.now }
+    requires may { MayAsk most need.now }
+    requires some { 1 ≤ most }
+    ensures within { IfOk result (λ served. served ≤ most) }
+    ensures offers { IfOk result (λ served. Extends out.old.items out.new.items (λ claims. (jobs : List Job) → F.stands_for s.now.view.now jobs →
+        (place : Place) → IsIn s.now.graph.now.resources.vertices place vertex →
+        Offers (CanServe s.now.graph.now.resources.vertices (open_to s.now.graph.now.resources.vertices jobs s.now.barred.now s.now.window) place need.now vertex)
+        (LowestPiece s.now.graph.now.resources.vertices (open_to s.now.graph.now.resources.vertices jobs s.now.barred.now s.now.window) need.now vertex) most served claims)) }
+{
+    match need {
+        Need::Vert { hold, needs, .. } => {
+            if !admits(s, *hold, vertex, steps) {
+                return Ok(0);
+            }
+            if *hold {
+                if copies(s, needs, vertex, 1, steps) == 0 {
+                    return Ok(0);
+                }
+                write_claim(out, Claim::Hold { vertex })?;
+                return Ok(1);
+            }
+            let fit = write_shared(s, needs, 1, vertex, out, steps)?;
+            if !fit {
+                return Ok(0);
+            }
+            Ok(1)
+        }
+        Need::Pool { .. } => {
+            let quantity = serves(s, need, vertex, most, steps);
+            if quantity == 0 {
+                return Ok(0);
+            }
+            write_claim(out, Claim::Take { vertex, quantity })?;
+            Ok(quantity)
+        }
+        Need::Spread { needs, .. } => {
+            let count = serves(s, need, vertex, most, steps);
+            if count == 0 {
+                return Ok(0);
+            }
+            let fit = write_shared(s, needs, count, vertex, out, steps)?;
+            if !fit {
+                return Ok(0);
+            }
+            Ok(count)
+        }
+    }
+}
+
+/// Writes the vertex's pass and the lowest-first claims of the needs scaled by `k` below it. `false` exactly where no
+/// claims fit; then nothing is written.
+#[cycle(writing)]
+fn write_shared<F: FreeView, L: Ledger>(
+    s: &Search<F>,
+    needs: &List<Need>,
+    k: u64,
+    vertex: u32,
+    out: &mut Vec<Claim>,
+    steps: &mut Steps<L>,
+) -> Result<bool, AllocError>
+    requires vertex { vertex < length s.now.graph.now.resources.vertices }
+    requires valid { AreValidNeeds s.now.graph.now.resources.vertices needs.now }
+    requires may { MayScale k needs.now }
+    requires some { 1 ≤ k }
+    ensures { IfOk result (λ fit. Extends out.old.items out.new.items (λ claims. (fit ≡ false → claims ≡ []) × ((jobs : List Job) → F.stands_for s.now.view.now jobs →
+        MatchBool fit
+        (FollowsPass s.now.graph.now.resources.vertices (open_to s.now.graph.now.resources.vertices jobs s.now.barred.now s.now.window) vertex
+        (Lowest s.now.graph.now.resources.vertices (open_to s.now.graph.now.resources.vertices jobs s.now.barred.now s.now.window) k (Beneath vertex) needs.now) claims)
+        (SomeFits s.now.graph.now.resources.vertices (open_to s.now.graph.now.resources.vertices jobs s.now.barred.now s.now.window) (Beneath vertex) needs.now k → ⊥)))) }
+{
+    let mark = out.len();
+    write_claim(out, Claim::Pass { vertex })?;
+    let fit = write_needs(s, needs, k, Some(vertex), out, steps)?;
+    if fit {
+        return Ok(true);
+    }
+    out.truncate(mark);
+    Ok(false)
+}
+
+/// Writes one claim.
+fn write_claim(out: &mut Vec<Claim>, claim: Claim) -> Result<(), AllocError>
+    ensures { OnOk result (out.new.items ≡ out.old.items ++ claim ∷ []) }
+{
+    out.push(claim)?;
+    Ok(())
+}

@@ -1,0 +1,5 @@
+pub mod Walk
+pub mod ViewLaws
+pub mod NeedLists
+pub mod MoreAvailable
+pub mod Sizes

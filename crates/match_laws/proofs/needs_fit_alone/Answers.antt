@@ -1,0 +1,6 @@
+use Rattle.flux_defs.specs.Available.{IsAvailable}
+use Rattle.match_laws.proofs.NeedLists.{fits_alone, alone_fits}
+use Rattle.match_laws.proofs.needs_fit_alone.Goals as goal
+
+pub returns : goal.returns
+returns c = λ s w k place needs. (fits_alone s.vertices (IsAvailable s w) k place needs, alone_fits s.vertices (IsAvailable s w) k place needs)

@@ -1,0 +1,39 @@
+//! A graph from a list of vertices.
+ghost use Rattle.std.specs.Prelude.{IfOk};
+ghost use Rattle.resource_graph.specs.Faults.{IsFaultless};
+ghost use Rattle.resource_graph.specs.Raw.{KindsApart, IsBuiltFrom, raw_graph, raw_names};
+
+use crate::arrange::{arranged, numbered_kinds, numbers_of, shapes_of, texts_of, vertices_of};
+use crate::graph::Graph;
+use crate::order::preorder_of;
+use crate::raw::RawVertex;
+use flux_defs::{List, Text};
+use std::alloc::{AllocError, Global};
+
+/// The graph of a list of vertices with which nothing is wrong.
+pub(crate) fn build_faultless(alloc: Global, kinds: &List<Text>, raw: List<RawVertex>) -> Result<Graph, AllocError>
+    requires apart { KindsApart kinds.now }
+    requires fine { IsFaultless (raw_graph kinds.now raw) (raw_names raw) }
+    ensures { IfOk result (λ graph. IsBuiltFrom kinds.now raw graph) }
+{
+    let shapes = shapes_of(alloc, raw.items())?;
+    let order = preorder_of(alloc, shapes.as_slice())?;
+    let numbers = numbers_of(alloc, order.as_slice())?;
+    let numbering = numbered_kinds(alloc, kinds.items(), shapes.as_slice(), order.as_slice())?;
+    let made = vertices_of(
+        alloc,
+        kinds.items(),
+        shapes.as_slice(),
+        order.as_slice(),
+        numbers.as_slice(),
+        numbering.numbers.as_slice(),
+    )?;
+    let list = arranged(alloc, raw.into_vec(), order.as_slice())?;
+    let texts = texts_of(alloc, list)?;
+    Graph::with_tables(
+        alloc,
+        List::of_vec(numbering.kinds),
+        List::of_vec(made),
+        texts,
+    )
+}
