@@ -1,5 +1,5 @@
 -- The texts of a job's rows, from its claims.
-use Rattle.std.proofs.Common.{◌≡◌, ℕ, List, [], ◌∷◌, map, refl, sym, ◌∙◌, ap}
+use Rattle.std.proofs.Common.{◌≡◌, ℕ, List, [], ◌∷◌, map, refl, ◌∙◌, ap}
 use Rattle.flux_defs.specs.declared.claims.Claim.{Claim}
 use Rattle.slot_lines.specs.declared.rows.Row.{Row}
 use Rattle.slot_lines.specs.Texts as texts

@@ -1,8 +1,7 @@
 -- The four numbers of a slot line, each between its texts, in one way.
-use Rattle.std.proofs.Common.{◌≡◌, ℕ, ◌^◌, ◌<◌, ◌≤◌, List, ◌++◌, length, sym, ◌∙◌, ap, arith}
+use Rattle.std.proofs.Common.{◌≡◌, ℕ, ◌^◌, ◌<◌, ◌≤◌, List, ◌++◌, arith}
 use Rattle.std.specs.Prelude.{decimal}
-use Rattle.std.specs.Int.{IsInRange}
-use Rattle.slot_lines.specs.Slots.{before_job, before_slots, before_cores, before_seconds, at_end, IsSlotLine, IsField, NoDigitFirst}
+use Rattle.slot_lines.specs.Slots.{before_job, before_slots, before_cores, before_seconds, at_end, IsSlotLine, IsField}
 use Rattle.slot_lines.proofs.Numbers.{field_once}
 
 abbrev pub after_seconds : List ℕ

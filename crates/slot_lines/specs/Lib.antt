@@ -1,3 +1,4 @@
 pub mod Slots
 pub mod Lines
 pub mod Texts
+pub mod Examples

@@ -1,7 +1,7 @@
 -- Lines that ask for slots of cores, and what they ask.
 use Rattle.std.specs.Prelude.{◌≡◌, ℕ, ◌^◌, ◌<◌, ◌≤◌, true, List, [], ◌∷◌, ◌++◌, length, slice_index, codes, decimal}
 use Rattle.std.specs.Int.{IsInRange}
-use Rattle.flux_defs.specs.declared.requests.Need.{Need, Vert, Spread}
+use Rattle.flux_defs.specs.declared.requests.Need.{Vert, Spread}
 use Rattle.flux_defs.specs.declared.requests.Ask.{Ask}
 use Rattle.flux_defs.specs.declared.journal.Command.{Command}
 use Rattle.flux_defs.specs.declared.journal.Command.TheVariants as command

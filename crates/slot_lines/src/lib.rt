@@ -7,3 +7,5 @@ pub mod pieces;
 pub mod replies;
 pub mod rows;
 pub mod slots;
+#[cfg(test)]
+mod tests;

@@ -37,7 +37,11 @@ fn add_comma(text: &mut Vec<u8>, at: usize) -> Result<(), AllocError>
 }
 
 /// Adds the ids of the vertices, with commas.
-fn add_ids(text: &mut Vec<u8>, vertices: &[Vertex], cores: &[u32]) -> Result<(), AllocError>
+pub(crate) fn add_ids(
+    text: &mut Vec<u8>,
+    vertices: &[Vertex],
+    cores: &[u32],
+) -> Result<(), AllocError>
     ensures { OnOk result (text.new.items ≡ text.old.items ++ with_commas (map (λ v. decimal (id_of vertices.now v)) cores.now)) }
 {
     for (at, vertex) in cores.iter().enumerate() {
@@ -148,7 +152,12 @@ fn phase_word(phase: Phase) -> &'static [u8]
 }
 
 /// Adds a job's phase and its seconds.
-fn add_info(text: &mut Vec<u8>, phase: Phase, start: u64, end: u64) -> Result<(), AllocError>
+pub(crate) fn add_info(
+    text: &mut Vec<u8>,
+    phase: Phase,
+    start: u64,
+    end: u64,
+) -> Result<(), AllocError>
     ensures { OnOk result (text.new.items ≡ text.old.items ++ (phase_text phase ++ decimal start ++ codes " " ++ decimal end)) }
 {
     add(text, phase_word(phase))?;
@@ -158,7 +167,7 @@ fn add_info(text: &mut Vec<u8>, phase: Phase, start: u64, end: u64) -> Result<()
 }
 
 /// Adds why a line can't be read.
-fn add_why(text: &mut Vec<u8>, command: &Command) -> Result<(), AllocError>
+pub(crate) fn add_why(text: &mut Vec<u8>, command: &Command) -> Result<(), AllocError>
     ensures { OnOk result (text.new.items ≡ text.old.items ++ (codes "invalid " ++ why_of command.now)) }
 {
     add(text, b"invalid ")?;

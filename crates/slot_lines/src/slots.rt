@@ -4,6 +4,13 @@ ghost use Rattle.slot_lines.specs.Slots.{IsSlotLine};
 
 use crate::fields::take_field;
 
+const MOST_SLOTS: u64 = 65_536;
+
+const MOST_CORES: u64 = 65_536;
+
+/// Ten years of 365 days, in seconds.
+const MOST_SECONDS: u64 = 315_360_000;
+
 /// What such a line asks: so many slots of so many cores each, for so many seconds.
 #[derive(Clone, Copy, Debug, PartialEq, Eq)]
 pub struct SlotLine {
@@ -25,7 +32,7 @@ pub fn read_slot_line(line: &[u8]) -> Option<SlotLine>
         rest,
         b" {\"version\":1,\"resources\":[{\"type\":\"slot\",\"count\":",
         1,
-        65_536,
+        MOST_SLOTS,
     ) else {
         return None;
     };
@@ -33,7 +40,7 @@ pub fn read_slot_line(line: &[u8]) -> Option<SlotLine>
         rest,
         b",\"label\":\"task\",\"with\":[{\"type\":\"core\",\"count\":",
         1,
-        65_536,
+        MOST_CORES,
     ) else {
         return None;
     };
@@ -41,7 +48,7 @@ pub fn read_slot_line(line: &[u8]) -> Option<SlotLine>
         rest,
         b"}]}],\"tasks\":[{\"command\":[\"app\"],\"slot\":\"task\",\"count\":{\"per_slot\":1}}],\"attributes\":{\"system\":{\"duration\":",
         1,
-        315_360_000,
+        MOST_SECONDS,
     ) else {
         return None;
     };

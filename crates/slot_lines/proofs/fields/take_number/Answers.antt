@@ -1,4 +1,3 @@
-use Rattle.std.proofs.Common.{◌≡◌, sym, ◌∙◌, ap, take}
 use Rattle.slot_lines.proofs.Numbers.{digits_end, front_is}
 use Rattle.slot_lines.proofs.fields.take_number.Goals as goal
 

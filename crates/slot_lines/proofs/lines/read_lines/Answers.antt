@@ -1,4 +1,4 @@
-use Rattle.std.proofs.Common.{ℕ, ◌+◌, ◌<◌, ◌≤◌, ◌≡◌, List, [], ◌∷◌, length, length-append, ap, ◌∙◌, subst, arith, rules}
+use Rattle.std.proofs.Common.{ℕ, ◌<◌, List, length, length-append, ap, ◌∙◌, subst, arith, rules}
 use Rattle.slot_lines.specs.Slots.{Reads}
 use Rattle.slot_lines.proofs.LineLaws.{shorter, one_more, all_lines, empty_is}
 use Rattle.slot_lines.proofs.lines.read_lines.Goals as goal

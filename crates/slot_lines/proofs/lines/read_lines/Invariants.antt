@@ -1,4 +1,4 @@
-use Rattle.std.proofs.Common.{ℕ, ◌+◌, ◌≤◌, List, ◌++◌, length, vec_len}
+use Rattle.std.proofs.Common.{◌+◌, ◌≤◌, List, ◌++◌, length}
 use Rattle.flux_defs.specs.declared.journal.Line.{Line}
 use Rattle.slot_lines.specs.Lines.{HasLinesFrom}
 use Rattle.slot_lines.proofs.lines.read_lines.Given as goal

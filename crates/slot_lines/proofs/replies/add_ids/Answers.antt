@@ -1,4 +1,4 @@
-use Rattle.std.proofs.Common.{◌≡◌, ◌++◌, ◌∙◌, ap, refl, get_or}
+use Rattle.std.proofs.Common.{◌++◌, ◌∙◌, ap, refl, get_or}
 use Rattle.std.specs.Prelude.{decimal}
 use Rattle.slot_lines.specs.Texts.{id_of}
 use Rattle.slot_lines.proofs.CommaLaws.{comma_step}

@@ -1,4 +1,4 @@
-use Rattle.std.proofs.Common.{◌≡◌, ◌++◌, ◌∙◌, ap, List, ℕ}
+use Rattle.std.proofs.Common.{◌++◌, ◌∙◌, ap, List, ℕ}
 use Rattle.slot_lines.specs.Texts.{with_commas, row_text, host_text}
 use Rattle.slot_lines.proofs.CommaLaws.{then_add}
 use Rattle.slot_lines.proofs.RowLaws.{row_texts}

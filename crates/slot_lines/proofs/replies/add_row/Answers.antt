@@ -1,4 +1,4 @@
-use Rattle.std.proofs.Common.{◌≡◌, ◌++◌, ◌∙◌, ap, refl, List, ℕ, map}
+use Rattle.std.proofs.Common.{◌++◌, ◌∙◌, ap, List, ℕ, map}
 use Rattle.std.specs.Prelude.{decimal}
 use Rattle.flux_defs.specs.declared.vertices.Vertex.{Vertex}
 use Rattle.slot_lines.specs.Texts.{with_commas, id_of, rank_of}

@@ -1,6 +1,5 @@
 use Rattle.std.proofs.Common.{◌≡◌, ◌++◌, take, map}
-use Rattle.std.specs.Prelude.{decimal}
-use Rattle.slot_lines.specs.Texts.{with_commas, id_of, row_text, host_text}
+use Rattle.slot_lines.specs.Texts.{with_commas, row_text}
 use Rattle.slot_lines.proofs.replies.add_rows.Given as goal
 
 -- the items so far have been added
