@@ -11,3 +11,5 @@ pub mod ValidLaws
 pub mod KindLaws
 pub mod MadeLaws
 pub mod BuildLaws
+pub mod CheckLaws
+pub mod ClimbLaws

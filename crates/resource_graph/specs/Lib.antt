@@ -8,3 +8,4 @@ pub mod Made
 pub mod Faults
 pub mod Raw
 pub mod Arranged
+pub mod Checks

@@ -4,7 +4,9 @@
 mod arrange;
 mod build;
 pub mod graph;
+mod climbs;
 mod lines;
+mod links;
 mod order;
 pub mod raw;
 mod tables;

@@ -1,0 +1,8 @@
+use Rattle.std.proofs.Common.{◌≡◌, ℕ, length, sym, ◌∙◌, ap}
+use Rattle.std.specs.Prelude.{position}
+use Rattle.resource_graph.specs.Checks.{has_parent_from}
+use Rattle.resource_graph.proofs.CheckLaws.{finds_unknown_parent}
+use Rattle.resource_graph.proofs.links.first_unknown_parent.Goals as goal
+
+pub returns : goal.returns
+returns c = finds_unknown_parent c.args.kinds.now c.args.vertices.now c.parent_past.result c.parent_past.ensures
