@@ -90,3 +90,14 @@ halved a left k steps e =
           let product : left * k ≡ (left / 2) * (k + k) + k = ap (λ n. n * k) twice ∙ grind arith in
           ap (λ n. cond (nat_eq n 1) (a + k) a + (left / 2) * (k + k)) one ∙ (omega (arith, product, e)))
     ]
+
+-- one table entry more
+pub entries_more : {X : Type 0} (Is : ℕ → X → Type 0) (v : ℕ) (list grown : List X) (x : X) → length list ≡ v → ((u : ℕ) (o : X) → slice_get list u ≡ Some o → Is u o) → Is v x → grown ≡ list ++ x ∷ [] →
+    (length grown ≡ v + 1) × ((u : ℕ) (o : X) → slice_get grown u ≡ Some o → Is u o)
+entries_more Is v list grown x long before here is = (
+  ap length is ∙ (length_push list x ∙ ap (λ n. n + 1) long),
+  (λ u o e. elim (push_cases list x o u (ap (λ l. slice_get l u) (sym is) ∙ e)) [
+    | inl old ↦ before u o old.1
+    | inr new ↦ (let at : v ≡ u = sym long ∙ sym new.0 in subst (λ (w : ℕ). Is w o) at (subst (λ o. Is v o) (sym new.1) here))
+  ])
+)

@@ -13,3 +13,5 @@ pub mod MadeLaws
 pub mod BuildLaws
 pub mod CheckLaws
 pub mod ClimbLaws
+pub mod OwnLaws
+pub mod AboveLaws

@@ -1,12 +1,14 @@
 //! The resource graph (RFC 4), checked and numbered in preorder, with tables that answer each query at once.
 #![tactic(auto)]
 
+mod above;
 mod arrange;
 mod build;
 pub mod graph;
 mod climbs;
 mod lines;
 mod links;
+mod own;
 mod order;
 pub mod raw;
 mod tables;

@@ -122,7 +122,8 @@ pub(crate) fn pool_table(
     kinds: usize,
 ) -> Result<Vec<bool>, AllocError>
     requires known { KnowsKinds vertices.now kinds }
-    ensures { IfOk result (λ pools. HasPools vertices.now pools.items) }
+    ensures pools { IfOk result (λ pools. HasPools vertices.now pools.items) }
+    ensures whole { IfOk result (λ pools. length pools.items ≡ kinds) }
 {
     let mut pools = vec![in alloc; false; kinds]?;
     for vertex in vertices {
