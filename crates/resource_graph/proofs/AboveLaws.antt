@@ -1,6 +1,6 @@
 -- What stands above a vertex is what its line has besides it.
 use Rattle.std.proofs.Common.{◌≡◌, ◌≢◌, ℕ, zero, suc, ◌+◌, ◌<◌, ◌≤◌, ◌↔◌, ◌⊎◌, nat_eq, not, Bool, true, false, List, [], ◌∷◌, ◌++◌, length, get_or, set, Option, Some, None, inl, inr, refl, sym, ◌∙◌, ap, subst, arith, IsTrue, true≢false}
-use Rattle.std.specs.Prelude.{slice_get}
+use Rattle.std.specs.Prelude.{slice_get, is_some}
 use Rattle.std.specs.List.{list_any}
 use Rattle.std.specs.Option.{IsSomeAnd, option_map_or}
 use Rattle.std.proofs.lemmas.Bool.{cases_lt, cases_eq, and_parts, and_from, eqb-true, eq-eqb, ne_eqb, not-true, not_from_false, both_ways}
@@ -95,3 +95,28 @@ children_same vertices v children none to = record {
 -- a pool with a child, by the two tables
 pub pool_here : (vertices : List Vertex) (v : ℕ) → v < length vertices → is_pool vertices v ≡ is_pool_kind vertices (get_or vertices v no_vertex).kind
 pool_here vertices v lt = ap (λ o. option_map_or (λ x. is_pool_kind vertices x.kind) o false) (slice_get-get_or vertices v no_vertex lt)
+
+-- the table of houses at a vertex
+pub housed_at : (g : ResourceGraph) (most : ℕ) (houses : List (Option ℕ)) (v : ℕ) → HasHouses g most houses → v < most → is_some (get_or houses v None) ≡ true → IsHoused g v
+housed_at g most houses v has lt h = go (get_or houses v None) h (has.each v (get_or houses v None) (slice_get-get_or houses v None (let long = has.as_many in omega arith)))
+  where
+    go : (o : Option ℕ) → is_some o ≡ true → IsHouse g v o → IsHoused g v
+    go None t house = absurd (true≢false (sym t))
+    go (Some n) t house = (n, house.0, house.1)
+
+pub unhoused_at : (g : ResourceGraph) (most : ℕ) (houses : List (Option ℕ)) (v : ℕ) → HasHouses g most houses → v < most → is_some (get_or houses v None) ≡ false → IsHoused g v → ⊥
+unhoused_at g most houses v has lt h = go (get_or houses v None) h (has.each v (get_or houses v None) (slice_get-get_or houses v None (let long = has.as_many in omega arith)))
+  where
+    go : (o : Option ℕ) → is_some o ≡ false → IsHouse g v o → IsHoused g v → ⊥
+    go None t house = house
+    go (Some n) t house = absurd (true≢false t)
+
+-- a pool with a child by the two tables
+pub parent_pool : (vertices : List Vertex) (v : ℕ) (r : Bool) → v < length vertices → r ≡ is_pool_kind vertices (get_or vertices v no_vertex).kind → HasChildTo vertices (length vertices) v →
+    (IsTrue r → IsTrue (is_pool vertices v) × ((w : ℕ) × (parent_of vertices w ≡ Some v))) × (IsTrue (is_pool vertices v) × ((w : ℕ) × (parent_of vertices w ≡ Some v)) → IsTrue r)
+parent_pool vertices v r lt is child =
+    let same = pool_here vertices v lt in
+    ((λ h. (same ∙ (sym is ∙ h), (child.0, child.2))), (λ bad. is ∙ (sym same ∙ bad.0)))
+
+pub no_child : (vertices : List Vertex) (v : ℕ) → (HasChildTo vertices (length vertices) v → ⊥) → (w : ℕ) → parent_of vertices w ≡ Some v → ⊥
+no_child vertices v none w e = none (w, has_parent vertices w v e, e)

@@ -15,3 +15,4 @@ pub mod CheckLaws
 pub mod ClimbLaws
 pub mod OwnLaws
 pub mod AboveLaws
+pub mod EndLaws

@@ -1,5 +1,5 @@
 //! What stands above a vertex that shouldn't, or doesn't and should.
-ghost use Rattle.std.specs.Prelude.{◌≡◌, ◌<◌, ◌≤◌, ◌↔◌, ℕ, IsTrue, IfOk, length};
+ghost use Rattle.std.specs.Prelude.{◌≡◌, ◌<◌, ◌≤◌, ◌↔◌, ℕ, IsTrue, IfSome, IfOk, length};
 ghost use Rattle.resource_graph.specs.Faults.{IsNestedInKind, IsPoolWithChild, IsLoose};
 ghost use Rattle.resource_graph.specs.Lines.{line_of, KnowsParents, AllBelow};
 ghost use Rattle.resource_graph.specs.Preorder.{KnowsKinds};
@@ -17,7 +17,8 @@ pub(crate) fn first_nested(alloc: Global, kinds: &[Text], vertices: &[Vertex]) -
     requires few { length vertices.now ≤ 65536 }
     requires parents { KnowsParents vertices.now }
     requires short { (v : ℕ) → v < length vertices.now → length (line_of vertices.now v) ≤ 16 }
-    ensures { IfOk result (FindsFirst (IsNestedInKind (graph_in kinds.now vertices.now))) }
+    ensures first { IfOk result (FindsFirst (IsNestedInKind (graph_in kinds.now vertices.now))) }
+    ensures within { IfOk result (λ found. IfSome found (λ v. v < length vertices.now)) }
 {
     for v in 0..vertices.len() {
         let line = line_up(alloc, vertices, v as u32)?;
@@ -86,7 +87,8 @@ fn house_of(kinds: &[Text], vertices: &[Vertex], line: &[u32], v: usize) -> Opti
 /// The first core or gpu with no node above.
 pub(crate) fn first_loose(kinds: &[Text], vertices: &[Vertex], houses: &[Option<u32>]) -> Option<usize>
     requires { HasHouses (graph_in kinds.now vertices.now) (length vertices.now) houses.now }
-    ensures { FindsFirst (IsLoose (graph_in kinds.now vertices.now)) result }
+    ensures first { FindsFirst (IsLoose (graph_in kinds.now vertices.now)) result }
+    ensures within { IfSome result (λ v. v < length vertices.now) }
 {
     for v in 0..vertices.len() {
         if is_loose(kinds, vertices, houses, v) {
@@ -100,7 +102,8 @@ pub(crate) fn first_loose(kinds: &[Text], vertices: &[Vertex], houses: &[Option<
 pub(crate) fn first_parent_pool(alloc: Global, kinds: &[Text], vertices: &[Vertex]) -> Result<Option<usize>, AllocError>
     requires parents { KnowsParents vertices.now }
     requires known { KnowsKinds vertices.now (length kinds.now) }
-    ensures { IfOk result (FindsFirst (IsPoolWithChild (graph_in kinds.now vertices.now))) }
+    ensures first { IfOk result (FindsFirst (IsPoolWithChild (graph_in kinds.now vertices.now))) }
+    ensures within { IfOk result (λ found. IfSome found (λ v. v < length vertices.now)) }
 {
     let pools = pool_table(alloc, vertices, kinds.len())?;
     let children = child_table(alloc, vertices)?;
@@ -124,7 +127,8 @@ fn first_pool(kinds: &[Text], vertices: &[Vertex], pools: &[bool], children: &[b
     requires whole { length pools.now ≡ length kinds.now }
     requires pools { HasPools vertices.now pools.now }
     requires children { HasChildren vertices.now (length vertices.now) children.now }
-    ensures { FindsFirst (IsPoolWithChild (graph_in kinds.now vertices.now)) result }
+    ensures first { FindsFirst (IsPoolWithChild (graph_in kinds.now vertices.now)) result }
+    ensures within { IfSome result (λ v. v < length vertices.now) }
 {
     for v in 0..vertices.len() {
         if is_parent_pool(kinds, vertices, pools, children, v) {

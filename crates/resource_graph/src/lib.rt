@@ -6,6 +6,7 @@ mod arrange;
 mod build;
 pub mod graph;
 mod climbs;
+mod endless;
 mod lines;
 mod links;
 mod own;

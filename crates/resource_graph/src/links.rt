@@ -1,5 +1,5 @@
 //! The first vertex whose parent, type or place below the root is wrong.
-ghost use Rattle.std.specs.Prelude.{◌≡◌, ◌<◌, ℕ, position, length};
+ghost use Rattle.std.specs.Prelude.{◌≡◌, ◌<◌, ℕ, IfSome, position, length};
 ghost use Rattle.resource_graph.specs.Faults.{HasUnknownParent, HasUnknownKind, IsRoot, IsSecondRoot};
 ghost use Rattle.resource_graph.specs.Checks.{graph_in, FindsFirst, has_parent_from};
 
@@ -7,7 +7,8 @@ use flux_defs::{Text, Vertex};
 
 /// The first vertex whose parent is no place of the list.
 pub(crate) fn first_unknown_parent(kinds: &[Text], vertices: &[Vertex]) -> Option<usize>
-    ensures { FindsFirst (HasUnknownParent (graph_in kinds.now vertices.now)) result }
+    ensures first { FindsFirst (HasUnknownParent (graph_in kinds.now vertices.now)) result }
+    ensures within { IfSome result (λ v. v < length vertices.now) }
 {
     let _ = kinds;
     parent_past(vertices, vertices.len())
@@ -22,7 +23,8 @@ fn parent_past(vertices: &[Vertex], count: usize) -> Option<usize>
 
 /// The first vertex whose kind is no place of the list of types.
 pub(crate) fn first_unknown_kind(kinds: &[Text], vertices: &[Vertex]) -> Option<usize>
-    ensures { FindsFirst (HasUnknownKind (graph_in kinds.now vertices.now)) result }
+    ensures first { FindsFirst (HasUnknownKind (graph_in kinds.now vertices.now)) result }
+    ensures within { IfSome result (λ v. v < length vertices.now) }
 {
     let count = kinds.len();
     vertices.iter().position(|vertex| vertex.kind as usize >= count)
@@ -30,7 +32,8 @@ pub(crate) fn first_unknown_kind(kinds: &[Text], vertices: &[Vertex]) -> Option<
 
 /// The first vertex without a parent.
 pub(crate) fn first_root(kinds: &[Text], vertices: &[Vertex]) -> Option<usize>
-    ensures { FindsFirst (IsRoot (graph_in kinds.now vertices.now)) result }
+    ensures first { FindsFirst (IsRoot (graph_in kinds.now vertices.now)) result }
+    ensures within { IfSome result (λ v. v < length vertices.now) }
 {
     let _ = kinds;
     vertices.iter().position(|vertex| vertex.parent.is_none())
@@ -40,7 +43,8 @@ pub(crate) fn first_root(kinds: &[Text], vertices: &[Vertex]) -> Option<usize>
 pub(crate) fn second_root(kinds: &[Text], vertices: &[Vertex], first: usize) -> Option<usize>
     requires root { IsRoot (graph_in kinds.now vertices.now) first }
     requires least { (u : ℕ) → u < first → IsRoot (graph_in kinds.now vertices.now) u → ⊥ }
-    ensures { FindsFirst (IsSecondRoot (graph_in kinds.now vertices.now)) result }
+    ensures first { FindsFirst (IsSecondRoot (graph_in kinds.now vertices.now)) result }
+    ensures within { IfSome result (λ v. v < length vertices.now) }
 {
     let _ = kinds;
     for v in first + 1..vertices.len() {

@@ -1,5 +1,5 @@
 //! The first vertex of which something of its own is wrong: its type, its size or its id.
-ghost use Rattle.std.specs.Prelude.{◌≡◌, ◌<◌, ◌↔◌, IsTrue, Some, length, slice_get};
+ghost use Rattle.std.specs.Prelude.{◌≡◌, ◌<◌, ◌↔◌, IsTrue, IfSome, Some, length, slice_get};
 ghost use Rattle.flux_defs.specs.ValidGraph.{IsDevice};
 ghost use Rattle.resource_graph.specs.Faults.{IsNodeType, IsReserved, IsSized, IsLarge, HasNoId};
 ghost use Rattle.resource_graph.specs.Checks.{graph_in, FindsFirst};
@@ -78,7 +78,8 @@ fn is_unnamed(kinds: &[Text], vertices: &[Vertex], v: usize) -> bool
 
 /// The first vertex whose type is called slot.
 pub(crate) fn first_reserved(kinds: &[Text], vertices: &[Vertex]) -> Option<usize>
-    ensures { FindsFirst (IsReserved (graph_in kinds.now vertices.now)) result }
+    ensures first { FindsFirst (IsReserved (graph_in kinds.now vertices.now)) result }
+    ensures within { IfSome result (λ v. v < length vertices.now) }
 {
     for v in 0..vertices.len() {
         if is_reserved(kinds, vertices, v) {
@@ -90,7 +91,8 @@ pub(crate) fn first_reserved(kinds: &[Text], vertices: &[Vertex]) -> Option<usiz
 
 /// The first node, core or gpu of a size other than 1.
 pub(crate) fn first_sized(kinds: &[Text], vertices: &[Vertex]) -> Option<usize>
-    ensures { FindsFirst (IsSized (graph_in kinds.now vertices.now)) result }
+    ensures first { FindsFirst (IsSized (graph_in kinds.now vertices.now)) result }
+    ensures within { IfSome result (λ v. v < length vertices.now) }
 {
     for v in 0..vertices.len() {
         if is_sized(kinds, vertices, v) {
@@ -102,7 +104,8 @@ pub(crate) fn first_sized(kinds: &[Text], vertices: &[Vertex]) -> Option<usize>
 
 /// The first vertex of a size past 2^46.
 pub(crate) fn first_large(kinds: &[Text], vertices: &[Vertex]) -> Option<usize>
-    ensures { FindsFirst (IsLarge (graph_in kinds.now vertices.now)) result }
+    ensures first { FindsFirst (IsLarge (graph_in kinds.now vertices.now)) result }
+    ensures within { IfSome result (λ v. v < length vertices.now) }
 {
     for v in 0..vertices.len() {
         if is_large(kinds, vertices, v) {
@@ -114,7 +117,8 @@ pub(crate) fn first_large(kinds: &[Text], vertices: &[Vertex]) -> Option<usize>
 
 /// The first core or gpu without an id.
 pub(crate) fn first_unnamed(kinds: &[Text], vertices: &[Vertex]) -> Option<usize>
-    ensures { FindsFirst (HasNoId (graph_in kinds.now vertices.now)) result }
+    ensures first { FindsFirst (HasNoId (graph_in kinds.now vertices.now)) result }
+    ensures within { IfSome result (λ v. v < length vertices.now) }
 {
     for v in 0..vertices.len() {
         if is_unnamed(kinds, vertices, v) {
