@@ -24,9 +24,10 @@ module _ (vertices : List Vertex) where
   in_line v u h =
       let parts = and_parts (is_at_or_below vertices v u) (not (nat_eq v u)) h in
       let any = Any-from_list_any (nat_eq u) (line_of vertices v) (sym (at_or_below-opens vertices v u) ∙ parts.0) in
-      let is : u ≡ any.1 = eqb-true u any.1 any.4 in
-      ((any.0, slice_get-get_or (line_of vertices v) any.0 any.1 any.2 ∙ ap Some (any.3 ∙ sym is)),
-       (λ same. both_ways (nat_eq v u) (not-true (nat_eq v u) parts.1) (eq-eqb v u (sym same))))
+      let is : u ≡ any.1 = eqb-true u any.1 any.4 in (
+        (any.0, slice_get-get_or (line_of vertices v) any.0 any.1 any.2 ∙ ap Some (any.3 ∙ sym is)),
+        (λ same. both_ways (nat_eq v u) (not-true (nat_eq v u) parts.1) (eq-eqb v u (sym same))),
+      )
 
   pub from_line : (v u i : ℕ) → slice_get (line_of vertices v) i ≡ Some u → u ≢ v → IsTrue (is_below vertices v u)
   from_line v u i e differ =
@@ -61,7 +62,7 @@ houses_more g v houses grown o to here is = record {
   each = λ u other e. elim (push_cases houses o other u (ap (λ l. slice_get l u) (sym is) ∙ e)) [
     | inl old ↦ to.each u other old.1
     | inr new ↦ (let at : v ≡ u = sym to.as_many ∙ sym new.0 in subst (λ (w : ℕ). IsHouse g w other) at (subst (λ (x : Option ℕ). IsHouse g v x) (sym new.1) here))
-  ]
+  ];
 }
 
 -- one vertex more shows a child, or none
@@ -70,15 +71,17 @@ children_more vertices v p children p_in parent to = record {
   as_many = length-set children p true ∙ to.as_many;
   each = λ u u_in. elim (cases_eq u p) [
     | inl same ↦ (
-        (λ _. (v, omega arith, parent ∙ ap Some (sym same))),
-        (λ _. ap (λ i. get_or (set children p true) i false) same ∙ get_or-set_same children p true false (let long = to.as_many in omega arith)))
+      (λ _. (v, omega arith, parent ∙ ap Some (sym same))),
+      (λ _. ap (λ i. get_or (set children p true) i false) same ∙ get_or-set_same children p true false (let long = to.as_many in omega arith)),
+    )
     | inr differ ↦ (
-        (λ h. (let was = (to.each u u_in).0 (sym (get_or-set_other children p u true false differ) ∙ h) in (was.0, (let lt : was.0 < v = was.1 in omega arith), was.2))),
-        (λ child. elim (cases_lt child.0 v) [
-          | inl before ↦ get_or-set_other children p u true false differ ∙ (to.each u u_in).1 (child.0, before, child.2)
-          | inr last ↦ absurd (differ (let is : child.0 ≡ v = (let lt : child.0 < v + 1 = child.1 in omega arith) in same_Some _ _ (sym child.2 ∙ (ap (parent_of vertices) is ∙ parent))))
-        ]))
-  ]
+      (λ h. (let was = (to.each u u_in).0 (sym (get_or-set_other children p u true false differ) ∙ h) in (was.0, (let lt : was.0 < v = was.1 in omega arith), was.2))),
+      (λ child. elim (cases_lt child.0 v) [
+        | inl before ↦ get_or-set_other children p u true false differ ∙ (to.each u u_in).1 (child.0, before, child.2)
+        | inr last ↦ absurd (differ (let is : child.0 ≡ v = (let lt : child.0 < v + 1 = child.1 in omega arith) in same_Some _ _ (sym child.2 ∙ (ap (parent_of vertices) is ∙ parent))))
+      ]),
+    )
+  ];
 }
 
 pub children_same : (vertices : List Vertex) (v : ℕ) (children : List Bool) → parent_of vertices v ≡ None → HasChildren vertices v children → HasChildren vertices (v + 1) children
@@ -89,7 +92,8 @@ children_same vertices v children none to = record {
     (λ child. elim (cases_lt child.0 v) [
       | inl before ↦ (to.each u u_in).1 (child.0, before, child.2)
       | inr last ↦ absurd (let is : child.0 ≡ v = (let lt : child.0 < v + 1 = child.1 in omega arith) in let clash : None ≡ Some u = sym none ∙ (ap (parent_of vertices) (sym is) ∙ child.2) in cc)
-    ]))
+    ]),
+  );
 }
 
 -- a pool with a child, by the two tables

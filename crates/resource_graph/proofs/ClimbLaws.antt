@@ -69,6 +69,7 @@ module _ (vertices : List Vertex) where
     where
       here : reached ≡ climb vertices a (Some v)
       here = has_first.each v reached at
+
       go : (o : Option ℕ) → reached ≡ o → option_and_then (λ u. get_or second u None) o ≡ climb vertices b (climb vertices a (Some v))
       go None e = sym (climb-None b) ∙ ap (climb vertices b) (sym e ∙ here)
       go (Some u) e =
@@ -99,5 +100,5 @@ entries_more Is v list grown x long before here is = (
   (λ u o e. elim (push_cases list x o u (ap (λ l. slice_get l u) (sym is) ∙ e)) [
     | inl old ↦ before u o old.1
     | inr new ↦ (let at : v ≡ u = sym long ∙ sym new.0 in subst (λ (w : ℕ). Is w o) at (subst (λ o. Is v o) (sym new.1) here))
-  ])
+  ]),
 )

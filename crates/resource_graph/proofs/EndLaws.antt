@@ -49,10 +49,10 @@ module _ (kinds : List (List ℕ)) (vertices : List Vertex) where
   finds_endless climbs found has e =
       finds_same (Passes (λ o. is_some o) climbs) (NeverEnds (graph_in kinds vertices)) found
       (λ v h. (let r = reached_to (length vertices) climbs has v h in
-        (r.0, (let long : length (chain vertices (suc (length vertices)) (Some v)) ≡ suc (length vertices) = chain_goes_on vertices (length vertices) r.1.0 (Some v) r.1.1 in omega arith))))
+      (r.0, (let long : length (chain vertices (suc (length vertices)) (Some v)) ≡ suc (length vertices) = chain_goes_on vertices (length vertices) r.1.0 (Some v) r.1.1 in omega arith))))
       (λ v bad. reached_from (length vertices) climbs has v bad.0 (λ none.
-        (let short : length (chain vertices (suc (length vertices)) (Some v)) ≤ length vertices = chain_ends vertices (length vertices) (Some v) none in
-         let over : length vertices < length (chain vertices (suc (length vertices)) (Some v)) = bad.1 in omega arith)))
+      (let short : length (chain vertices (suc (length vertices)) (Some v)) ≤ length vertices = chain_ends vertices (length vertices) (Some v) none in
+      let over : length vertices < length (chain vertices (suc (length vertices)) (Some v)) = bad.1 in omega arith)))
       (finds_position (λ o. is_some o) climbs found e)
 
   pub finds_deep : (climbs : List (Option ℕ)) (found : Option ℕ) → ((v : ℕ) → NeverEnds (graph_in kinds vertices) v → ⊥) → HasClimbs vertices 16 climbs → found ≡ position (λ o. is_some o) climbs → FindsFirst (IsDeep (graph_in kinds vertices)) found
@@ -60,10 +60,10 @@ module _ (kinds : List (List ℕ)) (vertices : List Vertex) where
       finds_same (Passes (λ o. is_some o) climbs) (IsDeep (graph_in kinds vertices)) found
       (λ v h. (let r = reached_to 16 climbs has v h in (r.0, deep v r.0 r.1.0 r.1.1)))
       (λ v bad. reached_from 16 climbs has v bad.0 (λ none.
-        (let over : 16 < length (line_of vertices v) = bad.1 in
-         let long : length (line_of vertices v) ≤ length vertices = chain_short vertices (length vertices) (Some v) in
-         let same : length (line_of vertices v) ≡ length (chain vertices 16 (Some v)) = ap length (chain_stops vertices 16 (length vertices) (Some v) none (omega arith)) in
-         let short : length (chain vertices 16 (Some v)) ≤ 16 = chain_short vertices 16 (Some v) in omega arith)))
+      (let over : 16 < length (line_of vertices v) = bad.1 in
+      let long : length (line_of vertices v) ≤ length vertices = chain_short vertices (length vertices) (Some v) in
+      let same : length (line_of vertices v) ≡ length (chain vertices 16 (Some v)) = ap length (chain_stops vertices 16 (length vertices) (Some v) none (omega arith)) in
+      let short : length (chain vertices 16 (Some v)) ≤ 16 = chain_short vertices 16 (Some v) in omega arith)))
       (finds_position (λ o. is_some o) climbs found e)
     where
       deep : (v : ℕ) → v < length vertices → (u : ℕ) → climb vertices 16 (Some v) ≡ Some u → 16 < length (line_of vertices v)
@@ -71,10 +71,10 @@ module _ (kinds : List (List ℕ)) (vertices : List Vertex) where
           let long : length (chain vertices 17 (Some v)) ≡ 17 = chain_goes_on vertices 16 u (Some v) on in
           elim (cases_lt 16 (length vertices)) [
             | inl many ↦ elim (cases_lt 16 (length (line_of vertices v))) [
-                | inl over ↦ over
-                | inr short ↦ absurd (
-                    let same : length (line_of vertices v) ≡ length (chain vertices 17 (Some v)) = ap length (chains_agree vertices (length vertices) 17 (Some v) (omega arith) (omega arith)) in omega arith)
-              ]
+              | inl over ↦ over
+              | inr short ↦ absurd (
+                  let same : length (line_of vertices v) ≡ length (chain vertices 17 (Some v)) = ap length (chains_agree vertices (length vertices) 17 (Some v) (omega arith) (omega arith)) in omega arith)
+            ]
             | inr few ↦ absurd (go (climb vertices (length vertices) (Some v)) refl few)
           ]
         where
@@ -82,7 +82,7 @@ module _ (kinds : List (List ℕ)) (vertices : List Vertex) where
           go None f le =
               let split : length vertices + (16 - length vertices) ≡ 16 = omega arith in
               let none : climb vertices 16 (Some v) ≡ None =
-                  ap (λ n. climb vertices n (Some v)) (sym split) ∙ (sym (climb-climb vertices (length vertices) (16 - length vertices) (Some v)) ∙ (ap (climb vertices (16 - length vertices)) f ∙ climb-None vertices (16 - length vertices))) in
+              ap (λ n. climb vertices n (Some v)) (sym split) ∙ (sym (climb-climb vertices (length vertices) (16 - length vertices) (Some v)) ∙ (ap (climb vertices (16 - length vertices)) f ∙ climb-None vertices (16 - length vertices))) in
               let clash : None ≡ Some u = sym none ∙ on in cc
           go (Some w) f le =
               ends v (lt, (let over : length (chain vertices (suc (length vertices)) (Some v)) ≡ suc (length vertices) = chain_goes_on vertices (length vertices) w (Some v) f in omega arith))

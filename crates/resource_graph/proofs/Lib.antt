@@ -16,3 +16,4 @@ pub mod ClimbLaws
 pub mod OwnLaws
 pub mod AboveLaws
 pub mod EndLaws
+pub mod ToldLaws

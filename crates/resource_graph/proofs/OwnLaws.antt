@@ -60,17 +60,19 @@ module _ (kinds : List (List ℕ)) (vertices : List Vertex) (v : ℕ) where
 pub called : (kinds : List (List ℕ)) (kind : ℕ) (text bytes name : List ℕ) (r : Bool) → kind < length kinds → text ≡ get_or kinds kind text → bytes ≡ text → r ≡ bytes_eq bytes name →
     (IsTrue r → slice_get kinds kind ≡ Some name) × (slice_get kinds kind ≡ Some name → IsTrue r)
 called kinds kind text bytes name r lt read same e =
-    let at : slice_get kinds kind ≡ Some text = slice_get-get_or kinds kind text lt ∙ ap Some (sym read) in
-    ((λ h. at ∙ ap Some (sym same ∙ (bytes_eq-Decides bytes name).0 (sym e ∙ h))),
-     (λ is. e ∙ (bytes_eq-Decides bytes name).1 (same ∙ same_Some _ _ (sym at ∙ is))))
+    let at : slice_get kinds kind ≡ Some text = slice_get-get_or kinds kind text lt ∙ ap Some (sym read) in (
+      (λ h. at ∙ ap Some (sym same ∙ (bytes_eq-Decides bytes name).0 (sym e ∙ h))),
+      (λ is. e ∙ (bytes_eq-Decides bytes name).1 (same ∙ same_Some _ _ (sym at ∙ is))),
+    )
 
 -- a test of a vertex's kind is one of the vertex
 pub type_test : (kinds : List (List ℕ)) (vertices : List Vertex) (v : ℕ) (name : List ℕ) (r : Bool) → v < length vertices →
     (IsTrue r → slice_get kinds (get_or vertices v no_vertex).kind ≡ Some name) × (slice_get kinds (get_or vertices v no_vertex).kind ≡ Some name → IsTrue r) →
     (IsTrue r → HasType (graph_in kinds vertices) name v) × (HasType (graph_in kinds vertices) name v → IsTrue r)
-type_test kinds vertices v name r lt test =
-    ((λ h. fact_here vertices v (λ x. slice_get kinds x.kind ≡ Some name) lt (test.0 h)),
-     (λ t. test.1 (fact_read vertices v (λ x. slice_get kinds x.kind ≡ Some name) lt t)))
+type_test kinds vertices v name r lt test = (
+  (λ h. fact_here vertices v (λ x. slice_get kinds x.kind ≡ Some name) lt (test.0 h)),
+  (λ t. test.1 (fact_read vertices v (λ x. slice_get kinds x.kind ≡ Some name) lt t)),
+)
 
 pub no_id_here : (vertices : List Vertex) (v : ℕ) → v < length vertices → is_some (get_or vertices v no_vertex).id ≡ false → IsSomeAnd (slice_get vertices v) (λ x. x.id ≡ None)
 no_id_here vertices v lt h = fact_here vertices v (λ x. x.id ≡ None) lt (go (get_or vertices v no_vertex).id h)

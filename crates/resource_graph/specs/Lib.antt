@@ -9,3 +9,4 @@ pub mod Faults
 pub mod Raw
 pub mod Arranged
 pub mod Checks
+pub mod Told

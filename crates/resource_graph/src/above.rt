@@ -13,7 +13,11 @@ use flux_defs::{Text, Vertex};
 use std::alloc::{AllocError, Global};
 
 /// The first vertex below one of its own type.
-pub(crate) fn first_nested(alloc: Global, kinds: &[Text], vertices: &[Vertex]) -> Result<Option<usize>, AllocError>
+pub(crate) fn first_nested(
+    alloc: Global,
+    kinds: &[Text],
+    vertices: &[Vertex],
+) -> Result<Option<usize>, AllocError>
     requires few { length vertices.now ≤ 65536 }
     requires parents { KnowsParents vertices.now }
     requires short { (v : ℕ) → v < length vertices.now → length (line_of vertices.now v) ≤ 16 }
@@ -50,7 +54,11 @@ fn is_nested(kinds: &[Text], vertices: &[Vertex], line: &[u32], v: usize) -> boo
 }
 
 /// By vertex, a node above it.
-pub(crate) fn house_table(alloc: Global, kinds: &[Text], vertices: &[Vertex]) -> Result<Vec<Option<u32>>, AllocError>
+pub(crate) fn house_table(
+    alloc: Global,
+    kinds: &[Text],
+    vertices: &[Vertex],
+) -> Result<Vec<Option<u32>>, AllocError>
     requires few { length vertices.now ≤ 65536 }
     requires parents { KnowsParents vertices.now }
     requires short { (v : ℕ) → v < length vertices.now → length (line_of vertices.now v) ≤ 16 }
@@ -85,7 +93,11 @@ fn house_of(kinds: &[Text], vertices: &[Vertex], line: &[u32], v: usize) -> Opti
 }
 
 /// The first core or gpu with no node above.
-pub(crate) fn first_loose(kinds: &[Text], vertices: &[Vertex], houses: &[Option<u32>]) -> Option<usize>
+pub(crate) fn first_loose(
+    kinds: &[Text],
+    vertices: &[Vertex],
+    houses: &[Option<u32>],
+) -> Option<usize>
     requires { HasHouses (graph_in kinds.now vertices.now) (length vertices.now) houses.now }
     ensures first { FindsFirst (IsLoose (graph_in kinds.now vertices.now)) result }
     ensures within { IfSome result (λ v. v < length vertices.now) }
@@ -99,7 +111,11 @@ pub(crate) fn first_loose(kinds: &[Text], vertices: &[Vertex], houses: &[Option<
 }
 
 /// The first vertex of a pool type that has a child.
-pub(crate) fn first_parent_pool(alloc: Global, kinds: &[Text], vertices: &[Vertex]) -> Result<Option<usize>, AllocError>
+pub(crate) fn first_parent_pool(
+    alloc: Global,
+    kinds: &[Text],
+    vertices: &[Vertex],
+) -> Result<Option<usize>, AllocError>
     requires parents { KnowsParents vertices.now }
     requires known { KnowsKinds vertices.now (length kinds.now) }
     ensures first { IfOk result (FindsFirst (IsPoolWithChild (graph_in kinds.now vertices.now))) }
@@ -122,7 +138,12 @@ fn is_loose(kinds: &[Text], vertices: &[Vertex], houses: &[Option<u32>], v: usiz
     is_device_at(kinds, vertices, v)
 }
 
-fn first_pool(kinds: &[Text], vertices: &[Vertex], pools: &[bool], children: &[bool]) -> Option<usize>
+fn first_pool(
+    kinds: &[Text],
+    vertices: &[Vertex],
+    pools: &[bool],
+    children: &[bool],
+) -> Option<usize>
     requires known { KnowsKinds vertices.now (length kinds.now) }
     requires whole { length pools.now ≡ length kinds.now }
     requires pools { HasPools vertices.now pools.now }
@@ -139,7 +160,13 @@ fn first_pool(kinds: &[Text], vertices: &[Vertex], pools: &[bool], children: &[b
 }
 
 /// Whether the vertex is of a pool type and has a child.
-fn is_parent_pool(kinds: &[Text], vertices: &[Vertex], pools: &[bool], children: &[bool], v: usize) -> bool
+fn is_parent_pool(
+    kinds: &[Text],
+    vertices: &[Vertex],
+    pools: &[bool],
+    children: &[bool],
+    v: usize,
+) -> bool
     requires within { v < length vertices.now }
     requires known { KnowsKinds vertices.now (length kinds.now) }
     requires whole { length pools.now ≡ length kinds.now }

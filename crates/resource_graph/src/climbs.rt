@@ -7,7 +7,11 @@ use flux_defs::Vertex;
 use std::alloc::{AllocError, Global};
 
 /// By vertex, the one that is so many steps up: the jumps of 1, 2, 4 and so on that make up the number.
-pub(crate) fn climbs(alloc: Global, vertices: &[Vertex], steps: usize) -> Result<Vec<Option<u32>>, AllocError>
+pub(crate) fn climbs(
+    alloc: Global,
+    vertices: &[Vertex],
+    steps: usize,
+) -> Result<Vec<Option<u32>>, AllocError>
     requires few { length vertices.now ≤ 65536 }
     requires known { KnowsParents vertices.now }
     ensures { IfOk result (λ climbs. HasClimbs vertices.now steps climbs.items) }

@@ -10,7 +10,11 @@ use flux_defs::{Text, Vertex};
 use std::alloc::{AllocError, Global};
 
 /// The first vertex whose chain of parents is longer than the graph.
-pub(crate) fn first_endless(alloc: Global, kinds: &[Text], vertices: &[Vertex]) -> Result<Option<usize>, AllocError>
+pub(crate) fn first_endless(
+    alloc: Global,
+    kinds: &[Text],
+    vertices: &[Vertex],
+) -> Result<Option<usize>, AllocError>
     requires few { length vertices.now ≤ 65536 }
     requires known { KnowsParents vertices.now }
     ensures first { IfOk result (FindsFirst (NeverEnds (graph_in kinds.now vertices.now))) }
@@ -23,7 +27,11 @@ pub(crate) fn first_endless(alloc: Global, kinds: &[Text], vertices: &[Vertex]) 
 }
 
 /// The first vertex with more than 16 vertices from the root to it.
-pub(crate) fn first_deep(alloc: Global, kinds: &[Text], vertices: &[Vertex]) -> Result<Option<usize>, AllocError>
+pub(crate) fn first_deep(
+    alloc: Global,
+    kinds: &[Text],
+    vertices: &[Vertex],
+) -> Result<Option<usize>, AllocError>
     requires few { length vertices.now ≤ 65536 }
     requires known { KnowsParents vertices.now }
     requires ends { (v : ℕ) → NeverEnds (graph_in kinds.now vertices.now) v → ⊥ }

@@ -4,13 +4,14 @@
 mod above;
 mod arrange;
 mod build;
-pub mod graph;
+mod checks;
 mod climbs;
 mod endless;
+pub mod graph;
 mod lines;
 mod links;
-mod own;
 mod order;
+mod own;
 pub mod raw;
 mod tables;
 

@@ -18,7 +18,9 @@ pub(crate) fn first_unknown_parent(kinds: &[Text], vertices: &[Vertex]) -> Optio
 fn parent_past(vertices: &[Vertex], count: usize) -> Option<usize>
     ensures { result ≡ position (has_parent_from count) vertices.now }
 {
-    vertices.iter().position(|vertex| parent_is_from(vertex, count))
+    vertices
+        .iter()
+        .position(|vertex| parent_is_from(vertex, count))
 }
 
 /// The first vertex whose kind is no place of the list of types.
@@ -27,7 +29,9 @@ pub(crate) fn first_unknown_kind(kinds: &[Text], vertices: &[Vertex]) -> Option<
     ensures within { IfSome result (λ v. v < length vertices.now) }
 {
     let count = kinds.len();
-    vertices.iter().position(|vertex| vertex.kind as usize >= count)
+    vertices
+        .iter()
+        .position(|vertex| vertex.kind as usize >= count)
 }
 
 /// The first vertex without a parent.
