@@ -1,8 +1,8 @@
 -- What stands above a vertex is what its line has besides it.
-use Rattle.std.proofs.Common.{◌≡◌, ◌≢◌, ℕ, zero, suc, ◌+◌, ◌<◌, ◌≤◌, ◌↔◌, ◌⊎◌, nat_eq, not, Bool, true, false, List, [], ◌∷◌, ◌++◌, length, get_or, set, Option, Some, None, inl, inr, refl, sym, ◌∙◌, ap, subst, arith, IsTrue, true≢false}
+use Rattle.std.proofs.Common.{◌≡◌, ◌≢◌, ℕ, ◌+◌, ◌<◌, nat_eq, not, Bool, true, false, List, [], ◌∷◌, ◌++◌, length, get_or, set, Option, Some, None, inl, inr, refl, sym, ◌∙◌, ap, subst, arith, IsTrue, true≢false}
 use Rattle.std.specs.Prelude.{slice_get, is_some}
 use Rattle.std.specs.List.{list_any}
-use Rattle.std.specs.Option.{IsSomeAnd, option_map_or}
+use Rattle.std.specs.Option.{option_map_or}
 use Rattle.std.proofs.lemmas.Bool.{cases_lt, cases_eq, and_parts, and_from, eqb-true, eq-eqb, ne_eqb, not-true, not_from_false, both_ways}
 use Rattle.std.proofs.lemmas.List.{get_or-set_same, get_or-set_other, length-set, length_push}
 use Rattle.std.proofs.lemmas.List.Folds.{Any-from_list_any, list_any_at}
@@ -12,10 +12,10 @@ use Rattle.flux_defs.specs.Graph.{ResourceGraph, parent_of, is_at_or_below, is_b
 use Rattle.graph_laws.proofs.Containment.{at_or_below-opens}
 use Rattle.graph_laws.proofs.Preorder.{has_parent}
 use Rattle.resource_graph.specs.Lines.{line_of}
-use Rattle.resource_graph.specs.Faults.{IsNodeType, IsNestedInKind, IsHoused, IsPoolWithChild}
+use Rattle.resource_graph.specs.Faults.{IsNodeType, IsNestedInKind, IsHoused}
 use Rattle.resource_graph.specs.Checks.{graph_in, IsHouse, HasHouses, HasChildTo, HasChildren}
-use Rattle.resource_graph.proofs.LineLaws.{no_vertex, parent_at}
-use Rattle.resource_graph.proofs.OwnLaws.{fact_within, fact_here, fact_read}
+use Rattle.resource_graph.proofs.LineLaws.{no_vertex}
+use Rattle.resource_graph.proofs.OwnLaws.{fact_here, fact_read}
 use Rattle.resource_graph.proofs.TableLaws.{push_cases}
 
 module _ (vertices : List Vertex) where

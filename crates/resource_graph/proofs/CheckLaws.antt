@@ -1,17 +1,16 @@
 -- From what a search finds to the first bad vertex.
-use Rattle.std.proofs.Common.{◌≡◌, ◌≢◌, ℕ, zero, suc, ◌+◌, ◌-◌, ◌*◌, ◌<◌, ◌≤◌, ◌↔◌, nat_eq, not, Bool, true, false, cond, List, [], ◌∷◌, ◌++◌, length, get_or, Option, Some, None, inl, inr, refl, sym, ◌∙◌, ap, subst, arith, IsTrue, MatchOption, true≢false, option_and_then, ltb, leb}
+use Rattle.std.proofs.Common.{◌≡◌, ℕ, zero, suc, ◌<◌, ◌≤◌, not, Bool, true, false, cond, List, [], ◌∷◌, length, get_or, Option, Some, None, inl, inr, refl, sym, ◌∙◌, ap, subst, arith, true≢false, option_and_then, ltb, leb}
 use Rattle.std.specs.Prelude.{slice_get, is_some, position}
 use Rattle.std.specs.List.{position_or_len}
 use Rattle.std.specs.Option.{IsSomeAnd, option_map_or}
-use Rattle.std.proofs.lemmas.Bool.{cases_lt, cases_Bool, both_ways, ltb-true, ltb-false, leb-true, leb-false, le-leb}
+use Rattle.std.proofs.lemmas.Bool.{cases_lt, both_ways, ltb-true, ltb-false, leb-true, le-leb}
 use Rattle.std.proofs.lemmas.List.Sums.{fails_before_first, passes_at_first}
-use Rattle.std.proofs.lemmas.Option.{slice_get-get_or, slice_get_within, slice_get_past, get_or_from_slice_get, same_Some}
+use Rattle.std.proofs.lemmas.Option.{slice_get_within, get_or_from_slice_get}
 use Rattle.flux_defs.specs.declared.vertices.Vertex.{Vertex}
-use Rattle.flux_defs.specs.Graph.{ResourceGraph, parent_of, chain}
 use Rattle.resource_graph.specs.Faults.{HasUnknownParent, HasUnknownKind, IsRoot, IsSecondRoot}
 use Rattle.resource_graph.specs.Checks.{graph_in, FindsFirst, has_parent_from, has_kind_from, has_no_parent}
 use Rattle.resource_graph.proofs.LineLaws.{parent_read, parent_at, no_vertex}
-use Rattle.resource_graph.proofs.ValidLaws.{from_value, at_value, value_of}
+use Rattle.resource_graph.proofs.ValidLaws.{from_value, value_of}
 
 -- the test is true of the item at the place
 abbrev pub Passes : {X : Type 0} → (X → Bool) → List X → ℕ → Type 0

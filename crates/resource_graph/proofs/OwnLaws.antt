@@ -1,14 +1,14 @@
 -- What is wrong with a vertex is wrong with one of the list.
-use Rattle.std.proofs.Common.{◌≡◌, ◌≢◌, ℕ, ◌<◌, ◌≤◌, ◌^◌, ◌⊎◌, List, length, get_or, Some, None, Option, inl, inr, refl, sym, ◌∙◌, ap, subst, IsTrue, Bool, true≢false, true, false}
+use Rattle.std.proofs.Common.{◌≡◌, ◌≢◌, ℕ, ◌<◌, ◌^◌, List, length, get_or, Some, None, Option, inl, inr, refl, sym, ◌∙◌, ap, IsTrue, Bool, true≢false, true, false}
 use Rattle.std.specs.Prelude.{slice_get, codes, is_some}
 use Rattle.std.specs.Option.{IsSomeAnd, option_map_or}
 use Rattle.std.proofs.lemmas.Option.{slice_get_within, slice_get-get_or, same_Some}
 use Rattle.std.proofs.lemmas.Slice.Eq.{bytes_eq-Decides}
 use Rattle.std.specs.Str.{bytes_eq}
 use Rattle.flux_defs.specs.declared.vertices.Vertex.{Vertex}
-use Rattle.flux_defs.specs.Graph.{HasKind, is_pool, is_pool_kind}
+use Rattle.flux_defs.specs.Graph.{is_pool_kind}
 use Rattle.flux_defs.specs.ValidGraph.{HasType, IsDevice}
-use Rattle.resource_graph.specs.Faults.{IsNodeType, IsReserved, IsSized, IsLarge, HasNoId, IsNestedInKind, IsPoolWithChild, IsLoose}
+use Rattle.resource_graph.specs.Faults.{IsReserved, IsSized, IsLarge, HasNoId, IsNestedInKind, IsPoolWithChild, IsLoose}
 use Rattle.resource_graph.specs.Checks.{graph_in}
 use Rattle.resource_graph.proofs.LineLaws.{no_vertex}
 use Rattle.resource_graph.proofs.ValidLaws.{value_of, from_value, at_value}

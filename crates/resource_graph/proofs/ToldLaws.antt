@@ -1,9 +1,9 @@
 -- What the rows of the table that were checked say.
-use Rattle.std.proofs.Common.{◌≡◌, ℕ, ◌<◌, ◌≤◌, List, length, get_or, Option, Some, None, Bool, true, false, inl, inr, refl, arith}
+use Rattle.std.proofs.Common.{ℕ, ◌<◌, List, length, get_or, Option, None, inl, inr}
 use Rattle.std.specs.Prelude.{is_some}
 use Rattle.std.proofs.lemmas.Bool.{cases_lt, cases_Bool}
 use Rattle.flux_defs.specs.declared.vertices.Vertex.{Vertex}
-use Rattle.flux_defs.specs.Graph.{ResourceGraph, parent_of}
+use Rattle.flux_defs.specs.Graph.{ResourceGraph}
 use Rattle.flux_defs.specs.ValidGraph.{IsDevice}
 use Rattle.resource_graph.specs.Lines.{KnowsParents}
 use Rattle.resource_graph.specs.Faults.{IsLoose, IsHoused, IsFaultless, HasDoubleId, HasDoubleName, HasBadRank}

@@ -17,3 +17,6 @@ mod tables;
 
 pub use graph::Graph;
 pub use raw::{GraphFault, RawVertex};
+
+#[cfg(test)]
+mod rows;

@@ -1,4 +1,4 @@
-use Rattle.std.proofs.Common.{below_more, arith, ℕ, ◌<◌, length}
+use Rattle.std.proofs.Common.{below_more, arith, ◌<◌, length}
 use Rattle.std.proofs.lemmas.Bool.{both_ways}
 use Rattle.resource_graph.proofs.OwnLaws.{parent_pool_within}
 use Rattle.resource_graph.proofs.above.first_pool.Goals as goal

@@ -1,9 +1,8 @@
-use Rattle.std.proofs.Common.{◌≡◌, ◌≢◌, ℕ, ◌<◌, Some, get_or, length, inl, inr, refl, sym, ◌∙◌, ap, subst, arith}
+use Rattle.std.proofs.Common.{◌≡◌, ℕ, ◌<◌, Some, get_or, length, inl, inr, refl, sym, ◌∙◌, ap, subst, arith}
 use Rattle.std.specs.Prelude.{slice_get}
 use Rattle.std.proofs.lemmas.Bool.{cases_lt}
 use Rattle.std.proofs.lemmas.Option.{slice_get-get_or, same_Some}
 use Rattle.flux_defs.specs.Graph.{HasKind}
-use Rattle.resource_graph.specs.Lines.{line_of}
 use Rattle.resource_graph.proofs.AboveLaws.{nested_here, nested_nowhere, kinds_differ}
 use Rattle.resource_graph.proofs.above.is_nested.Goals as goal
 

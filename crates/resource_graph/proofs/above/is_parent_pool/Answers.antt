@@ -1,4 +1,4 @@
-use Rattle.std.proofs.Common.{get_or, false}
+use Rattle.std.proofs.Common.{get_or}
 use Rattle.resource_graph.proofs.LineLaws.{no_vertex}
 use Rattle.resource_graph.proofs.AboveLaws.{parent_pool}
 use Rattle.resource_graph.proofs.above.is_parent_pool.Goals as goal

@@ -1,4 +1,4 @@
-use Rattle.std.proofs.Common.{◌≡◌, ℕ, List, Option, length, sym, subst}
+use Rattle.std.proofs.Common.{length, sym, subst}
 use Rattle.resource_graph.specs.Checks.{graph_in, HasHouses}
 use Rattle.resource_graph.proofs.ToldLaws.{parents_clear, housed_clear}
 use Rattle.resource_graph.proofs.checks.check_houses.Goals as goal

@@ -1,4 +1,4 @@
-use Rattle.std.proofs.Common.{◌≡◌, ℕ, ◌+◌, ◌*◌, ◌/◌, ◌%◌, ◌<◌, nat_eq, cond, Option, List, length, sym, ◌∙◌, ap, subst, arith}
+use Rattle.std.proofs.Common.{◌≡◌, ℕ, ◌+◌, ◌*◌, ◌%◌, nat_eq, cond, Option, List, length, sym, ◌∙◌, ap, subst, arith}
 use Rattle.resource_graph.specs.Checks.{HasClimbs, LeadsWithin}
 use Rattle.resource_graph.proofs.ClimbLaws.{leads_within, halved}
 use Rattle.resource_graph.proofs.climbs.climbs.Goals as goal

@@ -1,7 +1,6 @@
-use Rattle.std.proofs.Common.{◌≡◌, ℕ, ◌<◌, ◌+◌, Option, None, Some, List, get_or, length, sym, ◌∙◌, ap, arith, option_and_then}
+use Rattle.std.proofs.Common.{◌≡◌, ℕ, ◌<◌, Option, None, Some, get_or, length, sym, ◌∙◌, ap, arith, option_and_then}
 use Rattle.std.specs.Prelude.{slice_get}
 use Rattle.std.proofs.lemmas.Option.{slice_get-get_or, same_Some, slice_get_within}
-use Rattle.resource_graph.specs.Checks.{HasClimbs, climb}
 use Rattle.resource_graph.proofs.ClimbLaws.{entries_more, followed_more}
 use Rattle.resource_graph.proofs.climbs.followed.Goals as goal
 

@@ -1,6 +1,5 @@
-use Rattle.std.proofs.Common.{◌≡◌, ℕ, ◌+◌, length, Some, None, Option, get_or, option_and_then}
+use Rattle.std.proofs.Common.{◌≡◌, ℕ, length, Some, None, Option, get_or, option_and_then}
 use Rattle.std.specs.Prelude.{slice_get}
-use Rattle.resource_graph.specs.Checks.{climb, HasClimbs}
 use Rattle.resource_graph.proofs.climbs.followed.Given as goal
 
 abbrev pub invariant-loop-v : goal.invariant-loop-v

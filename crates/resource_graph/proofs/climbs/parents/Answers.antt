@@ -1,4 +1,4 @@
-use Rattle.std.proofs.Common.{◌≡◌, ℕ, ◌<◌, Option, get_or, length, sym, ◌∙◌, arith}
+use Rattle.std.proofs.Common.{◌≡◌, ℕ, Option, get_or, arith}
 use Rattle.flux_defs.specs.Graph.{parent_of}
 use Rattle.resource_graph.proofs.LineLaws.{parent_at, no_vertex}
 use Rattle.resource_graph.proofs.ClimbLaws.{entries_more}

@@ -1,4 +1,4 @@
-use Rattle.std.proofs.Common.{◌≡◌, ℕ, Option, List, length, sym, subst}
+use Rattle.std.proofs.Common.{length, sym, subst}
 use Rattle.resource_graph.specs.Checks.{HasClimbs}
 use Rattle.resource_graph.proofs.EndLaws.{finds_endless}
 use Rattle.resource_graph.proofs.endless.first_endless.Goals as goal

@@ -1,6 +1,3 @@
-use Rattle.std.proofs.Common.{◌≡◌, ℕ, length, sym, ◌∙◌, ap}
-use Rattle.std.specs.Prelude.{position}
-use Rattle.resource_graph.specs.Checks.{has_parent_from}
 use Rattle.resource_graph.proofs.CheckLaws.{finds_unknown_parent}
 use Rattle.resource_graph.proofs.links.first_unknown_parent.Goals as goal
 

@@ -1,4 +1,4 @@
-use Rattle.std.proofs.Common.{below_more, arith, ◌<◌, ◌+◌, ℕ, length, ◌≡◌, inl, inr, subst, sym}
+use Rattle.std.proofs.Common.{arith, ℕ, ◌≡◌, inl, inr, subst}
 use Rattle.std.proofs.lemmas.Bool.{cases_lt}
 use Rattle.resource_graph.specs.Faults.{IsRoot}
 use Rattle.resource_graph.specs.Checks.{graph_in}

@@ -1,4 +1,4 @@
-use Rattle.std.proofs.Common.{below_more, arith, ℕ, ◌<◌, length}
+use Rattle.std.proofs.Common.{below_more, arith, ◌<◌, length}
 use Rattle.std.proofs.lemmas.Bool.{both_ways}
 use Rattle.resource_graph.proofs.OwnLaws.{unnamed_within}
 use Rattle.resource_graph.proofs.own.first_unnamed.Goals as goal
