@@ -11,3 +11,9 @@ pub mod ValidLaws
 pub mod KindLaws
 pub mod MadeLaws
 pub mod BuildLaws
+pub mod CheckLaws
+pub mod ClimbLaws
+pub mod OwnLaws
+pub mod AboveLaws
+pub mod EndLaws
+pub mod ToldLaws

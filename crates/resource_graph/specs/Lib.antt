@@ -8,3 +8,5 @@ pub mod Made
 pub mod Faults
 pub mod Raw
 pub mod Arranged
+pub mod Checks
+pub mod Told
