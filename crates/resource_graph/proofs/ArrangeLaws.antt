@@ -1,16 +1,16 @@
 -- What a list of vertices says of itself in any order, its arrangement says too.
-use Rattle.std.proofs.Common.{◌≡◌, ◌≢◌, ℕ, zero, suc, ◌+◌, ◌-◌, ◌<◌, ◌≤◌, ◌⊎◌, ◌↔◌, ◌&&◌, ◌||◌, nat_eq, not, Bool, true, false, List, [], ◌∷◌, length, get_or, map, Option, Some, None, inl, inr, refl, sym, ◌∙◌, ap, subst, arith, IsTrue, MatchOption, true≢false, option_and_then}
+use Rattle.std.proofs.Common.{◌≡◌, ℕ, zero, suc, ◌<◌, ◌≤◌, ◌&&◌, ◌||◌, nat_eq, not, List, [], ◌∷◌, length, get_or, map, Option, Some, None, inl, inr, refl, sym, ◌∙◌, ap, subst, arith, IsTrue, MatchOption, option_and_then}
 use Rattle.std.specs.Prelude.{slice_get}
 use Rattle.std.specs.Option.{IsSomeAnd, option_map}
 use Rattle.std.specs.List.{list_any}
 use Rattle.std.proofs.lemmas.Bool.{cases_lt, cases_eq, ne_eqb, eq-eqb}
 use Rattle.std.proofs.lemmas.List.{get_or_past, length-map}
-use Rattle.std.proofs.lemmas.Option.{slice_get-get_or, slice_get_within, slice_get_past, get_or_from_slice_get, same_Some, slice_get_cases}
+use Rattle.std.proofs.lemmas.Option.{slice_get-get_or, slice_get_within, slice_get_past, get_or_from_slice_get, same_Some}
 use Rattle.flux_defs.specs.declared.vertices.Vertex.{Vertex}
-use Rattle.flux_defs.specs.Graph.{ResourceGraph, parent_of, chain, is_at_or_below, is_below, HasKind}
+use Rattle.flux_defs.specs.Graph.{ResourceGraph, parent_of, chain, is_at_or_below, is_below}
 use Rattle.flux_defs.specs.ValidGraph.{StandsInPreorder}
 use Rattle.graph_laws.proofs.Containment.{at_or_below-opens}
-use Rattle.resource_graph.specs.Lines.{line_of, IsOrderOf, IsPreorderOf, IsRooted}
+use Rattle.resource_graph.specs.Lines.{line_of, IsPreorderOf, IsRooted}
 use Rattle.resource_graph.specs.Raw.{IsArranged, IsRenumbered}
 use Rattle.resource_graph.proofs.LineLaws.{no_vertex, parent_read}
 
@@ -133,11 +133,11 @@ module _ (kinds : List (List ℕ)) (vertices : List Vertex) (order : List ℕ) (
     some = (let less : rooted.root.0 < length vertices = rooted.root.1 in let long = arranged.as_many in omega arith);
     root = no_parent_back 0 (pre.first (place_of 0) (place_at 0 (let less : rooted.root.0 < length vertices = rooted.root.1 in omega arith)));
     next = λ v lt.
-      let long = arranged.as_many in
-      let next_in : suc v < length vertices = omega arith in
-      let v_in : v < length vertices = omega arith in
-      let found = pre.next v (place_of v) (place_of (suc v)) (place_at v v_in) (place_at (suc v) next_in) in
-      let p_in : found.0 < length vertices = rooted.known (place_of (suc v)) found.0 found.1 in
-      let up = parent_forth (suc v) found.0 p_in found.1 in
-      (up.0, up.1, sym (same_at_or_below v up.0 up.3) ∙ subst (λ (p : ℕ). IsTrue (is_at_or_below vertices (place_of v) p)) (sym up.2) found.2)
+        let long = arranged.as_many in
+        let next_in : suc v < length vertices = omega arith in
+        let v_in : v < length vertices = omega arith in
+        let found = pre.next v (place_of v) (place_of (suc v)) (place_at v v_in) (place_at (suc v) next_in) in
+        let p_in : found.0 < length vertices = rooted.known (place_of (suc v)) found.0 found.1 in
+        let up = parent_forth (suc v) found.0 p_in found.1 in
+        (up.0, up.1, sym (same_at_or_below v up.0 up.3) ∙ subst (λ (p : ℕ). IsTrue (is_at_or_below vertices (place_of v) p)) (sym up.2) found.2);
   }

@@ -1,25 +1,24 @@
 -- What the steps of building make together.
-use Rattle.std.proofs.Common.{◌≡◌, ◌≢◌, ℕ, zero, suc, ◌+◌, ◌<◌, ◌≤◌, List, [], length, get_or, map, Option, Some, None, inl, inr, refl, sym, ◌∙◌, ap, subst, arith, MatchOption, option_and_then}
+use Rattle.std.proofs.Common.{◌≡◌, ℕ, ◌<◌, ◌≤◌, List, length, get_or, map, Option, Some, None, inl, inr, refl, sym, ◌∙◌, ap, subst, arith, MatchOption, option_and_then}
 use Rattle.std.specs.Prelude.{slice_get, IsSome}
 use Rattle.std.specs.Option.{IsSomeAnd, option_map}
 use Rattle.std.proofs.lemmas.Bool.{cases_lt}
 use Rattle.std.proofs.lemmas.List.{length-map}
-use Rattle.std.proofs.lemmas.Option.{slice_get-get_or, slice_get_within, get_or_from_slice_get, same_Some, slice_get_past, slice_get-map, slice_get_cases}
+use Rattle.std.proofs.lemmas.Option.{slice_get-get_or, slice_get_within, same_Some, slice_get_past, slice_get-map}
 use Rattle.flux_defs.specs.declared.vertices.Vertex.{Vertex}
 use Rattle.flux_defs.specs.Graph.{ResourceGraph, parent_of, HasKind}
 use Rattle.flux_defs.specs.ValidGraph.{IsValidGraph, NumbersKinds}
 use Rattle.resource_graph.specs.Lines.{IsOrderOf, IsPreorderOf, IsRooted, KnowsParents}
 use Rattle.resource_graph.specs.Preorder.{KnowsKinds}
 use Rattle.resource_graph.specs.Faults.{IsFaultless}
-use Rattle.resource_graph.specs.NamedGraph.{NamedGraph, IsWhole}
 use Rattle.resource_graph.specs.Made.{named_graph}
-use Rattle.resource_graph.specs.Raw.{shape_of, raw_graph, raw_names, KindsApart, IsRenumbered, IsArranged, KeepsSiblings, KeepsTexts, IsBuiltFrom}
-use Rattle.resource_graph.specs.Arranged.{HasNumbers, IsArrangedList, HasTexts, HasKindAt, IsNumbered, IsKindNumbering, HasKindNumbers, IsMadeFrom, HasMadeTo}
+use Rattle.resource_graph.specs.Raw.{shape_of, raw_graph, raw_names, KindsApart, IsArranged, KeepsSiblings, KeepsTexts, IsBuiltFrom}
+use Rattle.resource_graph.specs.Arranged.{HasNumbers, IsArrangedList, HasTexts, HasKindAt, IsNumbered, IsKindNumbering, HasKindNumbers, HasMadeTo}
 use Rattle.resource_graph.specs.declared.raw.RawVertex.{RawVertex}
 use Rattle.resource_graph.specs.declared.graph.Texts.{Texts}
 use Rattle.resource_graph.specs.declared.arrange.KindNumbering.{KindNumbering}
 use Rattle.resource_graph.proofs.LineLaws.{no_vertex, parent_read}
-use Rattle.resource_graph.proofs.ValidLaws.{from_value, at_value, value_of, rooted_of_faultless, valid_of_faultless}
+use Rattle.resource_graph.proofs.ValidLaws.{from_value, rooted_of_faultless, valid_of_faultless}
 use Rattle.resource_graph.proofs.ArrangeLaws.{place_of, place_at, place_is, parent_place}
 
 module _ (kinds : List (List ℕ)) (names : List (List ℕ)) (vertices : List Vertex) (fine : IsFaultless (record { kinds = kinds; vertices = vertices }) names) where
@@ -59,14 +58,14 @@ module _ (kinds : List (List ℕ)) (vertices : List Vertex) (order : List ℕ) (
       places = places;
       as_many = built.as_many ∙ places.as_many;
       renumbered = λ k i x y at_i at_x at_y.
-        let from = built.each k i x y at_i at_x at_y in
-        record {
-          kind = numbered.named x.kind y.kind from.kind;
-          size = from.size;
-          id = from.id;
-          parent = parent_made i x y at_x from.parent
-        };
-      ranks = built.ranks
+          let from = built.each k i x y at_i at_x at_y in
+          record {
+            kind = numbered.named x.kind y.kind from.kind;
+            size = from.size;
+            id = from.id;
+            parent = parent_made i x y at_x from.parent;
+          };
+      ranks = built.ranks;
     }
 
     -- a built vertex and where it comes from
@@ -95,9 +94,9 @@ module _ (kinds : List (List ℕ)) (vertices : List Vertex) (order : List ℕ) (
       apart = λ j k some same. one_number j k some same;
       used = λ j lt. (let u = numbered.used j lt in (u.0, kind_made u.0 u.1 j u.3 u.4));
       rising = λ v y e lesser lt.
-        let from = from_place v y e in
-        let r = numbered.rising v _ y.kind lesser from.2 from.0 from.1 lt in
-        (r.0, r.2, kind_made r.0 r.1 lesser r.3 r.4)
+          let from = from_place v y e in
+          let r = numbered.rising v _ y.kind lesser from.2 from.0 from.1 lt in
+          (r.0, r.2, kind_made r.0 r.1 lesser r.3 r.4);
     }
       where
         place_in : (j : ℕ) → IsSome (slice_get numbering.kinds.items j) → j < length numbering.kinds.items
@@ -154,7 +153,7 @@ texts_kept raw list order g texts places arranged has = record {
   names = λ k. ap (λ l. slice_get l k) has.names ∙ text_at raw list order (λ r. r.name) places arranged k;
   bases = λ k. ap (λ l. slice_get l k) has.bases ∙ text_at raw list order (λ r. r.base) places arranged k;
   units = λ k. ap (λ l. slice_get l k) has.units ∙ text_at raw list order (λ r. r.unit) places arranged k;
-  properties = λ k. ap (λ l. slice_get l k) has.properties ∙ texts_at raw list order (λ r. r.properties) places arranged k
+  properties = λ k. ap (λ l. slice_get l k) has.properties ∙ texts_at raw list order (λ r. r.properties) places arranged k;
 }
 
 -- the graph that was built is whole, and built from the list
@@ -175,20 +174,20 @@ built_whole kinds raw list order numbers numbering made texts apart fine pre has
     let list_long : length list ≡ length made = arranged_list.as_many ∙ sym built.as_many in
     let few : length numbering.kinds.items ≤ 256 = (let a : length numbering.kinds.items ≤ length kinds = numbered.few in let b : length kinds ≤ 256 = fine.few_kinds in omega arith) in
     let valid : IsValidGraph g texts.names = valid_of_faultless kinds vertices (raw_names raw) apart fine order g arranged texts.names
-        (ap length has.names ∙ (length-map list (λ (r : RawVertex). r.name) ∙ (list_long ∙ arranged.as_many)))
-        (λ k lt. kept.names k ∙ (ap (option_and_then (λ i. option_map (λ r. r.name) (slice_get raw i))) (place_at kinds vertices order g arranged k lt) ∙ sym (slice_get-map (λ (r : RawVertex). r.name) raw (place_of kinds vertices order g arranged k))))
-        (numbers_kinds kinds vertices order pre.places numbering numbered numbers has_numbers root.known made built apart) few pre in
+    (ap length has.names ∙ (length-map list (λ (r : RawVertex). r.name) ∙ (list_long ∙ arranged.as_many)))
+    (λ k lt. kept.names k ∙ (ap (option_and_then (λ i. option_map (λ r. r.name) (slice_get raw i))) (place_at kinds vertices order g arranged k lt) ∙ sym (slice_get-map (λ (r : RawVertex). r.name) raw (place_of kinds vertices order g arranged k))))
+    (numbers_kinds kinds vertices order pre.places numbering numbered numbers has_numbers root.known made built apart) few pre in
     record {
       whole = record {
         valid = valid;
         bases = ap length has.bases ∙ (length-map list (λ (r : RawVertex). r.base) ∙ list_long);
         units = ap length has.units ∙ (length-map list (λ (r : RawVertex). r.unit) ∙ list_long);
-        properties = ap length has.properties ∙ (length-map list (λ (r : RawVertex). r.properties) ∙ list_long)
+        properties = ap length has.properties ∙ (length-map list (λ (r : RawVertex). r.properties) ∙ list_long);
       };
       order = order;
       arranged = arranged;
       siblings = siblings_kept kinds vertices order g arranged pre;
-      texts = kept
+      texts = kept;
     }
 
 -- the same from what each step says of the slices that it was lent

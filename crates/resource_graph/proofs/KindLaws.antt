@@ -1,5 +1,5 @@
 -- Types are numbered by their first vertices.
-use Rattle.std.proofs.Common.{◌≡◌, ◌≢◌, ℕ, zero, suc, ◌+◌, ◌-◌, ◌<◌, ◌≤◌, ◌⊎◌, ◌++◌, List, [], ◌∷◌, length, get_or, set, Option, Some, None, inl, inr, refl, sym, ◌∙◌, ap, subst, arith}
+use Rattle.std.proofs.Common.{◌≡◌, ◌≢◌, ℕ, zero, suc, ◌+◌, ◌<◌, ◌≤◌, ◌⊎◌, ◌++◌, List, [], ◌∷◌, length, get_or, set, Option, Some, None, inl, inr, refl, sym, ◌∙◌, ap, subst, arith}
 use Rattle.std.specs.Prelude.{slice_get}
 use Rattle.std.proofs.lemmas.Bool.{cases_lt, cases_eq}
 use Rattle.std.proofs.lemmas.List.{length-set, get_or-set_same, get_or-set_other, length_push, get_or_append_left, get_or_push}
@@ -47,7 +47,14 @@ numbering_few kinds vertices order most numbering n =
 
 pub numbering_all : (kinds : List (List ℕ)) (vertices : List Vertex) (order : List ℕ) (most : ℕ) (numbering : KindNumbering) → Numbering kinds vertices order most numbering → IsKindNumbering kinds vertices order most numbering
 numbering_all kinds vertices order most numbering n = record {
-  as_many = n.as_many; few = numbering_few kinds vertices order most numbering n; named = n.named; within = n.within; apart = n.apart; used = n.used; seen = n.seen; rising = n.rising
+  as_many = n.as_many;
+  few = numbering_few kinds vertices order most numbering n;
+  named = n.named;
+  within = n.within;
+  apart = n.apart;
+  used = n.used;
+  seen = n.seen;
+  rising = n.rising;
 }
 
 pub numbering_none : (kinds : List (List ℕ)) (vertices : List Vertex) (order : List ℕ) (numbering : KindNumbering) → numbering.kinds.items ≡ [] → AreUnused (length kinds) numbering.numbers.items → Numbering kinds vertices order 0 numbering
@@ -62,7 +69,7 @@ numbering_none kinds vertices order numbering none unused =
       apart = λ a b j e f. absurd (no_number a j e);
       used = λ j lt. absurd (omega arith);
       seen = λ k kind lt at. absurd (omega arith);
-      rising = λ k kind j lesser lt at e less. absurd (omega arith)
+      rising = λ k kind j lesser lt at e less. absurd (omega arith);
     }
 
 -- a vertex has one kind
@@ -100,7 +107,7 @@ numbering_more kinds vertices order most kind old new here n (inl same) =
             let low : lesser < length old.kinds.items = (let j_in : j < length old.kinds.items = n.within a j (back a j e) in omega arith) in
             let u = n.used lesser low in
             (u.0, u.1, (let before : u.0 < most = u.2 in omega arith), u.3, forth u.1 lesser u.4))
-      ]
+      ];
     }
 numbering_more kinds vertices order most kind old new here n (inr fresh) =
     let count = length old.kinds.items in
@@ -108,35 +115,35 @@ numbering_more kinds vertices order most kind old new here n (inr fresh) =
     let kind_in : kind < length old_numbers = slice_get_within old_numbers kind None fresh.0 in
     let long : length new.kinds.items ≡ count + 1 = ap length fresh.1.2 ∙ length_push old.kinds.items fresh.1.0 in
     let at_kind : IsNumbered new kind count =
-        ap (λ l. slice_get l kind) fresh.2 ∙ (slice_get-get_or (set old_numbers kind (Some count)) kind None (let e = length-set old_numbers kind (Some count) in omega arith) ∙ ap Some (get_or-set_same old_numbers kind (Some count) None kind_in)) in
+    ap (λ l. slice_get l kind) fresh.2 ∙ (slice_get-get_or (set old_numbers kind (Some count)) kind None (let e = length-set old_numbers kind (Some count) in omega arith) ∙ ap Some (get_or-set_same old_numbers kind (Some count) None kind_in)) in
     let elsewhere : (a : ℕ) → a ≢ kind → (o : Option ℕ) → slice_get new.numbers.items a ≡ Some o → slice_get old_numbers a ≡ Some o = λ a ne o e.
-        let e' : slice_get (set old_numbers kind (Some count)) a ≡ Some o = ap (λ l. slice_get l a) (sym fresh.2) ∙ e in
-        let a_in : a < length (set old_numbers kind (Some count)) = slice_get_within (set old_numbers kind (Some count)) a o e' in
-        let long_numbers = length-set old_numbers kind (Some count) in
-        let value : get_or (set old_numbers kind (Some count)) a None ≡ o = get_or_from_slice_get (set old_numbers kind (Some count)) a o None e' in
-        slice_get-get_or old_numbers a None (omega arith) ∙ ap Some (sym (get_or-set_other old_numbers kind a (Some count) None ne) ∙ value) in
+    let e' : slice_get (set old_numbers kind (Some count)) a ≡ Some o = ap (λ l. slice_get l a) (sym fresh.2) ∙ e in
+    let a_in : a < length (set old_numbers kind (Some count)) = slice_get_within (set old_numbers kind (Some count)) a o e' in
+    let long_numbers = length-set old_numbers kind (Some count) in
+    let value : get_or (set old_numbers kind (Some count)) a None ≡ o = get_or_from_slice_get (set old_numbers kind (Some count)) a o None e' in
+    slice_get-get_or old_numbers a None (omega arith) ∙ ap Some (sym (get_or-set_other old_numbers kind a (Some count) None ne) ∙ value) in
     let forth : (a j : ℕ) → IsNumbered old a j → IsNumbered new a j = λ a j e.
-        let ne : a ≢ kind = λ is. (let clash : Some j ≡ None = same_Some _ _ (sym e ∙ (ap (slice_get old_numbers) is ∙ fresh.0)) in cc) in
-        let a_in : a < length old_numbers = slice_get_within old_numbers a (Some j) e in
-        let value : get_or old_numbers a None ≡ Some j = get_or_from_slice_get old_numbers a (Some j) None e in
-        ap (λ l. slice_get l a) fresh.2 ∙ (slice_get-get_or (set old_numbers kind (Some count)) a None (let long_numbers = length-set old_numbers kind (Some count) in omega arith) ∙
-        ap Some (get_or-set_other old_numbers kind a (Some count) None ne ∙ value)) in
+    let ne : a ≢ kind = λ is. (let clash : Some j ≡ None = same_Some _ _ (sym e ∙ (ap (slice_get old_numbers) is ∙ fresh.0)) in cc) in
+    let a_in : a < length old_numbers = slice_get_within old_numbers a (Some j) e in
+    let value : get_or old_numbers a None ≡ Some j = get_or_from_slice_get old_numbers a (Some j) None e in
+    ap (λ l. slice_get l a) fresh.2 ∙ (slice_get-get_or (set old_numbers kind (Some count)) a None (let long_numbers = length-set old_numbers kind (Some count) in omega arith) ∙
+    ap Some (get_or-set_other old_numbers kind a (Some count) None ne ∙ value)) in
     let cases : (a j : ℕ) → IsNumbered new a j → ((a ≡ kind) × (j ≡ count)) ⊎ (IsNumbered old a j × (j < count)) = λ a j e.
-        elim (cases_eq a kind) [
-          | inl is ↦ inl (is, same_Some _ _ (same_Some _ _ (sym e ∙ (ap (slice_get new.numbers.items) is ∙ at_kind))))
-          | inr ne ↦ (let was = elsewhere a ne (Some j) e in inr (was, n.within a j was))
-        ] in
+    elim (cases_eq a kind) [
+      | inl is ↦ inl (is, same_Some _ _ (same_Some _ _ (sym e ∙ (ap (slice_get new.numbers.items) is ∙ at_kind))))
+      | inr ne ↦ (let was = elsewhere a ne (Some j) e in inr (was, n.within a j was))
+    ] in
     let name_old : (j : ℕ) → j < count → slice_get new.kinds.items j ≡ slice_get old.kinds.items j = λ j lt.
-        ap (λ l. slice_get l j) fresh.1.2 ∙ (slice_get-get_or (old.kinds.items ++ fresh.1.0 ∷ []) j [] (let e = length_push old.kinds.items fresh.1.0 in omega arith) ∙
-        (ap Some (get_or_append_left old.kinds.items (fresh.1.0 ∷ []) [] j lt) ∙ sym (slice_get-get_or old.kinds.items j [] lt))) in
+    ap (λ l. slice_get l j) fresh.1.2 ∙ (slice_get-get_or (old.kinds.items ++ fresh.1.0 ∷ []) j [] (let e = length_push old.kinds.items fresh.1.0 in omega arith) ∙
+    (ap Some (get_or_append_left old.kinds.items (fresh.1.0 ∷ []) [] j lt) ∙ sym (slice_get-get_or old.kinds.items j [] lt))) in
     let name_new : slice_get new.kinds.items count ≡ Some fresh.1.0 =
-        ap (λ l. slice_get l count) fresh.1.2 ∙ (slice_get-get_or (old.kinds.items ++ fresh.1.0 ∷ []) count [] (let e = length_push old.kinds.items fresh.1.0 in omega arith) ∙
-        ap Some (get_or_push old.kinds.items fresh.1.0 [] count refl)) in
+    ap (λ l. slice_get l count) fresh.1.2 ∙ (slice_get-get_or (old.kinds.items ++ fresh.1.0 ∷ []) count [] (let e = length_push old.kinds.items fresh.1.0 in omega arith) ∙
+    ap Some (get_or_push old.kinds.items fresh.1.0 [] count refl)) in
     record {
       as_many = ap length fresh.2 ∙ (length-set old_numbers kind (Some count) ∙ n.as_many);
       counted = (
-        let counts : numbered new.numbers.items ≡ suc (numbered old_numbers) = ap numbered fresh.2 ∙ numbered_more old_numbers kind count fresh.0 in
-        let was : count ≤ numbered old_numbers = n.counted in omega arith);
+          let counts : numbered new.numbers.items ≡ suc (numbered old_numbers) = ap numbered fresh.2 ∙ numbered_more old_numbers kind count fresh.0 in
+          let was : count ≤ numbered old_numbers = n.counted in omega arith);
       named = λ a j e. elim (cases a j e) [
         | inl now ↦ ap (slice_get new.kinds.items) now.1 ∙ (name_new ∙ (sym fresh.1.1 ∙ ap (slice_get kinds) (sym now.0)))
         | inr was ↦ name_old j was.1 ∙ n.named a j was.0
@@ -147,13 +154,13 @@ numbering_more kinds vertices order most kind old new here n (inr fresh) =
       ];
       apart = λ a b j e f. elim (cases a j e) [
         | inl now ↦ elim (cases b j f) [
-            | inl also ↦ now.0 ∙ sym also.0
-            | inr was ↦ absurd (let is : j ≡ count = now.1 in let less : j < count = was.1 in omega arith)
-          ]
+          | inl also ↦ now.0 ∙ sym also.0
+          | inr was ↦ absurd (let is : j ≡ count = now.1 in let less : j < count = was.1 in omega arith)
+        ]
         | inr was ↦ elim (cases b j f) [
-            | inl now ↦ absurd (let is : j ≡ count = now.1 in let less : j < count = was.1 in omega arith)
-            | inr also ↦ n.apart a b j was.0 also.0
-          ]
+          | inl now ↦ absurd (let is : j ≡ count = now.1 in let less : j < count = was.1 in omega arith)
+          | inr also ↦ n.apart a b j was.0 also.0
+        ]
       ];
       used = λ j lt. elim (cases_lt j count) [
         | inl before ↦ (let u = n.used j before in (u.0, u.1, (let less : u.0 < most = u.2 in omega arith), u.3, forth u.1 j u.4))
@@ -179,5 +186,5 @@ numbering_more kinds vertices order most kind old new here n (inr fresh) =
             ] in
             let u = n.used lesser low in
             (u.0, u.1, (let before : u.0 < most = u.2 in omega arith), u.3, forth u.1 lesser u.4))
-      ]
+      ];
     }

@@ -2,12 +2,11 @@
 use Rattle.std.proofs.Common.{◌≡◌, ℕ, zero, suc, ◌+◌, ◌-◌, ◌<◌, ◌≤◌, List, [], ◌∷◌, ◌++◌, length, get_or, min, Option, Some, None, inl, inr, refl, sym, ◌∙◌, ap, arith, option_and_then}
 use Rattle.std.specs.Prelude.{slice_get}
 use Rattle.std.proofs.lemmas.Bool.{cases_lt}
-use Rattle.std.proofs.lemmas.Option.{slice_get_within, same_Some, slice_get-get_or, get_or_from_slice_get}
+use Rattle.std.proofs.lemmas.Option.{slice_get_within, slice_get-get_or, get_or_from_slice_get}
 use Rattle.std.proofs.lemmas.List.{append_assoc, append-nil, length_push, get_or_append_left, get_or_push}
 use Rattle.flux_defs.specs.declared.vertices.Vertex.{Vertex}
 use Rattle.flux_defs.specs.Graph.{parent_of, chain}
-use Rattle.graph_laws.proofs.Containment.{up, up-None}
-use Rattle.resource_graph.specs.Lines.{line_of, AllBelow, KnowsParents}
+use Rattle.resource_graph.specs.Lines.{line_of, AllBelow}
 
 module _ (vertices : List Vertex) where
   pub chain-None : (most : ℕ) → chain vertices most None ≡ []

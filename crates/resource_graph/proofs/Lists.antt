@@ -25,5 +25,5 @@ pub IsPlaceOf-point : (list : List ℕ) (from place : ℕ) → place ≤ length 
 IsPlaceOf-point list from place le point = record {
   within = le;
   before = λ i lt. let e : ltb (get_or list i 0) from ≡ true = point.0 i 0 (omega arith) lt in omega (arith, ltb-true _ _ e);
-  after = λ i ge lt. let e : ltb (get_or list i 0) from ≡ false = point.1 i 0 ge lt in omega (arith, ltb-false _ _ e)
+  after = λ i ge lt. let e : ltb (get_or list i 0) from ≡ false = point.1 i 0 ge lt in omega (arith, ltb-false _ _ e);
 }

@@ -1,11 +1,11 @@
 -- The steps in which the vertices of a list are arranged.
-use Rattle.std.proofs.Common.{◌≡◌, ◌≢◌, ℕ, zero, suc, ◌+◌, ◌<◌, ◌≤◌, ◌⊎◌, ◌++◌, Bool, true, false, cond, List, [], ◌∷◌, length, get_or, set, take, Option, Some, None, inl, inr, refl, sym, ◌∙◌, ap, subst, arith}
-use Rattle.std.specs.Prelude.{slice_get, count_by}
+use Rattle.std.proofs.Common.{◌≡◌, ◌≢◌, ℕ, ◌+◌, ◌<◌, ◌≤◌, ◌++◌, Bool, false, cond, List, [], ◌∷◌, length, get_or, set, take, Option, Some, None, inl, inr, sym, ◌∙◌, ap, subst, arith}
+use Rattle.std.specs.Prelude.{slice_get}
 use Rattle.std.specs.Option.{option_map, option_map_or}
-use Rattle.std.proofs.lemmas.Bool.{cases_lt, cases_eq, cases_Bool}
+use Rattle.std.proofs.lemmas.Bool.{cases_lt, cases_Bool}
 use Rattle.std.proofs.lemmas.List.{length_push, get_or_push, get_or_append_left, length-set, get_or-set_other}
 use Rattle.std.proofs.lemmas.List.Sums.{count_by_more_yes, count_by_more_no}
-use Rattle.std.proofs.lemmas.Option.{slice_get-get_or, slice_get_within, get_or_from_slice_get, same_Some, slice_get_read, slice_get_past}
+use Rattle.std.proofs.lemmas.Option.{slice_get-get_or, slice_get_within, get_or_from_slice_get, same_Some, slice_get_past}
 use Rattle.flux_defs.specs.declared.vertices.Vertex.{Vertex}
 use Rattle.resource_graph.specs.Raw.{is_node_of, some_ranked, nodes_among, rank_of}
 use Rattle.resource_graph.specs.Lines.{IsOrderOf}
@@ -38,7 +38,7 @@ arranged_more raw order most i list grown vertex at slot is to = record {
         let here : most ≡ k = omega arith in
         let same : i ≡ j = same_Some _ _ (sym at ∙ (ap (slice_get order) here ∙ e)) in
         ap (λ l. slice_get l k) is ∙ (pushed_last list vertex k (to.as_many ∙ here) ∙ (sym (slot_gives (slice_get raw i) vertex slot) ∙ ap (slice_get raw) same)))
-  ]
+  ];
 }
 
 -- the slots of later places stay
@@ -68,7 +68,7 @@ made_more kinds vertices order numbers kind_numbers most i made grown x y at_i a
   ranks = λ k j u z at_j at_u at_z. elim (push_cases made y z k (ap (λ l. slice_get l k) (sym is) ∙ at_z)) [
     | inl old ↦ to.ranks k j u z at_j at_u old.1
     | inr new ↦ ap (λ (w : Vertex). w.rank) new.1 ∙ (ranked ∙ (ap (rank_of kinds vertices order most) (same k j u new.0 at_j at_u) ∙ ap (λ n. rank_of kinds vertices order n u) (sym to.as_many ∙ sym new.0)))
-  ]
+  ];
 }
   where
     same : (k j : ℕ) (u : Vertex) → k ≡ length made → slice_get order k ≡ Some j → slice_get vertices j ≡ Some u → x ≡ u

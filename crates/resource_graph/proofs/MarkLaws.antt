@@ -1,6 +1,5 @@
 -- Which types contain the type of a vertex, from its parent up.
-use Rattle.std.proofs.Common.{◌≡◌, ◌≢◌, ℕ, zero, suc, ◌+◌, ◌-◌, ◌*◌, ◌<◌, ◌≤◌, ◌⊎◌, ◌↔◌, Bool, true, false, List, length, get_or, set, Option, Some, None, inl, inr, refl, sym, ◌∙◌, ap, subst, arith, IsTrue}
-use Rattle.std.specs.Prelude.{slice_get}
+use Rattle.std.proofs.Common.{◌≡◌, ℕ, ◌+◌, ◌*◌, ◌<◌, ◌≤◌, ◌⊎◌, Bool, true, false, List, length, get_or, set, Option, Some, None, inl, inr, refl, sym, ◌∙◌, ap, subst, arith, IsTrue}
 use Rattle.std.specs.Option.{IsSomeAnd, option_map_or}
 use Rattle.std.proofs.lemmas.Bool.{cases_lt, cases_eq}
 use Rattle.std.proofs.lemmas.List.{get_or-set_same, get_or-set_other, length-set}
@@ -8,8 +7,8 @@ use Rattle.std.proofs.lemmas.Nat.{mul-add-lt, same_from_place}
 use Rattle.std.proofs.lemmas.Option.{slice_get-get_or, slice_get_past}
 use Rattle.flux_defs.specs.declared.vertices.Vertex.{Vertex}
 use Rattle.flux_defs.specs.Graph.{parent_of, is_at_or_below, is_below, HasKind}
-use Rattle.graph_laws.proofs.Containment.{ParentsFirst, below_le, below_from, below_to, below_self, below_parent, below_trans, parent_below}
-use Rattle.graph_laws.proofs.Preorder.{parents_first, has_parent}
+use Rattle.graph_laws.proofs.Containment.{ParentsFirst, below_le, below_from, below_to, below_parent, below_trans, parent_below}
+use Rattle.graph_laws.proofs.Preorder.{parents_first}
 use Rattle.resource_graph.specs.Preorder.{plain, InPreorder, KnowsKinds}
 use Rattle.resource_graph.specs.Holds.{LiesIn, AddsNested}
 use Rattle.resource_graph.proofs.LineLaws.{no_vertex}
@@ -57,8 +56,8 @@ module _ (vertices : List Vertex) (o : InPreorder vertices) (kinds : ℕ) (known
     sound = λ a b p q h. inl h;
     done = λ u h. inl (parent_below vertices first v u lt h);
     reach = λ w e.
-      let before : w < v = first v w e in
-      below_from vertices first v w (λ same. omega arith) (below_parent vertices first v w lt e)
+        let before : w < v = first v w e in
+        below_from vertices first v w (λ same. omega arith) (below_parent vertices first v w lt e);
   }
 
   pub marks_more : (v u : ℕ) (old new : List Bool) → v < length vertices → length old ≡ kinds * kinds → Marks vertices kinds v (Some u) old new →
@@ -75,39 +74,39 @@ module _ (vertices : List Vertex) (o : InPreorder vertices) (kinds : ℕ) (known
       let place_in : place < length new = omega (arith, mul-add-lt upper kinds lower kinds p q, marks.as_many) in
       let here : IsTrue (get_or (set new place true) place false) = get_or-set_same new place true false place_in in
       let keep : (i : ℕ) → IsTrue (get_or new i false) → IsTrue (get_or (set new place true) i false) = λ i h.
-        elim (cases_eq i place) [
-          | inl same ↦ subst (λ (j : ℕ). IsTrue (get_or (set new place true) j false)) (sym same) here
-          | inr differ ↦ get_or-set_other new place i true false differ ∙ h
-        ] in
+      elim (cases_eq i place) [
+        | inl same ↦ subst (λ (j : ℕ). IsTrue (get_or (set new place true) j false)) (sym same) here
+        | inr differ ↦ get_or-set_other new place i true false differ ∙ h
+      ] in
       record {
         as_many = length-set new place true ∙ marks.as_many;
         kept = λ i h. keep i (marks.kept i h);
         sound = λ a b a_in b_in h.
-          elim (cases_eq (a * kinds + b) place) [
-            | inl same ↦ (
-                let parts = same_from_place a b upper lower kinds b_in q same in
-                inr (u, subst (λ (k : ℕ). HasKind vertices k u) (sym parts.0) (kind_here vertices u u_in), subst (λ (k : ℕ). HasKind vertices k v) (sym parts.1) (kind_here vertices v lt), below))
-            | inr differ ↦ marks.sound a b a_in b_in (sym (get_or-set_other new place (a * kinds + b) true false differ) ∙ h)
-          ];
+            elim (cases_eq (a * kinds + b) place) [
+              | inl same ↦ (
+                  let parts = same_from_place a b upper lower kinds b_in q same in
+                  inr (u, subst (λ (k : ℕ). HasKind vertices k u) (sym parts.0) (kind_here vertices u u_in), subst (λ (k : ℕ). HasKind vertices k v) (sym parts.1) (kind_here vertices v lt), below))
+              | inr differ ↦ marks.sound a b a_in b_in (sym (get_or-set_other new place (a * kinds + b) true false differ) ∙ h)
+            ];
         done = λ x h.
-          elim (marks.done x h) [
-            | inl ahead ↦ (
-                let is : u ≡ ahead.0 = (let e : Some u ≡ Some ahead.0 = ahead.1 in cc) in
-                let at : IsTrue (is_at_or_below vertices u x) = subst (λ (w : ℕ). IsTrue (is_at_or_below vertices w x)) (sym is) ahead.2 in
-                elim (cases_eq u x) [
-                  | inl same ↦ inr (λ a b has_a has_b.
-                      let has_u : HasKind vertices a u = subst (λ (w : ℕ). HasKind vertices a w) (sym same) has_a in
-                      let ea : a ≡ upper = kind_is vertices a u u_in has_u in
-                      let eb : b ≡ lower = kind_is vertices b v lt has_b in
-                      subst (λ (j : ℕ). IsTrue (get_or (set new place true) j false)) (sym (ap (λ n. n * kinds + b) ea ∙ ap (λ n. upper * kinds + n) eb)) here)
-                  | inr differ ↦ inl (parent_below vertices first u x u_in (below_from vertices first u x differ at))
-                ])
-            | inr marked ↦ inr (λ a b has_a has_b. keep (a * kinds + b) (marked a b has_a has_b))
-          ];
+            elim (marks.done x h) [
+              | inl ahead ↦ (
+                  let is : u ≡ ahead.0 = (let e : Some u ≡ Some ahead.0 = ahead.1 in cc) in
+                  let at : IsTrue (is_at_or_below vertices u x) = subst (λ (w : ℕ). IsTrue (is_at_or_below vertices w x)) (sym is) ahead.2 in
+                  elim (cases_eq u x) [
+                    | inl same ↦ inr (λ a b has_a has_b.
+                        let has_u : HasKind vertices a u = subst (λ (w : ℕ). HasKind vertices a w) (sym same) has_a in
+                        let ea : a ≡ upper = kind_is vertices a u u_in has_u in
+                        let eb : b ≡ lower = kind_is vertices b v lt has_b in
+                        subst (λ (j : ℕ). IsTrue (get_or (set new place true) j false)) (sym (ap (λ n. n * kinds + b) ea ∙ ap (λ n. upper * kinds + n) eb)) here)
+                    | inr differ ↦ inl (parent_below vertices first u x u_in (below_from vertices first u x differ at))
+                  ])
+              | inr marked ↦ inr (λ a b has_a has_b. keep (a * kinds + b) (marked a b has_a has_b))
+            ];
         reach = λ w e.
-          let less : w < u = first u w e in
-          let b = below_to vertices first v u below in
-          below_from vertices first v w (λ same. omega arith) (below_trans vertices first v u w lt b.0 (below_parent vertices first u w u_in e))
+            let less : w < u = first u w e in
+            let b = below_to vertices first v u below in
+            below_from vertices first v w (λ same. omega arith) (below_trans vertices first v u w lt b.0 (below_parent vertices first u w u_in e));
       }
 
   pub marks_all : (v : ℕ) (above : Option ℕ) (old new : List Bool) → ((w : ℕ) → above ≡ Some w → ⊥) → Marks vertices kinds v above old new → AddsNested vertices kinds v old new
@@ -122,8 +121,8 @@ module _ (vertices : List Vertex) (o : InPreorder vertices) (kinds : ℕ) (known
               | inl ahead ↦ absurd (past ahead.0 ahead.1)
               | inr marked ↦ marked a b lies.1 lies.2
             ])
-      ])
-    )
+      ]),
+    );
   }
 
 -- a climb comes nearer to the root

@@ -1,15 +1,15 @@
 -- Preorder is the order of the lines from the root down, compared from their first numbers on.
-use Rattle.std.proofs.Common.{◌≡◌, ◌≢◌, ℕ, zero, suc, ◌+◌, ◌-◌, ◌<◌, ◌≤◌, ◌||◌, nat_eq, Bool, true, false, List, [], ◌∷◌, ◌++◌, length, get_or, reverse, Option, Some, None, inl, inr, refl, sym, ◌∙◌, ap, subst, arith, IsTrue, true≢false, Ordering}
+use Rattle.std.proofs.Common.{◌≡◌, ℕ, zero, suc, ◌+◌, ◌-◌, ◌<◌, ◌≤◌, nat_eq, Bool, true, false, List, [], ◌∷◌, ◌++◌, length, get_or, reverse, Option, Some, None, inl, inr, refl, sym, ◌∙◌, ap, subst, arith, IsTrue, true≢false}
 use Rattle.std.specs.Prelude.{slice_get, cond}
 use Rattle.std.specs.declared.cmp.Ordering.TheVariants.{Less, Equal, Greater}
 use Rattle.std.specs.Ordering.{nat_cmp, is_lt, ordering_then}
 use Rattle.std.specs.Cmp.Lexicographic.{slice_cmp}
 use Rattle.std.specs.List.{list_any}
-use Rattle.std.proofs.lemmas.Bool.{cases_lt, cases_eq, cases_order, lt-ltb, le-ltb, eq-eqb, or_right, or_left}
-use Rattle.std.proofs.lemmas.List.{reverse-append, reverse-reverse, append_assoc, length_push, get_or_push, append-nil}
+use Rattle.std.proofs.lemmas.Bool.{cases_lt, cases_order, lt-ltb, le-ltb, eq-eqb, or_right, or_left}
+use Rattle.std.proofs.lemmas.List.{reverse-append, reverse-reverse, append_assoc, length_push, get_or_push}
 use Rattle.std.proofs.lemmas.List.Folds.{list_any-append}
 use Rattle.flux_defs.specs.declared.vertices.Vertex.{Vertex}
-use Rattle.flux_defs.specs.Graph.{parent_of, chain, has_on_chain, is_at_or_below}
+use Rattle.flux_defs.specs.Graph.{parent_of, chain, is_at_or_below}
 use Rattle.graph_laws.proofs.Containment.{at_or_below-opens, equal_from}
 use Rattle.resource_graph.specs.Lines.{line_of, IsRooted, IsOrderOf, IsPreorderOf}
 use Rattle.resource_graph.proofs.LineLaws.{chains_agree, chain_short}
@@ -46,9 +46,9 @@ begins_between (x ∷ p) (y ∷ b) w low high =
           let rest = begins_between p b w at_low at_high in
           (rest.0, ap (λ z. z ∷ b) (sym same) ∙ ap (λ l. x ∷ l) rest.1))
       | inr differ ↦ elim differ [
-          | inl less ↦ absurd (true≢false (sym (ap (λ o. is_lt (ordering_then o (slice_cmp nat_cmp (p ++ w ∷ []) b))) (cmp_less x y less)) ∙ high))
-          | inr more ↦ absurd (true≢false (sym (ap (λ o. is_lt (ordering_then o (slice_cmp nat_cmp b p))) (cmp_less y x more)) ∙ low))
-        ]
+        | inl less ↦ absurd (true≢false (sym (ap (λ o. is_lt (ordering_then o (slice_cmp nat_cmp (p ++ w ∷ []) b))) (cmp_less x y less)) ∙ high))
+        | inr more ↦ absurd (true≢false (sym (ap (λ o. is_lt (ordering_then o (slice_cmp nat_cmp b p))) (cmp_less y x more)) ∙ low))
+      ]
     ]
 
 module _ (vertices : List Vertex) (rooted : IsRooted vertices) where
@@ -106,10 +106,10 @@ module _ (vertices : List Vertex) (rooted : IsRooted vertices) where
       let line : line_of vertices v ≡ (reverse (p ∷ ys) ++ reverse ends.0) = sym (reverse-reverse (line_of vertices v)) ∙ (ap reverse split ∙ reverse-append ends.0 (p ∷ ys)) in
       let turned : reverse (p ∷ ys) ≡ (reverse ys ++ p ∷ []) = reverse-append (p ∷ []) ys in
       let here : list_any (nat_eq p) (reverse ys ++ p ∷ []) ≡ true =
-          list_any-append (nat_eq p) (reverse ys) (p ∷ []) ∙ or_right (list_any (nat_eq p) (reverse ys)) (list_any (nat_eq p) (p ∷ [])) (or_left (nat_eq p p) false (equal_from p p refl)) in
+      list_any-append (nat_eq p) (reverse ys) (p ∷ []) ∙ or_right (list_any (nat_eq p) (reverse ys)) (list_any (nat_eq p) (p ∷ [])) (or_left (nat_eq p p) false (equal_from p p refl)) in
       let there : list_any (nat_eq p) (line_of vertices v) ≡ true =
-          ap (list_any (nat_eq p)) line ∙ (list_any-append (nat_eq p) (reverse (p ∷ ys)) (reverse ends.0) ∙
-          or_left (list_any (nat_eq p) (reverse (p ∷ ys))) (list_any (nat_eq p) (reverse ends.0)) (ap (list_any (nat_eq p)) turned ∙ here)) in
+      ap (list_any (nat_eq p)) line ∙ (list_any-append (nat_eq p) (reverse (p ∷ ys)) (reverse ends.0) ∙
+      or_left (list_any (nat_eq p) (reverse (p ∷ ys))) (list_any (nat_eq p) (reverse ends.0)) (ap (list_any (nat_eq p)) turned ∙ here)) in
       at_or_below-opens vertices v p ∙ there
 
   -- an order by the paths
@@ -165,13 +165,14 @@ module _ (vertices : List Vertex) (rooted : IsRooted vertices) where
         elim (cases_order u v) [
           | inl equal ↦ absurd (let place : j ≡ k = by.places.apart j k v (at_j ∙ ap Some equal) at_k in omega arith)
           | inr differ ↦ elim differ [
-              | inl less ↦ less
-              | inr more ↦ go (parent_of vertices v) refl more
-            ]
+            | inl less ↦ less
+            | inr more ↦ go (parent_of vertices v) refl more
+          ]
         ]
       where
         u_in : u < length vertices
         u_in = by.places.known j u at_j
+
         v_in : v < length vertices
         v_in = by.places.known k v at_k
 

@@ -1,17 +1,17 @@
 -- From the tables to what the queries answer.
-use Rattle.std.proofs.Common.{◌≡◌, ◌≢◌, ℕ, suc, ◌+◌, ◌*◌, ◌<◌, ◌≤◌, ◌↔◌, ◌&&◌, ◌==◌, Bool, true, false, not, List, length, get_or, Option, Some, None, inl, inr, refl, sym, ◌∙◌, ap, subst, arith, ltb, IsTrue, Vec, MatchOption, true≢false}
+use Rattle.std.proofs.Common.{◌≡◌, ℕ, ◌<◌, ◌≤◌, Bool, true, false, List, length, get_or, Option, Some, None, refl, sym, subst, arith, ltb, IsTrue, MatchOption, true≢false}
 use Rattle.std.specs.Prelude.{slice_get}
-use Rattle.std.specs.Option.{IsSomeAnd, option_map_or}
-use Rattle.std.proofs.lemmas.Bool.{cases_lt, and_parts, and_from, and_left, and_right, false_from_ne_true, le-ltb, lt-ltb, ltb-true, ltb-false, not_from_true, eq-eqb}
-use Rattle.std.proofs.lemmas.Option.{slice_get_within, slice_get-get_or}
+use Rattle.std.specs.Option.{IsSomeAnd}
+use Rattle.std.proofs.lemmas.Bool.{false_from_ne_true, lt-ltb, ltb-true}
+use Rattle.std.proofs.lemmas.Option.{slice_get-get_or}
 use Rattle.flux_defs.specs.declared.vertices.Vertex.{Vertex}
-use Rattle.flux_defs.specs.Graph.{ResourceGraph, is_at_or_below, is_below, HasKind}
+use Rattle.flux_defs.specs.Graph.{ResourceGraph, is_below, HasKind}
 use Rattle.flux_defs.specs.ValidGraph.{IsValidGraph, StandsInPreorder}
-use Rattle.graph_laws.proofs.Containment.{ParentsFirst, below_le, below_from, below_to, below_self}
+use Rattle.graph_laws.proofs.Containment.{ParentsFirst, below_le, below_from, below_to}
 use Rattle.graph_laws.proofs.Preorder.{parents_first, has_parent}
 use Rattle.resource_graph.specs.Lines.{line_of, KnowsParents}
 use Rattle.resource_graph.specs.Preorder.{InPreorder}
-use Rattle.resource_graph.specs.Tables.{IsPast, Nests, IsNextOfKind, HasNoneOfKind, IsNextIn, HasNoneIn, ListsKind}
+use Rattle.resource_graph.specs.Tables.{IsPast, IsNextOfKind, HasNoneOfKind, IsNextIn, HasNoneIn, ListsKind}
 
 pub same_tests : (a b : Bool) → (IsTrue a → IsTrue b) → (IsTrue b → IsTrue a) → a ≡ b
 same_tests true true f g = refl
@@ -24,9 +24,9 @@ module _ (vertices : List Vertex) (first : ParentsFirst vertices) where
   pub below_later : (u v : ℕ) → v ≤ u → is_below vertices v u ≡ false
   below_later u v le =
       false_from_ne_true (is_below vertices v u) (λ h.
-        let b = below_to vertices first v u h in
-        let le' : u ≤ v = below_le vertices first v u b.0 in
-        b.1 (omega arith))
+      let b = below_to vertices first v u h in
+      let le' : u ≤ v = below_le vertices first v u b.0 in
+      b.1 (omega arith))
 
   -- below is a range
   pub below_range : (u v after : ℕ) → IsPast vertices u after → v < length vertices → u < v → ltb v after ≡ is_below vertices v u
@@ -55,10 +55,10 @@ next_of_list vertices kind list from to (Some v) lists next = record {
   low = next.low;
   high = next.high;
   least = λ u has low.
-    let there = lists.all u has in
-    let e : get_or list there.0 0 ≡ u = there.2 in
-    let le : v ≤ get_or list there.0 0 = next.least there.0 there.1 (omega arith) in
-    omega arith
+      let there = lists.all u has in
+      let e : get_or list there.0 0 ≡ u = there.2 in
+      let le : v ≤ get_or list there.0 0 = next.least there.0 there.1 (omega arith) in
+      omega arith;
 }
 
 -- in a valid graph each parent is a vertex, and each line is short
@@ -72,7 +72,7 @@ lines_short g names valid v lt =
     valid.shallow v (get_or g.vertices v no_vertex) (slice_get-get_or g.vertices v no_vertex lt)
   where
     no_vertex : Vertex
-    no_vertex = record {kind = 0; size = 0; parent = None; id = None; rank = None}
+    no_vertex = record { kind = 0; size = 0; parent = None; id = None; rank = None }
 
 -- preorder doesn't speak of the types' names
 pub in_preorder : (g : ResourceGraph) (vertices : List Vertex) → vertices ≡ g.vertices → StandsInPreorder g → InPreorder vertices

@@ -1,19 +1,19 @@
 -- The ends of the sorted paths are the vertices in preorder.
-use Rattle.std.proofs.Common.{◌≡◌, ◌≢◌, ℕ, ◌+◌, ◌-◌, ◌<◌, ◌≤◌, nat_eq, Bool, true, false, List, [], ◌∷◌, ◌++◌, length, get_or, Some, inl, inr, refl, sym, ◌∙◌, ap, subst, arith, Vec, Global, IsPermutation}
+use Rattle.std.proofs.Common.{◌≡◌, ℕ, ◌+◌, ◌-◌, ◌<◌, ◌≤◌, nat_eq, Bool, false, List, [], ◌∷◌, ◌++◌, length, get_or, Some, inl, inr, sym, ◌∙◌, ap, subst, arith, Vec, Global, IsPermutation}
 use Rattle.std.specs.Prelude.{slice_get}
 use Rattle.std.specs.Ordering.{nat_cmp, is_lt}
 use Rattle.std.specs.Cmp.Lexicographic.{slice_cmp}
-use Rattle.std.specs.List.{All, Contains}
+use Rattle.std.specs.List.{All}
 use Rattle.std.specs.List.Sorted.{IsSortedBy}
-use Rattle.std.proofs.lemmas.Bool.{cases_order, ne_eqb, eqb-true, both_ways, eq-eqb}
+use Rattle.std.proofs.lemmas.Bool.{cases_order, ne_eqb, both_ways, eq-eqb}
 use Rattle.std.proofs.lemmas.Cmp.{nat_list_cmp_total}
 use Rattle.std.proofs.lemmas.List.Sorted.{ranks_by, sorted_far, All-permutation, Contains-permutation, length_permutation}
 use Rattle.std.proofs.lemmas.List.{length_push}
 use Rattle.std.proofs.lemmas.Map.Keys.{apart_from_distinct, IsDistinct-from_apart, IsDistinct-IsPermutation}
-use Rattle.std.proofs.lemmas.Option.{slice_get-get_or, slice_get_within, slice_get_cases, get_or_from_slice_get, same_Some}
+use Rattle.std.proofs.lemmas.Option.{slice_get-get_or, slice_get_within, slice_get_cases, get_or_from_slice_get}
 use Rattle.flux_defs.specs.declared.vertices.Vertex.{Vertex}
-use Rattle.resource_graph.specs.Lines.{line_of, IsRooted, IsOrderOf, IsPreorderOf, HasPaths, HasEnds}
-use Rattle.resource_graph.proofs.PathLaws.{path_to, path_last, path_ends, stands_before, IsByPath, preorder_by_path}
+use Rattle.resource_graph.specs.Lines.{IsRooted, IsPreorderOf, HasPaths, HasEnds}
+use Rattle.resource_graph.proofs.PathLaws.{path_to, path_last, path_ends, stands_before, preorder_by_path}
 
 -- the last number of a list
 abbrev last : Vec ℕ Global → ℕ
@@ -24,9 +24,9 @@ flips a b =
     elim (cases_order a b) [
       | inl same ↦ eq-eqb a b same ∙ sym (eq-eqb b a (sym same))
       | inr differ ↦ elim differ [
-          | inl less ↦ ne_eqb a b (λ e. omega arith) ∙ sym (ne_eqb b a (λ e. omega arith))
-          | inr more ↦ ne_eqb a b (λ e. omega arith) ∙ sym (ne_eqb b a (λ e. omega arith))
-        ]
+        | inl less ↦ ne_eqb a b (λ e. omega arith) ∙ sym (ne_eqb b a (λ e. omega arith))
+        | inr more ↦ ne_eqb a b (λ e. omega arith) ∙ sym (ne_eqb b a (λ e. omega arith))
+      ]
     ]
 
 module _ (vertices : List Vertex) (rooted : IsRooted vertices) (paths sorted : List (Vec ℕ Global))
@@ -100,9 +100,9 @@ module _ (vertices : List Vertex) (rooted : IsRooted vertices) (paths sorted : L
         elim (cases_order j k) [
           | inl same ↦ same
           | inr differ ↦ elim differ [
-              | inl less ↦ absurd (clash j k i less at_j at_k)
-              | inr more ↦ absurd (clash k j i more at_k at_j)
-            ]
+            | inl less ↦ absurd (clash j k i less at_j at_k)
+            | inr more ↦ absurd (clash k j i more at_k at_j)
+          ]
         ]
       where
         same_end : Vec ℕ Global → Vec ℕ Global → Bool
@@ -131,7 +131,7 @@ module _ (vertices : List Vertex) (rooted : IsRooted vertices) (paths sorted : L
         as_many = ended.as_many ∙ (length_permutation paths sorted moved ∙ has.as_many);
         known = known;
         apart = apart;
-        each = each
+        each = each;
       };
-      sorted = sorted_by
+      sorted = sorted_by;
     })

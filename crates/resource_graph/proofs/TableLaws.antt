@@ -1,21 +1,20 @@
 -- The steps in which the tables of a graph are made.
-use Rattle.std.proofs.Common.{◌≡◌, ◌≢◌, ℕ, zero, suc, ◌+◌, ◌-◌, ◌*◌, ◌<◌, ◌≤◌, ◌↔◌, ◌⊎◌, Bool, true, false, ◌||◌, List, [], ◌∷◌, ◌++◌, length, get_or, set, take, max, Option, Some, None, inl, inr, refl, sym, ◌∙◌, ap, subst, arith, IsTrue, Vec, Global, MatchOption, ◌&&◌, ◌==◌, not}
+use Rattle.std.proofs.Common.{◌≡◌, ℕ, ◌+◌, ◌*◌, ◌<◌, ◌↔◌, ◌⊎◌, Bool, true, false, ◌||◌, List, [], ◌∷◌, ◌++◌, length, get_or, set, take, Option, Some, None, inl, inr, refl, sym, ◌∙◌, ap, subst, arith, IsTrue, Vec, Global, ◌&&◌, ◌==◌, not}
 use Rattle.std.specs.Prelude.{slice_get, is_some}
 use Rattle.std.specs.List.{list_any}
-use Rattle.std.specs.Option.{IsSomeAnd, option_map_or}
-use Rattle.std.proofs.lemmas.Bool.{cases_lt, cases_eq, false_from_ne_true, both_ways, not_from_false, not_from_true, ne_eqb, eq-eqb, and_from, and_left, and_right, or_right}
-use Rattle.std.proofs.lemmas.List.{get_or-set_same, get_or-set_other, length-set, get_or_default, length_push, get_or_append_left, get_or_push}
+use Rattle.std.specs.Option.{IsSomeAnd}
+use Rattle.std.proofs.lemmas.Bool.{cases_lt, cases_eq, both_ways, not_from_false, not_from_true, ne_eqb, eq-eqb, and_from, and_left, and_right, or_right}
+use Rattle.std.proofs.lemmas.List.{get_or-set_same, get_or-set_other, length-set, length_push, get_or_append_left, get_or_push}
 use Rattle.std.proofs.lemmas.List.Folds.{list_any_more}
 use Rattle.std.proofs.lemmas.Option.{slice_get_within, slice_get-get_or, get_or_from_slice_get, slice_get_read, slice_get_past}
 use Rattle.flux_defs.specs.declared.vertices.Vertex.{Vertex}
-use Rattle.flux_defs.specs.Graph.{ResourceGraph, parent_of, is_at_or_below, is_below, HasKind, IsNode, is_pool_kind}
-use Rattle.flux_defs.specs.ValidGraph.{StandsInPreorder, HasRank}
-use Rattle.graph_laws.proofs.Containment.{ParentsFirst, below_le, below_from, below_to, below_self, below_parent, below_trans, parent_below, up, steps_of}
-use Rattle.graph_laws.proofs.Preorder.{parents_first, has_parent, between_below}
-use Rattle.resource_graph.specs.Preorder.{plain, InPreorder, KnowsKinds, RanksApart}
-use Rattle.resource_graph.specs.Tables.{IsPast, IsNodeOf, IsRanked, Nests, ListsKind}
-use Rattle.resource_graph.specs.Holds.{HasPasts, HasNodes, HasLists, HasRanked, HasPools, HasNested, CountsUp, AreEmpty, HasNodesTo, LiesIn, AddsNested}
-use Rattle.resource_graph.proofs.LineLaws.{parent_at, no_vertex, parent_read}
+use Rattle.flux_defs.specs.Graph.{parent_of, is_at_or_below, HasKind, IsNode}
+use Rattle.graph_laws.proofs.Containment.{ParentsFirst, below_from, below_self, below_parent, below_trans, parent_below}
+use Rattle.graph_laws.proofs.Preorder.{parents_first}
+use Rattle.resource_graph.specs.Preorder.{plain, InPreorder}
+use Rattle.resource_graph.specs.Tables.{IsNodeOf}
+use Rattle.resource_graph.specs.Holds.{HasNodes, HasLists, HasNested, AreEmpty, HasNodesTo, LiesIn, AddsNested}
+use Rattle.resource_graph.proofs.LineLaws.{no_vertex}
 
 -- a pushed element is the last one, and the others stay
 pub push_cases : {X : Type 0} (xs : List X) (y x : X) (i : ℕ) → slice_get (xs ++ y ∷ []) i ≡ Some x → ((i < length xs) × (slice_get xs i ≡ Some x)) ⊎ ((i ≡ length xs) × (x ≡ y))
@@ -74,11 +73,11 @@ pub nodes_more : (vertices : List Vertex) (v : ℕ) (nodes grown : List (Option 
 nodes_more vertices v nodes grown found before here is = record {
   as_many = ap length is ∙ (length_push nodes found ∙ ap (λ n. n + 1) before.as_many);
   each = λ u other e.
-    elim (push_cases nodes found other u (sym (ap (λ l. slice_get l u) is) ∙ e)) [
-      | inl old ↦ before.each u other old.1
-      | inr new ↦ (let at : v ≡ u = sym before.as_many ∙ sym new.0 in
-          subst (λ (w : ℕ). IsNodeOf vertices w other) at (subst (λ (x : Option ℕ). IsNodeOf vertices v x) (sym new.1) here))
-    ]
+      elim (push_cases nodes found other u (sym (ap (λ l. slice_get l u) is) ∙ e)) [
+        | inl old ↦ before.each u other old.1
+        | inr new ↦ (let at : v ≡ u = sym before.as_many ∙ sym new.0 in
+            subst (λ (w : ℕ). IsNodeOf vertices w other) at (subst (λ (x : Option ℕ). IsNodeOf vertices v x) (sym new.1) here))
+      ];
 }
 
 pub nodes_all : (vertices : List Vertex) (v : ℕ) (nodes : List (Option ℕ)) → HasNodesTo vertices v nodes → v ≡ length vertices → HasNodes vertices nodes
@@ -102,8 +101,8 @@ lists_all vertices kinds most lists to all = record {
   each = λ k list e. let l = to.each k list e in record {
     only = l.only;
     all = λ v has. l.all v (let within : v < length vertices = kind_within vertices k v has in omega arith) has;
-    rising = l.rising
-  }
+    rising = l.rising;
+  };
 }
   where
     kind_within : (vertices : List Vertex) (kind v : ℕ) → HasKind vertices kind v → v < length vertices
@@ -117,13 +116,13 @@ pub lists_none : (vertices : List Vertex) (kinds : ℕ) (lists : List (Vec ℕ G
 lists_none vertices kinds lists empty = record {
   as_many = empty.as_many;
   each = λ k list e.
-    let none : length list.items ≡ 0 = ap length (empty.each k list e) in
-    record {
-      only = λ i lt. absurd (omega arith);
-      low = λ i lt. absurd (omega arith);
-      all = λ v lt has. absurd (omega arith);
-      rising = λ i j lt within. absurd (omega arith)
-    }
+      let none : length list.items ≡ 0 = ap length (empty.each k list e) in
+      record {
+        only = λ i lt. absurd (omega arith);
+        low = λ i lt. absurd (omega arith);
+        all = λ v lt has. absurd (omega arith);
+        rising = λ i j lt within. absurd (omega arith);
+      };
 }
 
 -- the vertex at `most` is added to the list of its kind
@@ -134,30 +133,30 @@ list_more vertices kind most list has to =
     let last : get_or (list ++ most ∷ []) (length list) 0 ≡ most = get_or_push list most 0 (length list) refl in
     record {
       only = λ i lt.
-        elim (cases_lt i (length list)) [
-          | inl before ↦ subst (λ (w : ℕ). HasKind vertices kind w) (sym (left i before)) (to.only i before)
-          | inr end ↦ (let is : length list ≡ i = omega arith in
-              subst (λ (j : ℕ). HasKind vertices kind (get_or (list ++ most ∷ []) j 0)) is (subst (λ (w : ℕ). HasKind vertices kind w) (sym last) has))
-        ];
+          elim (cases_lt i (length list)) [
+            | inl before ↦ subst (λ (w : ℕ). HasKind vertices kind w) (sym (left i before)) (to.only i before)
+            | inr end ↦ (let is : length list ≡ i = omega arith in
+                subst (λ (j : ℕ). HasKind vertices kind (get_or (list ++ most ∷ []) j 0)) is (subst (λ (w : ℕ). HasKind vertices kind w) (sym last) has))
+          ];
       low = λ i lt.
-        elim (cases_lt i (length list)) [
-          | inl before ↦ (let less : get_or list i 0 < most = to.low i before in let e = left i before in omega arith)
-          | inr end ↦ (let is : i ≡ length list = omega arith in let e : get_or (list ++ most ∷ []) i 0 ≡ most = ap (λ j. get_or (list ++ most ∷ []) j 0) is ∙ last in omega arith)
-        ];
+          elim (cases_lt i (length list)) [
+            | inl before ↦ (let less : get_or list i 0 < most = to.low i before in let e = left i before in omega arith)
+            | inr end ↦ (let is : i ≡ length list = omega arith in let e : get_or (list ++ most ∷ []) i 0 ≡ most = ap (λ j. get_or (list ++ most ∷ []) j 0) is ∙ last in omega arith)
+          ];
       all = λ v lt is_kind.
-        elim (cases_lt v most) [
-          | inl before ↦ (let there = to.all v before is_kind in (there.0, (let within : there.0 < length list = there.1 in omega arith), left there.0 there.1 ∙ there.2))
-          | inr end ↦ (let is : most ≡ v = omega arith in (length list, omega arith, last ∙ is))
-        ];
+          elim (cases_lt v most) [
+            | inl before ↦ (let there = to.all v before is_kind in (there.0, (let within : there.0 < length list = there.1 in omega arith), left there.0 there.1 ∙ there.2))
+            | inr end ↦ (let is : most ≡ v = omega arith in (length list, omega arith, last ∙ is))
+          ];
       rising = λ i j lt within.
-        elim (cases_lt j (length list)) [
-          | inl before ↦ (let less : get_or list i 0 < get_or list j 0 = to.rising i j lt before in let a = left i (omega arith) in let b = left j before in omega arith)
-          | inr end ↦ (
-              let is : j ≡ length list = omega arith in
-              let e : get_or (list ++ most ∷ []) j 0 ≡ most = ap (λ k. get_or (list ++ most ∷ []) k 0) is ∙ last in
-              let less : get_or list i 0 < most = to.low i (omega arith) in
-              let a = left i (omega arith) in omega arith)
-        ]
+          elim (cases_lt j (length list)) [
+            | inl before ↦ (let less : get_or list i 0 < get_or list j 0 = to.rising i j lt before in let a = left i (omega arith) in let b = left j before in omega arith)
+            | inr end ↦ (
+                let is : j ≡ length list = omega arith in
+                let e : get_or (list ++ most ∷ []) j 0 ≡ most = ap (λ k. get_or (list ++ most ∷ []) k 0) is ∙ last in
+                let less : get_or list i 0 < most = to.low i (omega arith) in
+                let a = left i (omega arith) in omega arith)
+          ];
     }
 
 -- a list of another kind stays
@@ -166,11 +165,11 @@ list_same vertices kind most list other to = record {
   only = to.only;
   low = λ i lt. let less : get_or list i 0 < most = to.low i lt in omega arith;
   all = λ v lt has.
-    elim (cases_lt v most) [
-      | inl before ↦ to.all v before has
-      | inr end ↦ (let is : v ≡ most = omega arith in absurd (other (subst (λ (w : ℕ). HasKind vertices kind w) is has)))
-    ];
-  rising = to.rising
+      elim (cases_lt v most) [
+        | inl before ↦ to.all v before has
+        | inr end ↦ (let is : v ≡ most = omega arith in absurd (other (subst (λ (w : ℕ). HasKind vertices kind w) is has)))
+      ];
+  rising = to.rising;
 }
 
 -- a pair of kinds is marked for the first vertices
@@ -183,8 +182,8 @@ nested_all vertices kinds most nested to all = record {
   as_many = to.as_many;
   each = λ upper lower p q. (
     (λ h. let r = (to.each upper lower p q).0 h in (r.2.0, r.0, r.2.1, r.2.2, r.2.3)),
-    (λ n. (to.each upper lower p q).1 (n.1, (let within : n.1 < length vertices = kind_in n.1 lower n.3 in omega arith), (n.0, n.2, n.3, n.4)))
-  )
+    (λ n. (to.each upper lower p q).1 (n.1, (let within : n.1 < length vertices = kind_in n.1 lower n.3 in omega arith), (n.0, n.2, n.3, n.4))),
+  );
 }
   where
     kind_in : (v kind : ℕ) → HasKind vertices kind v → v < length vertices
@@ -205,8 +204,8 @@ nested_more vertices kinds most old new to adds = record {
     (λ r. elim (cases_lt r.0 most) [
       | inl before ↦ (adds.each upper lower p q).1 (inl ((to.each upper lower p q).1 (r.0, before, r.2)))
       | inr last ↦ (let lt : r.0 < most + 1 = r.1 in let is : r.0 ≡ most = omega arith in (adds.each upper lower p q).1 (inr (subst (λ (w : ℕ). LiesIn vertices upper lower w) is r.2)))
-    ])
-  )
+    ]),
+  );
 }
 
 -- a pushed list is that of its kind, and the others stay
@@ -218,22 +217,22 @@ lists_more vertices kinds most lists kind old new is lt within read grown to =
     record {
       as_many = length-set lists kind new ∙ to.as_many;
       each = λ k list e.
-        let k_in : k < length (set lists kind new) = slice_get_within (set lists kind new) k list e in
-        let long = length-set lists kind new in
-        let value : get_or (set lists kind new) k old ≡ list = get_or_from_slice_get (set lists kind new) k list old e in
-        elim (cases_eq k kind) [
-          | inl same ↦ (
-              let here : list ≡ new = sym value ∙ (ap (λ i. get_or (set lists kind new) i old) same ∙ get_or-set_same lists kind new old within) in
-              let items : list.items ≡ old.items ++ most ∷ [] = ap (λ (v : Vec ℕ Global). v.items) here ∙ grown in
-              subst (λ (j : ℕ). ListsKindTo vertices j (most + 1) list.items) (sym same)
-              (subst (λ (l : List ℕ). ListsKindTo vertices kind (most + 1) l) (sym items) (list_more vertices kind most old.items has (to.each kind old at))))
-          | inr differ ↦ (
-              let there : get_or lists k old ≡ list = sym (get_or-set_other lists kind k new old differ) ∙ value in
-              list_same vertices k most list.items (λ other. differ (
-                  let a : (get_or vertices most no_vertex).kind ≡ k = (let h = subst (λ (o : Option Vertex). IsSomeAnd o (λ x. x.kind ≡ k)) (slice_get-get_or vertices most no_vertex lt) other in h) in
-                  sym a ∙ sym is))
-              (to.each k list (slice_get-get_or lists k old (let e2 : k < length lists = omega arith in e2) ∙ ap Some there)))
-        ]
+          let k_in : k < length (set lists kind new) = slice_get_within (set lists kind new) k list e in
+          let long = length-set lists kind new in
+          let value : get_or (set lists kind new) k old ≡ list = get_or_from_slice_get (set lists kind new) k list old e in
+          elim (cases_eq k kind) [
+            | inl same ↦ (
+                let here : list ≡ new = sym value ∙ (ap (λ i. get_or (set lists kind new) i old) same ∙ get_or-set_same lists kind new old within) in
+                let items : list.items ≡ old.items ++ most ∷ [] = ap (λ (v : Vec ℕ Global). v.items) here ∙ grown in
+                subst (λ (j : ℕ). ListsKindTo vertices j (most + 1) list.items) (sym same)
+                (subst (λ (l : List ℕ). ListsKindTo vertices kind (most + 1) l) (sym items) (list_more vertices kind most old.items has (to.each kind old at))))
+            | inr differ ↦ (
+                let there : get_or lists k old ≡ list = sym (get_or-set_other lists kind k new old differ) ∙ value in
+                list_same vertices k most list.items (λ other. differ (
+                let a : (get_or vertices most no_vertex).kind ≡ k = (let h = subst (λ (o : Option Vertex). IsSomeAnd o (λ x. x.kind ≡ k)) (slice_get-get_or vertices most no_vertex lt) other in h) in
+                sym a ∙ sym is))
+                (to.each k list (slice_get-get_or lists k old (let e2 : k < length lists = omega arith in e2) ∙ ap Some there)))
+          ];
     }
 
 -- one vertex more in the table of pool types

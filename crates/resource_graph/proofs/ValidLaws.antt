@@ -1,10 +1,9 @@
 -- A list of vertices with which nothing is wrong gives a valid graph.
-use Rattle.std.proofs.Common.{◌≡◌, ◌≢◌, ℕ, zero, suc, ◌+◌, ◌-◌, ◌^◌, ◌<◌, ◌≤◌, ◌⊎◌, ◌↔◌, ◌&&◌, ◌==◌, not, Bool, true, false, cond, List, [], ◌∷◌, length, get_or, map, take, Option, Some, None, inl, inr, refl, sym, ◌∙◌, ap, subst, arith, IsTrue, true≢false, option_and_then}
-use Rattle.std.specs.Prelude.{slice_get, is_some, count_by, codes, IsSome, sum_by}
-use Rattle.std.specs.Option.{IsSomeAnd, option_map, option_map_or}
-use Rattle.std.specs.List.{list_any}
+use Rattle.std.proofs.Common.{◌≡◌, ◌≢◌, ℕ, zero, suc, ◌+◌, ◌-◌, ◌^◌, ◌<◌, ◌≤◌, ◌⊎◌, ◌&&◌, ◌==◌, not, Bool, true, false, cond, List, [], length, get_or, take, Option, Some, None, inl, inr, refl, sym, ◌∙◌, ap, subst, arith, IsTrue, true≢false, option_and_then}
+use Rattle.std.specs.Prelude.{slice_get, is_some, count_by, codes, IsSome}
+use Rattle.std.specs.Option.{IsSomeAnd, option_map_or}
 use Rattle.std.specs.Str.{bytes_eq}
-use Rattle.std.proofs.lemmas.Bool.{cases_lt, cases_eq, cases_order, cases_Bool, false_from_ne_true, and_parts, and_from, eqb-true, eq-eqb, not-true, ne_eqb, not_from_false, both_ways}
+use Rattle.std.proofs.lemmas.Bool.{cases_lt, cases_eq, cases_order, cases_Bool, false_from_ne_true, and_parts, and_from, eqb-true, eq-eqb}
 use Rattle.std.proofs.lemmas.List.{take_all}
 use Rattle.std.proofs.lemmas.List.Sums.{count_by_more_yes, count_by_more_no}
 use Rattle.std.proofs.lemmas.List.Folds.{Any-from_list_any, list_any_at}
@@ -13,11 +12,10 @@ use Rattle.std.proofs.lemmas.Slice.Eq.{bytes_eq-Decides}
 use Rattle.flux_defs.specs.declared.vertices.Vertex.{Vertex}
 use Rattle.flux_defs.specs.Graph.{ResourceGraph, parent_of, chain, is_below, HasKind, IsNode, is_pool, is_pool_kind}
 use Rattle.flux_defs.specs.ValidGraph.{IsValidGraph, HasType, HasId, HasRank, IsDevice, NumbersKinds, HasFairSizes, NumbersDevices}
-use Rattle.resource_graph.specs.Lines.{line_of, IsOrderOf, IsPreorderOf, IsRooted}
-use Rattle.resource_graph.specs.Faults.{IsNodeType, IsFaultless, HasDoubleId, HasDoubleName, HasBadRank}
+use Rattle.resource_graph.specs.Lines.{line_of, IsPreorderOf, IsRooted}
+use Rattle.resource_graph.specs.Faults.{IsNodeType, IsFaultless, HasDoubleName}
 use Rattle.resource_graph.specs.Raw.{IsArranged, IsRenumbered, KindsApart, is_node_of, some_ranked, nodes_among, rank_of}
-use Rattle.resource_graph.proofs.LineLaws.{no_vertex}
-use Rattle.resource_graph.proofs.ArrangeLaws.{place_of, place_at, place_in, place_is, within_place, same_place, number_of, both_of, same_below, same_line_length, parent_back, parent_place, preorder_arranged}
+use Rattle.resource_graph.proofs.ArrangeLaws.{place_of, place_at, place_in, same_place, number_of, both_of, same_below, same_line_length, parent_back, preorder_arranged}
 
 -- what a fact on the value in a `Some` says
 pub value_of : {X : Type 0} (o : Option X) (P : X → Type 0) → IsSomeAnd o P → (x : X) × (o ≡ Some x) × P x
@@ -38,13 +36,13 @@ rooted_of_faultless g names fine = record {
   short = λ v lt. elim (cases_lt 16 (length (line_of g.vertices v))) [ inl over ↦ absurd (fine.shallow v (lt, over)) | inr le ↦ le ];
   root = (fine.root.0, fine.root.1.0, fine.root.1.1);
   alone = λ u v u_in v_in at_u at_v.
-    elim (cases_order u v) [
-      | inl same ↦ same
-      | inr differ ↦ elim differ [
+      elim (cases_order u v) [
+        | inl same ↦ same
+        | inr differ ↦ elim differ [
           | inl less ↦ absurd (fine.alone v ((v_in, at_v), (u, less, (u_in, at_u))))
           | inr more ↦ absurd (fine.alone u ((u_in, at_u), (v, more, (v_in, at_v))))
         ]
-    ]
+      ];
 }
 
 -- a longer front has as many that pass
@@ -52,9 +50,9 @@ counts_grow : (p : ℕ → Bool) (list : List ℕ) (i d : ℕ) → count_by p (t
 counts_grow p list i d =
     elim (cases_lt i (length list)) [
       | inl within ↦ elim (cases_Bool (p (get_or list i d))) [
-          | inl passes ↦ (let e : count_by p (take (i + 1) list) ≡ count_by p (take i list) + 1 = count_by_more_yes p list i d within passes in omega arith)
-          | inr fails ↦ (let e : count_by p (take (i + 1) list) ≡ count_by p (take i list) = count_by_more_no p list i d within fails in omega arith)
-        ]
+        | inl passes ↦ (let e : count_by p (take (i + 1) list) ≡ count_by p (take i list) + 1 = count_by_more_yes p list i d within passes in omega arith)
+        | inr fails ↦ (let e : count_by p (take (i + 1) list) ≡ count_by p (take i list) = count_by_more_no p list i d within fails in omega arith)
+      ]
       | inr past ↦ (let e : count_by p (take i list) ≡ count_by p (take (i + 1) list) = ap (count_by p) (take_all i list past ∙ sym (take_all (i + 1) list (omega arith))) in omega arith)
     ]
 
@@ -125,10 +123,15 @@ module _ (kinds : List (List ℕ)) (vertices : List Vertex) (names : List (List 
       let name_v : slice_get kinds bv.0.kind ≡ slice_get g.kinds kind = sym bv.4.kind ∙ (ap (λ (y : Vertex). slice_get g.kinds y.kind) (sym ev) ∙ ap (slice_get g.kinds) yv.2) in
       let name_u : slice_get kinds bu.0.kind ≡ slice_get g.kinds kind = sym bu.4.kind ∙ (ap (λ (y : Vertex). slice_get g.kinds y.kind) (sym eu) ∙ ap (slice_get g.kinds) yu.2) in
       let there : IsSome (slice_get kinds bv.0.kind) = subst IsSome (sym (slice_get-get_or kinds bv.0.kind [] (kind_of bv.0 (place v) bv.2))) refl in
-      let same : bv.0.kind ≡ bu.0.kind = apart bv.0.kind bu.0.kind there (name_v ∙ sym name_u) in
-      (v_in, u_in, (bv.0.kind,
-        from_value (slice_get vertices (place v)) (λ x. x.kind ≡ bv.0.kind) bv.0 bv.2 refl,
-        from_value (slice_get vertices (place u)) (λ x. x.kind ≡ bv.0.kind) bu.0 bu.2 (sym same)))
+      let same : bv.0.kind ≡ bu.0.kind = apart bv.0.kind bu.0.kind there (name_v ∙ sym name_u) in (
+        v_in,
+        u_in,
+        (
+          bv.0.kind,
+          from_value (slice_get vertices (place v)) (λ x. x.kind ≡ bv.0.kind) bv.0 bv.2 refl,
+          from_value (slice_get vertices (place u)) (λ x. x.kind ≡ bv.0.kind) bu.0 bu.2 (sym same),
+        ),
+      )
 
   below_back : (v u : ℕ) → v < length vertices → u < length vertices → IsTrue (is_below g.vertices v u) → IsTrue (is_below vertices (place v) (place u))
   below_back v u v_in u_in h = same_below kinds vertices order g arranged v u v_in u_in ∙ h
@@ -186,7 +189,7 @@ module _ (kinds : List (List ℕ)) (vertices : List Vertex) (names : List (List 
       let b = both k k_in in
       let is = node_type_at k k_in h in
       let rank : b.1.rank ≡ cond (some_ranked kinds vertices) b.0.rank (Some (nodes_among kinds vertices (take k order))) =
-          rank_is k k_in ∙ ap (λ t. cond t (cond (some_ranked kinds vertices) b.0.rank (Some (nodes_among kinds vertices (take k order)))) None) is in
+      rank_is k k_in ∙ ap (λ t. cond t (cond (some_ranked kinds vertices) b.0.rank (Some (nodes_among kinds vertices (take k order)))) None) is in
       from_value (slice_get g.vertices k) (λ x. is_some x.rank ≡ true) b.1 b.3
       (elim (cases_Bool (some_ranked kinds vertices)) [
         | inl some ↦ ap is_some (rank ∙ ap (λ t. cond t b.0.rank (Some (nodes_among kinds vertices (take k order)))) some) ∙
@@ -230,17 +233,17 @@ module _ (kinds : List (List ℕ)) (vertices : List Vertex) (names : List (List 
             let bv = both v v_in in
             let bu = both u u_in in
             let raw_v : HasRank (record { kinds = kinds; vertices = vertices }) rank (place v) = from_value (slice_get vertices (place v)) (λ x. x.rank ≡ Some rank) bv.0 bv.2
-                (sym (ap (λ t. cond t bv.0.rank (Some (nodes_among kinds vertices (take v order)))) some) ∙ rv) in
+            (sym (ap (λ t. cond t bv.0.rank (Some (nodes_among kinds vertices (take v order)))) some) ∙ rv) in
             let raw_u : HasRank (record { kinds = kinds; vertices = vertices }) rank (place u) = from_value (slice_get vertices (place u)) (λ x. x.rank ≡ Some rank) bu.0 bu.2
-                (sym (ap (λ t. cond t bu.0.rank (Some (nodes_among kinds vertices (take u order)))) some) ∙ ru) in
+            (sym (ap (λ t. cond t bu.0.rank (Some (nodes_among kinds vertices (take u order)))) some) ∙ ru) in
             let node_v = (type_back v (codes "node") (rank_node v rank at_v)).1 in
             let node_u = (type_back u (codes "node") (rank_node u rank at_u)).1 in
             elim (cases_order (place v) (place u)) [
               | inl same ↦ (let e : v ≡ u = same_place kinds vertices order g arranged v u v_in same in omega arith)
               | inr differ ↦ elim differ [
-                  | inl less ↦ fine.ranks (place u) (ranks_some some, node_u, inr (place v, less, node_v, rank, raw_u, raw_v))
-                  | inr more ↦ fine.ranks (place v) (ranks_some some, node_v, inr (place u, more, node_u, rank, raw_v, raw_u))
-                ]
+                | inl less ↦ fine.ranks (place u) (ranks_some some, node_u, inr (place v, less, node_v, rank, raw_u, raw_v))
+                | inr more ↦ fine.ranks (place v) (ranks_some some, node_v, inr (place u, more, node_u, rank, raw_v, raw_u))
+              ]
             ])
         | inr none ↦ (
             let cv : nodes_among kinds vertices (take v order) ≡ rank = same_Some _ _ (sym (ap (λ t. cond t (both v v_in).0.rank (Some (nodes_among kinds vertices (take v order)))) none) ∙ rv) in
@@ -271,9 +274,11 @@ module _ (kinds : List (List ℕ)) (vertices : List Vertex) (names : List (List 
           let odd : not (ba.0.size == 1) ≡ true = ap (λ n. not (n == 1)) (sym size) ∙ parts.1 in
           let read : get_or vertices (place any.0) ba.0 ≡ ba.0 = get_or_from_slice_get vertices (place any.0) ba.0 ba.0 ba.2 in
           let test : ((get_or vertices (place any.0) ba.0).kind == bk.0.kind) && not ((get_or vertices (place any.0) ba.0).size == 1) ≡ true =
-              ap (λ (z : Vertex). (z.kind == bk.0.kind) && not (z.size == 1)) read ∙ and_from (ba.0.kind == bk.0.kind) (not (ba.0.size == 1)) (eq-eqb ba.0.kind bk.0.kind (xa ∙ sym xk)) odd in
-          (kinds_same.0, ap (λ o. option_map_or (λ x. is_pool_kind vertices x.kind) o false) bk.2 ∙
-            list_any_at (λ z. (z.kind == bk.0.kind) && not (z.size == 1)) vertices (place any.0) ba.0 (slice_get_within vertices (place any.0) ba.0 ba.2) test)
+          ap (λ (z : Vertex). (z.kind == bk.0.kind) && not (z.size == 1)) read ∙ and_from (ba.0.kind == bk.0.kind) (not (ba.0.size == 1)) (eq-eqb ba.0.kind bk.0.kind (xa ∙ sym xk)) odd in (
+            kinds_same.0,
+            ap (λ o. option_map_or (λ x. is_pool_kind vertices x.kind) o false) bk.2 ∙
+                list_any_at (λ z. (z.kind == bk.0.kind) && not (z.size == 1)) vertices (place any.0) ba.0 (slice_get_within vertices (place any.0) ba.0 ba.2) test,
+          )
 
   has_parent_in : (k p : ℕ) → parent_of g.vertices k ≡ Some p → k < length vertices
   has_parent_in k p e = elim (cases_lt k (length vertices)) [
@@ -285,22 +290,22 @@ module _ (kinds : List (List ℕ)) (vertices : List Vertex) (names : List (List 
   fair_sizes = record {
     leaves = λ v p e. false_from_ne_true (is_pool g.vertices p) (λ h. fine.leaves (place p) ((pool_back p h).1, (place v, parent_back kinds vertices order g arranged v p e)));
     whole = λ v y at h.
-      let v_in = within v y at in
-      let b = both v v_in in
-      let size : y.size ≡ b.0.size = ap (λ (z : Vertex). z.size) (same_Some _ _ (sym at ∙ b.3)) ∙ b.4.size in
-      let raw_type : IsNodeType (record { kinds = kinds; vertices = vertices }) (place v) ⊎ IsDevice (record { kinds = kinds; vertices = vertices }) (place v) =
-          elim h [ inl node ↦ inl ((type_back v (codes "node") (node_types v node)).1) | inr device ↦ inr ((device_back v device).1) ] in
-      size ∙ elim (cases_eq b.0.size 1) [
-        | inl one ↦ one
-        | inr odd ↦ absurd (fine.whole (place v) (raw_type, from_value (slice_get vertices (place v)) (λ x. x.size ≢ 1) b.0 b.2 odd))
-      ];
+        let v_in = within v y at in
+        let b = both v v_in in
+        let size : y.size ≡ b.0.size = ap (λ (z : Vertex). z.size) (same_Some _ _ (sym at ∙ b.3)) ∙ b.4.size in
+        let raw_type : IsNodeType (record { kinds = kinds; vertices = vertices }) (place v) ⊎ IsDevice (record { kinds = kinds; vertices = vertices }) (place v) =
+        elim h [ inl node ↦ inl ((type_back v (codes "node") (node_types v node)).1) | inr device ↦ inr ((device_back v device).1) ] in
+        size ∙ elim (cases_eq b.0.size 1) [
+          | inl one ↦ one
+          | inr odd ↦ absurd (fine.whole (place v) (raw_type, from_value (slice_get vertices (place v)) (λ x. x.size ≢ 1) b.0 b.2 odd))
+        ];
     most = λ v y at.
-      let b = both v (within v y at) in
-      let size : y.size ≡ b.0.size = ap (λ (z : Vertex). z.size) (same_Some _ _ (sym at ∙ b.3)) ∙ b.4.size in
-      elim (cases_lt (2 ^ 46) b.0.size) [
-        | inl over ↦ absurd (fine.most (place v) (from_value (slice_get vertices (place v)) (λ x. 2 ^ 46 < x.size) b.0 b.2 over))
-        | inr le ↦ subst (λ (n : ℕ). n ≤ 2 ^ 46) (sym size) le
-      ]
+        let b = both v (within v y at) in
+        let size : y.size ≡ b.0.size = ap (λ (z : Vertex). z.size) (same_Some _ _ (sym at ∙ b.3)) ∙ b.4.size in
+        elim (cases_lt (2 ^ 46) b.0.size) [
+          | inl over ↦ absurd (fine.most (place v) (from_value (slice_get vertices (place v)) (λ x. 2 ^ 46 < x.size) b.0 b.2 over))
+          | inr le ↦ subst (λ (n : ℕ). n ≤ 2 ^ 46) (sym size) le
+        ];
   }
 
   id_back : (k id : ℕ) → HasId g id k → (k_in : k < length vertices) → HasId (record { kinds = kinds; vertices = vertices }) id (place k)
@@ -317,38 +322,44 @@ module _ (kinds : List (List ℕ)) (vertices : List Vertex) (names : List (List 
       let yv = value_of (slice_get g.vertices v) (λ x. x.kind ≡ kind) at_v in
       let yu = value_of (slice_get g.vertices u) (λ x. x.kind ≡ kind) at_u in
       let move : (name : List ℕ) → HasType g name v → HasType g name u = λ name h.
-          from_value (slice_get g.vertices u) (λ x. slice_get g.kinds x.kind ≡ Some name) yu.0 yu.1
-          (ap (slice_get g.kinds) (yu.2 ∙ sym yv.2) ∙ at_value (slice_get g.vertices v) (λ x. slice_get g.kinds x.kind ≡ Some name) yv.0 yv.1 h) in
+      from_value (slice_get g.vertices u) (λ x. slice_get g.kinds x.kind ≡ Some name) yu.0 yu.1
+      (ap (slice_get g.kinds) (yu.2 ∙ sym yv.2) ∙ at_value (slice_get g.vertices v) (λ x. slice_get g.kinds x.kind ≡ Some name) yv.0 yv.1 h) in
       elim device [ inl core ↦ inl (move (codes "core") core) | inr gpu ↦ inr (move (codes "gpu") gpu) ]
 
   numbered_devices : NumbersDevices g
   numbered_devices = record {
     housed = λ v device.
-      let d = device_back v device in
-      let house = fine.housed (place v) d.1 in
-      let node = value_of (slice_get vertices house.0) (λ x. slice_get kinds x.kind ≡ Some (codes "node")) house.1 in
-      let n = number_of kinds vertices order g arranged house.0 (slice_get_within vertices house.0 node.0 node.1) in
-      (n.0, types_node n.0 (type_forth n.0 (codes "node") n.1 (subst (λ (i : ℕ). IsNodeType (record { kinds = kinds; vertices = vertices }) i) (sym n.2) house.1)),
-        sym (same_below kinds vertices order g arranged v n.0 d.0 n.1) ∙ subst (λ (i : ℕ). IsTrue (is_below vertices (place v) i)) (sym n.2) house.2);
+        let d = device_back v device in
+        let house = fine.housed (place v) d.1 in
+        let node = value_of (slice_get vertices house.0) (λ x. slice_get kinds x.kind ≡ Some (codes "node")) house.1 in
+        let n = number_of kinds vertices order g arranged house.0 (slice_get_within vertices house.0 node.0 node.1) in (
+          n.0,
+          types_node n.0 (type_forth n.0 (codes "node") n.1 (subst (λ (i : ℕ). IsNodeType (record { kinds = kinds; vertices = vertices }) i) (sym n.2) house.1)),
+          sym (same_below kinds vertices order g arranged v n.0 d.0 n.1) ∙ subst (λ (i : ℕ). IsTrue (is_below vertices (place v) i)) (sym n.2) house.2,
+        );
     named = λ v device.
-      let d = device_back v device in
-      let b = both v d.0 in
-      id_of v b.1 b.3 (λ none. fine.identified (place v) (d.1, from_value (slice_get vertices (place v)) (λ x. x.id ≡ None) b.0 b.2 (sym b.4.id ∙ none)));
+        let d = device_back v device in
+        let b = both v d.0 in
+        id_of v b.1 b.3 (λ none. fine.identified (place v) (d.1, from_value (slice_get vertices (place v)) (λ x. x.id ≡ None) b.0 b.2 (sym b.4.id ∙ none)));
     apart = λ v u n id kind device at_v at_u node v_below u_below id_v id_u.
-      let same = same_kind v u kind at_v at_u in
-      let n_in = node_in n node in
-      let node_raw = (type_back n (codes "node") (node_types n node)).1 in
-      let bv = below_back v n same.0 n_in v_below in
-      let bu = below_back u n same.1 n_in u_below in
-      elim (cases_order (place v) (place u)) [
-        | inl equal ↦ same_place kinds vertices order g arranged v u same.0 equal
-        | inr differ ↦ elim differ [
-            | inl less ↦ absurd (fine.ids (place u) ((device_back u (device_kind v u kind device at_v at_u)).1,
-                (place v, less, same.2.0, same.2.2, same.2.1, id, id_back u id id_u same.1, id_back v id id_v same.0, place n, node_raw, bu, bv)))
-            | inr more ↦ absurd (fine.ids (place v) ((device_back v device).1,
-                (place u, more, same.2.0, same.2.1, same.2.2, id, id_back v id id_v same.0, id_back u id id_u same.1, place n, node_raw, bv, bu)))
+        let same = same_kind v u kind at_v at_u in
+        let n_in = node_in n node in
+        let node_raw = (type_back n (codes "node") (node_types n node)).1 in
+        let bv = below_back v n same.0 n_in v_below in
+        let bu = below_back u n same.1 n_in u_below in
+        elim (cases_order (place v) (place u)) [
+          | inl equal ↦ same_place kinds vertices order g arranged v u same.0 equal
+          | inr differ ↦ elim differ [
+            | inl less ↦ absurd (fine.ids (place u) (
+              (device_back u (device_kind v u kind device at_v at_u)).1,
+              (place v, less, same.2.0, same.2.2, same.2.1, id, id_back u id id_u same.1, id_back v id id_v same.0, place n, node_raw, bu, bv),
+            ))
+            | inr more ↦ absurd (fine.ids (place v) (
+              (device_back v device).1,
+              (place u, more, same.2.0, same.2.1, same.2.2, id, id_back v id id_v same.0, id_back u id id_u same.1, place n, node_raw, bv, bu),
+            ))
           ]
-      ]
+        ];
   }
     where
       id_of : (v : ℕ) (y : Vertex) → slice_get g.vertices v ≡ Some y → (y.id ≡ None → ⊥) → (id : ℕ) × HasId g id v
@@ -368,9 +379,9 @@ module _ (kinds : List (List ℕ)) (vertices : List Vertex) (names : List (List 
         elim (cases_order (place v) (place u)) [
           | inl equal ↦ same_place kinds vertices order g arranged v u v_in equal
           | inr differ ↦ elim differ [
-              | inl less ↦ absurd (fine.names_apart (place u) (first less))
-              | inr more ↦ absurd (fine.names_apart (place v) (second more))
-            ]
+            | inl less ↦ absurd (fine.names_apart (place u) (first less))
+            | inr more ↦ absurd (fine.names_apart (place v) (second more))
+          ]
         ]
 
     raw_same : (v u : ℕ) → v < length vertices → u < length vertices → slice_get built_names v ≡ slice_get built_names u → slice_get names (place v) ≡ slice_get names (place u)
@@ -410,25 +421,25 @@ module _ (kinds : List (List ℕ)) (vertices : List Vertex) (names : List (List 
           kinds = numbers;
           preorder = preorder_arranged kinds vertices order g arranged rooted pre;
           shallow = λ v y at.
-            let short : length (line_of vertices (place v)) ≤ 16 = rooted.short (place v) (place_in kinds vertices order g arranged v (within v y at)) in
-            subst (λ (n : ℕ). n ≤ 16) (sym (same_line_length kinds vertices order g arranged v)) short;
+              let short : length (line_of vertices (place v)) ≤ 16 = rooted.short (place v) (place_in kinds vertices order g arranged v (within v y at)) in
+              subst (λ (n : ℕ). n ≤ 16) (sym (same_line_length kinds vertices order g arranged v)) short;
           unnested = λ v u kind at_v at_u below.
-            let same = same_kind v u kind at_v at_u in
-            fine.unnested (place v) (place u, same.2.0, same.2.1, same.2.2, below_back v u same.0 same.1 below);
+              let same = same_kind v u kind at_v at_u in
+              fine.unnested (place v) (place u, same.2.0, same.2.1, same.2.2, below_back v u same.0 same.1 below);
           unreserved = λ v y at slot.
-            fine.unreserved (place v) ((type_back v (codes "slot") (from_value (slice_get g.vertices v) (λ x. slice_get g.kinds x.kind ≡ Some (codes "slot")) y at slot)).1);
+              fine.unreserved (place v) ((type_back v (codes "slot") (from_value (slice_get g.vertices v) (λ x. slice_get g.kinds x.kind ≡ Some (codes "slot")) y at slot)).1);
           sizes = fair_sizes;
           devices = numbered_devices;
           nodes = λ v y at. (node_types v, types_node v);
           ranks = λ v u rank at_v at_u.
-            elim (cases_order v u) [
-              | inl same ↦ same
-              | inr differ ↦ elim differ [
+              elim (cases_order v u) [
+                | inl same ↦ same
+                | inr differ ↦ elim differ [
                   | inl less ↦ absurd (ranks_clash v u rank at_v at_u less)
                   | inr more ↦ absurd (ranks_clash u v rank at_u at_v more)
                 ]
-            ];
+              ];
           named = long_names ∙ sym arranged.as_many;
           siblings = siblings_apart;
-          hosts = hosts_apart
+          hosts = hosts_apart;
         }

@@ -1,7 +1,6 @@
 -- The steps in which a list of vertices is arranged.
-use Rattle.std.specs.Prelude.{◌≡◌, ℕ, suc, ◌<◌, ◌≤◌, ◌⊎◌, ◌++◌, [], ◌∷◌, List, length, map, Option, Some, None, slice_get, slice_set, slice_index, Vec}
+use Rattle.std.specs.Prelude.{◌≡◌, ℕ, ◌<◌, ◌≤◌, ◌⊎◌, ◌++◌, [], ◌∷◌, List, length, map, Option, Some, None, slice_get, slice_set, slice_index}
 use Rattle.std.specs.Option.{option_map}
-use Rattle.std.specs.declared.alloc.Global.{Global}
 use Rattle.flux_defs.specs.declared.vertices.Vertex.{Vertex}
 use Rattle.resource_graph.specs.Raw.{rank_of}
 use Rattle.resource_graph.specs.declared.graph.Texts.{Texts}
@@ -55,8 +54,8 @@ abbrev pub AddsKind : List (List ℕ) → ℕ → KindNumbering → KindNumberin
 AddsKind kinds kind old new =
     (((j : ℕ) × IsNumbered old kind j) × (new.kinds.items ≡ old.kinds.items) × (new.numbers.items ≡ old.numbers.items))
     ⊎ ((slice_get old.numbers.items kind ≡ Some None)
-      × ((name : List ℕ) × (slice_get kinds kind ≡ Some name) × (new.kinds.items ≡ old.kinds.items ++ name ∷ []))
-      × (new.numbers.items ≡ slice_set old.numbers.items kind (Some (length old.kinds.items))))
+    × ((name : List ℕ) × (slice_get kinds kind ≡ Some name) × (new.kinds.items ≡ old.kinds.items ++ name ∷ []))
+    × (new.numbers.items ≡ slice_set old.numbers.items kind (Some (length old.kinds.items))))
 
 -- each vertex's kind has a new number
 abbrev pub HasKindNumbers : List Vertex → List (Option ℕ) → Type 0

@@ -1,7 +1,6 @@
 -- What may be wrong with a list of vertices, one vertex at a time. The vertices stand in any order; `names` are theirs.
 use Rattle.std.specs.Prelude.{◌≡◌, ◌≢◌, ℕ, suc, ◌^◌, ◌<◌, ◌≤◌, ◌⊎◌, List, length, Some, None, slice_get, codes, IsTrue, IsSome}
 use Rattle.std.specs.Option.{IsSomeAnd}
-use Rattle.flux_defs.specs.declared.vertices.Vertex.{Vertex}
 use Rattle.flux_defs.specs.Graph.{ResourceGraph, parent_of, chain, is_below, HasKind, is_pool}
 use Rattle.flux_defs.specs.ValidGraph.{HasType, HasId, HasRank, IsDevice}
 use Rattle.resource_graph.specs.Lines.{line_of}

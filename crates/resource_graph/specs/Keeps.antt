@@ -1,6 +1,5 @@
 -- What every graph keeps beside its vertices: the tables that answer its queries.
 use Rattle.std.specs.Prelude.{length}
-use Rattle.flux_defs.specs.Graph.{ResourceGraph}
 use Rattle.resource_graph.specs.NamedGraph.{NamedGraph, IsWhole}
 use Rattle.resource_graph.specs.Holds.{HasPasts, HasNodes, HasLists, HasRanked, HasPools, HasNested}
 use Rattle.resource_graph.specs.declared.graph.Graph.TheInside.{Inside}

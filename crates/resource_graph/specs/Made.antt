@@ -10,5 +10,5 @@ named_graph kinds vertices texts = record {
   names = texts.names;
   bases = texts.bases;
   units = texts.units;
-  properties = texts.properties
+  properties = texts.properties;
 }

@@ -1,5 +1,5 @@
 -- The list of vertices that a graph is built from, and what is built.
-use Rattle.std.specs.Prelude.{◌≡◌, ◌≢◌, ℕ, suc, ◌<◌, ◌≤◌, Bool, true, false, ◌&&◌, cond, List, map, length, Option, Some, None, is_some, slice_get, take, count_by, codes, IsSome, MatchOption, option_and_then}
+use Rattle.std.specs.Prelude.{◌≡◌, ℕ, ◌<◌, Bool, false, ◌&&◌, cond, List, map, length, Option, Some, None, is_some, slice_get, take, count_by, codes, IsSome, MatchOption, option_and_then}
 use Rattle.std.specs.Option.{IsSomeAnd, option_map, option_map_or}
 use Rattle.std.specs.List.{list_any}
 use Rattle.std.specs.Str.{bytes_eq}

@@ -1,10 +1,7 @@
 -- What the queries of a graph answer, and what its tables hold.
-use Rattle.std.specs.Prelude.{◌≡◌, ◌≢◌, ℕ, ◌<◌, ◌≤◌, ◌↔◌, Bool, false, List, length, Option, Some, None, MatchOption, slice_get, slice_index, slice_index_or, IsTrue}
-use Rattle.std.specs.Ordering.{nat_cmp}
-use Rattle.std.specs.BTreeMap.{BTreeMap, get}
-use Rattle.std.specs.declared.alloc.Global.{Global}
+use Rattle.std.specs.Prelude.{◌≡◌, ◌≢◌, ℕ, ◌<◌, ◌≤◌, List, length, Option, Some, MatchOption, slice_get, slice_index, IsTrue}
 use Rattle.flux_defs.specs.declared.vertices.Vertex.{Vertex}
-use Rattle.flux_defs.specs.Graph.{ResourceGraph, is_at_or_below, is_below, HasKind, IsNode, is_pool_kind}
+use Rattle.flux_defs.specs.Graph.{ResourceGraph, is_at_or_below, is_below, HasKind, IsNode}
 use Rattle.flux_defs.specs.ValidGraph.{HasRank}
 
 -- `after` is the number after the last vertex at or below v: exactly the vertices from v on and before it are at or below v

@@ -42,7 +42,11 @@ pub(crate) fn numbers_of(alloc: Global, order: &[u32]) -> Result<Vec<u32>, Alloc
 }
 
 /// The raw vertices in this order. Each is moved once.
-pub(crate) fn arranged(alloc: Global, raw: Vec<RawVertex>, order: &[u32]) -> Result<Vec<RawVertex>, AllocError>
+pub(crate) fn arranged(
+    alloc: Global,
+    raw: Vec<RawVertex>,
+    order: &[u32],
+) -> Result<Vec<RawVertex>, AllocError>
     requires { IsOrderOf (length raw.items) order.now }
     ensures { IfOk result (λ list. IsArrangedList raw.items order.now (length order.now) list.items) }
 {
@@ -132,7 +136,12 @@ fn no_numbers(alloc: Global, kinds: &[Text]) -> Result<KindNumbering, AllocError
 }
 
 /// Gives the type the next number, where it has none.
-fn use_kind(alloc: Global, kinds: &[Text], numbering: &mut KindNumbering, kind: usize) -> Result<(), AllocError>
+fn use_kind(
+    alloc: Global,
+    kinds: &[Text],
+    numbering: &mut KindNumbering,
+    kind: usize,
+) -> Result<(), AllocError>
     requires within { kind < length kinds.now }
     requires whole { length numbering.old.numbers.items ≡ length kinds.now }
     requires few { length numbering.old.kinds.items ≤ 256 }
@@ -178,7 +187,12 @@ pub(crate) fn vertices_of(
 }
 
 /// The vertex with the numbers of the graph.
-fn renumbered(vertex: Vertex, numbers: &[u32], kind_numbers: &[Option<u32>], rank: Option<u32>) -> Vertex
+fn renumbered(
+    vertex: Vertex,
+    numbers: &[u32],
+    kind_numbers: &[Option<u32>],
+    rank: Option<u32>,
+) -> Vertex
     requires parent { (p : ℕ) → vertex.parent ≡ Some p → p < length numbers.now }
     requires kind { (j : ℕ) × (slice_get kind_numbers.now vertex.kind ≡ Some (Some j)) }
     ensures made { IsMadeFrom numbers.now kind_numbers.now vertex result }

@@ -1,17 +1,21 @@
 //! A graph from a list of vertices.
-ghost use Rattle.std.specs.Prelude.{IfOk};
+ghost use Rattle.std.specs.Prelude.{◌≡◌, IfOk, IfErr};
 ghost use Rattle.resource_graph.specs.Faults.{IsFaultless};
 ghost use Rattle.resource_graph.specs.Raw.{KindsApart, IsBuiltFrom, raw_graph, raw_names};
 
 use crate::arrange::{arranged, numbered_kinds, numbers_of, shapes_of, texts_of, vertices_of};
 use crate::graph::Graph;
 use crate::order::preorder_of;
-use crate::raw::RawVertex;
+use crate::raw::{GraphFault, RawVertex};
 use flux_defs::{List, Text};
 use std::alloc::{AllocError, Global};
 
 /// The graph of a list of vertices with which nothing is wrong.
-pub(crate) fn build_faultless(alloc: Global, kinds: &List<Text>, raw: List<RawVertex>) -> Result<Graph, AllocError>
+pub(crate) fn build_faultless(
+    alloc: Global,
+    kinds: &List<Text>,
+    raw: List<RawVertex>,
+) -> Result<Graph, AllocError>
     requires apart { KindsApart kinds.now }
     requires fine { IsFaultless (raw_graph kinds.now raw) (raw_names raw) }
     ensures { IfOk result (λ graph. IsBuiltFrom kinds.now raw graph) }
@@ -36,4 +40,23 @@ pub(crate) fn build_faultless(alloc: Global, kinds: &List<Text>, raw: List<RawVe
         List::of_vec(made),
         texts,
     )
+}
+
+impl Graph {
+    /// The graph of these types and vertices, in preorder, siblings in the order of the list (RFC 4).
+    pub fn build(
+        alloc: Global,
+        kinds: List<Text>,
+        raw: List<RawVertex>,
+    ) -> Result<Graph, GraphFault>
+        requires apart { KindsApart kinds }
+        requires fine { IsFaultless (raw_graph kinds raw) (raw_names raw) }
+        ensures built { IfOk result (λ graph. IsBuiltFrom kinds raw graph) }
+        ensures memory_only { IfErr result (λ fault. fault ≡ GraphFault.Memory) }
+    {
+        match build_faultless(alloc, &kinds, raw) {
+            Ok(graph) => Ok(graph),
+            Err(_) => Err(GraphFault::Memory),
+        }
+    }
 }

@@ -69,7 +69,11 @@ fn node_at(vertices: &[Vertex], nodes: &[Option<u32>], v: usize) -> Option<u32>
 }
 
 /// By type, its vertices.
-pub(crate) fn list_table(alloc: Global, vertices: &[Vertex], kinds: usize) -> Result<Vec<Vec<u32>>, AllocError>
+pub(crate) fn list_table(
+    alloc: Global,
+    vertices: &[Vertex],
+    kinds: usize,
+) -> Result<Vec<Vec<u32>>, AllocError>
     requires few { length vertices.now ≤ 65536 }
     requires known { KnowsKinds vertices.now kinds }
     ensures { IfOk result (λ lists. HasLists vertices.now kinds lists.items) }
@@ -94,7 +98,10 @@ fn empty_lists(alloc: Global, count: usize) -> Result<Vec<Vec<u32>>, AllocError>
 }
 
 /// By rank, its node.
-pub(crate) fn rank_table(alloc: Global, vertices: &[Vertex]) -> Result<BTreeMap<u32, u32>, AllocError>
+pub(crate) fn rank_table(
+    alloc: Global,
+    vertices: &[Vertex],
+) -> Result<BTreeMap<u32, u32>, AllocError>
     requires few { length vertices.now ≤ 65536 }
     requires apart { RanksApart vertices.now }
     ensures { IfOk result (λ ranked. HasRanked vertices.now ranked) }
@@ -109,7 +116,11 @@ pub(crate) fn rank_table(alloc: Global, vertices: &[Vertex]) -> Result<BTreeMap<
 }
 
 /// By type, whether it is a pool type.
-pub(crate) fn pool_table(alloc: Global, vertices: &[Vertex], kinds: usize) -> Result<Vec<bool>, AllocError>
+pub(crate) fn pool_table(
+    alloc: Global,
+    vertices: &[Vertex],
+    kinds: usize,
+) -> Result<Vec<bool>, AllocError>
     requires known { KnowsKinds vertices.now kinds }
     ensures { IfOk result (λ pools. HasPools vertices.now pools.items) }
 {
@@ -123,7 +134,11 @@ pub(crate) fn pool_table(alloc: Global, vertices: &[Vertex], kinds: usize) -> Re
 }
 
 /// By two types, row by row, whether the first contains the second.
-pub(crate) fn nested_table(alloc: Global, vertices: &[Vertex], kinds: usize) -> Result<Vec<bool>, AllocError>
+pub(crate) fn nested_table(
+    alloc: Global,
+    vertices: &[Vertex],
+    kinds: usize,
+) -> Result<Vec<bool>, AllocError>
     requires order { InPreorder vertices.now }
     requires few_kinds { kinds ≤ 256 }
     requires known { KnowsKinds vertices.now kinds }

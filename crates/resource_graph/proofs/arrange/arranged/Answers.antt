@@ -1,9 +1,7 @@
-use Rattle.std.proofs.Common.{◌≡◌, ◌<◌, ◌≤◌, List, length, get_or, set, Some, Option, None, sym, ◌∙◌, ap, subst, refl, arith}
+use Rattle.std.proofs.Common.{◌≡◌, ◌<◌, length, get_or, Some, sym, ◌∙◌, ap, refl, arith}
 use Rattle.std.specs.Prelude.{slice_get}
-use Rattle.std.specs.Option.{option_map}
 use Rattle.std.proofs.lemmas.List.{length-set}
 use Rattle.std.proofs.lemmas.Option.{slice_get-get_or, slice_get_read}
-use Rattle.resource_graph.specs.declared.raw.RawVertex.{RawVertex}
 use Rattle.resource_graph.proofs.MadeLaws.{arranged_more, slots_stay}
 use Rattle.resource_graph.proofs.arrange.arranged.Goals as goal
 
@@ -21,5 +19,5 @@ loop-place-preserved c =
     record {
       taken = arranged_more c.args.raw.items order most i c.loop-place.list.items c.push.new.self.items c.in-Some.vertex at gives c.in_ok-push.ensures.items c.loop-place.invariant.taken;
       as_many = length-set slots i c.take-slot.new.self ∙ c.loop-place.invariant.as_many;
-      left = slots_stay c.args.raw.items order (length c.args.raw.items) most i slots c.take-slot.new.self c.requires at c.loop-place.invariant.left
+      left = slots_stay c.args.raw.items order (length c.args.raw.items) most i slots c.take-slot.new.self c.requires at c.loop-place.invariant.left;
     }

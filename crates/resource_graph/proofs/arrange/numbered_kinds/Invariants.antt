@@ -1,4 +1,3 @@
-use Rattle.std.proofs.Common.{◌≤◌, length}
 use Rattle.resource_graph.proofs.KindLaws.{Numbering}
 use Rattle.resource_graph.proofs.arrange.numbered_kinds.Given as goal
 

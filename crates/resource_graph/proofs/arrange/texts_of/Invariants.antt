@@ -6,5 +6,5 @@ invariant-loop-vertex l = record {
   names : l.names.items ≡ map (λ r. r.name) l.yielded;
   bases : l.bases.items ≡ map (λ r. r.base) l.yielded;
   units : l.units.items ≡ map (λ r. r.unit) l.yielded;
-  properties : l.properties.items ≡ map (λ r. r.properties) l.yielded
+  properties : l.properties.items ≡ map (λ r. r.properties) l.yielded;
 }

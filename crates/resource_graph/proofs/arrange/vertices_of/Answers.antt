@@ -1,8 +1,7 @@
-use Rattle.std.proofs.Common.{◌≡◌, ◌<◌, ◌≤◌, ◌+◌, cond, List, length, get_or, Some, Option, None, sym, ◌∙◌, ap, subst, refl, arith, true, false, inl, inr, Bool}
+use Rattle.std.proofs.Common.{◌≡◌, ◌<◌, ◌≤◌, cond, length, get_or, Some, sym, ◌∙◌, ap, arith, inl, inr}
 use Rattle.std.specs.Prelude.{slice_get}
 use Rattle.std.proofs.lemmas.Bool.{cases_Bool}
 use Rattle.std.proofs.lemmas.Option.{slice_get-get_or}
-use Rattle.resource_graph.specs.Arranged.{HasMadeTo}
 use Rattle.resource_graph.proofs.LineLaws.{parent_at, no_vertex}
 use Rattle.resource_graph.proofs.MadeLaws.{made_more, rank_made, nodes_more}
 use Rattle.resource_graph.proofs.arrange.vertices_of.Goals as goal
@@ -18,7 +17,7 @@ loop-place-preserved c =
     let x = get_or vertices i no_vertex in
     let at_x : slice_get vertices i ≡ Some x = slice_get-get_or vertices i no_vertex within in
     let rank = rank_made c.args.kinds.now vertices order most x c.is_node-node.result c.ranks_given-ranked.result c.loop-place.nodes c.rank_for-rank.result
-        c.is_node-node.ensures c.ranks_given-ranked.ensures c.loop-place.invariant.counted c.rank_for-rank.ensures in
+    c.is_node-node.ensures c.ranks_given-ranked.ensures c.loop-place.invariant.counted c.rank_for-rank.ensures in
     let one : c.one_if-nodes.result ≡ cond c.is_node-node.result 1 0 = c.one_if-nodes.ensures in
     let little : c.one_if-nodes.result ≤ 1 = elim (cases_Bool c.is_node-node.result) [
       | inl node ↦ (let e : c.one_if-nodes.result ≡ 1 = one ∙ ap (λ t. cond t 1 0) node in omega arith)
@@ -26,9 +25,9 @@ loop-place-preserved c =
     ] in
     record {
       made = made_more c.args.kinds.now vertices order c.args.numbers.now c.args.kind_numbers.now most i c.loop-place.made.items c.push.new.self.items x c.renumbered.result at at_x
-        c.renumbered.ensures.made (c.renumbered.ensures.ranked ∙ rank) c.in_ok-push.ensures.items c.loop-place.invariant.made;
+          c.renumbered.ensures.made (c.renumbered.ensures.ranked ∙ rank) c.in_ok-push.ensures.items c.loop-place.invariant.made;
       counted = nodes_more c.args.kinds.now vertices order most i x c.is_node-node.result c.loop-place.nodes c.one_if-nodes.result at at_x c.is_node-node.ensures c.loop-place.invariant.counted one;
-      few = omega (arith, c.loop-place.invariant.few)
+      few = omega (arith, c.loop-place.invariant.few);
     }
 
 pub renumbered-requires-clause-parent : goal.renumbered-requires-clause-parent

@@ -7,5 +7,5 @@ abbrev pub invariant-loop-place : goal.invariant-loop-place
 invariant-loop-place l = record {
   made : HasMadeTo l.kinds l.vertices l.order l.numbers l.kind_numbers l.place-index l.made.items;
   counted : l.nodes ≡ nodes_among l.kinds l.vertices (take l.place-index l.order);
-  few : l.nodes ≤ l.place-index
+  few : l.nodes ≤ l.place-index;
 }

@@ -1,10 +1,10 @@
 use Rattle.std.proofs.Common.{◌≡◌, ℕ, List, length, map, sym, ◌∙◌, ap, subst}
 use Rattle.std.proofs.lemmas.Result.{IfOk-weaker}
 use Rattle.flux_defs.specs.declared.vertices.Vertex.{Vertex}
-use Rattle.resource_graph.specs.Lines.{IsRooted, IsOrderOf, IsPreorderOf, KnowsParents}
+use Rattle.resource_graph.specs.Lines.{IsRooted, IsOrderOf, KnowsParents}
 use Rattle.resource_graph.specs.Raw.{IsBuiltFrom, shape_of, raw_names}
 use Rattle.resource_graph.specs.NamedGraph.{NamedGraph}
-use Rattle.resource_graph.specs.Arranged.{HasKindNumbers, IsKindNumbering}
+use Rattle.resource_graph.specs.Arranged.{HasKindNumbers}
 use Rattle.resource_graph.proofs.BuildLaws.{rooted, kind_numbers, built_steps, built_same}
 use Rattle.resource_graph.proofs.build.build_faultless.Goals as goal
 
@@ -23,11 +23,11 @@ vertices_of-requires-clause-numbered c =
     let same : c.as_slice-5.result.now ≡ c.as_slice-3.result.now = c.as_slice-5.ensures.value ∙ sym c.as_slice-3.ensures.value in
     let first : c.as_slice.result.now ≡ c.as_slice-3.result.now = c.as_slice.ensures.value ∙ sym c.as_slice-3.ensures.value in
     let places : IsOrderOf (length c.as_slice-3.result.now) c.as_slice-4.result.now =
-        subst (λ (l : List Vertex). IsOrderOf (length l) c.as_slice-4.result.now) first
-        (subst (λ (l : List ℕ). IsOrderOf (length c.as_slice.result.now) l) (sym c.as_slice-4.ensures.value) c.in_ok-order.ensures.places) in
+    subst (λ (l : List Vertex). IsOrderOf (length l) c.as_slice-4.result.now) first
+    (subst (λ (l : List ℕ). IsOrderOf (length c.as_slice.result.now) l) (sym c.as_slice-4.ensures.value) c.in_ok-order.ensures.places) in
     subst (λ (l : List Vertex). HasKindNumbers l c.as_slice-8.result.now) (sym same)
     (subst (HasKindNumbers c.as_slice-3.result.now) (sym c.as_slice-8.ensures.value)
-     (kind_numbers c.items-2.result.now c.as_slice-3.result.now c.as_slice-4.result.now places c.in_ok-numbering.numbering c.in_ok-numbering.ensures))
+    (kind_numbers c.items-2.result.now c.as_slice-3.result.now c.as_slice-4.result.now places c.in_ok-numbering.numbering c.in_ok-numbering.ensures))
 
 pub with_tables-requires : goal.with_tables-requires
 with_tables-requires c = (built_same c.args.kinds.now c.args.raw c.in_ok-numbering.numbering.kinds.items c.of_vec.result c.in_ok-made.made.items c.of_vec-2.result c.in_ok-texts.texts c.of_vec.ensures c.of_vec-2.ensures

@@ -1,4 +1,4 @@
-use Rattle.std.proofs.Common.{◌≡◌, ℕ, ◌-◌, ◌<◌, ◌≤◌, ◌++◌, length, Some, vec_len, reverse, drop}
+use Rattle.std.proofs.Common.{◌≡◌, ◌≤◌, length, reverse, drop}
 use Rattle.std.specs.List.{flat_map}
 use Rattle.resource_graph.specs.NamedGraph.{name_step}
 use Rattle.resource_graph.proofs.graph.path_along.Given as goal

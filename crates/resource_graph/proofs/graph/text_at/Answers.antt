@@ -1,4 +1,4 @@
-use Rattle.std.proofs.Common.{◌≡◌, ◌≢◌, ℕ, suc, ◌+◌, ◌<◌, List, length, get_or, Some, true, false, sym, ◌∙◌, ap, below_more, arith}
+use Rattle.std.proofs.Common.{◌≡◌, ◌≢◌, ℕ, ◌<◌, List, length, get_or, Some, true, false, sym, ◌∙◌, ap, below_more, arith}
 use Rattle.std.specs.Prelude.{slice_get}
 use Rattle.std.proofs.lemmas.Bool.{both_ways}
 use Rattle.std.proofs.lemmas.Option.{slice_get-get_or, slice_get_within, same_Some}
@@ -20,7 +20,7 @@ other texts i text bytes wanted lt is same e at =
 
 pub returns-then-eq : goal.returns-then-eq
 returns-then-eq c = record {
-  found = (there c.args.texts.now c.loop-place.place c.index-texts-place.result c.bytes.result.now c.args.wanted.now (omega arith) c.index-texts-place.is c.bytes.ensures c.if-eq.ensures, c.loop-place.invariant)
+  found = (there c.args.texts.now c.loop-place.place c.index-texts-place.result c.bytes.result.now c.args.wanted.now (omega arith) c.index-texts-place.is c.bytes.ensures c.if-eq.ensures, c.loop-place.invariant);
 }
 
 pub loop-place-preserved : goal.loop-place-preserved
@@ -29,5 +29,5 @@ loop-place-preserved c = below_more _ _ c.loop-place.invariant
 
 pub returns : goal.returns
 returns c = record {
-  found = λ k e. let lt : k < length c.args.texts.now = slice_get_within c.args.texts.now k c.args.wanted.now e in c.loop-place.invariant k (omega arith) e
+  found = λ k e. let lt : k < length c.args.texts.now = slice_get_within c.args.texts.now k c.args.wanted.now e in c.loop-place.invariant k (omega arith) e;
 }

@@ -8,7 +8,7 @@ invariant-loop-at l = record {
   climbed : (l.line.items ++ chain l.vertices (l.most - vec_len l.line) l.at) ≡ chain l.vertices l.most (Some l.vertex);
   within : vec_len l.line ≤ l.most;
   known : (v : ℕ) → l.at ≡ Some v → v < length l.vertices;
-  below : AllBelow (length l.vertices) l.line.items
+  below : AllBelow (length l.vertices) l.line.items;
 }
 
 abbrev pub decreases-loop-at : goal.decreases-loop-at

@@ -1,5 +1,4 @@
-use Rattle.std.proofs.Common.{◌≡◌, ℕ, ◌<◌, List, length, Some, Vec, Global, sym, subst}
-use Rattle.std.specs.Prelude.{slice_get}
+use Rattle.std.proofs.Common.{ℕ, List, length, Vec, Global, sym, subst}
 use Rattle.std.proofs.lemmas.Result.{IfOk-weaker}
 use Rattle.resource_graph.specs.Lines.{HasEnds, NoneIsEmpty}
 use Rattle.resource_graph.proofs.SortLaws.{none_empty, preorder_of_sorted}

@@ -1,7 +1,5 @@
-use Rattle.std.proofs.Common.{◌≡◌, ◌<◌, ◌+◌, ◌*◌, Option, None, Some, List, Bool, true, get_or, length, set, sym, ◌∙◌, ap, subst, refl, arith, ℕ}
+use Rattle.std.proofs.Common.{◌<◌, Option, Some, true, get_or, length, set, sym, ◌∙◌, subst, arith, ℕ}
 use Rattle.flux_defs.specs.Graph.{parent_of}
-use Rattle.graph_laws.proofs.Preorder.{parents_first}
-use Rattle.resource_graph.specs.Preorder.{plain}
 use Rattle.resource_graph.proofs.LineLaws.{parent_at, no_vertex}
 use Rattle.resource_graph.proofs.TableLaws.{parent_before}
 use Rattle.resource_graph.proofs.MarkLaws.{Marks, marks_none, marks_more, marks_all, kind_low, reach_in, climb_falls}

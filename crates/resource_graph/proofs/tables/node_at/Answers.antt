@@ -1,5 +1,5 @@
-use Rattle.std.proofs.Common.{◌≡◌, ◌<◌, Option, None, Some, get_or, length, sym, ◌∙◌, subst, refl, arith}
-use Rattle.std.proofs.lemmas.Option.{slice_get_read, slice_get-get_or}
+use Rattle.std.proofs.Common.{◌≡◌, ◌<◌, None, Some, length, sym, ◌∙◌, arith}
+use Rattle.std.proofs.lemmas.Option.{slice_get-get_or}
 use Rattle.flux_defs.specs.Graph.{parent_of}
 use Rattle.resource_graph.proofs.LineLaws.{parent_at, no_vertex}
 use Rattle.resource_graph.proofs.TableLaws.{node_here, no_node_here, node_from_parent, node_of_root, self_node, parent_before}

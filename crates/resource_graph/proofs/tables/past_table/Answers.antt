@@ -1,4 +1,4 @@
-use Rattle.std.proofs.Common.{◌≡◌, ◌<◌, ◌≤◌, ◌+◌, ◌-◌, Option, None, Some, get_or, length, List, max, set, sym, ◌∙◌, ap, subst, refl, arith, ℕ}
+use Rattle.std.proofs.Common.{◌≡◌, ◌<◌, ◌+◌, ◌-◌, Some, get_or, length, max, set, sym, ◌∙◌, ap, subst, arith, ℕ}
 use Rattle.std.proofs.lemmas.List.{get_or_read}
 use Rattle.flux_defs.specs.Graph.{parent_of}
 use Rattle.resource_graph.proofs.LineLaws.{parent_at, parent_at_none, no_vertex}
@@ -29,7 +29,7 @@ loop-left-preserved-in-Some c =
     let back : v + 1 ≡ c.loop-left.left = omega arith in
     let parent : parent_of vertices v ≡ Some c.in-Some.parent = sym (parent_at vertices v no_vertex within) ∙ c.in-Some.is in
     let more = pasts_more vertices c.requires.order v c.in-Some.parent c.loop-left.past.items within parent
-        (subst (λ (l : ℕ). HasPastsFrom vertices l c.loop-left.past.items) (sym back) c.loop-left.invariant.0) in
+    (subst (λ (l : ℕ). HasPastsFrom vertices l c.loop-left.past.items) (sym back) c.loop-left.invariant.0) in
     let p_in : c.in-Some.parent < length c.loop-left.past.items = (let before : c.in-Some.parent < v = parent_before vertices c.requires.order v c.in-Some.parent parent in omega (arith, c.loop-left.invariant.0.as_many)) in
     let v_in : v < length c.loop-left.past.items = omega (arith, c.loop-left.invariant.0.as_many) in
     let a : c.index.result.now ≡ get_or c.loop-left.past.items c.in-Some.parent 0 = get_or_read c.loop-left.past.items c.in-Some.parent c.index.result.now p_in c.index.ensures 0 in
@@ -42,9 +42,11 @@ loop-left-preserved c =
     let vertices = c.args.vertices.now in
     let v = c.loop-left.left - 1 in
     let within : v < length vertices = omega arith in
-    let back : v + 1 ≡ c.loop-left.left = omega arith in
-    (pasts_root vertices c.requires.order v c.loop-left.past.items within (parent_at_none vertices v within c.in_default.not-Some)
-     (subst (λ (l : ℕ). HasPastsFrom vertices l c.loop-left.past.items) (sym back) c.loop-left.invariant.0), omega arith)
+    let back : v + 1 ≡ c.loop-left.left = omega arith in (
+      pasts_root vertices c.requires.order v c.loop-left.past.items within (parent_at_none vertices v within c.in_default.not-Some)
+          (subst (λ (l : ℕ). HasPastsFrom vertices l c.loop-left.past.items) (sym back) c.loop-left.invariant.0),
+      omega arith,
+    )
 
 pub returns : goal.returns
 returns c = pasts_all c.args.vertices.now c.requires.order c.loop-left.left c.loop-left.past.items (omega arith) c.loop-left.invariant.0

@@ -1,4 +1,4 @@
-use Rattle.std.proofs.Common.{◌≡◌, ℕ, ◌<◌, ◌&&◌, ◌==◌, not, false, length, get_or, take}
+use Rattle.std.proofs.Common.{◌≡◌, ℕ, ◌&&◌, ◌==◌, not, false, length, get_or, take}
 use Rattle.std.specs.List.{list_any}
 use Rattle.resource_graph.proofs.tables.pool_table.Given as goal
 

@@ -1,7 +1,7 @@
-use Rattle.std.proofs.Common.{◌≡◌, ℕ, ◌<◌, List, length, get_or, Some, sym, ◌∙◌, ap, subst, arith, refl, Vec, Global}
+use Rattle.std.proofs.Common.{◌≡◌, ℕ, ◌<◌, List, length, get_or, sym, subst, arith, refl, Vec, Global}
 use Rattle.std.proofs.lemmas.Option.{slice_get_read}
 use Rattle.flux_defs.specs.declared.vertices.Vertex.{Vertex}
-use Rattle.resource_graph.specs.Tables.{ListsKind, Rises}
+use Rattle.resource_graph.specs.Tables.{ListsKind}
 use Rattle.resource_graph.specs.Holds.{HasLists}
 use Rattle.resource_graph.proofs.Queries.{next_of_list}
 use Rattle.resource_graph.proofs.graph.Graph.next_of_kind.Goals as goal
@@ -20,5 +20,5 @@ pub returns : goal.returns
 returns c =
     rw (← c.self.view_is)
     (next_of_list c.self.inside.vertices c.args.kind c.as_slice.result.now c.args.from c.args.to c.next_in.result
-     (read_list c.self.inside.vertices _ c.args.kind c.self.inside.lists.items c.index-list.result.now c.as_slice.result.now c.self.invariant.lists (omega (arith, c.len.ensures)) c.index-list.ensures c.as_slice.ensures.value)
-     c.next_in.ensures)
+    (read_list c.self.inside.vertices _ c.args.kind c.self.inside.lists.items c.index-list.result.now c.as_slice.result.now c.self.invariant.lists (omega (arith, c.len.ensures)) c.index-list.ensures c.as_slice.ensures.value)
+    c.next_in.ensures)
