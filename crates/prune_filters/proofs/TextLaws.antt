@@ -1,6 +1,6 @@
 -- How a text falls into items, and an item into two types.
-use Rattle.std.proofs.Common.{◌≡◌, ◌≢◌, ℕ, zero, suc, ◌+◌, ◌==◌, ◌<◌, ◌≤◌, nat_lt, nat_le, nat_eq, Bool, true, false, ◌&&◌, ◌||◌, List, [], ◌∷◌, ◌++◌, length, sum_by, inl, inr, refl, sym, ◌∙◌, ap, subst, arith, IsTrue, true≢false, cond, append_assoc, Option, Some, None, MatchOption}
-use Rattle.std.specs.List.{AllByRecursion, AllZip, slice_split, onto_first, list_all}
+use Rattle.std.proofs.Common.{◌≡◌, ◌≢◌, ℕ, ◌+◌, nat_lt, nat_le, nat_eq, true, false, ◌&&◌, List, [], ◌∷◌, ◌++◌, length, sum_by, inl, inr, refl, sym, ◌∙◌, ap, subst, arith, IsTrue, true≢false, cond, append_assoc, Option, Some, None, MatchOption}
+use Rattle.std.specs.List.{AllByRecursion, AllZip, onto_first, list_all}
 use Rattle.std.proofs.lemmas.Bool.{and_parts}
 use Rattle.std.proofs.lemmas.Bool.Decides.{eqb_tells}
 use Rattle.std.proofs.lemmas.List.Sums.{sum_by_push}

@@ -1,5 +1,5 @@
 -- Filter rules (pruning filters, as flux-sched has them): which texts are rules, and what they keep.
-use Rattle.std.specs.Prelude.{◌≡◌, ℕ, ◌+◌, ◌⊎◌, ⊤, List, [], ◌∷◌, ◌++◌, length, sum_by, Any, IsTrue, codes}
+use Rattle.std.specs.Prelude.{◌≡◌, ℕ, ◌+◌, ◌⊎◌, ⊤, List, ◌∷◌, ◌++◌, length, sum_by, Any, IsTrue, codes}
 use Rattle.std.specs.List.{AllByRecursion, AllZip}
 use Rattle.prune_filters.specs.declared.rules.Rule.{Rule}
 use Rattle.prune_filters.specs.declared.rules.FilterFault.{FilterFault}

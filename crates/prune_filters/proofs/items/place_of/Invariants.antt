@@ -1,4 +1,4 @@
-use Rattle.std.proofs.Common.{◌≡◌, ◌≢◌, ℕ, ◌<◌, slice_index}
+use Rattle.std.proofs.Common.{◌≢◌, ℕ, ◌<◌, slice_index}
 use Rattle.prune_filters.proofs.items.place_of.Given as goal
 
 -- no such byte stands before

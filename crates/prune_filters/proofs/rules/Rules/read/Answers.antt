@@ -1,4 +1,4 @@
-use Rattle.std.proofs.Common.{◌≡◌, ◌+◌, ◌∷◌, [], length, sym, ◌∙◌, ap, arith, length-append}
+use Rattle.std.proofs.Common.{length, ap, arith, length-append}
 use Rattle.prune_filters.specs.Names.{items_of}
 use Rattle.prune_filters.proofs.TextLaws.{first_head, first_fault, read_more, read_last}
 use Rattle.prune_filters.proofs.rules.Rules.read.Goals as goal
