@@ -1,5 +1,7 @@
 //! How far needs can be filled, without writing a claim: it takes no memory.
 ghost use Rattle.std.specs.Prelude.{◌≡◌, ◌+◌, ◌*◌, ◌<◌, ◌≤◌, length, List};
+ghost use Rattle.flux_defs.specs.declared.vertices.Vertex.{Vertex};
+ghost use Rattle.flux_defs.specs.declared.claims.Claim.{Claim};
 ghost use Rattle.flux_defs.specs.declared.claims.Job.{Job};
 ghost use Rattle.flux_defs.specs.Graph.{Place, Beneath, IsIn};
 ghost use Rattle.flux_defs.specs.Needs.{IsOfNeed, IsValidNeed, AreValidNeeds};
@@ -26,7 +28,9 @@ fn reach<F: FreeView, L: Ledger>(
     requires may { MayAsk most need.now }
     ensures within { result ≤ most }
     ensures greatest { (jobs : List Job) → F.stands_for s.now.view.now jobs →
-        IsGreatest (SomeGroup s.now.graph.now.resources.vertices (open_to s.now.graph.now.resources.vertices jobs s.now.barred.now s.now.window) (place_of place) need.now) most result }
+        (let vs : List Vertex = s.now.graph.now.resources.vertices in
+        let ok : Claim → Type 0 = open_to vs jobs s.now.barred.now s.now.window in
+        IsGreatest (SomeGroup vs ok (place_of place) need.now) most result) }
 {
     let Some(kind) = kind_of(s.graph, need) else {
         return 0;
@@ -59,8 +63,11 @@ pub(crate) fn serves<F: FreeView, L: Ledger>(
     requires may { MayAsk most need.now }
     requires some { 1 ≤ most }
     ensures within { result ≤ most }
-    ensures greatest { (jobs : List Job) → F.stands_for s.now.view.now jobs → (place : Place) → IsIn s.now.graph.now.resources.vertices place vertex →
-        IsGreatest (CanServe s.now.graph.now.resources.vertices (open_to s.now.graph.now.resources.vertices jobs s.now.barred.now s.now.window) place need.now vertex) most result }
+    ensures greatest { (jobs : List Job) → F.stands_for s.now.view.now jobs →
+        (let vs : List Vertex = s.now.graph.now.resources.vertices in
+        let ok : Claim → Type 0 = open_to vs jobs s.now.barred.now s.now.window in
+        (place : Place) → IsIn vs place vertex →
+        IsGreatest (CanServe vs ok place need.now vertex) most result) }
 {
     match need {
         Need::Vert { hold, needs, .. } => {
@@ -94,7 +101,9 @@ pub(crate) fn copies<F: FreeView, L: Ledger>(
     requires may { MayScale most needs.now }
     ensures within { result ≤ most }
     ensures greatest { (jobs : List Job) → F.stands_for s.now.view.now jobs →
-        IsGreatest (SomeFits s.now.graph.now.resources.vertices (open_to s.now.graph.now.resources.vertices jobs s.now.barred.now s.now.window) (Beneath vertex) needs.now) most result }
+        (let vs : List Vertex = s.now.graph.now.resources.vertices in
+        let ok : Claim → Type 0 = open_to vs jobs s.now.barred.now s.now.window in
+        IsGreatest (SomeFits vs ok (Beneath vertex) needs.now) most result) }
 {
     let mut best = most;
     for need in needs.items() {

@@ -25,7 +25,9 @@ pub fn match_at<F: FreeView, L: Ledger>(
     requires proper { IsProperAsk graph.now.resources.vertices ask.now }
     requires opens { window.from < window.to }
     ensures { IfOk result (λ found. (jobs : List Job) → F.stands_for view.now jobs →
-        MatchOption found (SomeFit graph.now.resources.vertices jobs ask.now window → ⊥) (IsLowestFirst graph.now.resources.vertices jobs ask.now window)) }
+        MatchOption found
+        (SomeFit graph.now.resources.vertices jobs ask.now window → ⊥)
+        (IsLowestFirst graph.now.resources.vertices jobs ask.now window)) }
 {
     let search = Search {
         graph,

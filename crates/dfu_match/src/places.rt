@@ -19,6 +19,7 @@ pub(crate) fn span_of(graph: &Graph, place: Option<u32>) -> Span
     ensures covers { Covers graph.now.resources.vertices (place_of place) result.from result.to }
     ensures within { result.to ≤ length graph.now.resources.vertices }
 {
+    // this call tells that the graph is valid
     let _valid = graph.vertices();
     match place {
         None => Span {
@@ -36,6 +37,7 @@ pub(crate) fn span_of(graph: &Graph, place: Option<u32>) -> Span
 pub(crate) fn kind_of(graph: &Graph, need: &Need) -> Option<u32>
     ensures { IsKindOfNeed graph.now.resources.vertices need.now result }
 {
+    // this call tells that the graph is valid
     let _valid = graph.vertices();
     match need {
         Need::Vert { kind, .. } => Some(*kind),

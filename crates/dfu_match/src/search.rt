@@ -32,6 +32,7 @@ fn bars_over<F: FreeView>(s: &Search<F>, vertex: u32) -> bool
     requires { vertex < length s.now.graph.now.resources.vertices }
     ensures { result ≡ list_any (is_at_or_below s.now.graph.now.resources.vertices vertex) s.now.barred.now }
 {
+    // this call tells that the graph is valid
     let _valid = s.graph.vertices();
     match s.graph.node_of(vertex) {
         None => false,
@@ -47,6 +48,7 @@ fn bars_below<F: FreeView>(s: &Search<F>, vertex: u32) -> bool
     requires { vertex < length s.now.graph.now.resources.vertices }
     ensures { result ≡ list_any (λ u. is_at_or_below s.now.graph.now.resources.vertices u vertex) s.now.barred.now }
 {
+    // this call tells that the graph is valid
     let _valid = s.graph.vertices();
     match least_from(s.barred.items(), vertex) {
         None => false,

@@ -1,5 +1,6 @@
 //! Writes the lowest-first claims, each once, at the end of a list.
 ghost use Rattle.std.specs.Prelude.{◌≡◌, ◌*◌, ◌<◌, ◌≤◌, [], ◌∷◌, ◌++◌, false, length, List, IfOk, OnOk, MatchBool};
+ghost use Rattle.flux_defs.specs.declared.vertices.Vertex.{Vertex};
 ghost use Rattle.flux_defs.specs.declared.claims.Job.{Job};
 ghost use Rattle.flux_defs.specs.declared.claims.Claim.{Claim};
 ghost use Rattle.flux_defs.specs.Graph.{Place, Beneath, IsIn};
@@ -31,9 +32,11 @@ pub(crate) fn write_needs<F: FreeView, L: Ledger>(
     requires may { MayScale k needs.now }
     requires some { 1 ≤ k }
     ensures { IfOk result (λ fit. Extends out.old.items out.new.items (λ claims. (jobs : List Job) → F.stands_for s.now.view.now jobs →
+        (let vs : List Vertex = s.now.graph.now.resources.vertices in
+        let ok : Claim → Type 0 = open_to vs jobs s.now.barred.now s.now.window in
         MatchBool fit
-        (Lowest s.now.graph.now.resources.vertices (open_to s.now.graph.now.resources.vertices jobs s.now.barred.now s.now.window) k (place_of place) needs.now claims)
-        (SomeFits s.now.graph.now.resources.vertices (open_to s.now.graph.now.resources.vertices jobs s.now.barred.now s.now.window) (place_of place) needs.now k → ⊥))) }
+        (Lowest vs ok k (place_of place) needs.now claims)
+        (SomeFits vs ok (place_of place) needs.now k → ⊥)))) }
 {
     for need in needs.items() {
         let filled = write_group(s, need, k, place, out, steps)?;
@@ -60,9 +63,11 @@ fn write_group<F: FreeView, L: Ledger>(
     requires may { MayScaleNeed k need.now }
     requires some { 1 ≤ k }
     ensures { IfOk result (λ filled. Extends out.old.items out.new.items (λ claims. (jobs : List Job) → F.stands_for s.now.view.now jobs →
+        (let vs : List Vertex = s.now.graph.now.resources.vertices in
+        let ok : Claim → Type 0 = open_to vs jobs s.now.barred.now s.now.window in
         MatchBool filled
-        (LowestGroup s.now.graph.now.resources.vertices (open_to s.now.graph.now.resources.vertices jobs s.now.barred.now s.now.window) (place_of place) need.now (k * amount_of need.now) claims)
-        (SomeGroup s.now.graph.now.resources.vertices (open_to s.now.graph.now.resources.vertices jobs s.now.barred.now s.now.window) (place_of place) need.now (k * amount_of need.now) → ⊥))) }
+        (LowestGroup vs ok (place_of place) need.now (k * amount_of need.now) claims)
+        (SomeGroup vs ok (place_of place) need.now (k * amount_of need.now) → ⊥)))) }
 {
     let Some(kind) = kind_of(s.graph, need) else {
         return Ok(false);
@@ -98,9 +103,11 @@ fn offer<F: FreeView, L: Ledger>(
     requires some { 1 ≤ most }
     ensures within { IfOk result (λ served. served ≤ most) }
     ensures offers { IfOk result (λ served. Extends out.old.items out.new.items (λ claims. (jobs : List Job) → F.stands_for s.now.view.now jobs →
-        (place : Place) → IsIn s.now.graph.now.resources.vertices place vertex →
-        Offers (CanServe s.now.graph.now.resources.vertices (open_to s.now.graph.now.resources.vertices jobs s.now.barred.now s.now.window) place need.now vertex)
-        (LowestPiece s.now.graph.now.resources.vertices (open_to s.now.graph.now.resources.vertices jobs s.now.barred.now s.now.window) need.now vertex) most served claims)) }
+        (let vs : List Vertex = s.now.graph.now.resources.vertices in
+        let ok : Claim → Type 0 = open_to vs jobs s.now.barred.now s.now.window in
+        (place : Place) → IsIn vs place vertex →
+        Offers (CanServe vs ok place need.now vertex)
+        (LowestPiece vs ok need.now vertex) most served claims))) }
 {
     match need {
         Need::Vert { hold, needs, .. } => {
@@ -158,10 +165,12 @@ fn write_shared<F: FreeView, L: Ledger>(
     requires may { MayScale k needs.now }
     requires some { 1 ≤ k }
     ensures { IfOk result (λ fit. Extends out.old.items out.new.items (λ claims. (fit ≡ false → claims ≡ []) × ((jobs : List Job) → F.stands_for s.now.view.now jobs →
+        (let vs : List Vertex = s.now.graph.now.resources.vertices in
+        let ok : Claim → Type 0 = open_to vs jobs s.now.barred.now s.now.window in
         MatchBool fit
-        (FollowsPass s.now.graph.now.resources.vertices (open_to s.now.graph.now.resources.vertices jobs s.now.barred.now s.now.window) vertex
-        (Lowest s.now.graph.now.resources.vertices (open_to s.now.graph.now.resources.vertices jobs s.now.barred.now s.now.window) k (Beneath vertex) needs.now) claims)
-        (SomeFits s.now.graph.now.resources.vertices (open_to s.now.graph.now.resources.vertices jobs s.now.barred.now s.now.window) (Beneath vertex) needs.now k → ⊥)))) }
+        (FollowsPass vs ok vertex
+        (Lowest vs ok k (Beneath vertex) needs.now) claims)
+        (SomeFits vs ok (Beneath vertex) needs.now k → ⊥))))) }
 {
     let mark = out.len();
     write_claim(out, Claim::Pass { vertex })?;

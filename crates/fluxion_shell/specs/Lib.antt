@@ -1,4 +1,0 @@
-pub mod Ends
-pub mod Forms
-pub mod Outputs
-pub mod Causes

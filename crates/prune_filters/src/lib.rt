@@ -1,0 +1,10 @@
+//! Filter rules: of which types totals are kept at which vertices.
+#![tactic(auto)]
+
+mod items;
+pub mod rules;
+
+pub use rules::{FilterFault, Rule, Rules};
+
+#[cfg(test)]
+mod tests;
