@@ -1,5 +1,5 @@
 -- The first node, and the others.
-use Rattle.std.proofs.Common.{◌≡◌, ◌↔◌, refl, sym, ap, subst, ◌∙◌, ℕ, List, ◌∷◌, Bool, true, false, not, IsTrue, true≢false, Some, slice_get}
+use Rattle.std.proofs.Common.{◌≡◌, ◌↔◌, refl, sym, ap, subst, ℕ, List, ◌∷◌, Bool, true, false, not, IsTrue, true≢false, Some, slice_get}
 use Rattle.graph_form.specs.Checks.{HasCluster, HasOneCluster, HasKnownEnds, HasEndsAt}
 use Rattle.graph_form.specs.declared.file.NodeType.TheVariants.{Cluster}
 use Rattle.graph_form.specs.declared.file.FileNode.{FileNode}

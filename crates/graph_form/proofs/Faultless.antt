@@ -1,5 +1,5 @@
 -- Nodes and edges that are a graph give a list of vertices with which nothing is wrong.
-use Rattle.std.proofs.Common.{◌≡◌, ◌≢◌, ◌↔◌, refl, sym, ap, subst, ◌∙◌, inl, inr, ◌⊎◌, ℕ, zero, suc, ◌+◌, ◌<◌, ◌≤◌, ◌^◌, ◌==◌, ◌&&◌, ◌||◌, nat_eq, Bool, true, false, not, IsTrue, true≢false, List, [], ◌∷◌, ◌++◌, length, map, get_or, Option, Some, None, option_map, option_and_then, position, bytes_eq, decimal, codes, slice_get, arith}
+use Rattle.std.proofs.Common.{◌≡◌, ◌≢◌, refl, sym, ap, subst, ◌∙◌, inl, inr, ◌⊎◌, ℕ, zero, suc, ◌<◌, ◌≤◌, ◌^◌, ◌==◌, ◌&&◌, nat_eq, Bool, true, false, not, IsTrue, true≢false, List, [], ◌∷◌, ◌++◌, length, map, get_or, Option, Some, None, option_map, option_and_then, bytes_eq, decimal, codes, slice_get, arith}
 use Rattle.std.specs.Option.{IsSomeAnd, option_map_or, IsSome}
 use Rattle.std.specs.List.{list_any}
 use Rattle.std.proofs.lemmas.Bool.{cases_lt, and_parts, and_from}
@@ -10,7 +10,7 @@ use Rattle.std.proofs.lemmas.Option.{slice_get-map, slice_get_within, slice_get-
 use Rattle.flux_defs.specs.declared.vertices.Vertex.{Vertex}
 use Rattle.flux_defs.specs.Graph.{ResourceGraph, chain, has_on_chain, is_at_or_below, is_below, is_pool, is_pool_kind, HasKind}
 use Rattle.flux_defs.specs.Graph as contained
-use Rattle.flux_defs.specs.ValidGraph.{HasType, HasId, IsDevice}
+use Rattle.flux_defs.specs.ValidGraph.{HasType, IsDevice}
 use Rattle.graph_laws.proofs.Containment.{equal_to, equal_from, not_from, not_to, at_or_below-opens, up, up-None, steps_to, on_chain}
 use Rattle.resource_graph.proofs.LineLaws.{chain-None}
 use Rattle.resource_graph.specs.Raw.{shape_of, raw_graph, raw_names, KindsApart}
@@ -310,12 +310,13 @@ module _ (file : GraphFile) (tree : IsTree file) (small : (i : ℕ) (n : FileNod
       node_not_cluster : Node ≡ Cluster → ⊥
       node_not_cluster e = cc
   other_type v u Core e h f = elim (core_below v u e h) [
-      | inl node ↦ core_not (one_type u Core Node f node.1)
-      | inr cluster ↦ core_not_cluster (one_type u Core Cluster f cluster)
-    ]
+    | inl node ↦ core_not (one_type u Core Node f node.1)
+    | inr cluster ↦ core_not_cluster (one_type u Core Cluster f cluster)
+  ]
     where
       core_not : Core ≡ Node → ⊥
       core_not e = cc
+
       core_not_cluster : Core ≡ Cluster → ⊥
       core_not_cluster e = cc
 
@@ -355,9 +356,9 @@ module _ (file : GraphFile) (tree : IsTree file) (small : (i : ℕ) (n : FileNod
 
   two_apart : (a b most : ℕ) → 0 < a → 0 < b → a < most → b < most → (a ≡ b → ⊥) → 2 < most
   two_apart a b most la lb am bm ne = elim (cases_lt a b) [
-      | inl less ↦ omega arith
-      | inr more ↦ elim (cases_lt b a) [ inl greater ↦ omega arith | inr equal ↦ absurd (ne (let same : a ≡ b = omega arith in same)) ]
-    ]
+    | inl less ↦ omega arith
+    | inr more ↦ elim (cases_lt b a) [ inl greater ↦ omega arith | inr equal ↦ absurd (ne (let same : a ≡ b = omega arith in same)) ]
+  ]
 
   -- a line is no longer than the list
   line_within : (most v : ℕ) (t : NodeType) → type_at file.nodes v ≡ Some t → length (chain vertices most (Some v)) ≤ length file.nodes
@@ -374,7 +375,7 @@ module _ (file : GraphFile) (tree : IsTree file) (small : (i : ℕ) (n : FileNod
       let l = core_line most v e in
       let p = core_at v e in
       let w = two_apart v p.0 (length file.nodes) (later v Core e (λ same. let no : ⊥ = cc in no)) (later p.0 Node p.2 (λ same. let no : ⊥ = cc in no))
-          (type_within v Core e) (type_within p.0 Node p.2) (apart_places v p.0 Core Node e p.2 (λ same. let no : ⊥ = cc in no)) in
+      (type_within v Core e) (type_within p.0 Node p.2) (apart_places v p.0 Core Node e p.2 (λ same. let no : ⊥ = cc in no)) in
       omega (arith, l, w)
 
   -- ---- sizes
@@ -493,11 +494,13 @@ module _ (file : GraphFile) (tree : IsTree file) (small : (i : ℕ) (n : FileNod
       let p = core_at v e in
       let apart = apart_places v p.0 Core Node e p.2 (λ same. let no : ⊥ = cc in no) in
       let w = two_apart v p.0 (length file.nodes) (later v Core e (λ same. let no : ⊥ = cc in no)) (later p.0 Node p.2 (λ same. let no : ⊥ = cc in no))
-          (type_within v Core e) (type_within p.0 Node p.2) apart in
-      (p.0, named_type Node p.0 p.2,
-      and_from (is_at_or_below vertices v p.0) (not (v == p.0))
-        (at_or_below-opens vertices v p.0 ∙ on_chain vertices 1 (length vertices) p.0 (Some v) (omega (arith, w, long)) p.1)
-        (not_from (v == p.0) (λ same. apart (equal_is v p.0 same))))
+      (type_within v Core e) (type_within p.0 Node p.2) apart in (
+        p.0,
+        named_type Node p.0 p.2,
+        and_from (is_at_or_below vertices v p.0) (not (v == p.0))
+            (at_or_below-opens vertices v p.0 ∙ on_chain vertices 1 (length vertices) p.0 (Some v) (omega (arith, w, long)) p.1)
+            (not_from (v == p.0) (λ same. apart (equal_is v p.0 same))),
+      )
     where
       equal_is : (a b : ℕ) → IsTrue (nat_eq a b) → a ≡ b
       equal_is a b h = equal_to a b h
@@ -508,9 +511,9 @@ module _ (file : GraphFile) (tree : IsTree file) (small : (i : ℕ) (n : FileNod
   -- a core in a node has it as its parent
   in_node_of : (v n : ℕ) → type_at file.nodes v ≡ Some Core → IsNodeType graph n → IsTrue (is_below vertices v n) → contained.parent_of vertices v ≡ Some n
   in_node_of v n e node below = elim (core_below v n e below) [
-      | inl is ↦ is.0
-      | inr cluster ↦ absurd (let no = one_type n Node Cluster (type_named Node n node) cluster in cc)
-    ]
+    | inl is ↦ is.0
+    | inr cluster ↦ absurd (let no = one_type n Node Cluster (type_named Node n node) cluster in cc)
+  ]
 
   none_double_id : (v : ℕ) → HasDoubleId graph v → ⊥
   none_double_id v h =
@@ -527,14 +530,14 @@ module _ (file : GraphFile) (tree : IsTree file) (small : (i : ℕ) (n : FileNod
 
   none_double_name : (v : ℕ) → HasDoubleName graph (raw_names (vertices_of file)) v → ⊥
   none_double_name v h = elim h.3 [
-      | inl siblings ↦ absurd_sibling (contained.parent_of vertices v) refl siblings.0 siblings.1
-      | inr nodes ↦ (
-          let pu = node_at h.0 (type_named Node h.0 nodes.0) in
-          let pv = node_at v (type_named Node v nodes.1) in
-          let same = named_alike v h.0 0 (pv.1 ∙ ap Some (first_is pv.0 pv.2)) (pu.1 ∙ ap Some (first_is pu.0 pu.2)) h.2 in
-          let lt = h.1 in
-          omega (arith, same, lt))
-    ]
+    | inl siblings ↦ absurd_sibling (contained.parent_of vertices v) refl siblings.0 siblings.1
+    | inr nodes ↦ (
+        let pu = node_at h.0 (type_named Node h.0 nodes.0) in
+        let pv = node_at v (type_named Node v nodes.1) in
+        let same = named_alike v h.0 0 (pv.1 ∙ ap Some (first_is pv.0 pv.2)) (pu.1 ∙ ap Some (first_is pu.0 pu.2)) h.2 in
+        let lt = h.1 in
+        omega (arith, same, lt))
+  ]
     where
       absurd_sibling : (o : Option ℕ) → contained.parent_of vertices v ≡ o → IsSome (contained.parent_of vertices v) → contained.parent_of vertices h.0 ≡ contained.parent_of vertices v → ⊥
       absurd_sibling None e some same = true≢false (sym (subst IsSome e some))

@@ -1,5 +1,5 @@
 -- Siblings, one more at a time.
-use Rattle.std.proofs.Common.{◌≡◌, refl, sym, ap, subst, ◌∙◌, ℕ, zero, suc, ◌+◌, ◌<◌, ◌≤◌, List, [], ◌∷◌, ◌++◌, length, Option, Some, slice_get, get_or, arith}
+use Rattle.std.proofs.Common.{◌≡◌, refl, sym, ap, subst, ◌∙◌, ℕ, zero, suc, ◌+◌, ◌<◌, List, [], ◌∷◌, ◌++◌, length, Option, Some, slice_get, get_or, arith}
 use borrow.Author.Count.{below_more}
 use Rattle.std.proofs.lemmas.Option.{slice_get_within, slice_get-get_or}
 use Rattle.std.proofs.lemmas.List.{length-append}
@@ -59,8 +59,8 @@ module _ (nodes : List FileNode) (parents : List (Option ℕ)) where
     differ-more old none =
         let before = absent-same none in
         let rows = below_more (λ i. (j : ℕ) → j < k + 1 → Same i j) k
-            (λ i l. below_more (λ j. Same i j) k (λ j m y z above. old i j y z above l m) (before i l))
-            (below_more (λ j. Same k j) k (λ j m. turned j (before j m)) (λ y z above yk zk pk qk same. refl)) in
+        (λ i l. below_more (λ j. Same i j) k (λ j m y z above. old i j y z above l m) (before i l))
+        (below_more (λ j. Same k j) k (λ j m. turned j (before j m)) (λ y z above yk zk pk qk same. refl)) in
         (λ i j y z above l m. rows i l j m y z above)
 
     pub doubled_sibling : length parents ≡ length nodes → (IsAbsent seen (record { parent = parent; number = x.number }) → ⊥) → SiblingsDiffer nodes parents → ⊥

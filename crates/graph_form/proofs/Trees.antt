@@ -1,5 +1,5 @@
 -- The checks of a file's nodes and edges, and what they say together.
-use Rattle.std.proofs.Common.{◌≡◌, ◌≤◌, refl, sym, ap, subst, ◌∙◌, ℕ, List, length, map, Option, Some, option_map, option_and_then, IsTrue, MatchOption, slice_get}
+use Rattle.std.proofs.Common.{◌≡◌, ◌≤◌, sym, ap, subst, ◌∙◌, ℕ, List, length, map, Option, Some, option_map, option_and_then, IsTrue, MatchOption, slice_get}
 use Rattle.std.proofs.lemmas.Option.{slice_get-map}
 use Rattle.graph_form.specs.Tree.{ids_of, targets_of, parent_of, type_at, stands_in, IsTree}
 use Rattle.graph_form.specs.Checks.{IsSetOf, HasEnds, HasOneCluster, HasFitParents, SiblingsDiffer}

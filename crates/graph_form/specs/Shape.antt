@@ -1,6 +1,5 @@
 -- The shape of a graph file: which JSON values list nodes and edges.
 use Rattle.std.specs.Prelude.{ℕ, ◌^◌, ◌-◌, nat_le, nat_eq, List, [], ◌∷◌, Option, Some, None, if◌then◌else◌, codes, option_map, option_and_then}
-use Rattle.std.specs.Option.{option_map_or}
 use Rattle.std.specs.Str.{bytes_eq}
 use Rattle.serde_json.specs.Data.{Data, Items, no_items, item}
 use Rattle.serde_json.specs.Events.{members_len}

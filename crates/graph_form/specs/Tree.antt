@@ -1,5 +1,5 @@
 -- Which nodes and edges are a graph: one cluster over nodes over cores.
-use Rattle.std.specs.Prelude.{◌≡◌, ℕ, suc, ◌≤◌, ◌==◌, ◌&&◌, Bool, true, false, List, length, map, Option, Some, None, slice_get, position, IsTrue, IsSome, nat_eq, option_map, option_and_then}
+use Rattle.std.specs.Prelude.{◌≡◌, ℕ, suc, ◌≤◌, Bool, true, false, List, length, map, Option, Some, None, slice_get, position, IsTrue, IsSome, option_map, option_and_then}
 use Rattle.std.specs.List.{IsDistinct}
 use Rattle.std.specs.Str.{bytes_eq}
 use Rattle.graph_form.specs.declared.file.NodeType.{NodeType}

@@ -67,5 +67,4 @@ pub fn graph_texts_have_no_fault()
     ensures json { (bytes : List ℕ) (graph : NamedGraph) → IsGraphText bytes graph → IsNotJson bytes → ⊥ }
     ensures form { (bytes : List ℕ) (graph : NamedGraph) → IsGraphText bytes graph → IsNotForm bytes → ⊥ }
     ensures apart { (bytes : List ℕ) → IsNotForm bytes → IsNotJson bytes → ⊥ }
-{
-}
+{}

@@ -17,8 +17,17 @@ const TWO_NODES: &[u8] = b"{\"graph\":{\"nodes\":[\
 #[test]
 fn two_nodes_in_preorder(rt: HostRuntime) -> Result<(), Fail> {
     let names: [&[u8]; 11] = [
-        b"cluster0", b"node0", b"core0", b"core1", b"core2", b"core3", b"node1", b"core0", b"core1",
-        b"core2", b"core3",
+        b"cluster0",
+        b"node0",
+        b"core0",
+        b"core1",
+        b"core2",
+        b"core3",
+        b"node1",
+        b"core0",
+        b"core1",
+        b"core2",
+        b"core3",
     ];
     let graph = read_graph(rt.alloc(), TWO_NODES)?;
     assert_eq!(rt; graph.len(), 11);
@@ -43,8 +52,10 @@ fn faults(rt: HostRuntime) {
     assert!(rt; is_refused(&rt, cut, ReadFault::NotJson));
     let empty = b"{\"graph\":{\"nodes\":[],\"edges\":[]}}";
     assert!(rt; is_refused(&rt, empty, ReadFault::Form));
-    let float = b"{\"graph\":{\"nodes\":[{\"id\":\"0\",\"metadata\":{\"type\":\"cluster\",\"id\":0.0}}],\"edges\":[]}}";
+    let float =
+        b"{\"graph\":{\"nodes\":[{\"id\":\"0\",\"metadata\":{\"type\":\"cluster\",\"id\":0.0}}],\"edges\":[]}}";
     assert!(rt; is_refused(&rt, float, ReadFault::Form));
-    let past_floats = b"{\"graph\":{\"nodes\":[{\"id\":\"0\",\"metadata\":{\"type\":\"cluster\",\"id\":1e999}}],\"edges\":[]}}";
+    let past_floats =
+        b"{\"graph\":{\"nodes\":[{\"id\":\"0\",\"metadata\":{\"type\":\"cluster\",\"id\":1e999}}],\"edges\":[]}}";
     assert!(rt; is_refused(&rt, past_floats, ReadFault::NotJson));
 }

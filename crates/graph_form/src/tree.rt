@@ -20,11 +20,7 @@ struct Sibling {
 }
 
 /// Adds the text to the set, and says whether it is new.
-fn add_text(
-    alloc: Global,
-    set: &mut IndexSet<Vec<u8>>,
-    text: &[u8],
-) -> Result<bool, AllocError>
+fn add_text(alloc: Global, set: &mut IndexSet<Vec<u8>>, text: &[u8]) -> Result<bool, AllocError>
     ensures new { IfOk result (λ new. new ≡ not (list_any (bytes_eq text.now) (texts set.old.keys))) }
     ensures added { IfOk result (λ new. IsTrue new → texts set.new.keys ≡ texts set.old.keys ++ text.now ∷ []) }
 {

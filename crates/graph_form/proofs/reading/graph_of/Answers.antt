@@ -1,6 +1,6 @@
-use Rattle.std.proofs.Common.{◌≡◌, sym, subst, ap, ◌∙◌, ℕ, List, map, Some}
+use Rattle.std.proofs.Common.{◌≡◌, sym, subst, ◌∙◌, ℕ, List, map, Some}
 use Rattle.serde_json.specs.View.{view}
-use Rattle.resource_graph.specs.Raw.{raw_graph, raw_names, KindsApart, IsBuiltFrom}
+use Rattle.resource_graph.specs.Raw.{raw_graph, raw_names, KindsApart}
 use Rattle.resource_graph.specs.Faults.{IsFaultless}
 use Rattle.resource_graph.specs.declared.raw.RawVertex.{RawVertex}
 use Rattle.graph_form.specs.Shape.{file_of}

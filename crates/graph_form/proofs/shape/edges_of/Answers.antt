@@ -1,7 +1,6 @@
-use Rattle.std.proofs.Common.{arith, ◌+◌, ◌∙◌, sym, ◌≡◌, ap, ◌∷◌, [], ◌++◌, Some, None, drop, option_map}
+use Rattle.std.proofs.Common.{arith, ◌+◌, ◌∙◌, sym, ◌≡◌, ap, ◌∷◌, [], Some, drop}
 use Rattle.std.proofs.lemmas.Grind.{common_steps}
-use Rattle.serde_json.specs.View.{view}
-use Rattle.graph_form.specs.Shape.{edge_of, each_of}
+use Rattle.graph_form.specs.Shape.{edge_of}
 use Rattle.graph_form.proofs.Shapes.{each_of-more, each_of-none, each_of-end}
 use Rattle.graph_form.proofs.shape.edges_of.Goals as goal
 

@@ -1,4 +1,4 @@
-use Rattle.std.proofs.Common.{arith, ◌≡◌, Some, slice_get, refl, rules}
+use Rattle.std.proofs.Common.{arith, ◌≡◌, Some, slice_get, refl}
 use borrow.Author.Count.{below_more}
 use Rattle.std.proofs.lemmas.Option.{slice_get_within, slice_get-get_or}
 use Rattle.graph_form.specs.Checks.{texts, HasKnownEnds, HasEndsAt}

@@ -4,7 +4,6 @@ use Rattle.std.specs.List.{IsDistinct, list_any}
 use Rattle.std.specs.Str.{bytes_eq}
 use Rattle.graph_form.specs.Checks.{texts}
 use Rattle.graph_form.specs.Tree.{ids_of}
-use Rattle.graph_form.specs.declared.file.FileNode.{FileNode}
 use Rattle.graph_form.proofs.Sets.{kept-more, kept-end, doubled, distinct-more, distinct-nil, not_new, not_old}
 use Rattle.graph_form.proofs.tree.id_set.Goals as goal
 

@@ -30,6 +30,6 @@ returns c =
     let ids = matched (IsDistinct bytes_eq (ids_of nodes) → ⊥) (λ s. IsSetOf (ids_of nodes) (texts s.keys)) c.in_ok-ids.field-0 c.in-Some.ids c.in-Some.is c.in_ok-ids.ensures in
     let targets = matched (IsDistinct bytes_eq (targets_of c.items-edges.result.now) → ⊥) (λ s. IsSetOf (targets_of c.items-edges.result.now) (texts s.keys)) c.in_ok-targets.field-0 c.in-Some-2.targets c.in-Some-2.is c.in_ok-targets.ensures in
     let tree = tree_from_checks file nodes c.as_slice-held.result.now c.items-nodes.ensures (c.as_slice-held.ensures.value ∙ c.in_ok-parents.ensures)
-        (texts c.in-Some.ids.keys) (texts c.in-Some-2.targets.keys) c.items-edges.result.now c.items-edges.ensures few (c.has_one_cluster.ensures.0 c.if-not-has_one_cluster.false) ids targets
-        (c.ends_are_known.ensures.0 c.if-not-ends_are_known.false) (c.parents_fit.ensures.0 c.if-not-parents_fit.false) (c.in_ok-siblings_differ.ensures.0 c.if-not-branch.false) in
+    (texts c.in-Some.ids.keys) (texts c.in-Some-2.targets.keys) c.items-edges.result.now c.items-edges.ensures few (c.has_one_cluster.ensures.0 c.if-not-has_one_cluster.false) ids targets
+    (c.ends_are_known.ensures.0 c.if-not-ends_are_known.false) (c.parents_fit.ensures.0 c.if-not-parents_fit.false) (c.in_ok-siblings_differ.ensures.0 c.if-not-branch.false) in
     (tree, c.in_ok-parents.ensures)

@@ -1,4 +1,4 @@
-use Rattle.std.proofs.Common.{arith, ◌≡◌, sym, ◌∙◌, refl, true, false, true≢false, Some, None, slice_get, get_or}
+use Rattle.std.proofs.Common.{arith, ◌≡◌, sym, ◌∙◌, refl, true≢false, Some, None, slice_get, get_or}
 use Rattle.std.proofs.lemmas.Option.{slice_get-get_or, slice_get_within}
 use Rattle.graph_form.proofs.Siblings.{siblings-more, differ-more, doubled_sibling}
 use Rattle.graph_form.proofs.tree.siblings_differ.Goals as goal
