@@ -1,0 +1,4 @@
+pub mod Served
+pub mod OneClient
+pub mod Output
+pub mod Shown
