@@ -1,5 +1,5 @@
 -- A script of one client, in the order of its lines.
-use Rattle.std.proofs.Common.{◌≡◌, ℕ, zero, suc, ◌<◌, ◌==◌, Bool, true, false, cond, List, [], ◌∷◌, ◌++◌, map, filter, length, get_or, Some, slice_get, Contains, All, IsTrue, refl, sym, ◌∙◌, ap, subst, arith}
+use Rattle.std.proofs.Common.{◌≡◌, ℕ, zero, suc, ◌<◌, ◌==◌, Bool, true, cond, List, [], ◌∷◌, map, filter, length, get_or, Some, slice_get, Contains, IsTrue, refl, sym, ◌∙◌, ap, subst, arith}
 use Rattle.std.specs.List.{AllByRecursion}
 use Rattle.std.proofs.lemmas.List.{append-nil}
 use Rattle.std.proofs.lemmas.List.Elements.{All-contains_itself}
@@ -8,7 +8,7 @@ use Rattle.flux_defs.specs.declared.journal.Entry.{Entry}
 use Rattle.flux_defs.specs.declared.journal.Line.{Line}
 use Rattle.flux_defs.specs.declared.journal.Script.{Script}
 use Rattle.flux_defs.specs.Scheduler.{Setting}
-use Rattle.flux_defs.specs.Scripts.{has_number, Interleaves, Answers, Plays}
+use Rattle.flux_defs.specs.Scripts.{has_number, Interleaves, Plays}
 use Rattle.sound_laws.proofs.Members.{each_member, any_member}
 use Rattle.plain_core.specs.Played.{line_of, IsPlayed}
 use Rattle.plain_core.proofs.Entries.{all_at}

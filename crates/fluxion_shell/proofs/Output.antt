@@ -1,12 +1,10 @@
 -- A history that was played and its text are an output.
-use Rattle.std.proofs.Common.{◌≡◌, ℕ, List, [], ◌∷◌, map, get_or, refl, sym, ◌∙◌, ap, subst}
-use Rattle.std.specs.List.{AllByRecursion}
+use Rattle.std.proofs.Common.{◌≡◌, ℕ, List, [], ◌∷◌, map, get_or, sym, ◌∙◌, ap, subst}
 use Rattle.flux_defs.specs.declared.journal.Entry.{Entry}
 use Rattle.flux_defs.specs.declared.journal.Line.{Line}
 use Rattle.flux_defs.specs.declared.journal.Script.{Script}
 use Rattle.flux_defs.specs.declared.vertices.Vertex.{Vertex}
 use Rattle.flux_defs.specs.ValidGraph.{IsValidGraph}
-use Rattle.flux_defs.specs.Scheduler.{IsProper}
 use Rattle.flux_defs.specs.Histories.{HasProperCommands}
 use Rattle.resource_graph.specs.NamedGraph.{NamedGraph}
 use Rattle.slot_lines.specs.Lines.{IsScriptOf}

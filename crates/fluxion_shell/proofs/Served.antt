@@ -1,11 +1,11 @@
 -- Each line of the input is served, and its command is proper for the graph.
-use Rattle.std.proofs.Common.{◌≡◌, ℕ, zero, suc, ◌+◌, ◌<◌, ◌≤◌, ◌==◌, ◌&&◌, ◌||◌, not, Bool, true, false, List, [], ◌∷◌, length, Some, slice_get, codes, inl, inr, refl, sym, ◌∙◌, ap, subst, arith}
+use Rattle.std.proofs.Common.{◌≡◌, ℕ, suc, ◌+◌, ◌<◌, ◌≤◌, ◌==◌, ◌&&◌, ◌||◌, not, Bool, true, false, List, [], ◌∷◌, length, Some, slice_get, codes, inl, inr, refl, sym, ◌∙◌, ap, subst, arith}
 use Rattle.std.specs.Option.{IsSomeAnd}
 use Rattle.std.specs.List.{list_any}
 use Rattle.std.proofs.lemmas.Bool.Decides.{eqb_tells}
 use Rattle.flux_defs.specs.declared.vertices.Vertex.{Vertex}
 use Rattle.flux_defs.specs.declared.requests.Ask.{Ask}
-use Rattle.flux_defs.specs.declared.requests.Need.{Need, Vert}
+use Rattle.flux_defs.specs.declared.requests.Need.{Vert}
 use Rattle.flux_laws.proofs.Rows.{some_to_row, no_spread_to_row, valid_to_row}
 use Rattle.flux_defs.specs.declared.journal.Command.{Command}
 use Rattle.flux_defs.specs.declared.journal.Command.TheVariants as command
@@ -14,7 +14,7 @@ use Rattle.flux_defs.specs.Graph.{is_pool_kind}
 use Rattle.flux_defs.specs.ValidGraph.{IsValidGraph}
 use Rattle.flux_defs.specs.Needs.{IsProperAsk}
 use Rattle.flux_defs.specs.Scheduler.{IsProper}
-use Rattle.resource_graph.specs.NamedGraph.{NamedGraph, IsWhole}
+use Rattle.resource_graph.specs.NamedGraph.{NamedGraph}
 use Rattle.slot_lines.specs.Slots.{Reads, slot_ask}
 use Rattle.slot_lines.specs.Lines.{HasLinesFrom}
 use Rattle.plain_core.specs.Sites.{IsCoreKind, IsServed}
@@ -54,12 +54,16 @@ module _ (g : NamedGraph) (valid : IsValidGraph g.resources g.names) (core : ℕ
 
   proper_slots : (slots each seconds : ℕ) → 1 ≤ slots → 1 ≤ each → IsProperAsk g.resources.vertices (slot_ask core slots each seconds)
   proper_slots slots each seconds some_slots some_cores = record {
-    needs = ((
-      some_slots,
-      some_to_row (Vert core each true []) [],
-      no_spread_to_row (Vert core each true [] ∷ []) (no_spread_to_row [] tt, tt),
-      valid_to_row g.resources.vertices (Vert core each true [] ∷ []) ((some_cores, no_pool, valid_to_row g.resources.vertices [] tt), tt, tt),
-    ), tt, tt);
+    needs = (
+      (
+        some_slots,
+        some_to_row (Vert core each true []) [],
+        no_spread_to_row (Vert core each true [] ∷ []) (no_spread_to_row [] tt, tt),
+        valid_to_row g.resources.vertices (Vert core each true [] ∷ []) ((some_cores, no_pool, valid_to_row g.resources.vertices [] tt), tt, tt),
+      ),
+      tt,
+      tt,
+    );
     rising = tt;
     nodes = tt;
   }

@@ -1,11 +1,11 @@
 -- What a told graph file and a told input show.
-use Rattle.std.proofs.Common.{◌≡◌, ℕ, ◌<◌, ◌≤◌, ◌⊎◌, List, [], ◌++◌, length, Option, Some, None, IfSome, MatchOption, inl, inr, refl, sym, ◌∙◌, ap, subst, arith}
+use Rattle.std.proofs.Common.{◌≡◌, ℕ, ◌<◌, ◌≤◌, ◌⊎◌, List, [], ◌++◌, length, Option, Some, None, IfSome, MatchOption, inr, refl, sym, ◌∙◌, ap, subst, arith}
 use Rattle.serde_json.specs.Data.{Data}
-use Rattle.std.specs.Io.KnownBytes.{Appends}
 use Rattle.flux_io.specs.Stores.{Stored, file_of}
 use Rattle.flux_io.specs.Streams.{TakesFront}
 use Rattle.resource_graph.specs.NamedGraph.{NamedGraph}
 use Rattle.graph_form.specs.GraphText.{IsValueOf, HasForm, IsGraphText, IsNotJson, IsNotForm}
+use Rattle.graph_form.specs.declared.reading.ReadFault.{ReadFault}
 use Rattle.graph_form.specs.declared.reading.ReadFault.TheVariants as fault
 use Rattle.fluxion_shell.specs.declared.status.Status.{Status}
 use Rattle.fluxion_shell.specs.declared.status.Status.TheVariants as status
@@ -30,6 +30,9 @@ same_value bytes c d one two = let same : Some c ≡ Some d = sym one.1 ∙ two.
 
 not_form : (bytes : List ℕ) (g : NamedGraph) → IsNotForm bytes → IsGraphText bytes g → ⊥
 not_form bytes g (d, value, not) (c, other, form) = not (subst HasForm (same_value bytes c d other value) (form.0, form.1))
+
+pub same_fault : (x y : ReadFault) → status.Graph x ≡ status.Graph y → x ≡ y
+same_fault x y same = cc
 
 module _ (told : Option Stored) (name : List ℕ) (left : Option (List ℕ)) (bytes : List ℕ) (told_bytes : Known told name bytes) where
   shown : (result : Status) → (length bytes ≤ 268435456 → ShowsFile result bytes left) → Shows result told name left
@@ -93,12 +96,20 @@ module _ (told : Option Stored) (name : List ℕ) (left : Option (List ℕ)) (by
       by None h = tt
       by (Some files) h = subst (λ (o : Option (List ℕ)). WhereTold o left P) (sym h.0) (of_input left is)
 
+  -- what holds of the bytes that were read holds of the told file
+  pub where_file : (P : List ℕ → Type 0) → P bytes → IfSome (told_file told name) P
+  where_file P p = by told told_bytes
+    where
+      by : (files : Option Stored) → Known files name bytes → IfSome (told_file files name) P
+      by None h = tt
+      by (Some files) h = subst (λ (o : Option (List ℕ)). IfSome o P) (sym h.0) p
+
 -- a front of the text was appended
 pub front_of : (old new : Option (List ℕ)) (before now : Option ℕ) (text : List ℕ) (P : List ℕ → Type 0) → TakesFront old new before now text → P text → AppendsFrontOfSome old new P
 front_of old new before now text P front p = (front.front, front.rest, subst P front.whole p, front.appended)
 
 -- the text fits the room, so the output has no fault
-pub no_fault : (room : Option ℕ) (length_of before now : ℕ) (Each : ℕ → Type 0) → ((r : ℕ) → Each r → length_of ≤ r) →
-    IfSome room (λ r. length_of ≤ r → now ≡ before) → IfSome room (λ r. Each r → now ≡ before)
-no_fault None n before now Each within fits = tt
-no_fault (Some r) n before now Each within fits = λ each. fits (within r each)
+pub no_fault : (A : Type 0) (room : Option ℕ) (length_of before now : ℕ) (Each : ℕ → Type 0) → ((r : ℕ) → Each r → length_of ≤ r) →
+    IfSome room (λ r. length_of ≤ r → A × (now ≡ before)) → IfSome room (λ r. Each r → now ≡ before)
+no_fault A None n before now Each within fits = tt
+no_fault A (Some r) n before now Each within fits = λ each. (fits (within r each)).1

@@ -1,5 +1,5 @@
 -- Which answer the words, the told files and the told input show.
-use Rattle.std.specs.Prelude.{◌≡◌, ◌⊎◌, ℕ, ◌+◌, ◌<◌, ◌≤◌, ◌++◌, List, length, Option, Some, None, IfSome, MatchOption, option_and_then}
+use Rattle.std.specs.Prelude.{◌≡◌, ◌⊎◌, ℕ, ◌+◌, ◌<◌, ◌≤◌, ◌++◌, List, length, Option, IfSome, MatchOption, option_and_then}
 use Rattle.std.specs.Io.KnownBytes.{Appends}
 use Rattle.flux_io.specs.Stores.{Stored, file_of}
 use Rattle.resource_graph.specs.NamedGraph.{NamedGraph}
@@ -8,7 +8,6 @@ use Rattle.graph_form.specs.declared.reading.ReadFault.{ReadFault}
 use Rattle.graph_form.specs.declared.reading.ReadFault.TheVariants as fault
 use Rattle.fluxion_shell.specs.declared.status.Status.{Status}
 use Rattle.fluxion_shell.specs.declared.status.Status.TheVariants as status
-use Rattle.fluxion_shell.specs.declared.status.Limited.{Limited}
 use Rattle.fluxion_shell.specs.declared.status.Which.TheVariants.{GraphBytes, InputBytes}
 
 -- how many bytes the graph file and the input may have

@@ -66,7 +66,8 @@ pub fn fault_line(alloc: Global, status: &Status) -> Result<Text, AllocError>
 {
     let line: &[u8] = match status {
         Status::Ok => b"",
-        Status::Usage => b"usage: fluxion serve GRAPH [--horizon N] [--filters LIST] [--jobspec FORM] | fluxion graph GRAPH | fluxion load N\n",
+        Status::Usage =>
+            b"usage: fluxion serve GRAPH [--horizon N] [--filters LIST] [--jobspec FORM] | fluxion graph GRAPH | fluxion load N\n",
         Status::Graph(ReadFault::NotJson) => b"fluxion: graph: json\n",
         Status::Graph(ReadFault::Form) => b"fluxion: graph: form\n",
         Status::Read => b"fluxion: read fault\n",

@@ -1,7 +1,5 @@
-use Rattle.std.proofs.Common.{◌≡◌, ℕ, List, [], ◌∷◌, sym, ◌∙◌, ap, subst}
+use Rattle.std.proofs.Common.{ℕ, List, ◌∙◌, ap, subst}
 use Rattle.flux_defs.specs.declared.journal.Entry.{Entry}
-use Rattle.flux_defs.specs.declared.journal.Line.{Line}
-use Rattle.resource_graph.specs.NamedGraph.{NamedGraph, IsWhole}
 use Rattle.slot_lines.specs.Texts.{history_text}
 use Rattle.plain_core.specs.Sites.{setting_of}
 use Rattle.plain_core.specs.Played.{IsPlayed}

@@ -1,0 +1,8 @@
+-- A list of two items.
+use Rattle.std.proofs.Common.{◌≡◌, ◌<◌, ◌≤◌, List, [], ◌∷◌, length, get_or, arith}
+
+pub two_items : {X : Type 0} (xs : List X) (a b : X) → 2 ≤ length xs → length xs < 3 → a ≡ get_or xs 0 a → b ≡ get_or xs 1 b → xs ≡ a ∷ b ∷ []
+two_items [] a b least most first second = absurd (omega arith)
+two_items (x ∷ []) a b least most first second = absurd (omega arith)
+two_items (x ∷ y ∷ []) a b least most first second = (let p : a ≡ x = first in let q : b ≡ y = second in cc)
+two_items (x ∷ y ∷ z ∷ zs) a b least most first second = absurd (omega arith)
