@@ -6,4 +6,5 @@ pub mod running;
 pub mod status;
 pub mod words;
 
+pub use running::run;
 pub use status::{Limited, Status, Which, code, fault_line};

@@ -46,4 +46,3 @@ build-requires-clause-ranks c =
     let Kinds : List (List ℕ) → Type 0 = λ kinds. IsFaultless (raw_graph kinds c.in_ok-raw.raw) (raw_names c.in_ok-raw.raw) in
     let all = subst Kinds (sym c.in_ok-type_names.ensures) (subst Raw (sym c.in_ok-raw.ensures) fine) in
     all.ranks
-
