@@ -1,0 +1,41 @@
+use Rattle.std.proofs.Common.{◌≡◌, ℕ, ◌<◌, ◌≤◌, List, length, IfSome, None, map, string_bytes, refl, sym, ◌∙◌, ap, subst}
+use Rattle.flux_io.specs.Counts.{Rose}
+use Rattle.flux_io.specs.Stores.{file_of}
+use Rattle.fluxion_shell.specs.declared.status.Status.TheVariants as status
+use Rattle.fluxion_shell.specs.Forms.{IsServe}
+use Rattle.fluxion_shell.specs.Causes.{most_bytes, told_file, WhereTold, AppendsSome, AppendsFrontOfSome, HasFault, Shows}
+use Rattle.fluxion_shell.specs.Outputs.{Answers, AnswersSoundly}
+use Rattle.fluxion_shell.proofs.TwoWords.{same_name}
+use Rattle.fluxion_shell.proofs.running.run.Goals as goal
+
+pub returns-in-Some-clause-history : goal.returns-in-Some-clause-history
+returns-in-Some-clause-history g c = λ name is same.
+    subst (λ (n : List ℕ). WhereTold (told_file (g.F.Files.told c.args.files.now) n) (g.S.Source.left c.args.input.now) (λ file lines. AppendsSome (g.O.Sink.held c.args.out.now) (g.O.Sink.held c.serve.new.out) (Answers file lines))) (same_name c.args.words.now c.in-Some.name.now name c.in-Some.ensures is) (c.serve.ensures.history same)
+
+pub returns-in-Some-clause-sound : goal.returns-in-Some-clause-sound
+returns-in-Some-clause-sound g c = λ name is same.
+    subst (λ (n : List ℕ). WhereTold (told_file (g.F.Files.told c.args.files.now) n) (g.S.Source.left c.args.input.now) (λ file lines. AppendsSome (g.O.Sink.held c.args.out.now) (g.O.Sink.held c.serve.new.out) (AnswersSoundly file lines))) (same_name c.args.words.now c.in-Some.name.now name c.in-Some.ensures is) (c.serve.ensures.sound same)
+
+pub returns-in-Some-clause-front : goal.returns-in-Some-clause-front
+returns-in-Some-clause-front g c = λ name is same.
+    subst (λ (n : List ℕ). WhereTold (told_file (g.F.Files.told c.args.files.now) n) (g.S.Source.left c.args.input.now) (λ file lines. AppendsFrontOfSome (g.O.Sink.held c.args.out.now) (g.O.Sink.held c.serve.new.out) (AnswersSoundly file lines))) (same_name c.args.words.now c.in-Some.name.now name c.in-Some.ensures is) (c.serve.ensures.front same)
+
+pub returns-in-Some-clause-no_file : goal.returns-in-Some-clause-no_file
+returns-in-Some-clause-no_file g c = λ name is same.
+    subst (λ (n : List ℕ). Rose (g.F.Files.refused c.args.files.now) (g.F.Files.refused c.serve.new.files) × IfSome (g.F.Files.told c.args.files.now) (λ all. file_of all n ≡ None)) (same_name c.args.words.now c.in-Some.name.now name c.in-Some.ensures is) (c.serve.ensures.no_file same)
+
+pub returns-in-Some-clause-graph_limit : goal.returns-in-Some-clause-graph_limit
+returns-in-Some-clause-graph_limit g c = λ name is same.
+    subst (λ (n : List ℕ). Rose (g.F.Files.refused c.args.files.now) (g.F.Files.refused c.serve.new.files) × IfSome (told_file (g.F.Files.told c.args.files.now) n) (λ file. most_bytes < length file)) (same_name c.args.words.now c.in-Some.name.now name c.in-Some.ensures is) (c.serve.ensures.graph_limit same)
+
+pub returns-in-Some-clause-graph : goal.returns-in-Some-clause-graph
+returns-in-Some-clause-graph g c = λ name is x same.
+    subst (λ (n : List ℕ). IfSome (told_file (g.F.Files.told c.args.files.now) n) (λ file. HasFault file x)) (same_name c.args.words.now c.in-Some.name.now name c.in-Some.ensures is) (c.serve.ensures.graph x same)
+
+pub returns-in-Some-clause-first : goal.returns-in-Some-clause-first
+returns-in-Some-clause-first g c = λ name is.
+    subst (λ (n : List ℕ). Shows c.serve.result (g.F.Files.told c.args.files.now) n (g.S.Source.left c.args.input.now)) (same_name c.args.words.now c.in-Some.name.now name c.in-Some.ensures is) (c.serve.ensures.first)
+
+pub returns-in-Some-clause-room : goal.returns-in-Some-clause-room
+returns-in-Some-clause-room g c = λ name is.
+    subst (λ (n : List ℕ). WhereTold (told_file (g.F.Files.told c.args.files.now) n) (g.S.Source.left c.args.input.now) (λ file lines. IfSome (g.O.Sink.room c.args.out.now) (λ room. ((text : List ℕ) → Answers file lines text → length text ≤ room) → g.O.Sink.faults c.serve.new.out ≡ g.O.Sink.faults c.args.out.now))) (same_name c.args.words.now c.in-Some.name.now name c.in-Some.ensures is) (c.serve.ensures.room)

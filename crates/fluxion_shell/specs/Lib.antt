@@ -1,0 +1,4 @@
+pub mod Ends
+pub mod Forms
+pub mod Outputs
+pub mod Causes

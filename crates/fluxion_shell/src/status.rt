@@ -1,0 +1,95 @@
+//! How a run ends.
+ghost use Rattle.std.specs.Prelude.{◌≡◌, IfOk};
+ghost use Rattle.fluxion_shell.specs.Ends.{code_of, line_of};
+
+use flux_defs::Text;
+use graph_form::ReadFault;
+use slot_lines::pieces::{add, add_number};
+use std::alloc::{AllocError, Global};
+
+/// How a run ends.
+#[derive(Clone, Copy, Debug, PartialEq, Eq)]
+pub enum Status {
+    /// Every line is answered.
+    Ok,
+    /// The words are none of the forms.
+    Usage,
+    /// The graph file's bytes are no graph.
+    Graph(ReadFault),
+    /// The files or the input failed.
+    Read,
+    /// The output failed.
+    Write,
+    /// No memory was left.
+    Memory,
+    /// More than the program takes.
+    Limit(Limited),
+    /// There is no such graph file.
+    NoGraphFile,
+}
+
+/// Which limit was passed, and the number that was found past it.
+#[derive(Clone, Copy, Debug, PartialEq, Eq)]
+pub struct Limited {
+    pub which: Which,
+    pub found: u64,
+}
+
+/// What is limited.
+#[derive(Clone, Copy, Debug, PartialEq, Eq)]
+pub enum Which {
+    /// The bytes of the graph file.
+    GraphBytes,
+    /// The bytes of the input.
+    InputBytes,
+}
+
+/// The number that the program ends with.
+pub fn code(status: &Status) -> u8
+    ensures { result ≡ code_of status.now }
+{
+    match status {
+        Status::Ok => 0,
+        Status::Usage => 2,
+        Status::Graph(_) => 3,
+        Status::Read => 4,
+        Status::Write => 5,
+        Status::Memory => 6,
+        Status::Limit(_) => 7,
+        Status::NoGraphFile => 8,
+    }
+}
+
+/// The line that says why a run failed, with its line feed; empty for `Ok`.
+pub fn fault_line(alloc: Global, status: &Status) -> Result<Text, AllocError>
+    ensures { IfOk result (λ line. line ≡ line_of status.now) }
+{
+    let line: &[u8] = match status {
+        Status::Ok => b"",
+        Status::Usage =>
+            b"usage: fluxion serve GRAPH [--horizon N] [--filters LIST] [--jobspec FORM] | fluxion graph GRAPH | fluxion load N\n",
+        Status::Graph(ReadFault::NotJson) => b"fluxion: graph: json\n",
+        Status::Graph(ReadFault::Form) => b"fluxion: graph: form\n",
+        Status::Read => b"fluxion: read fault\n",
+        Status::Write => b"fluxion: write fault\n",
+        Status::Graph(ReadFault::Memory) | Status::Memory => b"fluxion: out of memory\n",
+        Status::Limit(limited) => return limit_line(alloc, limited),
+        Status::NoGraphFile => b"fluxion: no such file\n",
+    };
+    Text::of(alloc, line)
+}
+
+/// The line that says which limit was passed.
+fn limit_line(alloc: Global, limited: &Limited) -> Result<Text, AllocError>
+    ensures { IfOk result (λ line. line ≡ line_of (Status.Limit limited.now)) }
+{
+    let mut line = Vec::from_slice(alloc, b"fluxion: limit: ")?;
+    let word: &[u8] = match limited.which {
+        Which::GraphBytes => b"graph-bytes ",
+        Which::InputBytes => b"input-bytes ",
+    };
+    add(&mut line, word)?;
+    add_number(&mut line, limited.found)?;
+    add(&mut line, b"\n")?;
+    Ok(Text::of_vec(line))
+}

@@ -1,0 +1,5 @@
+pub mod Shape
+pub mod Tree
+pub mod Checks
+pub mod Vertices
+pub mod GraphText
