@@ -1,5 +1,5 @@
 -- What a told graph file and a told input show.
-use Rattle.std.proofs.Common.{◌≡◌, ℕ, ◌<◌, ◌≤◌, ◌⊎◌, List, [], ◌++◌, length, Option, Some, None, IfSome, MatchOption, inr, refl, sym, ◌∙◌, ap, subst, arith}
+use Rattle.std.proofs.Common.{◌≡◌, ℕ, ◌<◌, ◌≤◌, ◌⊎◌, List, [], ◌++◌, length, Option, Some, None, IfSome, MatchOption, inl, inr, refl, sym, ◌∙◌, ap, subst, arith}
 use Rattle.serde_json.specs.Data.{Data}
 use Rattle.flux_io.specs.Stores.{Stored, file_of}
 use Rattle.flux_io.specs.Streams.{TakesFront}
@@ -9,7 +9,7 @@ use Rattle.graph_form.specs.declared.reading.ReadFault.{ReadFault}
 use Rattle.graph_form.specs.declared.reading.ReadFault.TheVariants as fault
 use Rattle.fluxion_shell.specs.declared.status.Status.{Status}
 use Rattle.fluxion_shell.specs.declared.status.Status.TheVariants as status
-use Rattle.fluxion_shell.specs.Causes.{long_input, told_file, WhereTold, OrEarlier, AppendsFrontOfSome, ShowsInput, ShowsFile, Shows}
+use Rattle.fluxion_shell.specs.Causes.{long_input, told_file, WhereTold, OrEarlier, AppendsFrontOfSome, ShowsInput, ShowsFile, Shows, IsInOrder}
 
 -- where the store tells its files, the one of the name has these bytes, and not too many
 abbrev pub Known : Option Stored → List ℕ → List ℕ → Type 0
@@ -113,3 +113,20 @@ pub no_fault : (A : Type 0) (room : Option ℕ) (length_of before now : ℕ) (Ea
     IfSome room (λ r. length_of ≤ r → A × (now ≡ before)) → IfSome room (λ r. Each r → now ≡ before)
 no_fault A None n before now Each within fits = tt
 no_fault A (Some r) n before now Each within fits = λ each. (fits (within r each)).1
+
+-- the answers that are left where nothing failed
+left_over : {A B C D : Type 0} → (A → ⊥) → (D → ⊥) → A ⊎ (B ⊎ (C ⊎ D)) → C ⊎ B
+left_over no_a no_d (inl a) = absurd (no_a a)
+left_over no_a no_d (inr (inl b)) = inr b
+left_over no_a no_d (inr (inr (inl c))) = inl c
+left_over no_a no_d (inr (inr (inr d))) = absurd (no_d d)
+
+-- where all is in order and nothing failed, all was answered, or memory was wanting
+pub completes : (result : Status) (told : Option Stored) (name : List ℕ) (left : Option (List ℕ)) → Shows result told name left →
+    (result ≡ status.Read → ⊥) → (result ≡ status.Write → ⊥) → IsInOrder told name left → (result ≡ status.Ok) ⊎ (result ≡ status.Memory)
+completes result None name left shows read write order = absurd (let none : None ≡ Some order.file = order.file-is in cc)
+completes result (Some files) name left shows read write order =
+    let file : ShowsFile result order.file left =
+      subst (λ (o : Option (List ℕ)). MatchOption o (OrEarlier result (result ≡ status.NoGraphFile)) (λ file. ShowsFile result file left)) order.file-is shows in
+    let input : ShowsInput result order.input = subst (λ (o : Option (List ℕ)). IfSome o (ShowsInput result)) order.input-is (file.graph order.short-file order.graph order.graph-is) in
+    left_over read write (input.1 order.short-input)

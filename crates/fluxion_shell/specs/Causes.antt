@@ -1,5 +1,5 @@
 -- Which answer the words, the told files and the told input show.
-use Rattle.std.specs.Prelude.{◌≡◌, ◌⊎◌, ℕ, ◌+◌, ◌<◌, ◌≤◌, ◌++◌, List, length, Option, IfSome, MatchOption, option_and_then}
+use Rattle.std.specs.Prelude.{◌≡◌, ◌⊎◌, ℕ, ◌+◌, ◌<◌, ◌≤◌, ◌++◌, List, length, Option, Some, IfSome, MatchOption, option_and_then}
 use Rattle.std.specs.Io.KnownBytes.{Appends}
 use Rattle.flux_io.specs.Stores.{Stored, file_of}
 use Rattle.resource_graph.specs.NamedGraph.{NamedGraph}
@@ -63,3 +63,14 @@ pub record ShowsFile (result : Status) (file : List ℕ) (left : Option (List �
 abbrev pub Shows : Status → Option Stored → List ℕ → Option (List ℕ) → Type 0
 Shows result told name left =
     IfSome told (λ files. MatchOption (file_of files name) (OrEarlier result (result ≡ status.NoGraphFile)) (λ file. ShowsFile result file left))
+
+-- All that a run is given is in order: the store tells a graph's file, the input tells its bytes, and neither is too long.
+pub record IsInOrder (told : Option Stored) (name : List ℕ) (left : Option (List ℕ)) : Type 0 where
+  pub file : List ℕ
+  pub file-is : told_file told name ≡ Some file
+  pub short-file : length file ≤ most_bytes
+  pub graph : NamedGraph
+  pub graph-is : IsGraphText file graph
+  pub input : List ℕ
+  pub input-is : left ≡ Some input
+  pub short-input : length input ≤ most_bytes

@@ -4,6 +4,8 @@
 pub mod answering;
 pub mod running;
 pub mod status;
+#[cfg(test)]
+mod tests;
 pub mod words;
 
 pub use running::run;

@@ -8,7 +8,7 @@ ghost use Rattle.graph_form.specs.GraphText.{IsGraphText};
 ghost use Rattle.graph_form.specs.declared.reading.ReadFault.{ReadFault};
 ghost use Rattle.fluxion_shell.specs.Forms.{IsServe};
 ghost use Rattle.fluxion_shell.specs.Outputs.{Answers, AnswersSoundly};
-ghost use Rattle.fluxion_shell.specs.Causes.{most_bytes, long_graph, long_input, told_file, WhereTold, AppendsSome, AppendsFrontOfSome, HasFault, Shows};
+ghost use Rattle.fluxion_shell.specs.Causes.{most_bytes, long_graph, long_input, told_file, WhereTold, AppendsSome, AppendsFrontOfSome, HasFault, Shows, IsInOrder};
 
 use crate::answering::answer;
 use crate::status::{Limited, Status, Which};
@@ -126,6 +126,9 @@ pub fn run<F: Files, S: Source, O: Sink>(
     ensures input_limit { result ≡ long_input → IfSome (S.left input.old) (λ lines. most_bytes < length lines) }
     ensures limits { (limited : Limited) → result ≡ Status.Limit limited → (result ≡ long_graph) ⊎ (result ≡ long_input) }
     ensures graph_memory { result ≡ Status.Graph ReadFault.Memory → ⊥ }
+    ensures complete { (name : List ℕ) → IsServe (map string_bytes words.now) name → IsInOrder (F.told files.old) name (S.left input.old) →
+        ¬ Rose (F.faults files.old) (F.faults files.new) → ¬ Rose (S.faults input.old) (S.faults input.new) → ¬ Rose (O.faults out.old) (O.faults out.new) →
+        (result ≡ Status.Ok) ⊎ (result ≡ Status.Memory) }
 {
     match graph_name(words) {
         Some(name) => serve(alloc, name, files, input, out),

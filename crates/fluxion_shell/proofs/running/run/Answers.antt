@@ -1,4 +1,4 @@
-use Rattle.std.proofs.Common.{◌≡◌, ℕ, ◌<◌, ◌≤◌, List, length, IfSome, None, map, string_bytes, refl, sym, ◌∙◌, ap, subst}
+use Rattle.std.proofs.Common.{◌≡◌, ◌⊎◌, inl, inr, ℕ, ◌<◌, ◌≤◌, List, length, IfSome, None, map, string_bytes, refl, sym, ◌∙◌, ap, subst}
 use Rattle.flux_io.specs.Counts.{Rose}
 use Rattle.flux_io.specs.Stores.{file_of}
 use Rattle.fluxion_shell.specs.declared.status.Status.TheVariants as status
@@ -6,7 +6,12 @@ use Rattle.fluxion_shell.specs.Forms.{IsServe}
 use Rattle.fluxion_shell.specs.Causes.{most_bytes, told_file, WhereTold, AppendsSome, AppendsFrontOfSome, HasFault, Shows}
 use Rattle.fluxion_shell.specs.Outputs.{Answers, AnswersSoundly}
 use Rattle.fluxion_shell.proofs.TwoWords.{same_name}
+use Rattle.fluxion_shell.proofs.Shown.{completes}
 use Rattle.fluxion_shell.proofs.running.run.Goals as goal
+
+neither : {A B : Type 0} → (A → ⊥) → (B → ⊥) → A ⊎ B → ⊥
+neither no_a no_b (inl a) = no_a a
+neither no_a no_b (inr b) = no_b b
 
 pub returns-in-Some-clause-history : goal.returns-in-Some-clause-history
 returns-in-Some-clause-history g c = λ name is same.
@@ -39,3 +44,11 @@ returns-in-Some-clause-first g c = λ name is.
 pub returns-in-Some-clause-room : goal.returns-in-Some-clause-room
 returns-in-Some-clause-room g c = λ name is.
     subst (λ (n : List ℕ). WhereTold (told_file (g.F.Files.told c.args.files.now) n) (g.S.Source.left c.args.input.now) (λ file lines. IfSome (g.O.Sink.room c.args.out.now) (λ room. ((text : List ℕ) → Answers file lines text → length text ≤ room) → g.O.Sink.faults c.serve.new.out ≡ g.O.Sink.faults c.args.out.now))) (same_name c.args.words.now c.in-Some.name.now name c.in-Some.ensures is) (c.serve.ensures.room)
+
+pub returns-in-Some-clause-complete : goal.returns-in-Some-clause-complete
+returns-in-Some-clause-complete g c = λ name is order files input out.
+    completes c.serve.result (g.F.Files.told c.args.files.now) name (g.S.Source.left c.args.input.now)
+    (subst (λ (n : List ℕ). Shows c.serve.result (g.F.Files.told c.args.files.now) n (g.S.Source.left c.args.input.now)) (same_name c.args.words.now c.in-Some.name.now name c.in-Some.ensures is) (c.serve.ensures.first))
+    (λ read. neither files input (c.serve.ensures.read read))
+    (λ write. out (c.serve.ensures.write write))
+    order
