@@ -184,13 +184,13 @@ fn each_status_has_its_number(rt: HostRuntime) -> Result<(), Fail> {
     });
     assert_eq!(rt;
         fault_line(alloc, &graph_bytes)?.bytes(),
-        b"fluxion: limit: graph-bytes 268435457\n"
+        b"fluxion: limit: graph-bytes 268435457\n".as_slice()
     );
     assert_eq!(rt;
         fault_line(alloc, &input_bytes)?.bytes(),
-        b"fluxion: limit: input-bytes 268435457\n"
+        b"fluxion: limit: input-bytes 268435457\n".as_slice()
     );
-    assert_eq!(rt; fault_line(alloc, &Status::Ok)?.bytes(), b"");
+    assert_eq!(rt; fault_line(alloc, &Status::Ok)?.bytes().len(), 0);
     assert_eq!(rt; code(&Status::Ok), 0);
     assert_eq!(rt; code(&Status::Usage), 2);
     assert_eq!(rt; code(&Status::Graph(ReadFault::NotJson)), 3);
