@@ -127,6 +127,6 @@ pub completes : (result : Status) (told : Option Stored) (name : List ℕ) (left
 completes result None name left shows read write order = absurd (let none : None ≡ Some order.file = order.file-is in cc)
 completes result (Some files) name left shows read write order =
     let file : ShowsFile result order.file left =
-      subst (λ (o : Option (List ℕ)). MatchOption o (OrEarlier result (result ≡ status.NoGraphFile)) (λ file. ShowsFile result file left)) order.file-is shows in
+    subst (λ (o : Option (List ℕ)). MatchOption o (OrEarlier result (result ≡ status.NoGraphFile)) (λ file. ShowsFile result file left)) order.file-is shows in
     let input : ShowsInput result order.input = subst (λ (o : Option (List ℕ)). IfSome o (ShowsInput result)) order.input-is (file.graph order.short-file order.graph order.graph-is) in
     left_over read write (input.1 order.short-input)

@@ -29,10 +29,7 @@ const ROWS: [(&[u8], &[u8]); 5] = [
         b"a allocate 3 {\"version\":1,\"resources\":[{\"type\":\"slot\",\"count\":1,\"label\":\"task\",\"with\":[{\"type\":\"core\",\"count\":2}]}],\"tasks\":[{\"command\":[\"app\"],\"slot\":\"task\",\"count\":{\"per_slot\":1}}],\"attributes\":{\"system\":{\"duration\":60}}}",
         b"3 4 a busy",
     ),
-    (
-        b"a cancel 1",
-        b"4 5 a invalid profile .",
-    ),
+    (b"a cancel 1", b"4 5 a invalid profile ."),
 ];
 
 /// The words of a run over the file `g`.
@@ -140,13 +137,31 @@ fn each_fault_is_told(rt: HostRuntime) -> Result<(), Fail> {
     let out = ends(alloc, "serve", "g", GRAPH, Fails { out: 1, ..NONE })?;
     fails_with(&rt, alloc, &out, Status::Write, b"fluxion: write fault\n")?;
     let absent = ends(alloc, "serve", "h", GRAPH, NONE)?;
-    fails_with(&rt, alloc, &absent, Status::NoGraphFile, b"fluxion: no such file\n")?;
+    fails_with(
+        &rt,
+        alloc,
+        &absent,
+        Status::NoGraphFile,
+        b"fluxion: no such file\n",
+    )?;
     let file = ends(alloc, "serve", "g", GRAPH, Fails { files: 1, ..NONE })?;
     fails_with(&rt, alloc, &file, Status::Read, b"fluxion: read fault\n")?;
     let json = ends(alloc, "serve", "g", cut, NONE)?;
-    fails_with(&rt, alloc, &json, Status::Graph(ReadFault::NotJson), b"fluxion: graph: json\n")?;
+    fails_with(
+        &rt,
+        alloc,
+        &json,
+        Status::Graph(ReadFault::NotJson),
+        b"fluxion: graph: json\n",
+    )?;
     let form = ends(alloc, "serve", "g", b"{}", NONE)?;
-    fails_with(&rt, alloc, &form, Status::Graph(ReadFault::Form), b"fluxion: graph: form\n")?;
+    fails_with(
+        &rt,
+        alloc,
+        &form,
+        Status::Graph(ReadFault::Form),
+        b"fluxion: graph: form\n",
+    )?;
     Ok(())
 }
 
@@ -167,7 +182,10 @@ fn a_write_fault_leaves_a_front(rt: HostRuntime) -> Result<(), Fail> {
     let (_, answers) = texts(alloc, ROWS.len())?;
     let ended = ends(alloc, "serve", "g", GRAPH, Fails { out: 3, ..NONE })?;
     assert_eq!(rt; ended.0, Status::Write);
-    assert_eq!(rt; ended.1.as_slice(), answers.as_slice().get(..200).ok_or("long")?);
+    assert_eq!(rt;
+        ended.1.as_slice(),
+        answers.as_slice().get(..200).ok_or("long")?
+    );
     Ok(())
 }
 

@@ -1,5 +1,5 @@
 //! Texts, numbered in the order in which they were first seen.
-ghost use Rattle.std.specs.Prelude.{◌≡◌, [], length, position, slice_get, option_map, IfOk, OnOk, OnErr};
+ghost use Rattle.std.specs.Prelude.{◌≡◌, ◌≤◌, [], length, position, slice_get, option_map, IfOk, OnOk, OnErr};
 ghost use Rattle.std.specs.Str.{bytes_eq};
 ghost use Rattle.text_table.specs.Tables.{place_of, with_text};
 
@@ -55,6 +55,17 @@ impl TextTable {
         ensures { result ≡ position (bytes_eq text.now) self.now }
     {
         self.set.get_index_of(text)
+    }
+
+    /// The text's number, or, where it is not there, the number that it would get.
+    pub fn place_of(&self, text: &[u8]) -> usize
+        ensures place { result ≡ place_of self.now text.now }
+        ensures within { result ≤ length self.now }
+    {
+        match self.number_of(text) {
+            Some(number) => number,
+            None => self.len(),
+        }
     }
 
     /// The text of this number.
