@@ -6,9 +6,9 @@ use Rattle.flux_defs.specs.declared.vertices.Vertex.{Vertex}
 use Rattle.flux_defs.specs.Graph.{ResourceGraph}
 use Rattle.flux_defs.specs.ValidGraph.{IsDevice}
 use Rattle.resource_graph.specs.Lines.{KnowsParents}
-use Rattle.resource_graph.specs.Faults.{IsLoose, IsHoused, IsFaultless, HasDoubleId, HasDoubleName, HasBadRank}
+use Rattle.resource_graph.specs.Faults.{IsLoose, IsHoused, IsFaultless, HasBadRank}
 use Rattle.resource_graph.specs.Checks.{graph_in, HasHouses}
-use Rattle.resource_graph.specs.Told.{KnownParents, NamedDevices, Nowhere}
+use Rattle.resource_graph.specs.Told.{KnownParents, DistinctNames, Nowhere}
 use Rattle.resource_graph.proofs.AboveLaws.{housed_at, unhoused_at}
 use Rattle.resource_graph.proofs.OwnLaws.{device_within}
 
@@ -25,9 +25,11 @@ housed_clear kinds vertices houses has none v device =
     ]
 
 -- nothing is wrong where no row of the table is
-pub faultless_clear : (g : ResourceGraph) (names : List (List ℕ)) → NamedDevices g → Nowhere (HasDoubleId g) → Nowhere (HasDoubleName g names) → Nowhere (HasBadRank g) → IsFaultless g names
-faultless_clear g names clear ids names_apart ranks =
-    let housed = clear.0 in
+pub faultless_clear : (g : ResourceGraph) (names : List (List ℕ)) → DistinctNames g names → Nowhere (HasBadRank g) → IsFaultless g names
+faultless_clear g names clear ranks =
+    let distinct = clear.0 in
+    let named = distinct.0 in
+    let housed = named.0 in
     let bounded = housed.0 in
     let whole = bounded.0 in
     let leaves = whole.0 in
@@ -55,8 +57,8 @@ faultless_clear g names clear ids names_apart ranks =
       whole = whole.1;
       most = bounded.1;
       housed = housed.1;
-      identified = clear.1;
-      ids = ids;
-      names_apart = names_apart;
+      identified = named.1;
+      ids = distinct.1;
+      names_apart = clear.1;
       ranks = ranks;
     }
