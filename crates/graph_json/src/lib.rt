@@ -1,0 +1,6 @@
+//! Graph files (JSON Graph Format), read and written.
+#![tactic(auto)]
+
+mod fields;
+mod nodes;
+mod places;
