@@ -1,3 +1,5 @@
 pub mod Places
 pub mod Fields
 pub mod Nodes
+pub mod Edges
+pub mod Ids
