@@ -1,7 +1,7 @@
 -- The edges of a graph file, and whom they make the parent of whom.
 use Rattle.std.specs.Prelude.{◌≡◌, ℕ, suc, ◌<◌, List, [], ◌∷◌, map, take, Bool, true, false, not, ◌&&◌, ◌||◌, if◌then◌else◌, Option, Some, None, is_some, unwrap_or, slice_get, slice_set, option_map, option_and_then, IsTrue, Result, Ok, Err, codes, Vec}
 use Rattle.std.specs.declared.alloc.Global.{Global}
-use Rattle.std.specs.List.{filter_map, find, list_any}
+use Rattle.std.specs.List.{AllByRecursion, filter_map, find, list_any}
 use Rattle.std.specs.Option.{option_map_or}
 use Rattle.std.specs.Str.{bytes_eq}
 use Rattle.serde_json.specs.Data.{Data, Items, no_items, item}
@@ -160,3 +160,9 @@ joined_as ids parents Refused e = None
 -- the parents after an edge, and none where it is wrong
 abbrev pub joined : List (List ℕ) → List (Option ℕ) → FileEdge → Option (List (Option ℕ))
 joined ids parents e = joined_as ids parents e.role e
+
+-- the first so many edges are right, and these are the parents that they give
+pub record HasJoined (ids : List (List ℕ)) (edges : List (Result FileEdge Misfit)) (most : ℕ) (parents : List (Option ℕ)) : Type 0 where
+  pub parents_are : parents ≡ parents_of ids (counted (take most edges))
+  pub right : (k : ℕ) → k < most → IsWrongEdge ids edges k → ⊥
+  pub known : AllByRecursion (λ e. is_among ids e.source ≡ true) (counted (take most edges))

@@ -1,5 +1,5 @@
 //! The edges of a graph file, and whom they make the parent of whom.
-ghost use Rattle.std.specs.Prelude.{◌≡◌, ◌<◌, ℕ, codes, IsSome, None, Some, Option, List, if◌then◌else◌, length, map, option_map, IfErr, IfSome, OnOk};
+ghost use Rattle.std.specs.Prelude.{◌≡◌, ◌<◌, [], ℕ, codes, IsSome, None, Some, Option, List, if◌then◌else◌, length, map, option_map, IfErr, IfSome, OnOk};
 ghost use Rattle.std.specs.List.{IsDistinct};
 ghost use Rattle.std.specs.Str.{bytes_eq};
 ghost use Rattle.std.specs.Result.{result_map_both};
@@ -194,4 +194,29 @@ fn join(ids: &IndexSet<Vec<u8>>, parents: &mut [Option<usize>], edge: EdgeFields
             true
         }
     }
+}
+
+/// Notes by node the place of its parent, or tells the first edge that is wrong.
+pub(crate) fn join_edges(
+    ids: &IndexSet<Vec<u8>>,
+    edges: &[Value],
+    parents: &mut [Option<usize>],
+) -> Result<(), EdgeFault>
+    requires none { parents.old ≡ parents_of (texts ids.now.keys) [] }
+    requires distinct { IsDistinct bytes_eq (texts ids.now.keys) }
+    ensures joined { OnOk result (parents.new ≡ parents_of (texts ids.now.keys) (counted (edges_of 0 (items_view edges.now)))) }
+    ensures right { OnOk result ((k : ℕ) → IsWrongEdge (texts ids.now.keys) (edges_of 0 (items_view edges.now)) k → ⊥) }
+    ensures wrong { IfErr result (IsFirstWrong (texts ids.now.keys) (edges_of 0 (items_view edges.now))) }
+{
+    'edges: for (at, value) in edges.iter().enumerate() {
+        match edge_of(at as u64, value) {
+            Err(fault) => return Err(EdgeFault::Unfit(fault)),
+            Ok(edge) => {
+                if !join(ids, parents, edge) {
+                    return Err(EdgeFault::Wrong { at: at as u64 });
+                }
+            }
+        }
+    }
+    Ok(())
 }
