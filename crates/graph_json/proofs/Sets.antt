@@ -1,12 +1,21 @@
 -- Texts in a set, in the order in which they were added.
-use Rattle.std.proofs.Common.{◌≡◌, refl, sym, ap, subst, ◌∙◌, ℕ, zero, suc, List, [], ◌∷◌, ◌++◌, map, Vec, Global, Bool, true, false, not, ◌||◌, true≢false, Some, slice_get, append_assoc, append-nil, arith, ◌&&◌, ◌+◌, cond, position, nat_eq, nat_lt, length, Option, None, option_map, if◌then◌else◌}
+use Rattle.std.proofs.Common.{◌≡◌, refl, sym, ap, subst, ◌∙◌, ℕ, zero, suc, List, [], ◌∷◌, ◌++◌, map, Vec, Global, Bool, true, false, not, ◌||◌, true≢false, Some, slice_get, append_assoc, append-nil, arith, ◌&&◌, ◌+◌, cond, position, nat_eq, nat_lt, length, Option, None, option_map, if◌then◌else◌, Bor, string_bytes}
 use Rattle.std.proofs.lemmas.Bool.Decides.{nat_tests}
-use Rattle.std.proofs.lemmas.List.{length-map}
+use Rattle.std.proofs.lemmas.List.{length-map, map-append}
 use Rattle.std.proofs.lemmas.Map.Keys.{IsDistinct-push}
 use Rattle.std.specs.Cmp.Lexicographic.{nat_list_eq_equiv}
 use Rattle.std.specs.List.{IsDistinct, AllByRecursion, list_any, position_or_len}
 use Rattle.std.specs.Str.{bytes_eq}
-use Rattle.graph_json.specs.Edges.{texts, place_of}
+use Rattle.std.specs.Ordering.{nat_cmp, match_ordering}
+use Rattle.std.specs.declared.cmp.Ordering.{Ordering}
+use Rattle.std.specs.declared.cmp.Ordering.TheVariants.{Less, Equal, Greater}
+use Rattle.std.specs.Cmp.Lexicographic.{slice_cmp}
+use Rattle.std.specs.BTreeSet.{insert_key}
+use Rattle.serde_json.specs.View.{members_view}
+use Rattle.serde_json.proofs.Views.{Entry}
+use Rattle.graph_json.specs.Nodes.{keys_of}
+use Rattle.graph_json.specs.Edges.{texts, is_among, place_of}
+use Rattle.graph_json.specs.RawLists.{with_text}
 
 pub list_any-texts : (q : List ℕ) (vs : List (Vec ℕ Global)) → list_any (λ v. bytes_eq q v.items) vs ≡ list_any (bytes_eq q) (texts vs)
 list_any-texts q [] = refl
@@ -94,3 +103,34 @@ next_place false n m = let e : nat_lt (1 + n) (suc m) ≡ nat_lt n m = grind (ar
 pub position-place_of : (q : List ℕ) (xs : List (List ℕ)) → position (bytes_eq q) xs ≡ place_of xs q
 position-place_of q [] = refl
 position-place_of q (x ∷ xs) = next_place (bytes_eq q x) (position_or_len (bytes_eq q) xs) (length xs) ∙ ap (λ o. if bytes_eq q x then Some 0 else option_map suc o) (position-place_of q xs)
+
+-- ---- texts in byte order
+
+ordered : (o : Ordering) (k x : List ℕ) (xs ys : List (Bor (List ℕ))) (zs : List (List ℕ)) (b y : Bor (List ℕ)) → k ≡ b.now → x ≡ y.now → map (λ s. s.now) ys ≡ zs
+    → map (λ s. s.now) (match_ordering o (b ∷ y ∷ xs) (y ∷ xs) (y ∷ ys)) ≡ match_ordering o (k ∷ x ∷ map (λ s. s.now) xs) (x ∷ map (λ s. s.now) xs) (x ∷ zs)
+ordered Less k x xs ys zs b y e f g = rw (e, f) refl
+ordered Equal k x xs ys zs b y e f g = rw f refl
+ordered Greater k x xs ys zs b y e f g = rw (f, ← g) refl
+
+-- a reference to a text is put among others as the text among texts
+pub insert_key-now : (xs : List (Bor (List ℕ))) (k : Bor (List ℕ)) → map (λ s. s.now) (insert_key (λ a b. slice_cmp nat_cmp a.now b.now) xs k) ≡ insert_key (slice_cmp nat_cmp) (map (λ s. s.now) xs) k.now
+insert_key-now [] k = refl
+insert_key-now (x ∷ xs) k = ordered (slice_cmp nat_cmp k.now x.now) k.now x.now xs _ _ k x refl refl (insert_key-now xs k)
+
+-- ---- keys of an object
+
+pub keys_of-entries : (es : List Entry) → map (λ k. string_bytes k) (map (λ e. e.0) es) ≡ keys_of (members_view es)
+keys_of-entries [] = refl
+keys_of-entries (e ∷ es) = ap (λ ks. string_bytes e.0 ∷ ks) (keys_of-entries es)
+
+-- ---- one text more, unless it is there
+
+pub with_text-there : (texts : List (List ℕ)) (text : List ℕ) → is_among texts text ≡ true → texts ≡ with_text texts text
+with_text-there texts text there = rw there refl
+
+texts_by : (b : Bool) (keys : List (Vec ℕ Global)) (v : Vec ℕ Global) → texts (if b then keys else keys ++ v ∷ []) ≡ (if b then texts keys else texts keys ++ v.items ∷ [])
+texts_by true keys v = refl
+texts_by false keys v = map-append (λ x. x.items) keys (v ∷ [])
+
+pub with_text-inserted : (keys : List (Vec ℕ Global)) (v : Vec ℕ Global) → texts (if list_any (λ x. bytes_eq v.items x.items) keys then keys else keys ++ v ∷ []) ≡ with_text (texts keys) v.items
+with_text-inserted keys v = texts_by (list_any (λ x. bytes_eq v.items x.items) keys) keys v ∙ ap (λ b. if b then texts keys else texts keys ++ v.items ∷ []) (list_any-texts v.items keys)

@@ -3,3 +3,4 @@ pub mod Fields
 pub mod Nodes
 pub mod Edges
 pub mod Ids
+pub mod RawLists

@@ -150,7 +150,7 @@ fn edge_of(at: u64, value: &Value) -> Result<EdgeFields<'_>, Misfit>
 }
 
 /// The place of a text in the set's order.
-fn place_of_text(ids: &IndexSet<Vec<u8>>, text: &[u8]) -> Option<usize>
+pub(crate) fn place_of_text(ids: &IndexSet<Vec<u8>>, text: &[u8]) -> Option<usize>
     ensures place { result ≡ place_of (texts ids.now.keys) text.now }
     ensures within { IfSome result (λ place. place < length ids.now.keys) }
 {

@@ -6,3 +6,4 @@ mod fields;
 mod ids;
 mod nodes;
 mod places;
+mod raw_lists;
