@@ -1,3 +1,5 @@
 pub mod Sets
 pub mod IdLaws
 pub mod EdgeLaws
+pub mod RawLaws
+pub mod TextLaws

@@ -4,3 +4,5 @@ pub mod Nodes
 pub mod Edges
 pub mod Ids
 pub mod RawLists
+pub mod GraphFile
+pub mod GraphText

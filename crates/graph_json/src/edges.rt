@@ -6,12 +6,11 @@ ghost use Rattle.std.specs.Result.{result_map_both};
 ghost use Rattle.serde_json.specs.Find.{as_object};
 ghost use Rattle.serde_json.specs.View.{view, items_view};
 ghost use Rattle.graph_json.specs.Fields.{given};
-ghost use Rattle.graph_json.specs.Places.{at_place};
 ghost use Rattle.graph_json.specs.Nodes.{id_bytes};
 ghost use Rattle.graph_json.specs.Edges.{role_in, role_of, name_role, is_contained, is_plain, object_or_none, edge_with, edge_of, edges_of, edge_held, texts, place_of, joined, counted, parents_of, IsWrongEdge, IsFirstWrong};
 
 use crate::fields::{NodeId, given, id_field};
-use crate::places::{EdgeKey, Misfit, Place};
+use crate::places::{EdgeKey, Misfit, Place, at_place};
 use indexmap::IndexSet;
 use json_whole::FieldFault;
 use serde_json::Value;
@@ -99,16 +98,6 @@ fn role_of(edge: &Value) -> Result<Role, FieldFault>
         return Err(FieldFault::Kind);
     }
     Ok(role_in(metadata))
-}
-
-/// What a field gives, or its fault at a place.
-fn at_place<T>(place: Place, field: Result<T, FieldFault>) -> Result<T, Misfit>
-    ensures { result ≡ at_place place field }
-{
-    match field {
-        Ok(found) => Ok(found),
-        Err(fault) => Err(Misfit { place, fault }),
-    }
 }
 
 /// What a file says of the edge with this index.

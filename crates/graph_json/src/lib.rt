@@ -2,8 +2,13 @@
 #![tactic(auto)]
 
 mod edges;
+pub mod faults;
 mod fields;
 mod ids;
 mod nodes;
 mod places;
 mod raw_lists;
+pub mod reading;
+
+pub use faults::ReadFault;
+pub use reading::read_graph;

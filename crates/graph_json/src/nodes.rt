@@ -6,7 +6,7 @@ ghost use Rattle.std.specs.Result.{result_map_both};
 ghost use Rattle.serde_json.specs.Find.{as_object};
 ghost use Rattle.serde_json.specs.View.{view, items_view, members_view};
 ghost use Rattle.graph_json.specs.Fields.{is_name, object_value, object_field};
-ghost use Rattle.graph_json.specs.Places.{at_key, at_place};
+ghost use Rattle.graph_json.specs.Places.{at_key};
 ghost use Rattle.graph_json.specs.Nodes.{id_bytes, node_held, default_name, name_given, keys_of, first_misfit, properties_given, properties_held, node_with, node_of, nodes_of};
 ghost use Rattle.graph_json.specs.declared.places.Misfit.{Misfit};
 
@@ -14,7 +14,7 @@ use crate::fields::{
     NAME, NodeId, TYPE_NAME, given, id_field, is_name, name_field, name_or, name_value, size_or_one, small_or_none,
     unit_or_empty,
 };
-use crate::places::{Misfit, NodeKey, Place};
+use crate::places::{Misfit, NodeKey, Place, at_place};
 use json_whole::FieldFault;
 use serde_json::{Map, Value};
 use std::alloc::{AllocError, AllocFailed, Global};
@@ -41,24 +41,11 @@ pub(crate) struct NodeFields<'a> {
     pub properties: Properties<'a>,
 }
 
-/// A fault at a key of a node.
-fn misfit(at: u64, key: NodeKey, fault: FieldFault) -> Misfit
-    ensures { result ≡ record { place = Place.NodeField at key; fault = fault } }
-{
-    Misfit {
-        place: Place::NodeField { at, key },
-        fault,
-    }
-}
-
 /// What a field gives, or its fault at a key of a node.
 fn at_key<T>(at: u64, key: NodeKey, field: Result<T, FieldFault>) -> Result<T, Misfit>
     ensures { result ≡ at_key at key field }
 {
-    match field {
-        Ok(found) => Ok(found),
-        Err(fault) => Err(misfit(at, key, fault)),
-    }
+    at_place(Place::NodeField { at, key }, field)
 }
 
 /// The metadata of a node.
@@ -153,7 +140,13 @@ fn properties_of(at: u64, metadata: &Value) -> Result<Properties<'_>, Misfit>
         }
         return Ok(Properties::Members(members));
     }
-    Err(misfit(at, NodeKey::Properties, FieldFault::Kind))
+    Err(Misfit {
+        place: Place::NodeField {
+            at,
+            key: NodeKey::Properties,
+        },
+        fault: FieldFault::Kind,
+    })
 }
 
 /// What a file says of a node with this id, by its metadata.

@@ -1,6 +1,6 @@
 //! The places of a graph file's JSON value, and what is wrong there.
 ghost use Rattle.std.specs.Prelude.{◌≡◌, ◌++◌, IfOk, OnOk};
-ghost use Rattle.graph_json.specs.Places.{node_key, edge_key, index, path_of};
+ghost use Rattle.graph_json.specs.Places.{node_key, edge_key, index, path_of, at_place};
 
 use flux_defs::Text;
 use json_whole::FieldFault;
@@ -135,5 +135,15 @@ pub(crate) fn path_of(alloc: Global, place: Place) -> Result<Text, AllocError>
             let path = member_path(alloc, "graph.edges", at, edge_key(key))?;
             Ok(Text::of_vec(path))
         }
+    }
+}
+
+/// What a field gives, or its fault at a place.
+pub(crate) fn at_place<T>(place: Place, field: Result<T, FieldFault>) -> Result<T, Misfit>
+    ensures { result ≡ at_place place field }
+{
+    match field {
+        Ok(found) => Ok(found),
+        Err(fault) => Err(Misfit { place, fault }),
     }
 }
