@@ -3,3 +3,4 @@ pub mod IdLaws
 pub mod EdgeLaws
 pub mod RawLaws
 pub mod TextLaws
+pub mod WriterLaws

@@ -6,3 +6,5 @@ pub mod Ids
 pub mod RawLists
 pub mod GraphFile
 pub mod GraphText
+pub mod WrittenGraph
+pub mod WrittenTokens

@@ -9,6 +9,7 @@ mod nodes;
 mod places;
 mod raw_lists;
 pub mod reading;
+pub mod writing;
 
 pub use faults::ReadFault;
 pub use reading::read_graph;
