@@ -78,11 +78,15 @@ abbrev pub edges_data : ℕ → List Vertex → Items
 edges_data v [] = no_items
 edges_data v (x ∷ xs) = with_edge x.parent v (edges_data (suc v) xs)
 
+-- the edges and the nodes of a graph
+abbrev pub lists_data : NamedGraph → Data
+lists_data g = object (
+    member (codes "edges") (array (edges_data 0 g.resources.vertices)) (
+    member (codes "nodes") (array (nodes_data g 0 g.resources.vertices)) no_members))
+
 -- a graph as JSON
 abbrev pub graph_data : NamedGraph → Data
-graph_data g = object (member (codes "graph") (object (
-    member (codes "edges") (array (edges_data 0 g.resources.vertices)) (
-    member (codes "nodes") (array (nodes_data g 0 g.resources.vertices)) no_members))) no_members)
+graph_data g = object (member (codes "graph") (lists_data g) no_members)
 
 -- the text of a graph: that JSON, with no space
 unfoldable pub graph_text : NamedGraph → List ℕ

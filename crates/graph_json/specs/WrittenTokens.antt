@@ -1,5 +1,6 @@
 -- How a writer goes on.
-use Rattle.std.specs.Prelude.{◌≡◌, ℕ, List, [], ◌∷◌, ◌++◌, codes}
+use Rattle.std.specs.Prelude.{◌≡◌, ℕ, List, [], ◌∷◌, ◌++◌, Option, Some, None, slice_get, codes}
+use Rattle.std.specs.Option.{option_map_or}
 use Rattle.json.specs.Token.{Token, key, string}
 use Rattle.json.specs.Tree.{json_tokens, items_tokens, members_tokens}
 use Rattle.json.specs.Written.{Written}
@@ -7,7 +8,7 @@ use Rattle.serde_json.specs.Data.{Data, Items, Members}
 use Rattle.serde_json.specs.Written.{outline, items_outline, members_outline}
 use Rattle.flux_defs.specs.declared.vertices.Vertex.{Vertex}
 use Rattle.resource_graph.specs.NamedGraph.{NamedGraph}
-use Rattle.graph_json.specs.WrittenGraph.{number_or_none, text_at, paths_data}
+use Rattle.graph_json.specs.WrittenGraph.{number_or_none, text_at, paths_data, edge_data, node_data}
 
 -- the writer has written these tokens more
 pub record Adds (old new : Written) (tokens : List Token) : Type 0 where
@@ -36,3 +37,12 @@ abbrev pub names_tokens : NamedGraph → ℕ → Vertex → List Token
 names_tokens g v x =
     key (codes "basename") ∷ string (text_at g.bases v) ∷ key (codes "id") ∷ (value_tokens (number_or_none x.id)
     ++ key (codes "name") ∷ string (text_at g.names v) ∷ key (codes "paths") ∷ value_tokens (paths_data g v))
+
+-- the tokens of the edge to vertex v, if it has a parent
+abbrev pub edge_tokens : Option ℕ → ℕ → List Token
+edge_tokens None v = []
+edge_tokens (Some parent) v = value_tokens (edge_data parent v)
+
+-- the tokens of the vertex with this number
+abbrev pub node_tokens : NamedGraph → ℕ → List Token
+node_tokens g v = option_map_or (λ x. value_tokens (node_data g v x)) (slice_get g.resources.vertices v) []

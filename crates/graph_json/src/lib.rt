@@ -13,3 +13,4 @@ pub mod writing;
 
 pub use faults::ReadFault;
 pub use reading::read_graph;
+pub use writing::write_graph;

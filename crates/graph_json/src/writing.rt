@@ -5,7 +5,7 @@ ghost use Rattle.serde_json.specs.Data.{member, no_members, object, unsigned};
 ghost use Rattle.serde_json.specs.Data.{number as number_data, string as string_data};
 ghost use Rattle.graph_json.specs.Nodes.{in_order};
 ghost use Rattle.graph_json.specs.WrittenGraph.{readable, text_at, number_or_none, keys_object, properties_at, paths_data, metadata_data, node_data, nodes_data, contains_data, edge_data, edges_data, graph_data, graph_text};
-ghost use Rattle.graph_json.specs.WrittenTokens.{Adds, keys_tokens, names_tokens, value_tokens, rest_tokens, member_tokens};
+ghost use Rattle.graph_json.specs.WrittenTokens.{Adds, keys_tokens, names_tokens, node_tokens, edge_tokens, edge_tokens, value_tokens, rest_tokens, member_tokens};
 
 use crate::raw_lists::add_text;
 use flux_defs::{List, Text, Vertex};
@@ -230,4 +230,73 @@ fn put_edge(writer: &mut Writer, parent: u32, at: u32) -> Result<(), AllocError>
     put_digits(writer, "target", at as u64)?;
     writer.end_object()?;
     Ok(())
+}
+
+/// Writes the vertex with this number as a node.
+fn put_node_at(
+    alloc: Global,
+    writer: &mut Writer,
+    graph: &Graph,
+    at: u32,
+) -> Result<(), AllocError>
+    ensures { OnOk result (Adds writer.old writer.new (node_tokens graph.now at)) }
+{
+    match graph.vertices().get(at as usize) {
+        Some(vertex) => put_node(alloc, writer, graph, at, vertex),
+        None => Ok(()),
+    }
+}
+
+/// Writes the vertices as nodes, and closes their list.
+fn put_nodes(alloc: Global, writer: &mut Writer, graph: &Graph) -> Result<(), AllocError>
+    ensures { OnOk result (Adds writer.old writer.new (rest_tokens (nodes_data graph.now 0 graph.now.resources.vertices))) }
+{
+    'nodes: for at in 0..graph.len() {
+        put_node_at(alloc, writer, graph, at)?;
+    }
+    writer.end_array()?;
+    Ok(())
+}
+
+/// Writes the edges to the vertices that have a parent, and closes their list.
+fn put_edges(writer: &mut Writer, graph: &Graph) -> Result<(), AllocError>
+    ensures { OnOk result (Adds writer.old writer.new (rest_tokens (edges_data 0 graph.now.resources.vertices))) }
+{
+    let vertices = graph.vertices().items();
+    'edges: for at in 0..graph.len() {
+        put_edge_to(writer, vertices[at as usize].parent, at)?;
+    }
+    writer.end_array()?;
+    Ok(())
+}
+
+/// Writes the edge to a vertex, if it has a parent.
+fn put_edge_to(writer: &mut Writer, parent: Option<u32>, at: u32) -> Result<(), AllocError>
+    ensures { OnOk result (Adds writer.old writer.new (edge_tokens parent at)) }
+{
+    match parent {
+        None => Ok(()),
+        Some(p) => put_edge(writer, p, at),
+    }
+}
+
+/// The text of a graph as a graph file (JSON Graph Format, RFC 4): compact JSON, with the keys of each object in byte
+/// order. Vertices stand in preorder, and each has all keys that `read_graph` knows, and its path. A text that is no
+/// UTF-8, which no graph of a file has, is written as the empty text.
+pub fn write_graph(alloc: Global, graph: &Graph) -> Result<Text, AllocError>
+    ensures { IfOk result (λ text. text ≡ graph_text graph.now) }
+{
+    let mut writer = Writer::new(Vec::new(alloc));
+    writer.begin_object()?;
+    writer.key("graph")?;
+    writer.begin_object()?;
+    writer.key("edges")?;
+    writer.begin_array()?;
+    put_edges(&mut writer, graph)?;
+    writer.key("nodes")?;
+    writer.begin_array()?;
+    put_nodes(alloc, &mut writer, graph)?;
+    writer.end_object()?;
+    writer.end_object()?;
+    Ok(Text::of_vec(writer.into_inner()))
 }
