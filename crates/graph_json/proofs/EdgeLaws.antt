@@ -137,25 +137,25 @@ module _ (ids : List (List ℕ)) where
         wrong = λ _. rw (sym (placed ids source) ∙ ap is_some oe) refl;
         right = λ parents e. cc;
         parents_are = λ parents e. cc;
-        known = λ parents e. absurd (cc)
+        known = λ parents e. absurd (cc);
       }
       counted_joins (Some s) None b oe pe be = record {
         wrong = λ _. rw (sym (placed ids source) ∙ ap is_some oe, sym (placed ids target) ∙ ap is_some pe) refl;
         right = λ parents e. cc;
         parents_are = λ parents e. cc;
-        known = λ parents e. absurd (cc)
+        known = λ parents e. absurd (cc);
       }
       counted_joins (Some s) (Some t) true oe pe be = rw (entry target t pe, be) (record {
         wrong = λ _. rw (sym (placed ids source) ∙ ap is_some oe, sym (placed ids target) ∙ ap is_some pe, be) refl;
         right = λ parents e. cc;
         parents_are = λ parents e. cc;
-        known = λ parents e. absurd (cc)
+        known = λ parents e. absurd (cc);
       })
       counted_joins (Some s) (Some t) false oe pe be = rw (entry target t pe, be) (record {
         wrong = λ e. absurd (cc);
         right = λ parents _. rw (sym (placed ids source) ∙ ap is_some oe, sym (placed ids target) ∙ ap is_some pe, be) refl;
         parents_are = λ parents e. let is : slice_set (parents_of ids es) t (Some s) ≡ parents = cc in sym is ∙ sym (update es edge s oe be ids distinct t pe);
-        known = λ parents e. (sym (placed ids source) ∙ ap is_some oe, tt)
+        known = λ parents e. (sym (placed ids source) ∙ ap is_some oe, tt);
       })
 
     joins_as : (source target : List ℕ) (role : Role) → Joins es (record { source = source; target = target; role = role }) (joined_as ids (parents_of ids es) role (record { source = source; target = target; role = role }))
@@ -164,13 +164,13 @@ module _ (ids : List (List ℕ)) where
       wrong = λ e. absurd (cc);
       right = λ parents _. refl;
       parents_are = λ parents e. let is : parents_of ids es ≡ parents = cc in sym is ∙ ap (parents_of ids) (sym (append-nil es));
-      known = λ parents e. tt
+      known = λ parents e. tt;
     }
     joins_as source target Refused = record {
       wrong = λ _. refl;
       right = λ parents e. cc;
       parents_are = λ parents e. cc;
-      known = λ parents e. absurd (cc)
+      known = λ parents e. absurd (cc);
     }
 
     joins : (e : FileEdge) → Joins es e (joined ids (parents_of ids es) e)
@@ -200,7 +200,7 @@ module _ (ids : List (List ℕ)) where
         record {
           parents_are = j.parents_are new after ∙ ap (parents_of ids) (sym (counted_next k (Ok e) here));
           right = below_more (λ i. IsWrongEdge ids edges i → ⊥) k has.right (λ wrong. true≢false (sym wrong ∙ wrong_by k (Ok e) here ∙ j.right new after));
-          known = subst AllKnown (sym (counted_next k (Ok e) here)) (all_then (counted (take k edges)) (counted (Ok e ∷ [])) has.known (j.known new after))
+          known = subst AllKnown (sym (counted_next k (Ok e) here)) (all_then (counted (take k edges)) (counted (Ok e ∷ [])) has.known (j.known new after));
         }
 
     pub wrong_edge : (k : ℕ) (e : FileEdge) (old : List (Option ℕ)) → IsDistinct bytes_eq ids → HasJoined ids edges k old → slice_get edges k ≡ Some (Ok e) → joined ids old e ≡ None → IsWrongEdge ids edges k

@@ -29,7 +29,7 @@ module _ (list : List (List ℕ)) where
   set-more k x old new set here absent more = record {
     kept = more ∙ ap (λ ys. ys ++ x ∷ []) set.kept ∙ sym (take_next list k x here);
     distinct = distinct-more old new x more absent set.distinct;
-    each = below_more (λ v. IsRepeated list v → ⊥) k set.each (λ repeated. true≢false (sym repeated ∙ repeats_by k x here ∙ ap (λ ys. is_among ys x) (sym set.kept) ∙ absent))
+    each = below_more (λ v. IsRepeated list v → ⊥) k set.each (λ repeated. true≢false (sym repeated ∙ repeats_by k x here ∙ ap (λ ys. is_among ys x) (sym set.kept) ∙ absent));
   }
 
   pub set-repeated : (k : ℕ) (x : List ℕ) (old : List (List ℕ)) → IsSetTo list k old → slice_get list k ≡ Some x → is_among old x ≡ true → IsLeastBad (IsRepeated list) k

@@ -12,5 +12,5 @@ wrote w = record { tokens_are = w.ok; same = w.room.0 }
 pub and_then : {a b c : Written} {xs ys : List Token} → Adds a b xs → Adds b c ys → Adds a c (xs ++ ys)
 and_then {a} {b} {c} {xs} {ys} p q = record {
   tokens_are = q.tokens_are ∙ ap (λ ts. ts ++ ys) p.tokens_are ∙ append_assoc a.tokens xs ys;
-  same = q.same ∙ p.same
+  same = q.same ∙ p.same;
 }

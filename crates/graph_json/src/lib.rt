@@ -14,3 +14,6 @@ pub mod writing;
 pub use faults::ReadFault;
 pub use reading::read_graph;
 pub use writing::write_graph;
+
+#[cfg(test)]
+mod tests;

@@ -11,8 +11,8 @@ ghost use Rattle.graph_json.specs.Nodes.{id_bytes, node_held, default_name, name
 ghost use Rattle.graph_json.specs.declared.places.Misfit.{Misfit};
 
 use crate::fields::{
-    NAME, NodeId, TYPE_NAME, given, id_field, is_name, name_field, name_or, name_value, size_or_one, small_or_none,
-    unit_or_empty,
+    NAME, NodeId, TYPE_NAME, given, id_field, is_name, name_field, name_or, name_value,
+    size_or_one, small_or_none, unit_or_empty,
 };
 use crate::places::{Misfit, NodeKey, Place, at_place};
 use json_whole::FieldFault;
@@ -150,15 +150,15 @@ fn properties_of(at: u64, metadata: &Value) -> Result<Properties<'_>, Misfit>
 }
 
 /// What a file says of a node with this id, by its metadata.
-fn fields_with<'a>(
-    at: u64,
-    id: NodeId<'a>,
-    metadata: &'a Value,
-) -> Result<NodeFields<'a>, Misfit>
+fn fields_with<'a>(at: u64, id: NodeId<'a>, metadata: &'a Value) -> Result<NodeFields<'a>, Misfit>
     requires { IsSome (as_object (view metadata.now)) }
     ensures { result_map_both node_held (λ m. m) result ≡ node_with at (id_bytes id.entry) (view metadata.now) }
 {
-    let kind = at_key(at, NodeKey::TypeName, name_field(metadata, "type", TYPE_NAME))?;
+    let kind = at_key(
+        at,
+        NodeKey::TypeName,
+        name_field(metadata, "type", TYPE_NAME),
+    )?;
     let base = at_key(at, NodeKey::Basename, name_or(metadata, "basename", kind))?;
     let number = at_key(at, NodeKey::Number, small_or_none(metadata, "id"))?;
     let name = at_key(at, NodeKey::Name, name_of(metadata, base, number))?;

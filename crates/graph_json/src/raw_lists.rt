@@ -66,10 +66,7 @@ fn properties_list(alloc: Global, properties: Properties) -> Result<List<Text>, 
 }
 
 /// The types of the nodes, in the order of their first nodes.
-pub(crate) fn kind_set(
-    alloc: Global,
-    nodes: &[NodeFields],
-) -> Result<IndexSet<Vec<u8>>, AllocError>
+pub(crate) fn kind_set(alloc: Global, nodes: &[NodeFields]) -> Result<IndexSet<Vec<u8>>, AllocError>
     ensures { IfOk result (λ set. texts set.keys ≡ kinds_of (map node_held nodes.now)) }
 {
     let mut set = IndexSet::new(alloc);

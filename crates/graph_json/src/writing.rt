@@ -42,11 +42,7 @@ fn put_number(writer: &mut Writer, name: &str, n: u64) -> Result<(), AllocError>
 }
 
 /// Writes a key with a number, or with -1 for none.
-fn put_number_or_none(
-    writer: &mut Writer,
-    name: &str,
-    n: Option<u32>,
-) -> Result<(), AllocError>
+fn put_number_or_none(writer: &mut Writer, name: &str, n: Option<u32>) -> Result<(), AllocError>
     ensures { OnOk result (Adds writer.old writer.new (key name.now ∷ value_tokens (number_or_none n))) }
 {
     writer.key(name)?;
@@ -90,11 +86,7 @@ fn ordered_properties<'a>(
 }
 
 /// Writes the properties of a vertex as the keys of an object.
-fn put_properties(
-    alloc: Global,
-    writer: &mut Writer,
-    properties: &[Text],
-) -> Result<(), AllocError>
+fn put_properties(alloc: Global, writer: &mut Writer, properties: &[Text]) -> Result<(), AllocError>
     ensures { OnOk result (Adds writer.old writer.new (key (codes "properties") ∷ value_tokens (object (keys_object (in_order (map readable properties.now)))))) }
 {
     writer.key("properties")?;
@@ -233,12 +225,7 @@ fn put_edge(writer: &mut Writer, parent: u32, at: u32) -> Result<(), AllocError>
 }
 
 /// Writes the vertex with this number as a node.
-fn put_node_at(
-    alloc: Global,
-    writer: &mut Writer,
-    graph: &Graph,
-    at: u32,
-) -> Result<(), AllocError>
+fn put_node_at(alloc: Global, writer: &mut Writer, graph: &Graph, at: u32) -> Result<(), AllocError>
     ensures { OnOk result (Adds writer.old writer.new (node_tokens graph.now at)) }
 {
     match graph.vertices().get(at as usize) {

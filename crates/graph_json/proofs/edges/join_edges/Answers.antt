@@ -23,7 +23,7 @@ returns-in-Err-clause-wrong c =
       here = here;
       wrong = unfit_edge (texts c.args.ids.now.keys) (edges_of 0 (items_view c.args.edges.now)) c.edges.at c.in-Err.fault here;
       first = c.edges.invariant.right;
-      told = refl
+      told = refl;
     }
 
 pub returns-then-not-join-clause-wrong : goal.returns-then-not-join-clause-wrong
@@ -37,7 +37,7 @@ returns-then-not-join-clause-wrong c =
       here = here;
       wrong = wrong_edge (texts c.args.ids.now.keys) (edges_of 0 (items_view c.args.edges.now)) c.edges.at e c.edges.parents c.requires.distinct c.edges.invariant here none;
       first = c.edges.invariant.right;
-      told = refl
+      told = refl;
     }
 
 pub edges-preserved : goal.edges-preserved

@@ -44,9 +44,11 @@ pub returns : goal.returns
 returns c = record {
   built = tt;
   told = λ edges parents.
-    let nodes = map node_held c.args.nodes.now in
-    let kinds : c.in_ok-names.names ≡ kinds_of nodes = c.in_ok-names.ensures ∙ c.in_ok-kinds.ensures in
-    let raw = made nodes edges (texts c.in_ok-kinds.kinds.keys) c.args.parents.now c.in_ok-raw.raw c.in_ok-kinds.ensures parents c.in_ok-raw.ensures in
-    (subst (λ ks. Tells (raw_graph ks (vertices_of nodes edges)) (raw_names (vertices_of nodes edges)) c.in-Err.fault) kinds
-    (subst (λ rs. Tells (raw_graph c.in_ok-names.names rs) (raw_names rs) c.in-Err.fault) raw c.in-Err.ensures.told), λ memory. true≢false (sym (c.is_memory.ensures.1 memory) ∙ c.if-is_memory.false))
+      let nodes = map node_held c.args.nodes.now in
+      let kinds : c.in_ok-names.names ≡ kinds_of nodes = c.in_ok-names.ensures ∙ c.in_ok-kinds.ensures in
+      let raw = made nodes edges (texts c.in_ok-kinds.kinds.keys) c.args.parents.now c.in_ok-raw.raw c.in_ok-kinds.ensures parents c.in_ok-raw.ensures in (
+        subst (λ ks. Tells (raw_graph ks (vertices_of nodes edges)) (raw_names (vertices_of nodes edges)) c.in-Err.fault) kinds
+            (subst (λ rs. Tells (raw_graph c.in_ok-names.names rs) (raw_names rs) c.in-Err.fault) raw c.in-Err.ensures.told),
+        λ memory. true≢false (sym (c.is_memory.ensures.1 memory) ∙ c.if-is_memory.false),
+      );
 }

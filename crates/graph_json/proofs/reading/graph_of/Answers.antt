@@ -37,7 +37,7 @@ returns-in-Err-join_edges-clause-fault c bytes is =
     let read = ap (λ xs. Ok (map node_held xs)) c.as_slice-held.ensures.value ∙ c.in-Ok-nodes_of.ensures.read ∙ ap (λ vs. nodes_of 0 (items_view vs)) c.as_slice.ensures.value in
     let set = matched_ok (λ s. IsSetOf ids (texts s.keys)) (IsLeastBad (IsRepeated ids)) c.in_ok-ids.field-0 c.in-Ok-2.ids c.in-Ok-2.is c.in_ok-ids.ensures in
     let first = subst (λ vs. IsFirstWrong ids (edges_of 0 (items_view vs)) c.in-Err-join_edges.fault) c.as_slice-2.ensures.value
-        (subst (λ found. IsFirstWrong found (edges_of 0 (items_view c.as_slice-2.result.now)) c.in-Err-join_edges.fault) set.kept c.in-Err-join_edges.ensures.wrong) in
+    (subst (λ found. IsFirstWrong found (edges_of 0 (items_view c.as_slice-2.result.now)) c.in-Err-join_edges.fault) set.kept c.in-Err-join_edges.ensures.wrong) in
     told_edge bytes (file_with lists (map node_held held)) (view c.args.value.now, is, file-read (view c.args.value.now) lists (map node_held held) c.in-Ok.ensures read) set.each c.in-Err-join_edges.fault c.edge_fault.result first c.edge_fault.ensures
 
 pub graph_from-requires : goal.graph_from-requires
