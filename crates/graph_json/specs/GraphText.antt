@@ -4,6 +4,7 @@ use Rattle.json_whole.specs.Whole.{value_of}
 use Rattle.serde_json.specs.Data.{Data}
 use Rattle.resource_graph.specs.NamedGraph.{NamedGraph}
 use Rattle.resource_graph.specs.Raw.{IsBuiltFrom, raw_graph, raw_names}
+use Rattle.resource_graph.specs.Faults.{IsFaultless}
 use Rattle.resource_graph.specs.Told.{IsLeastBad, Nowhere, Tells as TellsGraph}
 use Rattle.resource_graph.specs.declared.raw.RawVertex.{RawVertex}
 use Rattle.resource_graph.specs.declared.raw.GraphFault.TheVariants.{Memory as NoRoom}
@@ -38,9 +39,13 @@ HasRightEdges file = HasDistinctIds file × Nowhere (IsWrongEdge (ids_of file.no
 abbrev pub raw_of : GraphFile → List RawVertex
 raw_of file = vertices_of file.nodes (counted file.edges)
 
+-- nothing is wrong with a file's raw vertices
+abbrev pub HasFaultlessVertices : GraphFile → Type 0
+HasFaultlessVertices file = IsFaultless (raw_graph (kinds_of file.nodes) (raw_of file)) (raw_names (raw_of file))
+
 -- the bytes are a graph file, and this is its graph
 abbrev pub IsGraphText : List ℕ → NamedGraph → Type 0
-IsGraphText bytes graph = (file : GraphFile) × Says bytes file × HasRightEdges file × IsBuiltFrom (kinds_of file.nodes) (raw_of file) graph
+IsGraphText bytes graph = (file : GraphFile) × Says bytes file × HasRightEdges file × IsBuiltFrom (kinds_of file.nodes) (raw_of file) graph × HasFaultlessVertices file
 
 -- a field of the file's lists or nodes breaks its rule, and it is the first
 abbrev pub HasMisfit : List ℕ → Misfit → Type 0

@@ -5,7 +5,8 @@ ghost use Rattle.std.specs.Str.{bytes_eq};
 ghost use Rattle.std.specs.Result.{result_map_both};
 ghost use Rattle.serde_json.specs.Find.{as_object};
 ghost use Rattle.serde_json.specs.View.{view, items_view};
-ghost use Rattle.resource_graph.specs.Raw.{IsBuiltFrom};
+ghost use Rattle.resource_graph.specs.Faults.{IsFaultless};
+ghost use Rattle.resource_graph.specs.Raw.{IsBuiltFrom, raw_graph, raw_names};
 ghost use Rattle.graph_json.specs.Fields.{object_field, list_field};
 ghost use Rattle.graph_json.specs.Nodes.{node_held};
 ghost use Rattle.graph_json.specs.Edges.{FileEdge, parents_of};
@@ -130,7 +131,8 @@ fn graph_from(
 ) -> Result<Graph, ReadFault>
     requires { (edges : List FileEdge) × (parents.now ≡ parents_of (ids_of (map node_held nodes.now)) edges) }
     ensures built { IfOk result (λ graph. (edges : List FileEdge) → parents.now ≡ parents_of (ids_of (map node_held nodes.now)) edges
-        → IsBuiltFrom (kinds_of (map node_held nodes.now)) (vertices_of (map node_held nodes.now) edges) graph) }
+        → IsBuiltFrom (kinds_of (map node_held nodes.now)) (vertices_of (map node_held nodes.now) edges) graph
+        × IsFaultless (raw_graph (kinds_of (map node_held nodes.now)) (vertices_of (map node_held nodes.now) edges)) (raw_names (vertices_of (map node_held nodes.now) edges))) }
     ensures told { IfErr result (λ fault. (edges : List FileEdge) → parents.now ≡ parents_of (ids_of (map node_held nodes.now)) edges
         → TellsRaw (kinds_of (map node_held nodes.now)) (vertices_of (map node_held nodes.now) edges) fault) }
 {

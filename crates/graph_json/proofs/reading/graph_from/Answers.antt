@@ -2,6 +2,7 @@ use Rattle.std.proofs.Common.{◌≡◌, ◌≤◌, sym, ap, subst, ◌∙◌, r
 use Rattle.std.proofs.lemmas.List.{length-map}
 use Rattle.resource_graph.specs.NamedGraph.{NamedGraph}
 use Rattle.resource_graph.specs.Raw.{IsBuiltFrom, KindsApart, raw_graph, raw_names}
+use Rattle.resource_graph.specs.Faults.{IsFaultless}
 use Rattle.resource_graph.specs.Told.{Tells}
 use Rattle.resource_graph.specs.declared.raw.RawVertex.{RawVertex}
 use Rattle.resource_graph.specs.declared.raw.GraphFault.{GraphFault}
@@ -38,7 +39,9 @@ returns-in-Ok-clause-built c edges parents =
     let nodes = map node_held c.args.nodes.now in
     let kinds : c.in_ok-names.names ≡ kinds_of nodes = c.in_ok-names.ensures ∙ c.in_ok-kinds.ensures in
     let raw = made nodes edges (texts c.in_ok-kinds.kinds.keys) c.args.parents.now c.in_ok-raw.raw c.in_ok-kinds.ensures parents c.in_ok-raw.ensures in
-    subst (λ ks. IsBuiltFrom ks (vertices_of nodes edges) c.in-Ok.graph) kinds (subst (λ rs. IsBuiltFrom c.in_ok-names.names rs c.in-Ok.graph) raw c.in-Ok.ensures.built)
+    (subst (λ ks. IsBuiltFrom ks (vertices_of nodes edges) c.in-Ok.graph) kinds (subst (λ rs. IsBuiltFrom c.in_ok-names.names rs c.in-Ok.graph) raw c.in-Ok.ensures.built),
+    subst (λ ks. IsFaultless (raw_graph ks (vertices_of nodes edges)) (raw_names (vertices_of nodes edges))) kinds
+      (subst (λ rs. IsFaultless (raw_graph c.in_ok-names.names rs) (raw_names rs)) raw c.in-Ok.ensures.faultless))
 
 pub returns : goal.returns
 returns c = record {

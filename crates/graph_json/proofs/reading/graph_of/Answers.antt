@@ -8,7 +8,8 @@ use Rattle.graph_json.specs.Edges.{FileEdge, texts, edges_of, counted, parents_o
 use Rattle.graph_json.specs.Ids.{ids_of, IsRepeated, IsSetOf}
 use Rattle.resource_graph.specs.Told.{IsLeastBad, Nowhere}
 use Rattle.resource_graph.specs.NamedGraph.{NamedGraph}
-use Rattle.resource_graph.specs.Raw.{IsBuiltFrom}
+use Rattle.resource_graph.specs.Faults.{IsFaultless}
+use Rattle.resource_graph.specs.Raw.{IsBuiltFrom, raw_graph, raw_names}
 use Rattle.graph_json.specs.declared.faults.ReadFault.{ReadFault}
 use Rattle.graph_json.specs.RawLists.{kinds_of, vertices_of}
 use Rattle.graph_json.specs.GraphFile.{FileLists, GraphFile, lists_held, lists_of}
@@ -59,9 +60,10 @@ module _ (d : Data) (lists : FileLists) (nodes : List FileNode) (parents : List 
   says : (bytes : List ℕ) → IsValueOf bytes d → Says bytes file
   says bytes is = (d, is, file-read d lists nodes listed read)
 
-  graph_told : (r : Result NamedGraph ReadFault) → IfOk r (λ g. (edges : List FileEdge) → parents ≡ parents_of (ids_of nodes) edges → IsBuiltFrom (kinds_of nodes) (vertices_of nodes edges) g)
+  graph_told : (r : Result NamedGraph ReadFault) → IfOk r (λ g. (edges : List FileEdge) → parents ≡ parents_of (ids_of nodes) edges → IsBuiltFrom (kinds_of nodes) (vertices_of nodes edges) g
+      × IsFaultless (raw_graph (kinds_of nodes) (vertices_of nodes edges)) (raw_names (vertices_of nodes edges)))
       → IfOk r (λ g. (bytes : List ℕ) → IsValueOf bytes d → IsGraphText bytes g)
-  graph_told (Ok g) built = λ bytes is. (file, says bytes is, right, built (counted (edges_of 0 lists.edges)) same)
+  graph_told (Ok g) built = λ bytes is. (let made = built (counted (edges_of 0 lists.edges)) same in (file, says bytes is, right, made.0, made.1))
   graph_told (Err e) built = tt
 
   fault_told : (r : Result NamedGraph ReadFault) → IfErr r (λ f. (edges : List FileEdge) → parents ≡ parents_of (ids_of nodes) edges → TellsRaw (kinds_of nodes) (vertices_of nodes edges) f)
