@@ -2,6 +2,8 @@
 #![tactic(auto)]
 
 pub mod answering;
+mod fault_texts;
+pub mod loading;
 pub mod running;
 pub mod status;
 #[cfg(test)]

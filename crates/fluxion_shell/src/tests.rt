@@ -2,7 +2,7 @@
 use crate::{Limited, Status, Which, code, fault_line, run};
 use flux_defs::{List, Text};
 use flux_io::{MemFiles, MemSink, MemSource, SureFiles, SureSink, SureSource};
-use graph_form::ReadFault;
+use graph_json::ReadFault;
 use std::alloc::{AllocError, Global};
 use std::process::Abort;
 use std::test::Fail;
@@ -71,7 +71,7 @@ fn each_row_is_answered(rt: HostRuntime) -> Result<(), Fail> {
         out.reserve(answers.len())?;
         let words = words(alloc, "serve", "g")?;
         let status = run(alloc, words.as_slice(), &mut files, &mut input, &mut out);
-        assert_eq!(rt; status, Status::Ok, "{count} lines");
+        assert_eq!(rt; code(&status), 0, "{count} lines");
         assert_eq!(rt; out.bytes(), answers.as_slice(), "{count} lines");
     }
     Ok(())
@@ -113,15 +113,15 @@ const NONE: Fails = Fails {
     out: 0,
 };
 
-/// A run ends so, with this number and this line, and nothing is written.
+/// A run ends with this number and this line, and nothing is written.
 fn fails_with(
     rt: &impl Abort,
     alloc: Global,
     ended: &(Status, Vec<u8>),
-    status: Status,
+    number: u8,
     line: &[u8],
 ) -> Result<(), Fail> {
-    assert_eq!(rt; ended.0, status);
+    assert_eq!(rt; code(&ended.0), number);
     assert_eq!(rt; ended.1.len(), 0);
     assert_eq!(rt; fault_line(alloc, &ended.0)?.bytes(), line);
     Ok(())
@@ -131,37 +131,75 @@ fn fails_with(
 fn each_fault_is_told(rt: HostRuntime) -> Result<(), Fail> {
     let alloc = rt.alloc();
     let cut = GRAPH.split_last().ok_or("a graph")?.1;
-
     let input = ends(alloc, "serve", "g", GRAPH, Fails { input: 2, ..NONE })?;
-    fails_with(&rt, alloc, &input, Status::Read, b"fluxion: read fault\n")?;
+    fails_with(&rt, alloc, &input, 4, b"fluxion: read fault\n")?;
     let out = ends(alloc, "serve", "g", GRAPH, Fails { out: 1, ..NONE })?;
-    fails_with(&rt, alloc, &out, Status::Write, b"fluxion: write fault\n")?;
-    let absent = ends(alloc, "serve", "h", GRAPH, NONE)?;
-    fails_with(
-        &rt,
-        alloc,
-        &absent,
-        Status::NoGraphFile,
-        b"fluxion: no such file\n",
-    )?;
-    let file = ends(alloc, "serve", "g", GRAPH, Fails { files: 1, ..NONE })?;
-    fails_with(&rt, alloc, &file, Status::Read, b"fluxion: read fault\n")?;
-    let json = ends(alloc, "serve", "g", cut, NONE)?;
-    fails_with(
-        &rt,
-        alloc,
-        &json,
-        Status::Graph(ReadFault::NotJson),
-        b"fluxion: graph: json\n",
-    )?;
-    let form = ends(alloc, "serve", "g", b"{}", NONE)?;
-    fails_with(
-        &rt,
-        alloc,
-        &form,
-        Status::Graph(ReadFault::Form),
-        b"fluxion: graph: form\n",
-    )?;
+    fails_with(&rt, alloc, &out, 5, b"fluxion: write fault\n")?;
+    for command in ["serve", "graph"] {
+        let absent = ends(alloc, command, "h", GRAPH, NONE)?;
+        fails_with(&rt, alloc, &absent, 8, b"fluxion: no such file\n")?;
+        let file = ends(alloc, command, "g", GRAPH, Fails { files: 1, ..NONE })?;
+        fails_with(&rt, alloc, &file, 4, b"fluxion: read fault\n")?;
+        let json = ends(alloc, command, "g", cut, NONE)?;
+        fails_with(&rt, alloc, &json, 3, b"fluxion: graph: json\n")?;
+        let field = ends(alloc, command, "g", b"{}", NONE)?;
+        fails_with(&rt, alloc, &field, 3, b"fluxion: graph: field graph missing\n")?;
+    }
+    Ok(())
+}
+
+/// A graph file of one line, and what is wrong with it.
+const FAULTS: [(&[u8], &[u8]); 5] = [
+    (
+        b"{\"graph\":{\"nodes\":[{\"id\":\"r\",\"metadata\":{\"type\":\"cluster\",\"id\":0}},{\"id\":\"n\",\"metadata\":{\"type\":\"node\",\"id\":0}},{\"id\":\"c\",\"metadata\":{\"type\":\"core\",\"id\":0}}],\"edges\":[{\"source\":\"n\",\"target\":\"c\"}]}}",
+        b"fluxion: graph: roots 1\n",
+    ),
+    (
+        b"{\"graph\":{\"nodes\":[{\"id\":\"r\",\"metadata\":{\"type\":\"cluster\",\"id\":0}},{\"id\":\"n\",\"metadata\":{\"type\":\"core\",\"id\":0}},{\"id\":\"c\",\"metadata\":{\"type\":\"core\",\"id\":0}}],\"edges\":[{\"source\":\"r\",\"target\":\"n\"},{\"source\":\"n\",\"target\":\"c\"}]}}",
+        b"fluxion: graph: nested 2\n",
+    ),
+    (
+        b"{\"graph\":{\"nodes\":[{\"id\":\"r\",\"metadata\":{\"type\":\"cluster\",\"id\":0}},{\"id\":\"n\",\"metadata\":{\"type\":\"node\",\"id\":0}},{\"id\":\"c\",\"metadata\":{\"type\":\"core\",\"id\":0,\"size\":4}}],\"edges\":[{\"source\":\"r\",\"target\":\"n\"},{\"source\":\"n\",\"target\":\"c\"}]}}",
+        b"fluxion: graph: sized 2\n",
+    ),
+    (
+        b"{\"graph\":{\"nodes\":[{\"id\":\"r\",\"metadata\":{\"type\":\"cluster\"}},{\"id\":\"r\",\"metadata\":{\"type\":\"node\"}}],\"edges\":[]}}",
+        b"fluxion: graph: node 1\n",
+    ),
+    (
+        b"{\"graph\":{\"nodes\":[{\"id\":\"r\",\"metadata\":{\"type\":\"cluster\"}}],\"edges\":[{\"source\":\"r\",\"target\":\"q\"}]}}",
+        b"fluxion: graph: edge 0\n",
+    ),
+];
+
+#[test]
+fn each_graph_fault_has_its_line(rt: HostRuntime) -> Result<(), Fail> {
+    let alloc = rt.alloc();
+    for (graph, line) in FAULTS {
+        let ended = ends(alloc, "serve", "g", graph, NONE)?;
+        fails_with(&rt, alloc, &ended, 3, line)?;
+    }
+    Ok(())
+}
+
+/// A cluster, a node and a core, with other ids, and how that graph is written.
+const SMALL: &[u8] =
+    b"{\"graph\":{\"nodes\":[{\"id\":\"r\",\"metadata\":{\"type\":\"cluster\",\"id\":0}},{\"id\":\"n\",\"metadata\":{\"type\":\"node\",\"id\":0}},{\"id\":\"c\",\"metadata\":{\"type\":\"core\",\"id\":0}}],\"edges\":[{\"source\":\"r\",\"target\":\"n\"},{\"source\":\"n\",\"target\":\"c\"}]}}";
+
+const SMALL_WRITTEN: &[u8] =
+    b"{\"graph\":{\"edges\":[{\"metadata\":{\"name\":{\"containment\":\"contains\"}},\"source\":\"0\",\"target\":\"1\"},{\"metadata\":{\"name\":{\"containment\":\"contains\"}},\"source\":\"1\",\"target\":\"2\"}],\"nodes\":[{\"id\":\"0\",\"metadata\":{\"basename\":\"cluster\",\"id\":0,\"name\":\"cluster0\",\"paths\":{\"containment\":\"/cluster0\"},\"properties\":{},\"rank\":-1,\"size\":1,\"type\":\"cluster\",\"unit\":\"\"}},{\"id\":\"1\",\"metadata\":{\"basename\":\"node\",\"id\":0,\"name\":\"node0\",\"paths\":{\"containment\":\"/cluster0/node0\"},\"properties\":{},\"rank\":0,\"size\":1,\"type\":\"node\",\"unit\":\"\"}},{\"id\":\"2\",\"metadata\":{\"basename\":\"core\",\"id\":0,\"name\":\"core0\",\"paths\":{\"containment\":\"/cluster0/node0/core0\"},\"properties\":{},\"rank\":-1,\"size\":1,\"type\":\"core\",\"unit\":\"\"}}]}}\n";
+
+#[test]
+fn a_graph_is_written(rt: HostRuntime) -> Result<(), Fail> {
+    let alloc = rt.alloc();
+    let mut files = SureFiles::new(store(alloc, SMALL)?);
+    let mut input = SureSource::new(Text::of(alloc, b"a line")?, 100);
+    let mut out = SureSink::new(alloc, 50);
+    out.reserve(SMALL_WRITTEN.len())?;
+    let words = words(alloc, "graph", "g")?;
+    let status = run(alloc, words.as_slice(), &mut files, &mut input, &mut out);
+    assert_eq!(rt; code(&status), 0);
+    assert_eq!(rt; out.bytes(), SMALL_WRITTEN);
     Ok(())
 }
 
@@ -170,7 +208,7 @@ fn other_words_are_usage(rt: HostRuntime) -> Result<(), Fail> {
     let alloc = rt.alloc();
     for (command, name) in [("serve", ""), ("serve", "-g"), ("serves", "g"), ("", "g")] {
         let ended = ends(alloc, command, name, GRAPH, NONE)?;
-        assert_eq!(rt; ended.0, Status::Usage, "{command} {name}");
+        assert_eq!(rt; code(&ended.0), 2, "{command} {name}");
         assert_eq!(rt; ended.1.len(), 0);
     }
     Ok(())
@@ -181,7 +219,7 @@ fn a_write_fault_leaves_a_front(rt: HostRuntime) -> Result<(), Fail> {
     let alloc = rt.alloc();
     let (_, answers) = texts(alloc, ROWS.len())?;
     let ended = ends(alloc, "serve", "g", GRAPH, Fails { out: 3, ..NONE })?;
-    assert_eq!(rt; ended.0, Status::Write);
+    assert_eq!(rt; code(&ended.0), 5);
     assert_eq!(rt;
         ended.1.as_slice(),
         answers.as_slice().get(..200).ok_or("long")?
