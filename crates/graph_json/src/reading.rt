@@ -5,6 +5,8 @@ ghost use Rattle.std.specs.Str.{bytes_eq};
 ghost use Rattle.std.specs.Result.{result_map_both};
 ghost use Rattle.serde_json.specs.Find.{as_object};
 ghost use Rattle.serde_json.specs.View.{view, items_view};
+ghost use Rattle.json_whole.specs.declared.fields.FieldFault.{FieldFault};
+ghost use Rattle.resource_graph.specs.NamedGraph.{NamedGraph};
 ghost use Rattle.resource_graph.specs.Raw.{IsBuiltFrom};
 ghost use Rattle.graph_json.specs.Fields.{object_field, list_field};
 ghost use Rattle.graph_json.specs.Nodes.{node_held};
@@ -192,3 +194,11 @@ pub fn read_graph(alloc: Global, bytes: &[u8]) -> Result<Graph, ReadFault>
         Err(ValueFault::Memory) => Err(ReadFault::Memory),
     }
 }
+
+/// A law: the bytes of a graph file are JSON, its fields keep their rules, its ids differ, and its edges are right.
+pub fn graph_texts_have_no_fault()
+    ensures json { (bytes : List ℕ) (graph : NamedGraph) → IsGraphText bytes graph → Tells bytes ReadFault.NotJson → ⊥ }
+    ensures fields { (bytes : List ℕ) (graph : NamedGraph) (path : List ℕ) (fault : FieldFault) → IsGraphText bytes graph → Tells bytes (ReadFault.Field path fault) → ⊥ }
+    ensures nodes { (bytes : List ℕ) (graph : NamedGraph) (at : ℕ) → IsGraphText bytes graph → Tells bytes (ReadFault.DuplicateNode at) → ⊥ }
+    ensures edges { (bytes : List ℕ) (graph : NamedGraph) (at : ℕ) → IsGraphText bytes graph → Tells bytes (ReadFault.Edge at) → ⊥ }
+{}
