@@ -12,7 +12,7 @@ pub mod reading;
 pub mod writing;
 
 pub use faults::ReadFault;
-pub use reading::read_graph;
+pub use reading::{graph_texts_have_no_fault, read_graph};
 pub use writing::write_graph;
 
 #[cfg(test)]

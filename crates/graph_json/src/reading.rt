@@ -6,6 +6,7 @@ ghost use Rattle.std.specs.Result.{result_map_both};
 ghost use Rattle.serde_json.specs.Find.{as_object};
 ghost use Rattle.serde_json.specs.View.{view, items_view};
 ghost use Rattle.resource_graph.specs.Faults.{IsFaultless};
+ghost use Rattle.resource_graph.specs.NamedGraph.{NamedGraph};
 ghost use Rattle.resource_graph.specs.Raw.{IsBuiltFrom, raw_graph, raw_names};
 ghost use Rattle.graph_json.specs.Fields.{object_field, list_field};
 ghost use Rattle.graph_json.specs.Nodes.{node_held};
@@ -194,3 +195,8 @@ pub fn read_graph(alloc: Global, bytes: &[u8]) -> Result<Graph, ReadFault>
         Err(ValueFault::Memory) => Err(ReadFault::Memory),
     }
 }
+
+/// A law: the bytes of a graph file have no fault.
+pub fn graph_texts_have_no_fault()
+    ensures { (bytes : List ℕ) (graph : NamedGraph) (fault : ReadFault) → IsGraphText bytes graph → Tells bytes fault → fault ≡ ReadFault.Memory }
+{}
