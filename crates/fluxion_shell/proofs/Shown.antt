@@ -1,5 +1,5 @@
 -- What a told graph file and a told input show.
-use Rattle.std.proofs.Common.{◌≡◌, ℕ, ◌<◌, ◌≤◌, ◌⊎◌, List, [], ◌++◌, length, Option, Some, None, IfSome, MatchOption, inl, inr, refl, sym, ◌∙◌, ap, subst, arith}
+use Rattle.std.proofs.Common.{◌≡◌, ℕ, ◌+◌, ◌<◌, ◌≤◌, ◌⊎◌, List, [], ◌++◌, length, Option, Some, None, IfSome, MatchOption, inl, inr, refl, sym, ◌∙◌, ap, subst, arith}
 use Rattle.flux_io.specs.Counts.{Rose}
 use Rattle.flux_io.specs.Stores.{Stored, file_of}
 use Rattle.flux_io.specs.Streams.{TakesFront}
@@ -10,7 +10,8 @@ use Rattle.graph_json.proofs.TextLaws.{no_fault_told}
 use Rattle.fluxion_shell.specs.declared.status.Status.{Status}
 use Rattle.fluxion_shell.specs.declared.status.Status.TheVariants as status
 use Rattle.fluxion_shell.specs.declared.status.Limited.{Limited}
-use Rattle.fluxion_shell.specs.Causes.{most_bytes, long_graph, long_input, told_file, WhereTold, OrEarlier, HasFault, AppendsFrontOfSome, ShowsInput, ShowsFile, ShowsStore, Shows, ShowsPrint, Known, FailsWith, HasGraphFile, HasShortInput}
+use Rattle.fluxion_shell.specs.declared.status.Which.TheVariants.{GraphBytes, InputBytes}
+use Rattle.fluxion_shell.specs.Causes.{most_bytes, past_graph, long_graph, long_input, told_file, WhereTold, OrEarlier, HasFault, AppendsFrontOfSome, ShowsInput, ShowsFile, ShowsStore, Shows, ShowsPrint, Known, FailsWith, HasGraphFile, HasShortInput}
 
 pub known : (told : Option Stored) (name old new : List ℕ) → old ≡ [] →
     IfSome told (λ files. (bytes : List ℕ) × (file_of files name ≡ Some bytes) × (length bytes ≤ 268435456) × (new ≡ old ++ bytes)) → Known told name new
@@ -18,6 +19,11 @@ known None name old new none h = tt
 known (Some files) name old new none (bytes, found, few, is) =
     let same : new ≡ bytes = is ∙ ap (λ xs. xs ++ bytes) none in
     (found ∙ ap Some (sym same), subst (λ (b : List ℕ). length b ≤ 268435456) (sym same) few)
+
+-- an answer that came before any other
+pub earlier_answer : (result : Status) (A : Type 0) → (result ≡ status.Read) ⊎ (result ≡ status.Memory) → OrEarlier result A
+earlier_answer result A (inl read) = inl read
+earlier_answer result A (inr memory) = inr (inl memory)
 
 -- an answer that came before what the input shows
 pub earlier_input : (left : Option (List ℕ)) (result : Status) → (result ≡ status.Read) ⊎ (result ≡ status.Memory) → IfSome left (ShowsInput result)
@@ -96,6 +102,9 @@ told_holds : (told : Option Stored) (name : List ℕ) (P : List ℕ → Type 0) 
 told_holds None name P h = tt
 told_holds (Some files) name P (bytes, at, p) = subst (λ (o : Option (List ℕ)). IfSome o P) (sym at) p
 
+pub input_is_no_graph : record { which = InputBytes; found = most_bytes + 1 } ≡ past_graph → ⊥
+input_is_no_graph same = let which : InputBytes ≡ GraphBytes = ap (λ (l : Limited). l.which) same in cc
+
 -- why no graph was read
 module _ (told : Option Stored) (name : List ℕ) (faults faults_now refused refused_now : ℕ) where
   abbrev Fails : Status → Type 0
@@ -138,27 +147,27 @@ module _ (told : Option Stored) (name : List ℕ) (faults faults_now refused ref
       by : (files : Option Stored) → IfSome files (λ files. (bytes : List ℕ) × (file_of files name ≡ Some bytes) × (length bytes ≤ most_bytes) × HasFault bytes fault) → ShowsStore (status.Graph fault) files name Then
       by None g = tt
       by (Some files) (bytes, at, few, has) =
-        subst (λ (o : Option (List ℕ)). MatchOption o (OrEarlier (status.Graph fault) (status.Graph fault ≡ status.NoGraphFile)) (λ file. ShowsFile (status.Graph fault) file Then)) (sym at) (record {
-          long = λ many. absurd (omega arith);
-          faulty = λ short other too. inr (inr (fault, has, refl));
-          graph = λ short g text. absurd (has.1 (no_fault_told bytes g fault text has.0));
-        })
+          subst (λ (o : Option (List ℕ)). MatchOption o (OrEarlier (status.Graph fault) (status.Graph fault ≡ status.NoGraphFile)) (λ file. ShowsFile (status.Graph fault) file Then)) (sym at) (record {
+            long = λ many. absurd (omega arith);
+            faulty = λ short other too. inr (inr (fault, has, refl));
+            graph = λ short g text. absurd (has.1 (no_fault_told bytes g fault text has.0));
+          })
   fails_shows (status.Limit limited) Then h early = by told h.2
     where
       by : (files : Option Stored) → IfSome files (λ files. (bytes : List ℕ) × (file_of files name ≡ Some bytes) × (most_bytes < length bytes)) → ShowsStore (status.Limit limited) files name Then
       by None g = tt
       by (Some files) (bytes, at, many) =
-        subst (λ (o : Option (List ℕ)). MatchOption o (OrEarlier (status.Limit limited) (status.Limit limited ≡ status.NoGraphFile)) (λ file. ShowsFile (status.Limit limited) file Then)) (sym at) (record {
-          long = λ more. inr (inr (ap status.Limit h.0));
-          faulty = λ short fault has. absurd (omega arith);
-          graph = λ short g text. absurd (omega arith);
-        })
+          subst (λ (o : Option (List ℕ)). MatchOption o (OrEarlier (status.Limit limited) (status.Limit limited ≡ status.NoGraphFile)) (λ file. ShowsFile (status.Limit limited) file Then)) (sym at) (record {
+            long = λ more. inr (inr (ap status.Limit h.0));
+            faulty = λ short fault has. absurd (omega arith);
+            graph = λ short g text. absurd (omega arith);
+          })
   fails_shows status.NoGraphFile Then h early = by told h.1
     where
       by : (files : Option Stored) → IfSome files (λ files. file_of files name ≡ None) → ShowsStore status.NoGraphFile files name Then
       by None g = tt
       by (Some files) none =
-        subst (λ (o : Option (List ℕ)). MatchOption o (OrEarlier status.NoGraphFile (status.NoGraphFile ≡ status.NoGraphFile)) (λ file. ShowsFile status.NoGraphFile file Then)) (sym none) (inr (inr refl))
+          subst (λ (o : Option (List ℕ)). MatchOption o (OrEarlier status.NoGraphFile (status.NoGraphFile ≡ status.NoGraphFile)) (λ file. ShowsFile status.NoGraphFile file Then)) (sym none) (inr (inr refl))
 
 -- a front of the text was appended
 pub front_of : (old new : Option (List ℕ)) (before now : Option ℕ) (text : List ℕ) (P : List ℕ → Type 0) → TakesFront old new before now text → P text → AppendsFrontOfSome old new P
@@ -169,7 +178,6 @@ pub no_fault : (A : Type 0) (room : Option ℕ) (length_of before now : ℕ) (Ea
     IfSome room (λ r. length_of ≤ r → A × (now ≡ before)) → IfSome room (λ r. Each r → now ≡ before)
 no_fault A None n before now Each within fits = tt
 no_fault A (Some r) n before now Each within fits = λ each. (fits (within r each)).1
-
 
 -- the answers that are left where nothing failed
 left_over : {A B C D : Type 0} → (A → ⊥) → (D → ⊥) → A ⊎ (B ⊎ (C ⊎ D)) → C ⊎ B
@@ -183,7 +191,7 @@ after_graph : (result : Status) (told : Option Stored) (name : List ℕ) (Then :
 after_graph result None name Then shows order = absurd (let none : None ≡ Some order.file = order.file-is in cc)
 after_graph result (Some files) name Then shows order =
     let file : ShowsFile result order.file Then =
-      subst (λ (o : Option (List ℕ)). MatchOption o (OrEarlier result (result ≡ status.NoGraphFile)) (λ file. ShowsFile result file Then)) order.file-is shows in
+    subst (λ (o : Option (List ℕ)). MatchOption o (OrEarlier result (result ≡ status.NoGraphFile)) (λ file. ShowsFile result file Then)) order.file-is shows in
     file.graph order.short order.graph order.graph-is
 
 -- where all is in order and nothing failed, all was answered, or memory was wanting

@@ -1,5 +1,5 @@
 -- A list of two items.
-use Rattle.std.proofs.Common.{◌≡◌, ℕ, ◌<◌, ◌≤◌, String, Global, map, string_bytes, codes, List, [], ◌∷◌, length, get_or, inl, inr, sym, ◌∙◌, arith}
+use Rattle.std.proofs.Common.{◌≡◌, ℕ, ◌<◌, ◌≤◌, String, Global, map, string_bytes, codes, List, [], ◌∷◌, length, get_or, inl, inr, sym, ◌∙◌, ap, arith}
 use Rattle.fluxion_shell.specs.Forms.{IsCall, IsServe, IsPrint, NamesFile}
 
 pub two_items : {X : Type 0} (xs : List X) (a b : X) → 2 ≤ length xs → length xs < 3 → a ≡ get_or xs 0 a → b ≡ get_or xs 1 b → xs ≡ a ∷ b ∷ []
@@ -22,7 +22,8 @@ same_name command words one two first second = second_of command one command two
 pub one_form : (words : List (List ℕ)) (one two : List ℕ) → IsServe words one → IsPrint words two → ⊥
 one_form words one two serve print =
     let same : codes "serve" ≡ codes "graph" = first_of (codes "serve") one (codes "graph") two (sym serve.words-are ∙ print.words-are) in
-    cc
+    let letter : 115 ≡ 103 = ap (λ (word : List ℕ). get_or word 0 0) same in
+    omega (arith, letter)
 
 pub serve_name : (words : List (List ℕ)) (one two : List ℕ) → IsServe words one → NamesFile words two → one ≡ two
 serve_name words one two serve (inl too) = same_name (codes "serve") words one two serve too
@@ -31,3 +32,10 @@ serve_name words one two serve (inr print) = absurd (one_form words one two serv
 pub print_name : (words : List (List ℕ)) (one two : List ℕ) → IsPrint words one → NamesFile words two → one ≡ two
 print_name words one two print (inl serve) = absurd (one_form words two one serve print)
 print_name words one two print (inr too) = same_name (codes "graph") words one two print too
+
+-- what the first of two words is, and the second
+pub first_word : (command : List ℕ) (words : List (String Global)) (one two : String Global) (name : List ℕ) → words ≡ one ∷ two ∷ [] → IsCall command (map string_bytes words) name → string_bytes one ≡ command
+first_word command words one two name are call = first_of (string_bytes one) (string_bytes two) command name (sym (ap (map string_bytes) are) ∙ call.words-are)
+
+pub second_word : (command : List ℕ) (words : List (String Global)) (one two : String Global) (name : List ℕ) → words ≡ one ∷ two ∷ [] → IsCall command (map string_bytes words) name → string_bytes two ≡ name
+second_word command words one two name are call = second_of (string_bytes one) (string_bytes two) command name (sym (ap (map string_bytes) are) ∙ call.words-are)

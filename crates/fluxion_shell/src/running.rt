@@ -82,12 +82,7 @@ fn printed(alloc: Global, graph: &Graph) -> Result<Text, AllocError>
 }
 
 /// Writes the graph of the file of this name.
-fn print_graph<F: Files, O: Sink>(
-    alloc: Global,
-    name: &str,
-    files: &mut F,
-    out: &mut O,
-) -> Status
+fn print_graph<F: Files, O: Sink>(alloc: Global, name: &str, files: &mut F, out: &mut O) -> Status
     ensures printed { result ≡ Status.Ok → IfSome (told_file (F.told files.old) name.now) (λ file. AppendsSome (O.held out.old) (O.held out.new) (Prints file)) }
     ensures front { result ≡ Status.Write → IfSome (told_file (F.told files.old) name.now) (λ file. AppendsFrontOfSome (O.held out.old) (O.held out.new) (Prints file)) }
     ensures nothing { (result ≡ Status.Ok → ⊥) → (result ≡ Status.Write → ⊥) → Keeps (O.held out.old) (O.held out.new) }

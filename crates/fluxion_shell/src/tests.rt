@@ -143,7 +143,13 @@ fn each_fault_is_told(rt: HostRuntime) -> Result<(), Fail> {
         let json = ends(alloc, command, "g", cut, NONE)?;
         fails_with(&rt, alloc, &json, 3, b"fluxion: graph: json\n")?;
         let field = ends(alloc, command, "g", b"{}", NONE)?;
-        fails_with(&rt, alloc, &field, 3, b"fluxion: graph: field graph missing\n")?;
+        fails_with(
+            &rt,
+            alloc,
+            &field,
+            3,
+            b"fluxion: graph: field graph missing\n",
+        )?;
     }
     Ok(())
 }

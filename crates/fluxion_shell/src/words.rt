@@ -19,8 +19,11 @@ pub fn graph_name<'a>(command: &str, words: &'a [String]) -> Option<&'a str>
     let [first, name] = words else {
         return None;
     };
-    if first.as_str() == command && is_plain_word(name.as_str()) {
-        return Some(name.as_str());
+    if first.as_str() != command {
+        return None;
     }
-    None
+    if !is_plain_word(name.as_str()) {
+        return None;
+    }
+    Some(name.as_str())
 }
