@@ -1,12 +1,21 @@
 -- The keys that were seen, one place more at a time.
-use Rattle.std.proofs.Common.{◌≡◌, ℕ, ◌+◌, ◌<◌, Bool, true, false, cond, List, length, get_or, Option, Some, None, inl, inr, refl, sym, ◌∙◌, ap, arith, true≢false}
+use Rattle.std.proofs.Common.{◌≡◌, ℕ, ◌+◌, ◌<◌, ◌↔◌, Bool, true, false, cond, List, length, get_or, Option, Some, None, inl, inr, refl, sym, ◌∙◌, ap, arith, true≢false}
 use Rattle.std.specs.Prelude.{slice_get}
 use Rattle.std.specs.Ordering.{is_eq}
 use Rattle.std.specs.Cmp.{Equal-is}
 use Rattle.std.proofs.lemmas.Bool.{cases_lt, cases_Bool}
 use Rattle.std.proofs.lemmas.Option.{slice_get-get_or, slice_get_within}
 use Rattle.std.specs.declared.cmp.Ordering.{Ordering}
-use Rattle.resource_graph.specs.Keys.{IsRepeated, SeesKeys}
+use Rattle.std.specs.declared.cmp.Ordering.TheVariants.{Equal}
+use Rattle.resource_graph.specs.Keys.{IsRepeated}
+
+-- one of the first so many places has this key
+abbrev pub HasSeen : {K : Type 0} → (K → K → Ordering) → List (Option K) → ℕ → K → Type 0
+HasSeen {K} cmp keys most key = (u : ℕ) × (a : K) × (u < most) × (slice_get keys u ≡ Some (Some a)) × (cmp a key ≡ Equal)
+
+-- exactly the keys of the first so many places pass the test
+abbrev pub SeesKeys : {K : Type 0} → (K → K → Ordering) → List (Option K) → ℕ → (K → Bool) → Type 0
+SeesKeys {K} cmp keys most has = (key : K) → has key ≡ true ↔ HasSeen cmp keys most key
 
 module _ {K : Type 0} (cmp : K → K → Ordering) (keys : List (Option K)) where
   -- what was read at a place

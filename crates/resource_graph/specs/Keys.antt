@@ -1,5 +1,5 @@
 -- What tells vertices apart, and the first that it doesn't.
-use Rattle.std.specs.Prelude.{◌≡◌, ℕ, ◌<◌, ◌↔◌, Bool, true, List, length, map, Option, Some, None, MatchOption, min, slice_get, IsTrue}
+use Rattle.std.specs.Prelude.{◌≡◌, ℕ, ◌<◌, List, length, map, Option, Some, None, MatchOption, min, slice_get, IsTrue}
 use Rattle.std.specs.Option.{IsSomeAnd}
 use Rattle.std.specs.declared.cmp.Ordering.{Ordering}
 use Rattle.std.specs.declared.cmp.Ordering.TheVariants.{Equal}
@@ -15,14 +15,6 @@ use Rattle.resource_graph.specs.declared.doubles.SiblingKey.{SiblingKey}
 -- an earlier place has the key of this one
 abbrev pub IsRepeated : {K : Type 0} → (K → K → Ordering) → List (Option K) → ℕ → Type 0
 IsRepeated {K} cmp keys v = (u : ℕ) × (a : K) × (b : K) × (u < v) × (slice_get keys u ≡ Some (Some a)) × (slice_get keys v ≡ Some (Some b)) × (cmp a b ≡ Equal)
-
--- one of the first so many places has this key
-abbrev pub HasSeen : {K : Type 0} → (K → K → Ordering) → List (Option K) → ℕ → K → Type 0
-HasSeen {K} cmp keys most key = (u : ℕ) × (a : K) × (u < most) × (slice_get keys u ≡ Some (Some a)) × (cmp a key ≡ Equal)
-
--- exactly the keys of the first so many places pass the test
-abbrev pub SeesKeys : {K : Type 0} → (K → K → Ordering) → List (Option K) → ℕ → (K → Bool) → Type 0
-SeesKeys {K} cmp keys most has = (key : K) → has key ≡ true ↔ HasSeen cmp keys most key
 
 -- the lesser of two places, of which either may be missing
 abbrev pub lesser : Option ℕ → Option ℕ → Option ℕ

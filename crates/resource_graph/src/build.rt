@@ -45,8 +45,10 @@ pub(crate) fn build_faultless(
 }
 
 impl Graph {
-    /// The graph of these types and vertices, in preorder, siblings in the order of the list (RFC 4); or the first
-    /// fault of the list, with the least vertex at which it holds.
+    /// The graph of these types and vertices (RFC 4): vertices in preorder, siblings in the order of the list, types by
+    /// their first vertices, those without one dropped. Where no node has a rank they get 0, 1, 2 and so on in
+    /// preorder; the rank of a vertex that is no node is dropped. Or else the first fault of the list, in the order of
+    /// `GraphFault`, with the least index at which it holds. Near-linear in the vertices.
     pub fn build(
         alloc: Global,
         kinds: List<Text>,

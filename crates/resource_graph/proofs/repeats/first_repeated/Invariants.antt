@@ -1,6 +1,7 @@
 use Rattle.std.proofs.Common.{ℕ, ◌<◌}
 use Rattle.std.specs.BTreeSet as tree
-use Rattle.resource_graph.specs.Keys.{IsRepeated, SeesKeys}
+use Rattle.resource_graph.specs.Keys.{IsRepeated}
+use Rattle.resource_graph.proofs.RepeatLaws.{SeesKeys}
 use Rattle.resource_graph.proofs.repeats.first_repeated.Given as goal
 
 abbrev pub invariant-loop-place : goal.invariant-loop-place
