@@ -4,3 +4,5 @@ pub mod EdgeLaws
 pub mod RawLaws
 pub mod TextLaws
 pub mod WriterLaws
+pub mod JsonLaws
+pub mod WrittenLaws

@@ -1,5 +1,6 @@
 -- What is written of a graph.
-use Rattle.std.specs.Prelude.{ℕ, suc, negsuc, zero, List, [], ◌∷◌, map, if◌then◌else◌, Option, Some, None, unwrap_or, slice_get, codes, decimal}
+use Rattle.std.specs.Prelude.{ℕ, ◌<◌, ◌^◌, suc, IfSome, negsuc, zero, List, [], ◌∷◌, map, if◌then◌else◌, Option, Some, None, unwrap_or, slice_get, codes, decimal}
+use Rattle.std.specs.List.{AllByRecursion}
 use Rattle.std.specs.Str.{is_utf8}
 use Rattle.serde_json.specs.Data.{Num, Data, number, string, array, object, unsigned, negative, Items, no_items, item, Members, no_members, member}
 use Rattle.serde_json.specs.Written.{compact_text}
@@ -91,3 +92,11 @@ graph_data g = object (member (codes "graph") (lists_data g) no_members)
 -- the text of a graph: that JSON, with no space
 unfoldable pub graph_text : NamedGraph → List ℕ
 graph_text g = compact_text (graph_data g)
+
+-- the numbers of a vertex have at most 64 bits
+abbrev pub HasSmallNumbers : Vertex → Type 0
+HasSmallNumbers x = (x.size < 2 ^ 64) × IfSome x.id (λ n. n < 2 ^ 64) × IfSome x.rank (λ n. n < 2 ^ 64)
+
+-- and so have those of each vertex of a graph
+abbrev pub HasAllSmallNumbers : NamedGraph → Type 0
+HasAllSmallNumbers g = AllByRecursion HasSmallNumbers g.resources.vertices

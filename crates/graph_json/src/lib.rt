@@ -13,7 +13,7 @@ pub mod writing;
 
 pub use faults::ReadFault;
 pub use reading::{graph_texts_have_no_fault, read_graph};
-pub use writing::write_graph;
+pub use writing::{write_graph, written_graphs_are_json};
 
 #[cfg(test)]
 mod tests;

@@ -4,7 +4,9 @@ ghost use Rattle.json.specs.Token.{begin_object, end_object, key, string, number
 ghost use Rattle.serde_json.specs.Data.{member, no_members, object, unsigned};
 ghost use Rattle.serde_json.specs.Data.{number as number_data, string as string_data};
 ghost use Rattle.graph_json.specs.Nodes.{in_order};
-ghost use Rattle.graph_json.specs.WrittenGraph.{readable, text_at, number_or_none, keys_object, properties_at, paths_data, metadata_data, node_data, nodes_data, contains_data, edge_data, edges_data, graph_data, graph_text};
+ghost use Rattle.graph_json.specs.WrittenGraph.{readable, text_at, number_or_none, keys_object, properties_at, paths_data, metadata_data, node_data, nodes_data, contains_data, edge_data, edges_data, graph_data, graph_text, HasAllSmallNumbers};
+ghost use Rattle.serde_json.specs.Read.{read};
+ghost use Rattle.resource_graph.specs.NamedGraph.{NamedGraph};
 ghost use Rattle.graph_json.specs.WrittenTokens.{Adds, keys_tokens, names_tokens, node_tokens, edge_tokens, edge_tokens, value_tokens, rest_tokens, member_tokens};
 
 use crate::raw_lists::add_text;
@@ -287,3 +289,8 @@ pub fn write_graph(alloc: Global, graph: &Graph) -> Result<Text, AllocError>
     writer.end_object()?;
     Ok(Text::of_vec(writer.into_inner()))
 }
+
+/// A law: what is written of a graph is JSON (RFC 8259) of the graph's value.
+pub fn written_graphs_are_json()
+    ensures { (g : NamedGraph) → HasAllSmallNumbers g → read (graph_text g) ≡ Some (graph_data g) }
+{}
