@@ -7,7 +7,7 @@ ghost use Rattle.graph_form.specs.GraphText.{HasForm, IsGraphOf, IsGraphText, Is
 use crate::shape::file_of;
 use crate::tree::parents_of_tree;
 use crate::vertices::{type_names, vertices_of};
-use resource_graph::Graph;
+use resource_graph::{Graph, GraphFault};
 use serde_json::Value;
 use std::alloc::{AllocError, Global};
 
@@ -20,6 +20,16 @@ pub enum ReadFault {
     Form,
     /// Want of memory.
     Memory,
+}
+
+/// Want of memory as the error that it is.
+fn as_memory(fault: GraphFault) -> AllocError
+    requires { fault ≡ GraphFault.Memory }
+{
+    match fault {
+        GraphFault::Memory => AllocError,
+        _ => unreachable!(),
+    }
 }
 
 /// The graph of a JSON value; `None` exactly where the value is not of the form.
@@ -35,7 +45,7 @@ fn graph_of(alloc: Global, value: &Value) -> Result<Option<Graph>, AllocError>
     let raw = vertices_of(alloc, &file, parents.as_slice())?;
     match Graph::build(alloc, type_names(alloc)?, raw) {
         Ok(graph) => Ok(Some(graph)),
-        Err(_) => Err(AllocError),
+        Err(fault) => Err(as_memory(fault)),
     }
 }
 

@@ -17,3 +17,6 @@ pub mod OwnLaws
 pub mod AboveLaws
 pub mod EndLaws
 pub mod ToldLaws
+pub mod RepeatLaws
+pub mod KeyLaws
+pub mod OrderLaws

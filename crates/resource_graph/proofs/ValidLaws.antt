@@ -45,6 +45,34 @@ rooted_of_faultless g names fine = record {
       ];
 }
 
+module _ (kinds : List (List ℕ)) where
+  -- the test for a node and the type's name
+  pub node_test : (x : Vertex) → is_node_of kinds x ≡ true → slice_get kinds x.kind ≡ Some (codes "node")
+  node_test x h = go (slice_get kinds x.kind) h
+    where
+      go : (o : Option (List ℕ)) → option_map_or (bytes_eq (codes "node")) o false ≡ true → o ≡ Some (codes "node")
+      go None e = absurd (true≢false (sym e))
+      go (Some name) e = ap Some (sym ((bytes_eq-Decides (codes "node") name).0 e))
+
+  pub node_tested : (x : Vertex) → slice_get kinds x.kind ≡ Some (codes "node") → is_node_of kinds x ≡ true
+  node_tested x e = ap (λ o. option_map_or (bytes_eq (codes "node")) o false) e ∙ (bytes_eq-Decides (codes "node") (codes "node")).1 refl
+
+module _ (kinds : List (List ℕ)) (vertices : List Vertex) where
+  -- where some node has a rank
+  pub ranks_some : some_ranked kinds vertices ≡ true → (v : ℕ) × IsNodeType (record { kinds = kinds; vertices = vertices }) v × ((rank : ℕ) × HasRank (record { kinds = kinds; vertices = vertices }) rank v)
+  ranks_some h =
+      let any = Any-from_list_any (λ x. is_node_of kinds x && is_some x.rank) vertices h in
+      let at : slice_get vertices any.0 ≡ Some any.1 = slice_get-get_or vertices any.0 any.1 any.2 ∙ ap Some any.3 in
+      let parts = and_parts (is_node_of kinds any.1) (is_some any.1.rank) any.4 in
+      (any.0, from_value (slice_get vertices any.0) (λ x. slice_get kinds x.kind ≡ Some (codes "node")) any.1 at (node_test kinds any.1 parts.0), ranked any.0 any.1 at parts.1)
+    where
+      ranked : (i : ℕ) (x : Vertex) → slice_get vertices i ≡ Some x → is_some x.rank ≡ true → (rank : ℕ) × HasRank (record { kinds = kinds; vertices = vertices }) rank i
+      ranked i x at h = go x.rank refl h
+        where
+          go : (o : Option ℕ) → x.rank ≡ o → is_some o ≡ true → (rank : ℕ) × HasRank (record { kinds = kinds; vertices = vertices }) rank i
+          go None e t = absurd (true≢false (sym t))
+          go (Some rank) e t = (rank, from_value (slice_get vertices i) (λ z. z.rank ≡ Some rank) x at e)
+
 -- a longer front has as many that pass
 counts_grow : (p : ℕ → Bool) (list : List ℕ) (i d : ℕ) → count_by p (take i list) ≤ count_by p (take (i + 1) list)
 counts_grow p list i d =
@@ -136,17 +164,6 @@ module _ (kinds : List (List ℕ)) (vertices : List Vertex) (names : List (List 
   below_back : (v u : ℕ) → v < length vertices → u < length vertices → IsTrue (is_below g.vertices v u) → IsTrue (is_below vertices (place v) (place u))
   below_back v u v_in u_in h = same_below kinds vertices order g arranged v u v_in u_in ∙ h
 
-  -- the test for a node and the type's name
-  node_test : (x : Vertex) → is_node_of kinds x ≡ true → slice_get kinds x.kind ≡ Some (codes "node")
-  node_test x h = go (slice_get kinds x.kind) h
-    where
-      go : (o : Option (List ℕ)) → option_map_or (bytes_eq (codes "node")) o false ≡ true → o ≡ Some (codes "node")
-      go None e = absurd (true≢false (sym e))
-      go (Some name) e = ap Some (sym ((bytes_eq-Decides (codes "node") name).0 e))
-
-  node_tested : (x : Vertex) → slice_get kinds x.kind ≡ Some (codes "node") → is_node_of kinds x ≡ true
-  node_tested x e = ap (λ o. option_map_or (bytes_eq (codes "node")) o false) e ∙ (bytes_eq-Decides (codes "node") (codes "node")).1 refl
-
   rank_is : (k : ℕ) (k_in : k < length vertices) → (both k k_in).1.rank ≡ rank_of kinds vertices order k (both k k_in).0
   rank_is k k_in = let b = both k k_in in arranged.ranks k (place k) b.0 b.1 (place_at kinds vertices order g arranged k k_in) b.2 b.3
 
@@ -158,29 +175,14 @@ module _ (kinds : List (List ℕ)) (vertices : List Vertex) (names : List (List 
       let same : y.0 ≡ b.1 = same_Some _ _ (sym y.1 ∙ b.3) in
       let ranked : is_some (rank_of kinds vertices order k b.0) ≡ true = ap is_some (sym (rank_is k k_in)) ∙ (ap (λ (z : Vertex). is_some z.rank) (sym same) ∙ y.2) in
       elim (cases_Bool (is_node_of kinds b.0)) [
-        | inl is ↦ from_value (slice_get g.vertices k) (λ x. slice_get g.kinds x.kind ≡ Some (codes "node")) b.1 b.3 (b.4.kind ∙ node_test b.0 is)
+        | inl is ↦ from_value (slice_get g.vertices k) (λ x. slice_get g.kinds x.kind ≡ Some (codes "node")) b.1 b.3 (b.4.kind ∙ node_test kinds b.0 is)
         | inr not ↦ absurd (true≢false (sym ranked ∙ ap (λ t. is_some (cond t (cond (some_ranked kinds vertices) b.0.rank (Some (nodes_among kinds vertices (take k order)))) None)) not))
       ]
-
-  -- where some node has a rank
-  ranks_some : some_ranked kinds vertices ≡ true → (v : ℕ) × IsNodeType (record { kinds = kinds; vertices = vertices }) v × ((rank : ℕ) × HasRank (record { kinds = kinds; vertices = vertices }) rank v)
-  ranks_some h =
-      let any = Any-from_list_any (λ x. is_node_of kinds x && is_some x.rank) vertices h in
-      let at : slice_get vertices any.0 ≡ Some any.1 = slice_get-get_or vertices any.0 any.1 any.2 ∙ ap Some any.3 in
-      let parts = and_parts (is_node_of kinds any.1) (is_some any.1.rank) any.4 in
-      (any.0, from_value (slice_get vertices any.0) (λ x. slice_get kinds x.kind ≡ Some (codes "node")) any.1 at (node_test any.1 parts.0), ranked any.0 any.1 at parts.1)
-    where
-      ranked : (i : ℕ) (x : Vertex) → slice_get vertices i ≡ Some x → is_some x.rank ≡ true → (rank : ℕ) × HasRank (record { kinds = kinds; vertices = vertices }) rank i
-      ranked i x at h = go x.rank refl h
-        where
-          go : (o : Option ℕ) → x.rank ≡ o → is_some o ≡ true → (rank : ℕ) × HasRank (record { kinds = kinds; vertices = vertices }) rank i
-          go None e t = absurd (true≢false (sym t))
-          go (Some rank) e t = (rank, from_value (slice_get vertices i) (λ z. z.rank ≡ Some rank) x at e)
 
   node_type_at : (k : ℕ) (k_in : k < length vertices) → HasType g (codes "node") k → is_node_of kinds (both k k_in).0 ≡ true
   node_type_at k k_in h =
       let b = both k k_in in
-      node_tested b.0 (sym b.4.kind ∙ at_value (slice_get g.vertices k) (λ x. slice_get g.kinds x.kind ≡ Some (codes "node")) b.1 b.3 h)
+      node_tested kinds b.0 (sym b.4.kind ∙ at_value (slice_get g.vertices k) (λ x. slice_get g.kinds x.kind ≡ Some (codes "node")) b.1 b.3 h)
 
   types_node : (k : ℕ) → HasType g (codes "node") k → IsNode g.vertices k
   types_node k h =
@@ -201,7 +203,7 @@ module _ (kinds : List (List ℕ)) (vertices : List Vertex) (names : List (List 
       has_rank x at some node = go x.rank refl
         where
           go : (o : Option ℕ) → x.rank ≡ o → is_some o ≡ true
-          go None e = absurd (fine.ranks (place k) (ranks_some some, node, inl (from_value (slice_get vertices (place k)) (λ z. z.rank ≡ None) x at e)))
+          go None e = absurd (fine.ranks (place k) (ranks_some kinds vertices some, node, inl (from_value (slice_get vertices (place k)) (λ z. z.rank ≡ None) x at e)))
           go (Some rank) e = refl
 
   -- no two nodes have the same rank
@@ -241,8 +243,8 @@ module _ (kinds : List (List ℕ)) (vertices : List Vertex) (names : List (List 
             elim (cases_order (place v) (place u)) [
               | inl same ↦ (let e : v ≡ u = same_place kinds vertices order g arranged v u v_in same in omega arith)
               | inr differ ↦ elim differ [
-                | inl less ↦ fine.ranks (place u) (ranks_some some, node_u, inr (place v, less, node_v, rank, raw_u, raw_v))
-                | inr more ↦ fine.ranks (place v) (ranks_some some, node_v, inr (place u, more, node_u, rank, raw_v, raw_u))
+                | inl less ↦ fine.ranks (place u) (ranks_some kinds vertices some, node_u, inr (place v, less, node_v, rank, raw_u, raw_v))
+                | inr more ↦ fine.ranks (place v) (ranks_some kinds vertices some, node_v, inr (place u, more, node_u, rank, raw_v, raw_u))
               ]
             ])
         | inr none ↦ (

@@ -10,3 +10,4 @@ pub mod Raw
 pub mod Arranged
 pub mod Checks
 pub mod Told
+pub mod Keys

@@ -1,11 +1,11 @@
 //! A graph from a list of vertices.
 ghost use Rattle.std.specs.Prelude.{IfOk, IfErr};
-ghost use Rattle.resource_graph.specs.Faults.{IsFaultless, HasDoubleId, HasDoubleName, HasBadRank};
-ghost use Rattle.resource_graph.specs.Told.{Nowhere, Tells};
+ghost use Rattle.resource_graph.specs.Faults.{IsFaultless};
+ghost use Rattle.resource_graph.specs.Told.{Tells};
 ghost use Rattle.resource_graph.specs.Raw.{KindsApart, IsBuiltFrom, raw_graph, raw_names};
 
 use crate::arrange::{arranged, numbered_kinds, numbers_of, shapes_of, texts_of, vertices_of};
-use crate::checks::check_vertices;
+use crate::checks::check_raw;
 use crate::graph::Graph;
 use crate::order::preorder_of;
 use crate::raw::{GraphFault, RawVertex};
@@ -53,16 +53,10 @@ impl Graph {
         raw: List<RawVertex>,
     ) -> Result<Graph, GraphFault>
         requires apart { KindsApart kinds }
-        requires ids { Nowhere (HasDoubleId (raw_graph kinds raw)) }
-        requires names { Nowhere (HasDoubleName (raw_graph kinds raw) (raw_names raw)) }
-        requires ranks { Nowhere (HasBadRank (raw_graph kinds raw)) }
         ensures built { IfOk result (λ graph. IsBuiltFrom kinds raw graph) }
         ensures told { IfErr result (Tells (raw_graph kinds raw) (raw_names raw)) }
     {
-        let Ok(shapes) = shapes_of(alloc, raw.items()) else {
-            return Err(GraphFault::Memory);
-        };
-        if let Err(fault) = check_vertices(alloc, kinds.items(), shapes.as_slice()) {
+        if let Err(fault) = check_raw(alloc, kinds.items(), raw.items()) {
             return Err(fault);
         }
         match build_faultless(alloc, &kinds, raw) {

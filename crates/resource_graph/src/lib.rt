@@ -6,6 +6,7 @@ mod arrange;
 mod build;
 mod checks;
 mod climbs;
+mod doubles;
 mod endless;
 pub mod graph;
 mod lines;
@@ -13,6 +14,7 @@ mod links;
 mod order;
 mod own;
 pub mod raw;
+mod repeats;
 mod tables;
 
 pub use graph::Graph;

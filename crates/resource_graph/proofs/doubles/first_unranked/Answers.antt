@@ -1,0 +1,15 @@
+use Rattle.std.proofs.Common.{below_more, arith, ◌<◌, length}
+use Rattle.std.proofs.lemmas.Bool.{both_ways}
+use Rattle.resource_graph.proofs.KeyLaws.{unranked_within}
+use Rattle.resource_graph.proofs.doubles.first_unranked.Goals as goal
+
+pub returns-then-is_unranked-clause-first : goal.returns-then-is_unranked-clause-first
+returns-then-is_unranked-clause-first c = (c.is_unranked.ensures.0 c.if-is_unranked.true, c.loop-v.invariant)
+
+pub loop-v-preserved : goal.loop-v-preserved
+loop-v-preserved c = below_more _ _ c.loop-v.invariant (λ bad. both_ways _ c.if-is_unranked.false (c.is_unranked.ensures.1 bad))
+
+pub returns-clause-first : goal.returns-clause-first
+returns-clause-first c = λ v bad.
+    let lt : v < length c.args.vertices.now = unranked_within c.args.kinds.now c.args.vertices.now v bad in
+    c.loop-v.invariant v (omega arith) bad
