@@ -10,13 +10,18 @@ use std::test::Fail;
 
 /// A vertex: its type, one of those below, the vertex that contains it, and its size.
 #[derive(Clone, Copy)]
-pub(crate) struct Part(pub(crate) u32, pub(crate) Option<u32>, pub(crate) u64);
+struct Part(u32, Option<u32>, u64);
 
-pub(crate) const CLUSTER: u32 = 0;
+const CLUSTER: u32 = 0;
+
 pub(crate) const NODE: u32 = 1;
+
 pub(crate) const SOCKET: u32 = 2;
+
 pub(crate) const CORE: u32 = 3;
+
 pub(crate) const GPU: u32 = 4;
+
 pub(crate) const MEMORY: u32 = 5;
 
 /// What a type is called.
@@ -95,7 +100,7 @@ fn raw_of(alloc: Global, parts: &[Part]) -> Result<List<RawVertex>, AllocError> 
 }
 
 /// The graph of these vertices.
-pub(crate) fn graph_of(alloc: Global, parts: &[Part]) -> Result<Graph, Fail> {
+fn graph_of(alloc: Global, parts: &[Part]) -> Result<Graph, Fail> {
     let types = types(alloc)?;
     if !are_apart(types.items()) {
         return Err(Fail::from("two types are called the same"));
@@ -108,34 +113,73 @@ pub(crate) fn graph_of(alloc: Global, parts: &[Part]) -> Result<Graph, Fail> {
 }
 
 /// A cluster over two nodes: a socket of two cores and 4 units of memory; and a socket of a core and a gpu, and 2 units.
-pub(crate) fn pools_and_sockets() -> [Part; 11] {
-    [
-        Part(CLUSTER, None, 1),
-        Part(NODE, Some(0), 1),
-        Part(SOCKET, Some(1), 1),
-        Part(CORE, Some(2), 1),
-        Part(CORE, Some(2), 1),
-        Part(MEMORY, Some(1), 4),
-        Part(NODE, Some(0), 1),
-        Part(SOCKET, Some(6), 1),
-        Part(CORE, Some(7), 1),
-        Part(GPU, Some(7), 1),
-        Part(MEMORY, Some(6), 2),
-    ]
+pub(crate) fn pools_and_sockets(alloc: Global) -> Result<Graph, Fail> {
+    graph_of(
+        alloc,
+        &[
+            Part(CLUSTER, None, 1),
+            Part(NODE, Some(0), 1),
+            Part(SOCKET, Some(1), 1),
+            Part(CORE, Some(2), 1),
+            Part(CORE, Some(2), 1),
+            Part(MEMORY, Some(1), 4),
+            Part(NODE, Some(0), 1),
+            Part(SOCKET, Some(6), 1),
+            Part(CORE, Some(7), 1),
+            Part(GPU, Some(7), 1),
+            Part(MEMORY, Some(6), 2),
+        ],
+    )
 }
 
 /// A cluster with 3 units of memory over three nodes of two, two and one cores.
-pub(crate) fn three_nodes() -> [Part; 10] {
-    [
-        Part(CLUSTER, None, 1),
-        Part(NODE, Some(0), 1),
-        Part(CORE, Some(1), 1),
-        Part(CORE, Some(1), 1),
-        Part(NODE, Some(0), 1),
-        Part(CORE, Some(4), 1),
-        Part(CORE, Some(4), 1),
-        Part(NODE, Some(0), 1),
-        Part(CORE, Some(7), 1),
-        Part(MEMORY, Some(0), 3),
-    ]
+pub(crate) fn three_nodes(alloc: Global) -> Result<Graph, Fail> {
+    graph_of(
+        alloc,
+        &[
+            Part(CLUSTER, None, 1),
+            Part(NODE, Some(0), 1),
+            Part(CORE, Some(1), 1),
+            Part(CORE, Some(1), 1),
+            Part(NODE, Some(0), 1),
+            Part(CORE, Some(4), 1),
+            Part(CORE, Some(4), 1),
+            Part(NODE, Some(0), 1),
+            Part(CORE, Some(7), 1),
+            Part(MEMORY, Some(0), 3),
+        ],
+    )
+}
+
+/// A cluster over a node over a socket over a core.
+pub(crate) fn one_socket(alloc: Global) -> Result<Graph, Fail> {
+    graph_of(
+        alloc,
+        &[
+            Part(CLUSTER, None, 1),
+            Part(NODE, Some(0), 1),
+            Part(SOCKET, Some(1), 1),
+            Part(CORE, Some(2), 1),
+        ],
+    )
+}
+
+/// A cluster over two nodes of four cores.
+pub(crate) fn two_nodes(alloc: Global) -> Result<Graph, Fail> {
+    graph_of(
+        alloc,
+        &[
+            Part(CLUSTER, None, 1),
+            Part(NODE, Some(0), 1),
+            Part(CORE, Some(1), 1),
+            Part(CORE, Some(1), 1),
+            Part(CORE, Some(1), 1),
+            Part(CORE, Some(1), 1),
+            Part(NODE, Some(0), 1),
+            Part(CORE, Some(6), 1),
+            Part(CORE, Some(6), 1),
+            Part(CORE, Some(6), 1),
+            Part(CORE, Some(6), 1),
+        ],
+    )
 }

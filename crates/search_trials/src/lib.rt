@@ -8,4 +8,8 @@ mod graphs;
 #[cfg(test)]
 mod matches;
 #[cfg(test)]
+mod rows;
+#[cfg(test)]
+mod starts;
+#[cfg(test)]
 mod trying;

@@ -184,7 +184,10 @@ impl<'a> Scene<'a> {
         };
         match need {
             Need::Vert {
-                kind, hold, needs, ..
+                kind,
+                hold,
+                needs,
+                ..
             } => {
                 let claim = if *hold {
                     Claim::Hold { vertex }
