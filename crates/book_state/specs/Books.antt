@@ -16,7 +16,7 @@ use Rattle.flux_defs.specs.Sound.{AreAllSeparate}
 use Rattle.resource_graph.specs.NamedGraph.{NamedGraph}
 use Rattle.prune_filters.specs.declared.rules.Rule.{Rule}
 use Rattle.job_table.specs.declared.tables.Row.{Row}
-use Rattle.book_state.specs.declared.books.BookState.{BookState}
+use Rattle.book_state.specs.declared.held.BookState.{BookState}
 
 -- the graph
 abbrev pub graph_of : BookState → NamedGraph

@@ -1,12 +1,14 @@
 //! The book of jobs.
-ghost use Rattle.std.specs.Prelude.{◌≡◌, ℕ, ◌∷◌, ◌++◌, [], List, Some, Contains, IfOk};
+ghost use Rattle.std.specs.Prelude.{◌≡◌, ◌↔◌, ℕ, ◌∷◌, ◌++◌, [], List, Some, Contains, IsTrue, IfOk};
 ghost use Rattle.std.specs.Arc.{arc_value};
 ghost use Rattle.std.specs.FinMap as map;
 ghost use Rattle.flux_defs.specs.declared.claims.Job.{Job};
 ghost use Rattle.flux_defs.specs.Scheduler.{without_job};
 ghost use Rattle.job_table.specs.Rows.{live_row, cancelled_row, HasLiveRow};
+ghost use Rattle.book_state.specs.Ties.{has_job};
 ghost use Rattle.book_state.specs.Books.{graph_of, rules_of, horizon_of, moment_of, rows_of, StandsFor, KeepsSetting, MayAdd};
 
+use crate::held::BookState;
 use crate::lists::{with_job, without_job};
 use flux_defs::{Job, List, Steps};
 use job_table::{JobTable, Row};
@@ -16,19 +18,6 @@ use resource_graph::Graph;
 use std::alloc::{AllocError, Global};
 use std::sync::Arc;
 use std::sync::ledger::Ledger;
-
-/// A graph with filter rules and a horizon, the present moment, the jobs that were accepted and not cancelled, and a row
-/// for each job that was ever accepted. No book changes: a call that changes something gives a new one, which shares what
-/// stays. Times are in seconds.
-#[derive(Drop)]
-pub struct BookState {
-    graph: Arc<Graph, Global>,
-    rules: Arc<Rules, Global>,
-    horizon: u64,
-    moment: u64,
-    jobs: Arc<List<Job>, Global>,
-    table: JobTable,
-}
 
 impl BookState {
     /// The book without jobs, at moment 0.
@@ -62,9 +51,11 @@ impl BookState {
         self.moment
     }
 
-    /// The row of the job with this id, and `None` exactly where none was ever accepted. It takes no memory.
+    /// The row of the job with this id, and `None` exactly where none was ever accepted. A live row is that of a job which
+    /// the book stands for. It takes no memory.
     pub fn find<L: Ledger>(&self, id: u64, steps: &mut Steps<L>) -> Option<Row>
-        ensures { result ≡ map.get (rows_of self.now) id }
+        ensures row { result ≡ map.get (rows_of self.now) id }
+        ensures live { (jobs : List Job) → StandsFor self.now jobs → (HasLiveRow (rows_of self.now) id ↔ IsTrue (has_job jobs id)) }
     {
         self.table.find(id, steps)
     }
@@ -135,6 +126,7 @@ impl BookState {
         ensures rows { IfOk result (λ book. (at : ℕ) → map.get (rows_of self.now) job.now.id ≡ Some (live_row at) →
             rows_of book ≡ map.insert (rows_of self.now) job.now.id (cancelled_row at)) }
         ensures jobs { IfOk result (λ book. (jobs : List Job) → StandsFor self.now jobs → StandsFor book (without_job job.now.id jobs)) }
+        ensures once { IfOk result (λ book. (before after : List Job) → StandsFor self.now (before ++ job.now ∷ after) → StandsFor book (before ++ after)) }
     {
         let jobs = without_job(alloc, self.job_list(), job.id)?;
         Ok(BookState {

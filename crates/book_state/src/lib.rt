@@ -3,7 +3,8 @@
 #![tactic(auto)]
 
 mod books;
+mod held;
 mod lists;
 mod view;
 
-pub use books::BookState;
+pub use held::BookState;

@@ -1,6 +1,6 @@
 //! The book as what a search sees: its list of jobs, which every query walks.
 
-use crate::books::BookState;
+use crate::held::BookState;
 use flux_defs::{FreeView, Steps, Window};
 use std::sync::ledger::Ledger;
 
