@@ -1,19 +1,16 @@
 -- What a told graph file and a told input show.
-use Rattle.std.proofs.Common.{◌≡◌, ℕ, ◌<◌, ◌≤◌, ◌⊎◌, List, [], ◌++◌, length, Option, Some, None, IfSome, MatchOption, inr, refl, sym, ◌∙◌, ap, subst, arith}
-use Rattle.serde_json.specs.Data.{Data}
+use Rattle.std.proofs.Common.{◌≡◌, ℕ, ◌<◌, ◌≤◌, ◌⊎◌, List, [], ◌++◌, length, Option, Some, None, IfSome, MatchOption, inl, inr, refl, sym, ◌∙◌, ap, subst, arith}
+use Rattle.flux_io.specs.Counts.{Rose}
 use Rattle.flux_io.specs.Stores.{Stored, file_of}
 use Rattle.flux_io.specs.Streams.{TakesFront}
 use Rattle.resource_graph.specs.NamedGraph.{NamedGraph}
-use Rattle.graph_form.specs.GraphText.{IsValueOf, HasForm, IsGraphText, IsNotJson, IsNotForm}
-use Rattle.graph_form.specs.declared.reading.ReadFault.{ReadFault}
-use Rattle.graph_form.specs.declared.reading.ReadFault.TheVariants as fault
+use Rattle.graph_json.specs.GraphText.{IsGraphText}
+use Rattle.graph_json.specs.declared.faults.ReadFault.{ReadFault}
+use Rattle.graph_json.proofs.TextLaws.{no_fault_told}
 use Rattle.fluxion_shell.specs.declared.status.Status.{Status}
 use Rattle.fluxion_shell.specs.declared.status.Status.TheVariants as status
-use Rattle.fluxion_shell.specs.Causes.{long_input, told_file, WhereTold, OrEarlier, AppendsFrontOfSome, ShowsInput, ShowsFile, Shows}
-
--- where the store tells its files, the one of the name has these bytes, and not too many
-abbrev pub Known : Option Stored → List ℕ → List ℕ → Type 0
-Known told name bytes = IfSome told (λ files. (file_of files name ≡ Some bytes) × (length bytes ≤ 268435456))
+use Rattle.fluxion_shell.specs.declared.status.Limited.{Limited}
+use Rattle.fluxion_shell.specs.Causes.{most_bytes, long_graph, long_input, told_file, WhereTold, OrEarlier, HasFault, AppendsFrontOfSome, ShowsInput, ShowsFile, ShowsStore, Shows, ShowsPrint, Known, FailsWith, HasGraphFile, HasShortInput}
 
 pub known : (told : Option Stored) (name old new : List ℕ) → old ≡ [] →
     IfSome told (λ files. (bytes : List ℕ) × (file_of files name ≡ Some bytes) × (length bytes ≤ 268435456) × (new ≡ old ++ bytes)) → Known told name new
@@ -22,71 +19,61 @@ known (Some files) name old new none (bytes, found, few, is) =
     let same : new ≡ bytes = is ∙ ap (λ xs. xs ++ bytes) none in
     (found ∙ ap Some (sym same), subst (λ (b : List ℕ). length b ≤ 268435456) (sym same) few)
 
-not_graph : (bytes : List ℕ) (g : NamedGraph) → IsNotJson bytes → IsGraphText bytes g → ⊥
-not_graph bytes g not text = not text.0 text.1
+-- an answer that came before what the input shows
+pub earlier_input : (left : Option (List ℕ)) (result : Status) → (result ≡ status.Read) ⊎ (result ≡ status.Memory) → IfSome left (ShowsInput result)
+earlier_input None result early = tt
+earlier_input (Some input) result (inl read) = ((λ many. inl read), (λ few. inl read))
+earlier_input (Some input) result (inr memory) = ((λ many. inr (inl memory)), (λ few. inr (inl memory)))
 
-same_value : (bytes : List ℕ) (c d : Data) → IsValueOf bytes c → IsValueOf bytes d → c ≡ d
-same_value bytes c d one two = let same : Some c ≡ Some d = sym one.1 ∙ two.1 in cc
-
-not_form : (bytes : List ℕ) (g : NamedGraph) → IsNotForm bytes → IsGraphText bytes g → ⊥
-not_form bytes g (d, value, not) (c, other, form) = not (subst HasForm (same_value bytes c d other value) (form.0, form.1))
-
-pub same_fault : (x y : ReadFault) → status.Graph x ≡ status.Graph y → x ≡ y
-same_fault x y same = cc
-
-module _ (told : Option Stored) (name : List ℕ) (left : Option (List ℕ)) (bytes : List ℕ) (told_bytes : Known told name bytes) where
-  shown : (result : Status) → (length bytes ≤ 268435456 → ShowsFile result bytes left) → Shows result told name left
-  shown result file = by told told_bytes
+module _ (told : Option Stored) (name : List ℕ) (bytes : List ℕ) (told_bytes : Known told name bytes) where
+  shown : (result : Status) (Then : Type 0) → (length bytes ≤ 268435456 → ShowsFile result bytes Then) → ShowsStore result told name Then
+  shown result Then file = by told told_bytes
     where
-      by : (files : Option Stored) → Known files name bytes → Shows result files name left
+      by : (files : Option Stored) → Known files name bytes → ShowsStore result files name Then
       by None is = tt
-      by (Some files) is = subst (λ (o : Option (List ℕ)). MatchOption o (OrEarlier result (result ≡ status.NoGraphFile)) (λ file. ShowsFile result file left)) (sym is.0) (file is.1)
+      by (Some files) is = subst (λ (o : Option (List ℕ)). MatchOption o (OrEarlier result (result ≡ status.NoGraphFile)) (λ file. ShowsFile result file Then)) (sym is.0) (file is.1)
 
-  pub shows_not_json : IsNotJson bytes → Shows (status.Graph fault.NotJson) told name left
-  shows_not_json not = shown (status.Graph fault.NotJson) (λ few. record {
-    long = λ many. absurd (omega arith);
-    not_json = λ few other. inr (inr refl);
-    not_form = λ few form. absurd (not form.0 form.1);
-    graph = λ few g text. absurd (not_graph bytes g not text);
-  })
-
-  pub shows_form : IsNotForm bytes → Shows (status.Graph fault.Form) told name left
-  shows_form form = shown (status.Graph fault.Form) (λ few. record {
-    long = λ many. absurd (omega arith);
-    not_json = λ few not. absurd (not form.0 form.1);
-    not_form = λ few other. inr (inr refl);
-    graph = λ few g text. absurd (not_form bytes g form text);
-  })
+  -- the fault of the bytes that were read is one of the told file
+  pub told_fault : (fault : ReadFault) → HasFault bytes fault → IfSome told (λ files. (b : List ℕ) × (file_of files name ≡ Some b) × (length b ≤ most_bytes) × HasFault b fault)
+  told_fault fault has = by told told_bytes
+    where
+      by : (files : Option Stored) → Known files name bytes → IfSome files (λ files. (b : List ℕ) × (file_of files name ≡ Some b) × (length b ≤ most_bytes) × HasFault b fault)
+      by None is = tt
+      by (Some files) is = (bytes, is.0, is.1, has)
 
   module _ (g : NamedGraph) (text : IsGraphText bytes g) where
-    shows_left : (result : Status) → IfSome left (ShowsInput result) → Shows result told name left
-    shows_left result input = shown result (λ few. record {
+    -- the file's graph was read, and this is shown after it
+    pub shows_then : (result : Status) (Then : Type 0) → Then → ShowsStore result told name Then
+    shows_then result Then then_shown = shown result Then (λ few. record {
       long = λ many. absurd (omega arith);
-      not_json = λ few not. absurd (not_graph bytes g not text);
-      not_form = λ few form. absurd (not_form bytes g form text);
-      graph = λ few other same. input;
+      faulty = λ short fault has. absurd (has.1 (no_fault_told bytes g fault text has.0));
+      graph = λ short other same. then_shown;
     })
 
     -- the input is too long
-    pub shows_long_input : IfSome left (λ input. 268435456 < length input) → Shows long_input told name left
-    shows_long_input long = shows_left long_input (by left long)
+    pub shows_long_input : (left : Option (List ℕ)) → IfSome left (λ input. 268435456 < length input) → Shows long_input told name left
+    shows_long_input left long = shows_then long_input (IfSome left (ShowsInput long_input)) (by left long)
       where
         by : (o : Option (List ℕ)) → IfSome o (λ input. 268435456 < length input) → IfSome o (ShowsInput long_input)
         by None h = tt
         by (Some input) h = ((λ many. inr (inr refl)), (λ few. absurd (omega arith)))
 
     -- the input was read
-    pub shows_read : (input : List ℕ) (result : Status) → length input ≤ 268435456 → IfSome left (λ bytes. input ≡ bytes) → (result ≡ status.Ok) ⊎ (result ≡ status.Write) →
+    pub shows_read : (left : Option (List ℕ)) (input : List ℕ) (result : Status) → length input ≤ 268435456 → IfSome left (λ bytes. input ≡ bytes) → (result ≡ status.Ok) ⊎ (result ≡ status.Write) →
         Shows result told name left
-    shows_read input result few is ends = shows_left result (by left is)
+    shows_read left input result few is ends = shows_then result (IfSome left (ShowsInput result)) (by left is)
       where
         by : (o : Option (List ℕ)) → IfSome o (λ bytes. input ≡ bytes) → IfSome o (ShowsInput result)
         by None h = tt
         by (Some lines) h = ((λ many. absurd (let same : length input ≡ length lines = ap length h in omega arith)), (λ few. inr (inr ends)))
 
+    -- reading the input failed, or memory was wanting
+    pub shows_earlier : (left : Option (List ℕ)) (result : Status) → (result ≡ status.Read) ⊎ (result ≡ status.Memory) → Shows result told name left
+    shows_earlier left result early = shows_then result (IfSome left (ShowsInput result)) (earlier_input left result early)
+
   -- what holds of the bytes that were read holds of the told ones
-  pub where_told : (input : List ℕ) (P : List ℕ → List ℕ → Type 0) → IfSome left (λ bytes. input ≡ bytes) → P bytes input → WhereTold (told_file told name) left P
-  where_told input P is p = by told told_bytes
+  pub where_told : (left : Option (List ℕ)) (input : List ℕ) (P : List ℕ → List ℕ → Type 0) → IfSome left (λ bytes. input ≡ bytes) → P bytes input → WhereTold (told_file told name) left P
+  where_told left input P is p = by told told_bytes
     where
       of_input : (o : Option (List ℕ)) → IfSome o (λ bytes. input ≡ bytes) → IfSome o (P bytes)
       of_input None h = tt
@@ -104,6 +91,75 @@ module _ (told : Option Stored) (name : List ℕ) (left : Option (List ℕ)) (by
       by None h = tt
       by (Some files) h = subst (λ (o : Option (List ℕ)). IfSome o P) (sym h.0) p
 
+-- what holds of a file of the name holds of the told one
+told_holds : (told : Option Stored) (name : List ℕ) (P : List ℕ → Type 0) → IfSome told (λ files. (bytes : List ℕ) × (file_of files name ≡ Some bytes) × P bytes) → IfSome (told_file told name) P
+told_holds None name P h = tt
+told_holds (Some files) name P (bytes, at, p) = subst (λ (o : Option (List ℕ)). IfSome o P) (sym at) p
+
+-- why no graph was read
+module _ (told : Option Stored) (name : List ℕ) (faults faults_now refused refused_now : ℕ) where
+  abbrev Fails : Status → Type 0
+  Fails = FailsWith told name faults faults_now refused refused_now
+
+  pub fails_limit : Fails long_graph → Rose refused refused_now × IfSome (told_file told name) (λ file. most_bytes < length file)
+  fails_limit h = (h.1, told_holds told name (λ file. most_bytes < length file) h.2)
+
+  pub fails_graph : (fault : ReadFault) → Fails (status.Graph fault) → IfSome (told_file told name) (λ file. HasFault file fault)
+  fails_graph fault h = told_holds told name (λ file. HasFault file fault) (without_length told h.1)
+    where
+      without_length : (o : Option Stored) → IfSome o (λ files. (bytes : List ℕ) × (file_of files name ≡ Some bytes) × (length bytes ≤ most_bytes) × HasFault bytes fault) →
+          IfSome o (λ files. (bytes : List ℕ) × (file_of files name ≡ Some bytes) × HasFault bytes fault)
+      without_length None g = tt
+      without_length (Some files) (bytes, at, short, has) = (bytes, at, has)
+
+  pub fails_limits : (limited : Limited) → Fails (status.Limit limited) → status.Limit limited ≡ long_graph
+  fails_limits limited h = ap status.Limit h.0
+
+  earlier_store : (s : Status) (Then : Type 0) → ((A : Type 0) → OrEarlier s A) → Then → ShowsStore s told name Then
+  earlier_store s Then early then_shown = by told
+    where
+      of_file : (o : Option (List ℕ)) → MatchOption o (OrEarlier s (s ≡ status.NoGraphFile)) (λ file. ShowsFile s file Then)
+      of_file None = early (s ≡ status.NoGraphFile)
+      of_file (Some file) = record { long = λ many. early _; faulty = λ short fault has. early _; graph = λ short g text. then_shown }
+
+      by : (files : Option Stored) → ShowsStore s files name Then
+      by None = tt
+      by (Some files) = of_file (file_of files name)
+
+  -- what is shown where no graph was read
+  pub fails_shows : (s : Status) (Then : Type 0) → Fails s → ((s ≡ status.Read) ⊎ (s ≡ status.Memory) → Then) → ShowsStore s told name Then
+  fails_shows status.Ok Then h early = absurd h
+  fails_shows status.Usage Then h early = absurd h
+  fails_shows status.Write Then h early = absurd h
+  fails_shows status.Read Then h early = earlier_store status.Read Then (λ A. inl refl) (early (inl refl))
+  fails_shows status.Memory Then h early = earlier_store status.Memory Then (λ A. inr (inl refl)) (early (inr refl))
+  fails_shows (status.Graph fault) Then h early = by told h.1
+    where
+      by : (files : Option Stored) → IfSome files (λ files. (bytes : List ℕ) × (file_of files name ≡ Some bytes) × (length bytes ≤ most_bytes) × HasFault bytes fault) → ShowsStore (status.Graph fault) files name Then
+      by None g = tt
+      by (Some files) (bytes, at, few, has) =
+        subst (λ (o : Option (List ℕ)). MatchOption o (OrEarlier (status.Graph fault) (status.Graph fault ≡ status.NoGraphFile)) (λ file. ShowsFile (status.Graph fault) file Then)) (sym at) (record {
+          long = λ many. absurd (omega arith);
+          faulty = λ short other too. inr (inr (fault, has, refl));
+          graph = λ short g text. absurd (has.1 (no_fault_told bytes g fault text has.0));
+        })
+  fails_shows (status.Limit limited) Then h early = by told h.2
+    where
+      by : (files : Option Stored) → IfSome files (λ files. (bytes : List ℕ) × (file_of files name ≡ Some bytes) × (most_bytes < length bytes)) → ShowsStore (status.Limit limited) files name Then
+      by None g = tt
+      by (Some files) (bytes, at, many) =
+        subst (λ (o : Option (List ℕ)). MatchOption o (OrEarlier (status.Limit limited) (status.Limit limited ≡ status.NoGraphFile)) (λ file. ShowsFile (status.Limit limited) file Then)) (sym at) (record {
+          long = λ more. inr (inr (ap status.Limit h.0));
+          faulty = λ short fault has. absurd (omega arith);
+          graph = λ short g text. absurd (omega arith);
+        })
+  fails_shows status.NoGraphFile Then h early = by told h.1
+    where
+      by : (files : Option Stored) → IfSome files (λ files. file_of files name ≡ None) → ShowsStore status.NoGraphFile files name Then
+      by None g = tt
+      by (Some files) none =
+        subst (λ (o : Option (List ℕ)). MatchOption o (OrEarlier status.NoGraphFile (status.NoGraphFile ≡ status.NoGraphFile)) (λ file. ShowsFile status.NoGraphFile file Then)) (sym none) (inr (inr refl))
+
 -- a front of the text was appended
 pub front_of : (old new : Option (List ℕ)) (before now : Option ℕ) (text : List ℕ) (P : List ℕ → Type 0) → TakesFront old new before now text → P text → AppendsFrontOfSome old new P
 front_of old new before now text P front p = (front.front, front.rest, subst P front.whole p, front.appended)
@@ -113,3 +169,32 @@ pub no_fault : (A : Type 0) (room : Option ℕ) (length_of before now : ℕ) (Ea
     IfSome room (λ r. length_of ≤ r → A × (now ≡ before)) → IfSome room (λ r. Each r → now ≡ before)
 no_fault A None n before now Each within fits = tt
 no_fault A (Some r) n before now Each within fits = λ each. (fits (within r each)).1
+
+
+-- the answers that are left where nothing failed
+left_over : {A B C D : Type 0} → (A → ⊥) → (D → ⊥) → A ⊎ (B ⊎ (C ⊎ D)) → C ⊎ B
+left_over no_a no_d (inl a) = absurd (no_a a)
+left_over no_a no_d (inr (inl b)) = inr b
+left_over no_a no_d (inr (inr (inl c))) = inl c
+left_over no_a no_d (inr (inr (inr d))) = absurd (no_d d)
+
+-- what is shown after a graph that is there
+after_graph : (result : Status) (told : Option Stored) (name : List ℕ) (Then : Type 0) → ShowsStore result told name Then → HasGraphFile told name → Then
+after_graph result None name Then shows order = absurd (let none : None ≡ Some order.file = order.file-is in cc)
+after_graph result (Some files) name Then shows order =
+    let file : ShowsFile result order.file Then =
+      subst (λ (o : Option (List ℕ)). MatchOption o (OrEarlier result (result ≡ status.NoGraphFile)) (λ file. ShowsFile result file Then)) order.file-is shows in
+    file.graph order.short order.graph order.graph-is
+
+-- where all is in order and nothing failed, all was answered, or memory was wanting
+pub completes : (result : Status) (told : Option Stored) (name : List ℕ) (left : Option (List ℕ)) → Shows result told name left →
+    (result ≡ status.Read → ⊥) → (result ≡ status.Write → ⊥) → HasGraphFile told name → HasShortInput left → (result ≡ status.Ok) ⊎ (result ≡ status.Memory)
+completes result told name left shows read write order lines =
+    let input : ShowsInput result lines.input = subst (λ (o : Option (List ℕ)). IfSome o (ShowsInput result)) lines.input-is (after_graph result told name (IfSome left (ShowsInput result)) shows order) in
+    left_over read write (input.1 lines.short)
+
+-- the same of a run that writes the graph
+pub completes_print : (result : Status) (told : Option Stored) (name : List ℕ) → ShowsPrint result told name →
+    (result ≡ status.Read → ⊥) → (result ≡ status.Write → ⊥) → HasGraphFile told name → (result ≡ status.Ok) ⊎ (result ≡ status.Memory)
+completes_print result told name shows read write order =
+    left_over read write (after_graph result told name (OrEarlier result ((result ≡ status.Ok) ⊎ (result ≡ status.Write))) shows order)

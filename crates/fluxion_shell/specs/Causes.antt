@@ -1,21 +1,26 @@
 -- Which answer the words, the told files and the told input show.
-use Rattle.std.specs.Prelude.{◌≡◌, ◌⊎◌, ℕ, ◌+◌, ◌<◌, ◌≤◌, ◌++◌, List, length, Option, IfSome, MatchOption, option_and_then}
+use Rattle.std.specs.Prelude.{◌≡◌, ◌≢◌, ◌⊎◌, ℕ, ◌+◌, ◌<◌, ◌≤◌, ◌++◌, List, length, Option, Some, None, IfSome, MatchOption, option_and_then}
 use Rattle.std.specs.Io.KnownBytes.{Appends}
+use Rattle.flux_io.specs.Counts.{Rose}
 use Rattle.flux_io.specs.Stores.{Stored, file_of}
 use Rattle.resource_graph.specs.NamedGraph.{NamedGraph}
-use Rattle.graph_form.specs.GraphText.{IsGraphText, IsNotJson, IsNotForm}
-use Rattle.graph_form.specs.declared.reading.ReadFault.{ReadFault}
-use Rattle.graph_form.specs.declared.reading.ReadFault.TheVariants as fault
+use Rattle.graph_json.specs.GraphText.{IsGraphText, Tells}
+use Rattle.graph_json.specs.declared.faults.ReadFault.{ReadFault}
+use Rattle.graph_json.specs.declared.faults.ReadFault.TheVariants as read_fault
 use Rattle.fluxion_shell.specs.declared.status.Status.{Status}
 use Rattle.fluxion_shell.specs.declared.status.Status.TheVariants as status
+use Rattle.fluxion_shell.specs.declared.status.Limited.{Limited}
 use Rattle.fluxion_shell.specs.declared.status.Which.TheVariants.{GraphBytes, InputBytes}
 
 -- how many bytes the graph file and the input may have
 abbrev pub most_bytes : ℕ
 most_bytes = 268435456
 
+abbrev pub past_graph : Limited
+past_graph = record { which = GraphBytes; found = most_bytes + 1 }
+
 abbrev pub long_graph : Status
-long_graph = status.Limit (record { which = GraphBytes; found = most_bytes + 1 })
+long_graph = status.Limit past_graph
 
 abbrev pub long_input : Status
 long_input = status.Limit (record { which = InputBytes; found = most_bytes + 1 })
@@ -38,9 +43,7 @@ AppendsFrontOfSome old new P = (front : List ℕ) × (rest : List ℕ) × P (fro
 
 -- the fault of a graph file's bytes; want of memory is never answered as one
 abbrev pub HasFault : List ℕ → ReadFault → Type 0
-HasFault bytes fault.NotJson = IsNotJson bytes
-HasFault bytes fault.Form = IsNotForm bytes
-HasFault bytes fault.Memory = ⊥
+HasFault bytes fault = Tells bytes fault × (fault ≢ read_fault.Memory)
 
 -- a failure to read or want of memory came before the answer that is shown
 abbrev pub OrEarlier : Status → Type 0 → Type 0
@@ -52,14 +55,55 @@ ShowsInput result input =
     (most_bytes < length input → OrEarlier result (result ≡ long_input))
     × (length input ≤ most_bytes → OrEarlier result ((result ≡ status.Ok) ⊎ (result ≡ status.Write)))
 
--- the answer that the graph file's told bytes show, and after them the input's
-pub record ShowsFile (result : Status) (file : List ℕ) (left : Option (List ℕ)) : Type 0 where
+-- the answer that the graph file's told bytes show, and what its graph then shows
+pub record ShowsFile (result : Status) (file : List ℕ) (Then : Type 0) : Type 0 where
   pub long : most_bytes < length file → OrEarlier result (result ≡ long_graph)
-  pub not_json : length file ≤ most_bytes → IsNotJson file → OrEarlier result (result ≡ status.Graph fault.NotJson)
-  pub not_form : length file ≤ most_bytes → IsNotForm file → OrEarlier result (result ≡ status.Graph fault.Form)
-  pub graph : length file ≤ most_bytes → (g : NamedGraph) → IsGraphText file g → IfSome left (ShowsInput result)
+  pub faulty : length file ≤ most_bytes → (fault : ReadFault) → HasFault file fault → OrEarlier result ((told : ReadFault) × HasFault file told × (result ≡ status.Graph told))
+  pub graph : length file ≤ most_bytes → (g : NamedGraph) → IsGraphText file g → Then
 
--- the answer that a store's files show, and after them the input
+-- the answer that a store's files show, and what the graph of the file of this name then shows
+abbrev pub ShowsStore : Status → Option Stored → List ℕ → Type 0 → Type 0
+ShowsStore result told name Then =
+    IfSome told (λ files. MatchOption (file_of files name) (OrEarlier result (result ≡ status.NoGraphFile)) (λ file. ShowsFile result file Then))
+
+-- of a run that answers an input: then what the input shows
 abbrev pub Shows : Status → Option Stored → List ℕ → Option (List ℕ) → Type 0
-Shows result told name left =
-    IfSome told (λ files. MatchOption (file_of files name) (OrEarlier result (result ≡ status.NoGraphFile)) (λ file. ShowsFile result file left))
+Shows result told name left = ShowsStore result told name (IfSome left (ShowsInput result))
+
+-- of a run that writes the graph: then that it was written, or the output failed
+abbrev pub ShowsPrint : Status → Option Stored → List ℕ → Type 0
+ShowsPrint result told name = ShowsStore result told name (OrEarlier result ((result ≡ status.Ok) ⊎ (result ≡ status.Write)))
+
+-- The store tells a graph's file that is not too long.
+pub record HasGraphFile (told : Option Stored) (name : List ℕ) : Type 0 where
+  pub file : List ℕ
+  pub file-is : told_file told name ≡ Some file
+  pub short : length file ≤ most_bytes
+  pub graph : NamedGraph
+  pub graph-is : IsGraphText file graph
+
+-- The input tells its bytes, and they are not too many.
+pub record HasShortInput (left : Option (List ℕ)) : Type 0 where
+  pub input : List ℕ
+  pub input-is : left ≡ Some input
+  pub short : length input ≤ most_bytes
+
+-- The graph of the file of this name was read: where the store tells its files, it has such a file, not too long.
+abbrev pub Known : Option Stored → List ℕ → List ℕ → Type 0
+Known told name bytes = IfSome told (λ files. (file_of files name ≡ Some bytes) × (length bytes ≤ most_bytes))
+
+abbrev pub IsLoaded : Option Stored → List ℕ → NamedGraph → Type 0
+IsLoaded told name graph = (bytes : List ℕ) × Known told name bytes × IsGraphText bytes graph
+
+-- It was not read, and this answer says why.
+abbrev pub FailsWith : Option Stored → List ℕ → (faults faults_now refused refused_now : ℕ) → Status → Type 0
+FailsWith told name faults faults_now refused refused_now status.Ok = ⊥
+FailsWith told name faults faults_now refused refused_now status.Usage = ⊥
+FailsWith told name faults faults_now refused refused_now (status.Graph fault) =
+    (fault ≢ read_fault.Memory) × IfSome told (λ files. (bytes : List ℕ) × (file_of files name ≡ Some bytes) × (length bytes ≤ most_bytes) × HasFault bytes fault)
+FailsWith told name faults faults_now refused refused_now status.Read = Rose faults faults_now
+FailsWith told name faults faults_now refused refused_now status.Write = ⊥
+FailsWith told name faults faults_now refused refused_now status.Memory = Unit {0}
+FailsWith told name faults faults_now refused refused_now (status.Limit limited) =
+    (limited ≡ past_graph) × Rose refused refused_now × IfSome told (λ files. (bytes : List ℕ) × (file_of files name ≡ Some bytes) × (most_bytes < length bytes))
+FailsWith told name faults faults_now refused refused_now status.NoGraphFile = Rose refused refused_now × IfSome told (λ files. file_of files name ≡ None)

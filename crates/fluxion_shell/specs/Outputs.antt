@@ -1,5 +1,5 @@
 -- The text that answers an input over a graph: that of a history of the scheduler of one thread.
-use Rattle.std.specs.Prelude.{◌≡◌, ℕ, List, map}
+use Rattle.std.specs.Prelude.{◌≡◌, ℕ, ◌++◌, List, map, codes}
 use Rattle.std.specs.List.{flat_map}
 use Rattle.flux_defs.specs.declared.journal.Entry.{Entry}
 use Rattle.flux_defs.specs.declared.journal.Script.{Script}
@@ -7,7 +7,8 @@ use Rattle.flux_defs.specs.Scheduler.{Setting}
 use Rattle.flux_defs.specs.Scripts.{Interleaves, Plays}
 use Rattle.flux_defs.specs.Sound.{IsSoundThroughout}
 use Rattle.resource_graph.specs.NamedGraph.{NamedGraph}
-use Rattle.graph_form.specs.GraphText.{IsGraphText}
+use Rattle.graph_json.specs.GraphText.{IsGraphText}
+use Rattle.graph_json.specs.WrittenGraph.{graph_text}
 use Rattle.slot_lines.specs.Lines.{IsScriptOf}
 use Rattle.slot_lines.specs.Texts.{history_text}
 use Rattle.plain_core.specs.Sites.{setting_of, IsCoreKind}
@@ -48,3 +49,9 @@ pub record AnswersSoundly (file input text : List ℕ) : Type 0 where
   pub graph : NamedGraph
   pub graph-is : IsGraphText file graph
   pub output : IsSoundOutput graph input text
+
+-- the text is that of the graph of the file's bytes, and a line feed
+pub record Prints (file text : List ℕ) : Type 0 where
+  pub graph : NamedGraph
+  pub graph-is : IsGraphText file graph
+  pub text-is : text ≡ graph_text graph ++ codes "\n"

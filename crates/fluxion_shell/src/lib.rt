@@ -2,8 +2,12 @@
 #![tactic(auto)]
 
 pub mod answering;
+mod fault_texts;
+pub mod loading;
 pub mod running;
 pub mod status;
+#[cfg(test)]
+mod tests;
 pub mod words;
 
 pub use running::run;

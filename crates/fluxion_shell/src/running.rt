@@ -1,34 +1,23 @@
 //! The top call.
-ghost use Rattle.std.specs.Prelude.{◌≡◌, ◌⊎◌, ◌↔◌, ◌<◌, ◌≤◌, ℕ, List, length, map, string_bytes, IfSome, None, Some};
+ghost use Rattle.std.specs.Prelude.{◌≡◌, ◌⊎◌, ◌↔◌, ◌++◌, ◌<◌, ◌≤◌, ℕ, List, length, map, string_bytes, codes, IfOk, IfSome, None, Some};
 ghost use Rattle.std.specs.Io.KnownBytes.{Keeps, IsAtEnd};
 ghost use Rattle.flux_io.specs.Counts.{Rose};
 ghost use Rattle.flux_io.specs.Stores.{file_of};
-ghost use Rattle.resource_graph.specs.NamedGraph.{NamedGraph};
-ghost use Rattle.graph_form.specs.GraphText.{IsGraphText};
-ghost use Rattle.graph_form.specs.declared.reading.ReadFault.{ReadFault};
-ghost use Rattle.fluxion_shell.specs.Forms.{IsServe};
-ghost use Rattle.fluxion_shell.specs.Outputs.{Answers, AnswersSoundly};
-ghost use Rattle.fluxion_shell.specs.Causes.{most_bytes, long_graph, long_input, told_file, WhereTold, AppendsSome, AppendsFrontOfSome, HasFault, Shows};
+ghost use Rattle.graph_json.specs.WrittenGraph.{graph_text};
+ghost use Rattle.graph_json.specs.declared.faults.ReadFault.{ReadFault};
+ghost use Rattle.fluxion_shell.specs.Forms.{IsServe, IsPrint, NamesFile};
+ghost use Rattle.fluxion_shell.specs.Outputs.{Answers, AnswersSoundly, Prints};
+ghost use Rattle.fluxion_shell.specs.Causes.{most_bytes, long_graph, long_input, told_file, WhereTold, AppendsSome, AppendsFrontOfSome, HasFault, Shows, ShowsPrint, HasGraphFile, HasShortInput};
 
 use crate::answering::answer;
+use crate::loading::{MOST_BYTES, load, too_long};
 use crate::status::{Limited, Status, Which};
 use crate::words::graph_name;
-use flux_io::{FileFail, Files, Got, ReadAllFail, Sink, Source, read_all, write_all};
-use graph_form::{ReadFault, read_graph};
-use std::alloc::Global;
-
-/// How many bytes the graph file and the input may have.
-const MOST_BYTES: u64 = 268_435_456;
-
-/// More bytes than these were found.
-fn too_long(which: Which) -> Status
-    ensures { result ≡ Status.Limit (record { which = which; found = 268435457 }) }
-{
-    Status::Limit(Limited {
-        which,
-        found: MOST_BYTES + 1,
-    })
-}
+use flux_defs::Text;
+use flux_io::{Files, ReadAllFail, Sink, Source, read_all, write_all};
+use graph_json::{ReadFault, write_graph};
+use resource_graph::Graph;
+use std::alloc::{AllocError, Global};
 
 /// Answers the input's lines over the graph of the file of this name.
 fn serve<F: Files, S: Source, O: Sink>(
@@ -63,19 +52,9 @@ fn serve<F: Files, S: Source, O: Sink>(
         IfSome (O.room out.old) (λ room. ((text : List ℕ) → Answers file lines text → length text ≤ room) →
         O.faults out.new ≡ O.faults out.old)) }
 {
-    let mut bytes = Vec::new(alloc);
-    match files.read(name, &mut bytes, MOST_BYTES) {
-        Ok(Got::Whole) => {}
-        Ok(Got::Absent) => return Status::NoGraphFile,
-        Ok(Got::Long) => return too_long(Which::GraphBytes),
-        Err(FileFail::Failed) => return Status::Read,
-        Err(FileFail::Memory) => return Status::Memory,
-    }
-    let graph = match read_graph(alloc, bytes.as_slice()) {
+    let graph = match load(alloc, name, files) {
         Ok(graph) => graph,
-        Err(ReadFault::Memory) => return Status::Memory,
-        Err(ReadFault::NotJson) => return Status::Graph(ReadFault::NotJson),
-        Err(ReadFault::Form) => return Status::Graph(ReadFault::Form),
+        Err(status) => return status,
     };
     let lines = match read_all(alloc, input, MOST_BYTES) {
         Ok(lines) => lines,
@@ -93,8 +72,58 @@ fn serve<F: Files, S: Source, O: Sink>(
     }
 }
 
-/// Runs the program: `words` are those after its name, `serve` and the name of a graph file. It answers each line of the
-/// input over the graph of that file, and writes the answers.
+/// The text of a graph, and a line feed.
+fn printed(alloc: Global, graph: &Graph) -> Result<Text, AllocError>
+    ensures { IfOk result (λ text. text ≡ graph_text graph.now ++ codes "\n") }
+{
+    let mut text = write_graph(alloc, graph)?.into_vec();
+    text.push(b'\n')?;
+    Ok(Text::of_vec(text))
+}
+
+/// Writes the graph of the file of this name.
+fn print_graph<F: Files, O: Sink>(
+    alloc: Global,
+    name: &str,
+    files: &mut F,
+    out: &mut O,
+) -> Status
+    ensures printed { result ≡ Status.Ok → IfSome (told_file (F.told files.old) name.now) (λ file. AppendsSome (O.held out.old) (O.held out.new) (Prints file)) }
+    ensures front { result ≡ Status.Write → IfSome (told_file (F.told files.old) name.now) (λ file. AppendsFrontOfSome (O.held out.old) (O.held out.new) (Prints file)) }
+    ensures nothing { (result ≡ Status.Ok → ⊥) → (result ≡ Status.Write → ⊥) → Keeps (O.held out.old) (O.held out.new) }
+    ensures usage { result ≡ Status.Usage → ⊥ }
+    ensures read { result ≡ Status.Read → Rose (F.faults files.old) (F.faults files.new) }
+    ensures write { result ≡ Status.Write → Rose (O.faults out.old) (O.faults out.new) }
+    ensures no_file { result ≡ Status.NoGraphFile → Rose (F.refused files.old) (F.refused files.new)
+        × IfSome (F.told files.old) (λ all. file_of all name.now ≡ None) }
+    ensures graph_limit { result ≡ long_graph → Rose (F.refused files.old) (F.refused files.new)
+        × IfSome (told_file (F.told files.old) name.now) (λ file. most_bytes < length file) }
+    ensures limits { (limited : Limited) → result ≡ Status.Limit limited → result ≡ long_graph }
+    ensures graph { (fault : ReadFault) → result ≡ Status.Graph fault →
+        IfSome (told_file (F.told files.old) name.now) (λ file. HasFault file fault) }
+    ensures graph_memory { result ≡ Status.Graph ReadFault.Memory → ⊥ }
+    ensures first { ShowsPrint result (F.told files.old) name.now }
+    ensures room { IfSome (told_file (F.told files.old) name.now) (λ file.
+        IfSome (O.room out.old) (λ room. ((text : List ℕ) → Prints file text → length text ≤ room) →
+        O.faults out.new ≡ O.faults out.old)) }
+{
+    let graph = match load(alloc, name, files) {
+        Ok(graph) => graph,
+        Err(status) => return status,
+    };
+    let text = match printed(alloc, &graph) {
+        Ok(text) => text,
+        Err(_) => return Status::Memory,
+    };
+    match write_all(out, &text) {
+        Ok(()) => Status::Ok,
+        Err(_) => Status::Write,
+    }
+}
+
+/// Runs the program: `words` are those after its name. With `serve` and the name of a graph file it answers each line of
+/// the input over the graph of that file, and writes the answers. With `graph` and such a name it writes that graph, and
+/// reads no input.
 pub fn run<F: Files, S: Source, O: Sink>(
     alloc: Global,
     words: &[String],
@@ -102,33 +131,49 @@ pub fn run<F: Files, S: Source, O: Sink>(
     input: &mut S,
     out: &mut O,
 ) -> Status
-    ensures usage { (result ≡ Status.Usage) ↔ ((name : List ℕ) → IsServe (map string_bytes words.now) name → ⊥) }
+    ensures usage { (result ≡ Status.Usage) ↔ ((name : List ℕ) → NamesFile (map string_bytes words.now) name → ⊥) }
     ensures history { (name : List ℕ) → IsServe (map string_bytes words.now) name → result ≡ Status.Ok → WhereTold (told_file (F.told files.old) name) (S.left input.old)
         (λ file lines. AppendsSome (O.held out.old) (O.held out.new) (Answers file lines)) }
     ensures sound { (name : List ℕ) → IsServe (map string_bytes words.now) name → result ≡ Status.Ok → WhereTold (told_file (F.told files.old) name) (S.left input.old)
         (λ file lines. AppendsSome (O.held out.old) (O.held out.new) (AnswersSoundly file lines)) }
     ensures front { (name : List ℕ) → IsServe (map string_bytes words.now) name → result ≡ Status.Write → WhereTold (told_file (F.told files.old) name) (S.left input.old)
         (λ file lines. AppendsFrontOfSome (O.held out.old) (O.held out.new) (AnswersSoundly file lines)) }
-    ensures no_file { (name : List ℕ) → IsServe (map string_bytes words.now) name → result ≡ Status.NoGraphFile → Rose (F.refused files.old) (F.refused files.new)
+    ensures printed { (name : List ℕ) → IsPrint (map string_bytes words.now) name → result ≡ Status.Ok → IfSome (told_file (F.told files.old) name) (λ file. AppendsSome (O.held out.old) (O.held out.new) (Prints file)) }
+    ensures print_front { (name : List ℕ) → IsPrint (map string_bytes words.now) name → result ≡ Status.Write → IfSome (told_file (F.told files.old) name) (λ file. AppendsFrontOfSome (O.held out.old) (O.held out.new) (Prints file)) }
+    ensures idle { (name : List ℕ) → IsPrint (map string_bytes words.now) name → (S.left input.new ≡ S.left input.old) × (S.faults input.new ≡ S.faults input.old) }
+    ensures no_file { (name : List ℕ) → NamesFile (map string_bytes words.now) name → result ≡ Status.NoGraphFile → Rose (F.refused files.old) (F.refused files.new)
         × IfSome (F.told files.old) (λ all. file_of all name ≡ None) }
-    ensures graph_limit { (name : List ℕ) → IsServe (map string_bytes words.now) name → result ≡ long_graph → Rose (F.refused files.old) (F.refused files.new)
+    ensures graph_limit { (name : List ℕ) → NamesFile (map string_bytes words.now) name → result ≡ long_graph → Rose (F.refused files.old) (F.refused files.new)
         × IfSome (told_file (F.told files.old) name) (λ file. most_bytes < length file) }
-    ensures graph { (name : List ℕ) → IsServe (map string_bytes words.now) name → (fault : ReadFault) → result ≡ Status.Graph fault →
+    ensures graph { (name : List ℕ) → NamesFile (map string_bytes words.now) name → (fault : ReadFault) → result ≡ Status.Graph fault →
         IfSome (told_file (F.told files.old) name) (λ file. HasFault file fault) }
     ensures first { (name : List ℕ) → IsServe (map string_bytes words.now) name → Shows result (F.told files.old) name (S.left input.old) }
+    ensures print_first { (name : List ℕ) → IsPrint (map string_bytes words.now) name → ShowsPrint result (F.told files.old) name }
     ensures room { (name : List ℕ) → IsServe (map string_bytes words.now) name → WhereTold (told_file (F.told files.old) name) (S.left input.old) (λ file lines.
         IfSome (O.room out.old) (λ room. ((text : List ℕ) → Answers file lines text → length text ≤ room) →
         O.faults out.new ≡ O.faults out.old)) }
-    ensures end { result ≡ Status.Ok → IsAtEnd (S.left input.new) }
+    ensures print_room { (name : List ℕ) → IsPrint (map string_bytes words.now) name → IfSome (told_file (F.told files.old) name) (λ file.
+        IfSome (O.room out.old) (λ room. ((text : List ℕ) → Prints file text → length text ≤ room) →
+        O.faults out.new ≡ O.faults out.old)) }
+    ensures end { (name : List ℕ) → IsServe (map string_bytes words.now) name → result ≡ Status.Ok → IsAtEnd (S.left input.new) }
     ensures nothing { (result ≡ Status.Ok → ⊥) → (result ≡ Status.Write → ⊥) → Keeps (O.held out.old) (O.held out.new) }
     ensures read { result ≡ Status.Read → Rose (F.faults files.old) (F.faults files.new) ⊎ Rose (S.faults input.old) (S.faults input.new) }
     ensures write { result ≡ Status.Write → Rose (O.faults out.old) (O.faults out.new) }
     ensures input_limit { result ≡ long_input → IfSome (S.left input.old) (λ lines. most_bytes < length lines) }
     ensures limits { (limited : Limited) → result ≡ Status.Limit limited → (result ≡ long_graph) ⊎ (result ≡ long_input) }
     ensures graph_memory { result ≡ Status.Graph ReadFault.Memory → ⊥ }
+    ensures complete { (name : List ℕ) → IsServe (map string_bytes words.now) name → HasGraphFile (F.told files.old) name → HasShortInput (S.left input.old) →
+        ¬ Rose (F.faults files.old) (F.faults files.new) → ¬ Rose (S.faults input.old) (S.faults input.new) → ¬ Rose (O.faults out.old) (O.faults out.new) →
+        (result ≡ Status.Ok) ⊎ (result ≡ Status.Memory) }
+    ensures print_complete { (name : List ℕ) → IsPrint (map string_bytes words.now) name → HasGraphFile (F.told files.old) name →
+        ¬ Rose (F.faults files.old) (F.faults files.new) → ¬ Rose (O.faults out.old) (O.faults out.new) →
+        (result ≡ Status.Ok) ⊎ (result ≡ Status.Memory) }
 {
-    match graph_name(words) {
-        Some(name) => serve(alloc, name, files, input, out),
+    if let Some(name) = graph_name("serve", words) {
+        return serve(alloc, name, files, input, out);
+    }
+    match graph_name("graph", words) {
+        Some(name) => print_graph(alloc, name, files, out),
         None => Status::Usage,
     }
 }

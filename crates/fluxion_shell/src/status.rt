@@ -2,13 +2,14 @@
 ghost use Rattle.std.specs.Prelude.{◌≡◌, IfOk};
 ghost use Rattle.fluxion_shell.specs.Ends.{code_of, line_of};
 
+use crate::fault_texts::add_fault;
 use flux_defs::Text;
-use graph_form::ReadFault;
+use graph_json::ReadFault;
 use slot_lines::pieces::{add, add_number};
 use std::alloc::{AllocError, Global};
 
 /// How a run ends.
-#[derive(Clone, Copy, Debug, PartialEq, Eq)]
+#[derive(Debug, Drop)]
 pub enum Status {
     /// Every line is answered.
     Ok,
@@ -68,15 +69,24 @@ pub fn fault_line(alloc: Global, status: &Status) -> Result<Text, AllocError>
         Status::Ok => b"",
         Status::Usage =>
             b"usage: fluxion serve GRAPH [--horizon N] [--filters LIST] [--jobspec FORM] | fluxion graph GRAPH | fluxion load N\n",
-        Status::Graph(ReadFault::NotJson) => b"fluxion: graph: json\n",
-        Status::Graph(ReadFault::Form) => b"fluxion: graph: form\n",
+        Status::Graph(fault) => return graph_line(alloc, fault),
         Status::Read => b"fluxion: read fault\n",
         Status::Write => b"fluxion: write fault\n",
-        Status::Graph(ReadFault::Memory) | Status::Memory => b"fluxion: out of memory\n",
+        Status::Memory => b"fluxion: out of memory\n",
         Status::Limit(limited) => return limit_line(alloc, limited),
         Status::NoGraphFile => b"fluxion: no such file\n",
     };
     Text::of(alloc, line)
+}
+
+/// The line that says what is wrong with the graph file.
+fn graph_line(alloc: Global, fault: &ReadFault) -> Result<Text, AllocError>
+    ensures { IfOk result (λ line. line ≡ line_of (Status.Graph fault.now)) }
+{
+    let mut line = Vec::from_slice(alloc, b"fluxion: graph: ")?;
+    add_fault(&mut line, fault)?;
+    add(&mut line, b"\n")?;
+    Ok(Text::of_vec(line))
 }
 
 /// The line that says which limit was passed.

@@ -1,6 +1,6 @@
 //! The words that the program is called with.
 ghost use Rattle.std.specs.Prelude.{◌≡◌, ℕ, List, MatchOption, IsTrue, ◌↔◌, map, string_bytes};
-ghost use Rattle.fluxion_shell.specs.Forms.{IsServe, IsPlainWord};
+ghost use Rattle.fluxion_shell.specs.Forms.{IsCall, IsPlainWord};
 
 /// Whether the word isn't empty and doesn't begin with a dash.
 fn is_plain_word(word: &str) -> bool
@@ -12,14 +12,14 @@ fn is_plain_word(word: &str) -> bool
     }
 }
 
-/// The name of the graph file, where the words are `serve` and such a name.
-pub fn graph_name(words: &[String]) -> Option<&str>
-    ensures { MatchOption result ((name : List ℕ) → IsServe (map string_bytes words.now) name → ⊥) (λ name. IsServe (map string_bytes words.now) name.now) }
+/// The name of the graph file, where the words are the command and such a name.
+pub fn graph_name<'a>(command: &str, words: &'a [String]) -> Option<&'a str>
+    ensures { MatchOption result ((name : List ℕ) → IsCall command.now (map string_bytes words.now) name → ⊥) (λ name. IsCall command.now (map string_bytes words.now) name.now) }
 {
-    let [command, name] = words else {
+    let [first, name] = words else {
         return None;
     };
-    if command.as_str() == "serve" && is_plain_word(name.as_str()) {
+    if first.as_str() == command && is_plain_word(name.as_str()) {
         return Some(name.as_str());
     }
     None

@@ -2,7 +2,7 @@
 ghost use Rattle.std.specs.Prelude.{◌≡◌, ◌<◌, ◌≤◌, ◌↔◌, ℕ, IsTrue, IfSome, IfOk, length};
 ghost use Rattle.resource_graph.specs.Faults.{IsNestedInKind, IsPoolWithChild, IsLoose};
 ghost use Rattle.resource_graph.specs.Lines.{line_of, KnowsParents, AllBelow};
-ghost use Rattle.resource_graph.specs.Preorder.{KnowsKinds};
+ghost use Rattle.resource_graph.specs.Preorder.{plain, KnowsKinds};
 ghost use Rattle.resource_graph.specs.Holds.{HasPools};
 ghost use Rattle.resource_graph.specs.Checks.{graph_in, FindsFirst, IsHouse, HasHouses, HasChildren};
 
@@ -13,20 +13,16 @@ use flux_defs::{Text, Vertex};
 use std::alloc::{AllocError, Global};
 
 /// The first vertex below one of its own type.
-pub(crate) fn first_nested(
-    alloc: Global,
-    kinds: &[Text],
-    vertices: &[Vertex],
-) -> Result<Option<usize>, AllocError>
+pub(crate) fn first_nested(alloc: Global, vertices: &[Vertex]) -> Result<Option<usize>, AllocError>
     requires few { length vertices.now ≤ 65536 }
     requires parents { KnowsParents vertices.now }
     requires short { (v : ℕ) → v < length vertices.now → length (line_of vertices.now v) ≤ 16 }
-    ensures first { IfOk result (FindsFirst (IsNestedInKind (graph_in kinds.now vertices.now))) }
+    ensures first { IfOk result (FindsFirst (IsNestedInKind (plain vertices.now))) }
     ensures within { IfOk result (λ found. IfSome found (λ v. v < length vertices.now)) }
 {
     for v in 0..vertices.len() {
         let line = line_up(alloc, vertices, v as u32)?;
-        if is_nested(kinds, vertices, line.as_slice(), v) {
+        if is_nested(vertices, line.as_slice(), v) {
             return Ok(Some(v));
         }
     }
@@ -34,13 +30,12 @@ pub(crate) fn first_nested(
 }
 
 /// Whether a vertex of its line other than itself is of its type.
-fn is_nested(kinds: &[Text], vertices: &[Vertex], line: &[u32], v: usize) -> bool
+fn is_nested(vertices: &[Vertex], line: &[u32], v: usize) -> bool
     requires within { v < length vertices.now }
     requires line { line.now ≡ line_of vertices.now v }
     requires below { AllBelow (length vertices.now) line.now }
-    ensures { IsTrue result ↔ IsNestedInKind (graph_in kinds.now vertices.now) v }
+    ensures { IsTrue result ↔ IsNestedInKind (plain vertices.now) v }
 {
-    let _ = kinds;
     for above in line {
         let u = *above as usize;
         if u == v {
@@ -123,7 +118,7 @@ pub(crate) fn first_parent_pool(
 {
     let pools = pool_table(alloc, vertices, kinds.len())?;
     let children = child_table(alloc, vertices)?;
-    Ok(first_pool(kinds, vertices, pools.as_slice(), children.as_slice()))
+    Ok(first_pool(vertices, pools.as_slice(), children.as_slice()))
 }
 
 /// Whether the vertex is a core or gpu with no node above.
@@ -138,21 +133,15 @@ fn is_loose(kinds: &[Text], vertices: &[Vertex], houses: &[Option<u32>], v: usiz
     is_device_at(kinds, vertices, v)
 }
 
-fn first_pool(
-    kinds: &[Text],
-    vertices: &[Vertex],
-    pools: &[bool],
-    children: &[bool],
-) -> Option<usize>
-    requires known { KnowsKinds vertices.now (length kinds.now) }
-    requires whole { length pools.now ≡ length kinds.now }
+fn first_pool(vertices: &[Vertex], pools: &[bool], children: &[bool]) -> Option<usize>
+    requires known { KnowsKinds vertices.now (length pools.now) }
     requires pools { HasPools vertices.now pools.now }
     requires children { HasChildren vertices.now (length vertices.now) children.now }
-    ensures first { FindsFirst (IsPoolWithChild (graph_in kinds.now vertices.now)) result }
+    ensures first { FindsFirst (IsPoolWithChild (plain vertices.now)) result }
     ensures within { IfSome result (λ v. v < length vertices.now) }
 {
     for v in 0..vertices.len() {
-        if is_parent_pool(kinds, vertices, pools, children, v) {
+        if is_parent_pool(vertices, pools, children, v) {
             return Some(v);
         }
     }
@@ -160,21 +149,13 @@ fn first_pool(
 }
 
 /// Whether the vertex is of a pool type and has a child.
-fn is_parent_pool(
-    kinds: &[Text],
-    vertices: &[Vertex],
-    pools: &[bool],
-    children: &[bool],
-    v: usize,
-) -> bool
+fn is_parent_pool(vertices: &[Vertex], pools: &[bool], children: &[bool], v: usize) -> bool
     requires within { v < length vertices.now }
-    requires known { KnowsKinds vertices.now (length kinds.now) }
-    requires whole { length pools.now ≡ length kinds.now }
+    requires known { KnowsKinds vertices.now (length pools.now) }
     requires pools { HasPools vertices.now pools.now }
     requires children { HasChildren vertices.now (length vertices.now) children.now }
-    ensures { IsTrue result ↔ IsPoolWithChild (graph_in kinds.now vertices.now) v }
+    ensures { IsTrue result ↔ IsPoolWithChild (plain vertices.now) v }
 {
-    let _ = kinds;
     if !children[v] {
         return false;
     }

@@ -1,5 +1,5 @@
 //! A graph from a list of vertices.
-ghost use Rattle.std.specs.Prelude.{IfOk, IfErr};
+ghost use Rattle.std.specs.Prelude.{IfOk, IfErr, OnOk};
 ghost use Rattle.resource_graph.specs.Faults.{IsFaultless};
 ghost use Rattle.resource_graph.specs.Told.{Tells};
 ghost use Rattle.resource_graph.specs.Raw.{KindsApart, IsBuiltFrom, raw_graph, raw_names};
@@ -54,6 +54,7 @@ impl Graph {
     ) -> Result<Graph, GraphFault>
         requires apart { KindsApart kinds }
         ensures built { IfOk result (λ graph. IsBuiltFrom kinds raw graph) }
+        ensures faultless { OnOk result (IsFaultless (raw_graph kinds raw) (raw_names raw)) }
         ensures told { IfErr result (Tells (raw_graph kinds raw) (raw_names raw)) }
     {
         if let Err(fault) = check_raw(alloc, kinds.items(), raw.items()) {

@@ -35,7 +35,7 @@ pub(crate) fn check_links(kinds: &[Text], vertices: &[Vertex]) -> Result<(), Gra
             found: kinds.len() as u64,
         });
     }
-    if let Some(vertex) = first_unknown_parent(kinds, vertices) {
+    if let Some(vertex) = first_unknown_parent(vertices) {
         return Err(GraphFault::UnknownParent {
             vertex: vertex as u32,
         });
@@ -45,10 +45,10 @@ pub(crate) fn check_links(kinds: &[Text], vertices: &[Vertex]) -> Result<(), Gra
             vertex: vertex as u32,
         });
     }
-    let Some(root) = first_root(kinds, vertices) else {
+    let Some(root) = first_root(vertices) else {
         return Err(GraphFault::NoRoot);
     };
-    if let Some(vertex) = second_root(kinds, vertices, root) {
+    if let Some(vertex) = second_root(vertices, root) {
         return Err(GraphFault::ManyRoots {
             vertex: vertex as u32,
         });
@@ -66,7 +66,7 @@ pub(crate) fn check_lines(
     ensures ok { OnOk result (UnnestedKinds (graph_in kinds.now vertices.now)) }
     ensures err { (names : List (List ℕ)) → IfErr result (Tells (graph_in kinds.now vertices.now) names) }
 {
-    let Ok(endless) = first_endless(alloc, kinds, vertices) else {
+    let Ok(endless) = first_endless(alloc, vertices) else {
         return Err(GraphFault::Memory);
     };
     if let Some(vertex) = endless {
@@ -74,7 +74,7 @@ pub(crate) fn check_lines(
             vertex: vertex as u32,
         });
     }
-    let Ok(deep) = first_deep(alloc, kinds, vertices) else {
+    let Ok(deep) = first_deep(alloc, vertices) else {
         return Err(GraphFault::Memory);
     };
     if let Some(vertex) = deep {
@@ -82,7 +82,7 @@ pub(crate) fn check_lines(
             vertex: vertex as u32,
         });
     }
-    let Ok(nested) = first_nested(alloc, kinds, vertices) else {
+    let Ok(nested) = first_nested(alloc, vertices) else {
         return Err(GraphFault::Memory);
     };
     if let Some(vertex) = nested {
@@ -121,7 +121,7 @@ pub(crate) fn check_sizes(
             vertex: vertex as u32,
         });
     }
-    if let Some(vertex) = first_large(kinds, vertices) {
+    if let Some(vertex) = first_large(vertices) {
         return Err(GraphFault::Large {
             vertex: vertex as u32,
         });

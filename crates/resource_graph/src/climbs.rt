@@ -1,5 +1,6 @@
 //! Climbs of many steps from all vertices at once.
-ghost use Rattle.std.specs.Prelude.{◌≡◌, ℕ, ◌+◌, ◌<◌, ◌≤◌, cond, length, slice_index_or, option_and_then, IfOk, Some, None};
+ghost use Rattle.std.specs.Prelude.{◌≡◌, ℕ, ◌+◌, ◌<◌, ◌≤◌, List, cond, length, slice_index_or, option_and_then, IfOk, Some, None};
+ghost use Rattle.flux_defs.specs.declared.vertices.Vertex.{Vertex};
 ghost use Rattle.resource_graph.specs.Lines.{KnowsParents};
 ghost use Rattle.resource_graph.specs.Checks.{HasClimbs, LeadsWithin};
 
@@ -20,8 +21,8 @@ pub(crate) fn climbs(
     let mut jumps = parents(alloc, vertices)?;
     let mut left = steps;
     while left > 0 {
-        reached = advanced(alloc, vertices, reached, jumps.as_slice(), left % 2 == 1)?;
-        jumps = followed(alloc, vertices, jumps.as_slice(), jumps.as_slice())?;
+        reached = advanced(alloc, reached, jumps.as_slice(), left % 2 == 1)?;
+        jumps = followed(alloc, jumps.as_slice(), jumps.as_slice())?;
         left /= 2;
     }
     Ok(reached)
@@ -53,31 +54,28 @@ fn parents(alloc: Global, vertices: &[Vertex]) -> Result<Vec<Option<u32>>, Alloc
 /// The climbs that were reached, and where `odd` is true the jumps after them.
 fn advanced(
     alloc: Global,
-    vertices: &[Vertex],
     reached: Vec<Option<u32>>,
     jumps: &[Option<u32>],
     odd: bool,
 ) -> Result<Vec<Option<u32>>, AllocError>
     requires { LeadsWithin reached.items (length jumps.now) }
-    ensures { IfOk result (λ climbs. (a b : ℕ) → HasClimbs vertices.now a reached.items → HasClimbs vertices.now b jumps.now → HasClimbs vertices.now (cond odd (a + b) a) climbs.items) }
+    ensures { IfOk result (λ climbs. (vertices : List Vertex) (a b : ℕ) → HasClimbs vertices a reached.items → HasClimbs vertices b jumps.now → HasClimbs vertices (cond odd (a + b) a) climbs.items) }
 {
     if !odd {
         return Ok(reached);
     }
-    followed(alloc, vertices, reached.as_slice(), jumps)
+    followed(alloc, reached.as_slice(), jumps)
 }
 
 /// The first climb and then the second one.
 fn followed(
     alloc: Global,
-    vertices: &[Vertex],
     first: &[Option<u32>],
     second: &[Option<u32>],
 ) -> Result<Vec<Option<u32>>, AllocError>
     requires { LeadsWithin first.now (length second.now) }
-    ensures { IfOk result (λ climbs. (a b : ℕ) → HasClimbs vertices.now a first.now → HasClimbs vertices.now b second.now → HasClimbs vertices.now (a + b) climbs.items) }
+    ensures { IfOk result (λ climbs. (vertices : List Vertex) (a b : ℕ) → HasClimbs vertices a first.now → HasClimbs vertices b second.now → HasClimbs vertices (a + b) climbs.items) }
 {
-    let _ = vertices;
     let mut climbs = Vec::with_capacity(alloc, first.len())?;
     for v in 0..first.len() {
         climbs.push(then(first[v], second))?;

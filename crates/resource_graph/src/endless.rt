@@ -3,42 +3,33 @@ ghost use Rattle.std.specs.Prelude.{◌≡◌, ◌<◌, ◌≤◌, ℕ, suc, IfO
 ghost use Rattle.flux_defs.specs.Graph.{chain};
 ghost use Rattle.resource_graph.specs.Faults.{NeverEnds, IsDeep};
 ghost use Rattle.resource_graph.specs.Lines.{KnowsParents};
-ghost use Rattle.resource_graph.specs.Checks.{graph_in, FindsFirst};
+ghost use Rattle.resource_graph.specs.Preorder.{plain};
+ghost use Rattle.resource_graph.specs.Checks.{FindsFirst};
 
 use crate::climbs::climbs;
-use flux_defs::{Text, Vertex};
+use flux_defs::Vertex;
 use std::alloc::{AllocError, Global};
 
 /// The first vertex whose chain of parents is longer than the graph.
-pub(crate) fn first_endless(
-    alloc: Global,
-    kinds: &[Text],
-    vertices: &[Vertex],
-) -> Result<Option<usize>, AllocError>
+pub(crate) fn first_endless(alloc: Global, vertices: &[Vertex]) -> Result<Option<usize>, AllocError>
     requires few { length vertices.now ≤ 65536 }
     requires known { KnowsParents vertices.now }
-    ensures first { IfOk result (FindsFirst (NeverEnds (graph_in kinds.now vertices.now))) }
+    ensures first { IfOk result (FindsFirst (NeverEnds (plain vertices.now))) }
     ensures within { IfOk result (λ found. IfSome found (λ v. v < length vertices.now)) }
 {
-    let _ = kinds;
     let reached = climbs(alloc, vertices, vertices.len())?;
     let found = first_reached(reached.as_slice());
     Ok(found)
 }
 
 /// The first vertex with more than 16 vertices from the root to it.
-pub(crate) fn first_deep(
-    alloc: Global,
-    kinds: &[Text],
-    vertices: &[Vertex],
-) -> Result<Option<usize>, AllocError>
+pub(crate) fn first_deep(alloc: Global, vertices: &[Vertex]) -> Result<Option<usize>, AllocError>
     requires few { length vertices.now ≤ 65536 }
     requires known { KnowsParents vertices.now }
-    requires ends { (v : ℕ) → NeverEnds (graph_in kinds.now vertices.now) v → ⊥ }
-    ensures first { IfOk result (FindsFirst (IsDeep (graph_in kinds.now vertices.now))) }
+    requires ends { (v : ℕ) → NeverEnds (plain vertices.now) v → ⊥ }
+    ensures first { IfOk result (FindsFirst (IsDeep (plain vertices.now))) }
     ensures within { IfOk result (λ found. IfSome found (λ v. v < length vertices.now)) }
 {
-    let _ = kinds;
     let reached = climbs(alloc, vertices, 16)?;
     let found = first_reached(reached.as_slice());
     Ok(found)

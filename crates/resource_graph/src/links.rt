@@ -2,15 +2,15 @@
 ghost use Rattle.std.specs.Prelude.{◌≡◌, ◌<◌, ℕ, IfSome, position, length};
 ghost use Rattle.resource_graph.specs.Faults.{HasUnknownParent, HasUnknownKind, IsRoot, IsSecondRoot};
 ghost use Rattle.resource_graph.specs.Checks.{graph_in, FindsFirst, has_parent_from};
+ghost use Rattle.resource_graph.specs.Preorder.{plain};
 
 use flux_defs::{Text, Vertex};
 
 /// The first vertex whose parent is no place of the list.
-pub(crate) fn first_unknown_parent(kinds: &[Text], vertices: &[Vertex]) -> Option<usize>
-    ensures first { FindsFirst (HasUnknownParent (graph_in kinds.now vertices.now)) result }
+pub(crate) fn first_unknown_parent(vertices: &[Vertex]) -> Option<usize>
+    ensures first { FindsFirst (HasUnknownParent (plain vertices.now)) result }
     ensures within { IfSome result (λ v. v < length vertices.now) }
 {
-    let _ = kinds;
     parent_past(vertices, vertices.len())
 }
 
@@ -35,22 +35,20 @@ pub(crate) fn first_unknown_kind(kinds: &[Text], vertices: &[Vertex]) -> Option<
 }
 
 /// The first vertex without a parent.
-pub(crate) fn first_root(kinds: &[Text], vertices: &[Vertex]) -> Option<usize>
-    ensures first { FindsFirst (IsRoot (graph_in kinds.now vertices.now)) result }
+pub(crate) fn first_root(vertices: &[Vertex]) -> Option<usize>
+    ensures first { FindsFirst (IsRoot (plain vertices.now)) result }
     ensures within { IfSome result (λ v. v < length vertices.now) }
 {
-    let _ = kinds;
     vertices.iter().position(|vertex| vertex.parent.is_none())
 }
 
 /// The second vertex without a parent.
-pub(crate) fn second_root(kinds: &[Text], vertices: &[Vertex], first: usize) -> Option<usize>
-    requires root { IsRoot (graph_in kinds.now vertices.now) first }
-    requires least { (u : ℕ) → u < first → IsRoot (graph_in kinds.now vertices.now) u → ⊥ }
-    ensures first { FindsFirst (IsSecondRoot (graph_in kinds.now vertices.now)) result }
+pub(crate) fn second_root(vertices: &[Vertex], first: usize) -> Option<usize>
+    requires root { IsRoot (plain vertices.now) first }
+    requires least { (u : ℕ) → u < first → IsRoot (plain vertices.now) u → ⊥ }
+    ensures first { FindsFirst (IsSecondRoot (plain vertices.now)) result }
     ensures within { IfSome result (λ v. v < length vertices.now) }
 {
-    let _ = kinds;
     for v in first + 1..vertices.len() {
         if vertices[v].parent.is_none() {
             return Some(v);

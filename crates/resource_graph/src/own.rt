@@ -2,6 +2,7 @@
 ghost use Rattle.std.specs.Prelude.{◌≡◌, ◌<◌, ◌↔◌, IsTrue, IfSome, Some, length, slice_get};
 ghost use Rattle.flux_defs.specs.ValidGraph.{IsDevice};
 ghost use Rattle.resource_graph.specs.Faults.{IsNodeType, IsReserved, IsSized, IsLarge, HasNoId};
+ghost use Rattle.resource_graph.specs.Preorder.{plain};
 ghost use Rattle.resource_graph.specs.Checks.{graph_in, FindsFirst};
 
 use flux_defs::{Text, Vertex};
@@ -58,11 +59,10 @@ fn is_sized(kinds: &[Text], vertices: &[Vertex], v: usize) -> bool
     is_device_at(kinds, vertices, v)
 }
 
-fn is_large(kinds: &[Text], vertices: &[Vertex], v: usize) -> bool
+fn is_large(vertices: &[Vertex], v: usize) -> bool
     requires { v < length vertices.now }
-    ensures { IsTrue result ↔ IsLarge (graph_in kinds.now vertices.now) v }
+    ensures { IsTrue result ↔ IsLarge (plain vertices.now) v }
 {
-    let _ = kinds;
     vertices[v].size > MOST
 }
 
@@ -103,12 +103,12 @@ pub(crate) fn first_sized(kinds: &[Text], vertices: &[Vertex]) -> Option<usize>
 }
 
 /// The first vertex of a size past 2^46.
-pub(crate) fn first_large(kinds: &[Text], vertices: &[Vertex]) -> Option<usize>
-    ensures first { FindsFirst (IsLarge (graph_in kinds.now vertices.now)) result }
+pub(crate) fn first_large(vertices: &[Vertex]) -> Option<usize>
+    ensures first { FindsFirst (IsLarge (plain vertices.now)) result }
     ensures within { IfSome result (λ v. v < length vertices.now) }
 {
     for v in 0..vertices.len() {
-        if is_large(kinds, vertices, v) {
+        if is_large(vertices, v) {
             return Some(v);
         }
     }

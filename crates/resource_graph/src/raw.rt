@@ -17,7 +17,7 @@ pub struct RawVertex {
 }
 
 /// Why a list of vertices is no graph: the first of these that holds, with the least index at which it does.
-#[derive(Debug, Drop)]
+#[derive(Clone, Copy, Debug, PartialEq, Eq)]
 pub enum GraphFault {
     /// More than 65,536 vertices.
     Vertices { found: u64 },

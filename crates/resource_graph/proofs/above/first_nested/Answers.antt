@@ -1,4 +1,4 @@
-use Rattle.std.proofs.Common.{below_more, arith, ◌<◌, length}
+use Rattle.std.proofs.Common.{[], below_more, arith, ◌<◌, length}
 use Rattle.std.proofs.lemmas.Bool.{both_ways}
 use Rattle.resource_graph.proofs.OwnLaws.{nested_within}
 use Rattle.resource_graph.proofs.above.first_nested.Goals as goal
@@ -8,5 +8,5 @@ loop-v-preserved c = below_more _ _ c.loop-v.invariant (λ bad. both_ways _ c.if
 
 pub returns-clause-first : goal.returns-clause-first
 returns-clause-first c = λ v bad.
-    let lt : v < length c.args.vertices.now = nested_within c.args.kinds.now c.args.vertices.now v bad in
+    let lt : v < length c.args.vertices.now = nested_within [] c.args.vertices.now v bad in
     c.loop-v.invariant v (omega arith) bad

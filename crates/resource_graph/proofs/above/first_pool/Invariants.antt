@@ -1,7 +1,7 @@
 use Rattle.std.proofs.Common.{ℕ, ◌<◌}
 use Rattle.resource_graph.specs.Faults.{IsPoolWithChild}
-use Rattle.resource_graph.specs.Checks.{graph_in}
+use Rattle.resource_graph.specs.Preorder.{plain}
 use Rattle.resource_graph.proofs.above.first_pool.Given as goal
 
 abbrev pub invariant-loop-v : goal.invariant-loop-v
-invariant-loop-v l = (u : ℕ) → u < l.v → IsPoolWithChild (graph_in l.kinds l.vertices) u → ⊥
+invariant-loop-v l = (u : ℕ) → u < l.v → IsPoolWithChild (plain l.vertices) u → ⊥

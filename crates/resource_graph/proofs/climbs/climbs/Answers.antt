@@ -27,8 +27,8 @@ loop-left-preserved c =
     let second : HasClimbs vertices k c.as_slice-in-loop-left-2.result.now = subst (HasClimbs vertices k) (sym c.as_slice-in-loop-left-2.ensures.value) c.loop-left.invariant.3 in (
       cond (nat_eq (c.loop-left.left % 2) 1) (a + k) a,
       k + k,
-      c.in_ok-reached-2.ensures a k c.loop-left.invariant.2 jumps,
-      c.in_ok-jumps-2.ensures k k first second,
+      c.in_ok-reached-2.ensures vertices a k c.loop-left.invariant.2 jumps,
+      c.in_ok-jumps-2.ensures vertices k k first second,
       halved a c.loop-left.left k c.args.steps c.loop-left.invariant.4,
     )
 

@@ -1,5 +1,0 @@
-pub mod Shape
-pub mod Tree
-pub mod Checks
-pub mod Vertices
-pub mod GraphText

@@ -1,0 +1,19 @@
+use Rattle.std.proofs.Common.{rules, tests, ◌≡◌, sym, ◌∙◌, refl, ap, List, [], ◌∷◌, map, ◌&&◌, Global, String, string_bytes}
+use Rattle.std.specs.List.{list_all}
+use Rattle.std.specs.Map.{keys_of as map_keys}
+use Rattle.std.proofs.lemmas.Iterator.Search.{all_from_yields_List}
+use Rattle.std.proofs.lemmas.Iterator.Consumers.{YieldsList-from_rest}
+use Rattle.serde_json.specs.View.{members_view}
+use Rattle.serde_json.proofs.Views.{Entry}
+use Rattle.graph_json.specs.Fields.{is_name}
+use Rattle.graph_json.specs.Nodes.{keys_of}
+use Rattle.graph_json.proofs.nodes.keys_are_names.Goals as goal
+
+by_entries : (es : List Entry) → list_all (λ k. is_name 255 (string_bytes k)) (map (λ e. e.0) es) ≡ list_all (is_name 255) (keys_of (members_view es))
+by_entries [] = refl
+by_entries (e ∷ es) = ap (λ b. is_name 255 (string_bytes e.0) && b) (by_entries es)
+
+pub returns : goal.returns
+returns c =
+    let all = all_from_yields_List (λ k. is_name 255 (string_bytes k)) _ _ c.all.result c.all.ensures.ran (YieldsList-from_rest c.keys.result refl) (λ x b q k. search (rules, tests)) in
+    all ∙ ap (list_all (λ k. is_name 255 (string_bytes k))) c.keys.ensures.rest ∙ by_entries c.args.members.now.entries

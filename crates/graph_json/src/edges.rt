@@ -1,0 +1,211 @@
+//! The edges of a graph file, and whom they make the parent of whom.
+ghost use Rattle.std.specs.Prelude.{◌≡◌, ◌<◌, [], ℕ, codes, IsSome, None, Some, Option, List, if◌then◌else◌, length, map, option_map, IfErr, IfSome, OnOk};
+ghost use Rattle.std.specs.List.{IsDistinct};
+ghost use Rattle.std.specs.Str.{bytes_eq};
+ghost use Rattle.std.specs.Result.{result_map_both};
+ghost use Rattle.serde_json.specs.Find.{as_object};
+ghost use Rattle.serde_json.specs.View.{view, items_view};
+ghost use Rattle.graph_json.specs.Fields.{given};
+ghost use Rattle.graph_json.specs.Nodes.{id_bytes};
+ghost use Rattle.graph_json.specs.Edges.{role_in, role_of, name_role, is_contained, is_plain, object_or_none, edge_with, edge_of, edges_of, edge_held, texts, place_of, joined, counted, parents_of, IsWrongEdge, IsFirstWrong};
+
+use crate::fields::{NodeId, given, id_field};
+use crate::places::{EdgeKey, Misfit, Place, at_place};
+use indexmap::IndexSet;
+use json_whole::FieldFault;
+use serde_json::Value;
+
+/// What is made of an edge.
+#[derive(Clone, Copy, Debug, PartialEq, Eq)]
+pub(crate) enum Role {
+    /// Its source contains its target.
+    Counted,
+    /// It says the same from the other end.
+    Skipped,
+    /// It is none of containment.
+    Refused,
+}
+
+/// What a file says of an edge.
+#[derive(Clone, Copy)]
+pub(crate) struct EdgeFields<'a> {
+    pub source: NodeId<'a>,
+    pub target: NodeId<'a>,
+    pub role: Role,
+}
+
+/// What is wrong with an edge.
+#[derive(Clone, Copy, Debug, PartialEq, Eq)]
+pub(crate) enum EdgeFault {
+    /// A field of it.
+    Unfit(Misfit),
+    /// The edge with this index.
+    Wrong { at: u64 },
+}
+
+/// What is made of an edge, by the text at `name.containment` of its metadata.
+fn name_role(metadata: &Value) -> Option<Role>
+    ensures { result ≡ name_role (view metadata.now) }
+{
+    let direction = metadata.get("name")?.get("containment")?.as_str()?;
+    if direction == "in" {
+        return Some(Role::Skipped);
+    }
+    Some(Role::Counted)
+}
+
+/// Whether the subsystem of the metadata is containment.
+fn is_contained(metadata: &Value) -> bool
+    ensures { result ≡ is_contained (view metadata.now) }
+{
+    let Some(subsystem) = metadata.get("subsystem") else {
+        return false;
+    };
+    let Some(text) = subsystem.as_str() else {
+        return false;
+    };
+    text == "containment"
+}
+
+/// Whether the metadata has neither a name nor a subsystem.
+fn is_plain(metadata: &Value) -> bool
+    ensures { result ≡ is_plain (view metadata.now) }
+{
+    metadata.get("name").is_none() && metadata.get("subsystem").is_none()
+}
+
+/// What is made of an edge with this metadata.
+fn role_in(metadata: &Value) -> Role
+    ensures { result ≡ role_in (view metadata.now) }
+{
+    if let Some(role) = name_role(metadata) {
+        return role;
+    }
+    if is_contained(metadata) || is_plain(metadata) {
+        return Role::Counted;
+    }
+    Role::Refused
+}
+
+/// What is made of an edge.
+fn role_of(edge: &Value) -> Result<Role, FieldFault>
+    ensures { result ≡ result_map_both role_of (λ e. e) (object_or_none (given (codes "metadata") (view edge.now))) }
+{
+    let Some(metadata) = given(edge, "metadata") else {
+        return Ok(Role::Counted);
+    };
+    if !metadata.is_object() {
+        return Err(FieldFault::Kind);
+    }
+    Ok(role_in(metadata))
+}
+
+/// What a file says of the edge with this index.
+fn edge_of(at: u64, value: &Value) -> Result<EdgeFields<'_>, Misfit>
+    ensures { result_map_both edge_held (λ m. m) result ≡ edge_of at (view value.now) }
+{
+    if !value.is_object() {
+        return Err(Misfit {
+            place: Place::Edge { at },
+            fault: FieldFault::Kind,
+        });
+    }
+    let source = at_place(
+        Place::EdgeField {
+            at,
+            key: EdgeKey::Source,
+        },
+        id_field(value, "source"),
+    )?;
+    let target = at_place(
+        Place::EdgeField {
+            at,
+            key: EdgeKey::Target,
+        },
+        id_field(value, "target"),
+    )?;
+    let role = at_place(
+        Place::EdgeField {
+            at,
+            key: EdgeKey::EdgeMetadata,
+        },
+        role_of(value),
+    )?;
+    Ok(EdgeFields {
+        source,
+        target,
+        role,
+    })
+}
+
+/// The place of a text in the set's order.
+pub(crate) fn place_of_text(ids: &IndexSet<Vec<u8>>, text: &[u8]) -> Option<usize>
+    ensures place { result ≡ place_of (texts ids.now.keys) text.now }
+    ensures within { IfSome result (λ place. place < length ids.now.keys) }
+{
+    ids.get_index_of(text)
+}
+
+/// The place of a node.
+fn place_of(ids: &IndexSet<Vec<u8>>, id: NodeId) -> Option<usize>
+    ensures place { result ≡ place_of (texts ids.now.keys) (id_bytes id.entry) }
+    ensures within { IfSome result (λ place. place < length ids.now.keys) }
+{
+    match id {
+        NodeId::Written(text) => place_of_text(ids, text.as_bytes()),
+        NodeId::Numbered(number) => {
+            let mut buffer = itoa::Buffer::new();
+            let digits = buffer.format(number);
+            place_of_text(ids, digits.as_bytes())
+        }
+    }
+}
+
+/// Notes the parent that an edge gives its target; false where the edge is wrong.
+fn join(ids: &IndexSet<Vec<u8>>, parents: &mut [Option<usize>], edge: EdgeFields) -> bool
+    requires { length parents.old ≡ length ids.now.keys }
+    ensures { joined (texts ids.now.keys) parents.old (edge_held edge.entry) ≡ (if result then Some parents.new else None) }
+{
+    match edge.role {
+        Role::Skipped => true,
+        Role::Refused => false,
+        Role::Counted => {
+            let Some(parent) = place_of(ids, edge.source) else {
+                return false;
+            };
+            let Some(child) = place_of(ids, edge.target) else {
+                return false;
+            };
+            if parents[child].is_some() {
+                return false;
+            }
+            parents[child] = Some(parent);
+            true
+        }
+    }
+}
+
+/// Notes by node the place of its parent, or tells the first edge that is wrong.
+pub(crate) fn join_edges(
+    ids: &IndexSet<Vec<u8>>,
+    edges: &[Value],
+    parents: &mut [Option<usize>],
+) -> Result<(), EdgeFault>
+    requires none { parents.old ≡ parents_of (texts ids.now.keys) [] }
+    requires distinct { IsDistinct bytes_eq (texts ids.now.keys) }
+    ensures joined { OnOk result (parents.new ≡ parents_of (texts ids.now.keys) (counted (edges_of 0 (items_view edges.now)))) }
+    ensures right { OnOk result ((k : ℕ) → IsWrongEdge (texts ids.now.keys) (edges_of 0 (items_view edges.now)) k → ⊥) }
+    ensures wrong { IfErr result (IsFirstWrong (texts ids.now.keys) (edges_of 0 (items_view edges.now))) }
+{
+    'edges: for (at, value) in edges.iter().enumerate() {
+        match edge_of(at as u64, value) {
+            Err(fault) => return Err(EdgeFault::Unfit(fault)),
+            Ok(edge) => {
+                if !join(ids, parents, edge) {
+                    return Err(EdgeFault::Wrong { at: at as u64 });
+                }
+            }
+        }
+    }
+    Ok(())
+}

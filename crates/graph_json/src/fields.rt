@@ -1,0 +1,196 @@
+//! The rules of single fields.
+ghost use Rattle.std.specs.Prelude.{◌≡◌, [], IsSome, option_map};
+ghost use Rattle.std.specs.List.{list_all};
+ghost use Rattle.std.specs.Char.{is_ascii_graphic};
+ghost use Rattle.std.specs.Result.{result_map_both};
+ghost use Rattle.serde_json.specs.Find.{as_object};
+ghost use Rattle.serde_json.specs.View.{view, number_view};
+ghost use Rattle.graph_json.specs.Fields.{given, is_name_byte, is_name, is_unit, ruled_value, ruled_field, ruled_given, id_field, small_number, small_given, size_given};
+ghost use Rattle.graph_json.specs.Nodes.{id_bytes};
+
+use json_whole::{FieldFault, need_text, need_u64};
+use serde_json::{Number, Value};
+
+/// The greatest whole number of a field.
+const GREATEST: u64 = 70_368_744_177_664;
+/// The greatest id and rank.
+const GREATEST_SMALL: u64 = 4_294_967_294;
+/// The most characters of a name.
+pub(crate) const NAME: usize = 255;
+/// The most characters of the name of a type.
+pub(crate) const TYPE_NAME: usize = 64;
+/// The most characters of a unit.
+const UNIT: usize = 64;
+
+/// How a file writes the id of a node.
+#[derive(Clone, Copy, Debug)]
+pub(crate) enum NodeId<'a> {
+    Written(&'a str),
+    Numbered(u64),
+}
+
+/// The value at a key that has a default: null counts as absent.
+pub(crate) fn given<'a>(value: &'a Value, key: &str) -> Option<&'a Value>
+    ensures { option_map (λ v. view v.now) result ≡ given key.now (view value.now) }
+{
+    let found = value.get(key)?;
+    if found.is_null() {
+        return None;
+    }
+    Some(found)
+}
+
+fn is_name_byte(byte: u8) -> bool
+    ensures { result ≡ is_name_byte byte }
+{
+    byte.is_ascii_alphanumeric() || byte == b'_' || byte == b'-' || byte == b'.'
+}
+
+fn are_name_bytes(bytes: &[u8]) -> bool
+    ensures { result ≡ list_all is_name_byte bytes.now }
+{
+    bytes.iter().all(|byte| is_name_byte(*byte))
+}
+
+fn are_visible(bytes: &[u8]) -> bool
+    ensures { result ≡ list_all is_ascii_graphic bytes.now }
+{
+    bytes.iter().all(|byte| byte.is_ascii_graphic())
+}
+
+/// Whether the text is a name of at most so many characters.
+pub(crate) fn is_name(text: &str, most: usize) -> bool
+    ensures { result ≡ is_name most text.now }
+{
+    let bytes = text.as_bytes();
+    if bytes.is_empty() || bytes.len() > most {
+        return false;
+    }
+    are_name_bytes(bytes)
+}
+
+/// Whether the text is a unit.
+fn is_unit(text: &str) -> bool
+    ensures { result ≡ is_unit text.now }
+{
+    let bytes = text.as_bytes();
+    if bytes.len() > UNIT {
+        return false;
+    }
+    are_visible(bytes)
+}
+
+/// The name that a value is.
+pub(crate) fn name_value(value: &Value, most: usize) -> Result<&str, FieldFault>
+    ensures { result_map_both (λ s. s.now) (λ e. e) result ≡ ruled_value (is_name most) (view value.now) }
+{
+    let Some(text) = value.as_str() else {
+        return Err(FieldFault::Kind);
+    };
+    if !is_name(text, most) {
+        return Err(FieldFault::Text);
+    }
+    Ok(text)
+}
+
+/// The name at a key, which is required.
+pub(crate) fn name_field<'a>(
+    value: &'a Value,
+    key: &str,
+    most: usize,
+) -> Result<&'a str, FieldFault>
+    requires { IsSome (as_object (view value.now)) }
+    ensures { result_map_both (λ s. s.now) (λ e. e) result ≡ ruled_field (is_name most) key.now (view value.now) }
+{
+    let text = need_text(value, key)?;
+    if !is_name(text, most) {
+        return Err(FieldFault::Text);
+    }
+    Ok(text)
+}
+
+/// The name at a key with a default.
+pub(crate) fn name_or<'a>(
+    value: &'a Value,
+    key: &str,
+    otherwise: &'a str,
+) -> Result<&'a str, FieldFault>
+    ensures { result_map_both (λ s. s.now) (λ e. e) result ≡ ruled_given (is_name 255) otherwise.now key.now (view value.now) }
+{
+    let Some(found) = given(value, key) else {
+        return Ok(otherwise);
+    };
+    name_value(found, NAME)
+}
+
+/// The unit at a key; by default the empty text.
+pub(crate) fn unit_or_empty<'a>(value: &'a Value, key: &str) -> Result<&'a str, FieldFault>
+    ensures { result_map_both (λ s. s.now) (λ e. e) result ≡ ruled_given is_unit [] key.now (view value.now) }
+{
+    let Some(found) = given(value, key) else {
+        return Ok("");
+    };
+    let Some(text) = found.as_str() else {
+        return Err(FieldFault::Kind);
+    };
+    if !is_unit(text) {
+        return Err(FieldFault::Text);
+    }
+    Ok(text)
+}
+
+/// The id of a node at a key: a text, or a whole number, which counts as its decimal text.
+pub(crate) fn id_field<'a>(value: &'a Value, key: &str) -> Result<NodeId<'a>, FieldFault>
+    requires { IsSome (as_object (view value.now)) }
+    ensures { result_map_both id_bytes (λ e. e) result ≡ id_field key.now (view value.now) }
+{
+    let Some(found) = value.get(key) else {
+        return Err(FieldFault::Missing);
+    };
+    if let Some(text) = found.as_str() {
+        return Ok(NodeId::Written(text));
+    }
+    let number = need_u64(value, key, 0, GREATEST)?;
+    Ok(NodeId::Numbered(number))
+}
+
+/// A number that leaves the greatest one of 32 bits free, or none for -1.
+fn small_number(number: &Number) -> Result<Option<u32>, FieldFault>
+    ensures { result ≡ small_number (number_view number.now) }
+{
+    if let Some(n) = number.as_u64() {
+        if n > GREATEST_SMALL {
+            return Err(FieldFault::Large);
+        }
+        return Ok(Some(n as u32));
+    }
+    match number.as_i64() {
+        Some(-1) => Ok(None),
+        Some(_) => Err(FieldFault::Small),
+        None => Err(FieldFault::Kind),
+    }
+}
+
+/// Such a number at a key whose default is none.
+pub(crate) fn small_or_none(value: &Value, key: &str) -> Result<Option<u32>, FieldFault>
+    ensures { result ≡ small_given key.now (view value.now) }
+{
+    let Some(found) = given(value, key) else {
+        return Ok(None);
+    };
+    let Some(number) = found.as_number() else {
+        return Err(FieldFault::Kind);
+    };
+    small_number(number)
+}
+
+/// The size at a key; by default 1.
+pub(crate) fn size_or_one(value: &Value, key: &str) -> Result<u64, FieldFault>
+    requires { IsSome (as_object (view value.now)) }
+    ensures { result ≡ size_given key.now (view value.now) }
+{
+    if given(value, key).is_none() {
+        return Ok(1);
+    }
+    need_u64(value, key, 0, GREATEST)
+}

@@ -1,0 +1,185 @@
+//! The raw vertices that the nodes and edges of a graph file are.
+ghost use Rattle.std.specs.Prelude.{◌≡◌, ◌<◌, ◌≤◌, ℕ, Some, slice_get, unwrap_or, length, map, IfOk, IfSome, OnOk};
+ghost use Rattle.std.specs.Ordering.{nat_cmp};
+ghost use Rattle.std.specs.Cmp.Lexicographic.{slice_cmp};
+ghost use Rattle.std.specs.BTreeSet.{insert_key};
+ghost use Rattle.graph_json.specs.Nodes.{node_held, name_held, properties_held, keys_of, texts_in, in_order};
+ghost use Rattle.graph_json.specs.Edges.{texts, place_of, parents_of, counted};
+ghost use Rattle.graph_json.specs.Ids.{ids_of};
+ghost use Rattle.graph_json.specs.RawLists.{with_text, kinds_of, vertex_of, vertices_of, zip_with};
+ghost use Rattle.serde_json.specs.View.{items_view, members_view};
+
+use crate::edges::place_of_text;
+use crate::nodes::{NodeFields, Properties};
+use flux_defs::{List, Text};
+use indexmap::IndexSet;
+use resource_graph::RawVertex;
+use serde_json::{Map, Value};
+use std::alloc::{AllocError, Global};
+use std::collections::BTreeSet;
+
+/// The keys of an object, as texts.
+fn keys_of(alloc: Global, members: &Map<String, Value>) -> Result<List<Text>, AllocError>
+    ensures { IfOk result (λ list. list ≡ keys_of (members_view members.now.entries)) }
+{
+    let mut list = Vec::with_capacity(alloc, members.len())?;
+    'keys: for key in members.keys() {
+        list.push(Text::of(alloc, key.as_bytes())?)?;
+    }
+    Ok(List::of_vec(list))
+}
+
+/// Adds a text to an ordered set, unless it is there.
+pub(crate) fn add_text<'a>(set: &mut BTreeSet<&'a str>, text: &'a str) -> Result<(), AllocError>
+    ensures { OnOk result (map (λ s. s.now) set.new.keys ≡ insert_key (slice_cmp nat_cmp) (map (λ s. s.now) set.old.keys) text.now) }
+{
+    set.insert(text)?;
+    Ok(())
+}
+
+/// The texts of a list, in byte order, each once.
+fn texts_in_order(alloc: Global, items: &[Value]) -> Result<List<Text>, AllocError>
+    ensures { IfOk result (λ list. list ≡ in_order (texts_in (items_view items.now))) }
+{
+    let mut set = BTreeSet::new(alloc);
+    'items: for item in items {
+        if let Some(text) = item.as_str() {
+            add_text(&mut set, text)?;
+        }
+    }
+    let mut list = Vec::with_capacity(alloc, set.len())?;
+    'texts: while let Some(text) = set.pop_first() {
+        list.push(Text::of(alloc, text.as_bytes())?)?;
+    }
+    Ok(List::of_vec(list))
+}
+
+/// The properties of a node, in byte order, each once.
+fn properties_list(alloc: Global, properties: Properties) -> Result<List<Text>, AllocError>
+    ensures { IfOk result (λ list. list ≡ properties_held properties.entry) }
+{
+    match properties {
+        Properties::NoProperties => Ok(List::new(alloc)),
+        Properties::Keys(members) => keys_of(alloc, members),
+        Properties::Members(items) => texts_in_order(alloc, items.as_slice()),
+    }
+}
+
+/// The types of the nodes, in the order of their first nodes.
+pub(crate) fn kind_set(alloc: Global, nodes: &[NodeFields]) -> Result<IndexSet<Vec<u8>>, AllocError>
+    ensures { IfOk result (λ set. texts set.keys ≡ kinds_of (map node_held nodes.now)) }
+{
+    let mut set = IndexSet::new(alloc);
+    'nodes: for node in nodes {
+        add_kind(alloc, &mut set, node.kind)?;
+    }
+    Ok(set)
+}
+
+/// Adds a type to the set, unless it is there.
+fn add_kind(alloc: Global, set: &mut IndexSet<Vec<u8>>, kind: &str) -> Result<(), AllocError>
+    ensures { OnOk result (texts set.new.keys ≡ with_text (texts set.old.keys) kind.now) }
+{
+    if set.contains(kind.as_bytes()) {
+        return Ok(());
+    }
+    let key = Vec::from_slice(alloc, kind.as_bytes())?;
+    set.insert(key)?;
+    Ok(())
+}
+
+/// The texts of a set, in its order.
+pub(crate) fn set_texts(alloc: Global, set: &IndexSet<Vec<u8>>) -> Result<List<Text>, AllocError>
+    ensures { IfOk result (λ list. list ≡ texts set.now.keys) }
+{
+    let mut list = Vec::with_capacity(alloc, set.len())?;
+    'keys: for key in set.as_slice() {
+        list.push(Text::of(alloc, key.as_slice())?)?;
+    }
+    Ok(List::of_vec(list))
+}
+
+/// The raw vertex of a node, among these types and with this parent.
+fn vertex_of(
+    alloc: Global,
+    kinds: &IndexSet<Vec<u8>>,
+    node: &NodeFields,
+    parent: Option<usize>,
+) -> Result<RawVertex, AllocError>
+    requires few { length kinds.now.keys ≤ 65536 }
+    requires within { IfSome parent (λ p. p < 65536) }
+    ensures { IfOk result (λ vertex. vertex ≡ vertex_of (texts kinds.now.keys) (node_held node.now) parent) }
+{
+    let kind = kind_number(kinds, node.kind);
+    let base = Text::of(alloc, node.base.as_bytes())?;
+    let name = name_text(alloc, node)?;
+    let unit = Text::of(alloc, node.unit.as_bytes())?;
+    let properties = properties_list(alloc, node.properties)?;
+    Ok(RawVertex {
+        kind,
+        base,
+        name,
+        id: node.number,
+        rank: node.rank,
+        size: node.size,
+        unit,
+        properties,
+        parent: small_place(parent),
+    })
+}
+
+/// The number of a type.
+fn kind_number(kinds: &IndexSet<Vec<u8>>, kind: &str) -> u32
+    requires { length kinds.now.keys ≤ 65536 }
+    ensures { result ≡ unwrap_or (place_of (texts kinds.now.keys) kind.now) 0 }
+{
+    match place_of_text(kinds, kind.as_bytes()) {
+        Some(place) => place as u32,
+        None => 0,
+    }
+}
+
+/// A place that fits 32 bits.
+fn small_place(place: Option<usize>) -> Option<u32>
+    requires { IfSome place (λ p. p < 65536) }
+    ensures { result ≡ place }
+{
+    match place {
+        Some(p) => Some(p as u32),
+        None => None,
+    }
+}
+
+/// The name of a node, or its default.
+fn name_text(alloc: Global, node: &NodeFields) -> Result<Text, AllocError>
+    ensures { IfOk result (λ name. name ≡ name_held node.now) }
+{
+    if let Some(name) = node.name {
+        return Text::of(alloc, name.as_bytes());
+    }
+    let mut name = Vec::from_slice(alloc, node.base.as_bytes())?;
+    if let Some(number) = node.number {
+        let mut buffer = itoa::Buffer::new();
+        name.extend_from_slice(buffer.format(number).as_bytes())?;
+    }
+    Ok(Text::of_vec(name))
+}
+
+/// The raw vertices of the nodes, with these parents.
+pub(crate) fn vertices_of(
+    alloc: Global,
+    kinds: &IndexSet<Vec<u8>>,
+    nodes: &[NodeFields],
+    parents: &[Option<usize>],
+) -> Result<List<RawVertex>, AllocError>
+    requires few { length kinds.now.keys ≤ 65536 }
+    requires as_many { length parents.now ≡ length nodes.now }
+    requires within { (i p : ℕ) → slice_get parents.now i ≡ Some (Some p) → p < 65536 }
+    ensures { IfOk result (λ list. list ≡ zip_with (vertex_of (texts kinds.now.keys)) (map node_held nodes.now) parents.now) }
+{
+    let mut list = Vec::with_capacity(alloc, nodes.len())?;
+    'nodes: for at in 0..nodes.len() {
+        list.push(vertex_of(alloc, kinds, &nodes[at], parents[at])?)?;
+    }
+    Ok(List::of_vec(list))
+}

@@ -1,0 +1,5 @@
+pub mod Rows
+pub mod NestLaws
+pub mod KindLaws
+pub mod ShapeLaws
+pub mod ValidLaws

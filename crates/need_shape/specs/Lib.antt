@@ -1,0 +1,4 @@
+pub mod Requests
+pub mod Types
+pub mod Shapes
+pub mod Faults

@@ -1,0 +1,14 @@
+use Rattle.std.proofs.Common.{ℕ, List, ap, ◌∙◌}
+use Rattle.text_table.specs.Tables.{texts_of, with_text, place_of}
+use Rattle.text_table.proofs.Texts.{texts-added, place-texts}
+use Rattle.text_table.proofs.table.TextTable.add.Goals as goal
+
+pub returns-clause-ok : goal.returns-clause-ok
+returns-clause-ok c = ap texts_of c.in_ok-number.ensures.keys
+    ∙ (texts-added c.self.inside.set.keys c.in_ok-from_slice.field-0
+    ∙ (ap (λ (t : List ℕ). with_text (texts_of c.self.inside.set.keys) t) c.in_ok-from_slice.ensures.items ∙ ap (λ (ts : List (List ℕ)). with_text ts c.args.text.now) c.self.view_is))
+
+pub returns-clause-number : goal.returns-clause-number
+returns-clause-number c = c.in_ok-number.ensures.index
+    ∙ (place-texts c.in_ok-from_slice.field-0.items c.self.inside.set.keys
+    ∙ (ap (λ (t : List ℕ). place_of (texts_of c.self.inside.set.keys) t) c.in_ok-from_slice.ensures.items ∙ ap (λ (ts : List (List ℕ)). place_of ts c.args.text.now) c.self.view_is))

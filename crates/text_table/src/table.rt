@@ -1,0 +1,78 @@
+//! Texts, numbered in the order in which they were first seen.
+ghost use Rattle.std.specs.Prelude.{◌≡◌, ◌≤◌, [], length, position, slice_get, option_map, IfOk, OnOk, OnErr};
+ghost use Rattle.std.specs.Str.{bytes_eq};
+ghost use Rattle.text_table.specs.Tables.{place_of, with_text};
+
+use indexmap::IndexSet;
+use std::alloc::{AllocError, Global};
+use std::marker::Model;
+
+/// Texts, none twice. Contracts see the list of them, in the order in which they were added; a text's number is its
+/// place there, from 0.
+#[derive(Drop)]
+pub struct TextTable {
+    set: IndexSet<Vec<u8>>,
+}
+
+impl Model for TextTable {
+    ghost use Rattle.std.specs.Prelude.{List, ℕ};
+    ghost use Rattle.text_table.specs.Tables.{texts_of};
+
+    ghost Value = { List (List ℕ) };
+
+    ghost view = { λ table. texts_of table.set.keys };
+}
+
+impl TextTable {
+    /// The table of no texts. It takes no memory.
+    pub fn new(alloc: Global) -> TextTable
+        ensures { result ≡ [] }
+    {
+        TextTable {
+            set: IndexSet::new(alloc),
+        }
+    }
+
+    /// How many texts it has.
+    pub fn len(&self) -> usize
+        ensures { result ≡ length self.now }
+    {
+        self.set.len()
+    }
+
+    /// Adds the text where it is not there yet, and answers its number.
+    pub fn add(&mut self, alloc: Global, text: &[u8]) -> Result<usize, AllocError>
+        ensures ok { OnOk result (self.new ≡ with_text self.old text.now) }
+        ensures number { IfOk result (λ number. number ≡ place_of self.old text.now) }
+        ensures err { OnErr result (self.new ≡ self.old) }
+    {
+        let (number, _) = self.set.insert_full(Vec::from_slice(alloc, text)?)?;
+        Ok(number)
+    }
+
+    /// The text's number.
+    pub fn number_of(&self, text: &[u8]) -> Option<usize>
+        ensures { result ≡ position (bytes_eq text.now) self.now }
+    {
+        self.set.get_index_of(text)
+    }
+
+    /// The text's number, or, where it is not there, the number that it would get.
+    pub fn place_of(&self, text: &[u8]) -> usize
+        ensures place { result ≡ place_of self.now text.now }
+        ensures within { result ≤ length self.now }
+    {
+        match self.number_of(text) {
+            Some(number) => number,
+            None => self.len(),
+        }
+    }
+
+    /// The text of this number.
+    pub fn text(&self, number: usize) -> Option<&[u8]>
+        ensures { option_map (λ text. text.now) result ≡ slice_get self.now number }
+    {
+        let text = self.set.get_index(number)?;
+        Some(text.as_slice())
+    }
+}

@@ -1,0 +1,20 @@
+//! Worked tables.
+use crate::TextTable;
+use std::test::Fail;
+
+#[test]
+fn texts_are_numbered_once(rt: HostRuntime) -> Result<(), Fail> {
+    let alloc = rt.alloc();
+    let mut table = TextTable::new(alloc);
+    assert_eq!(rt; table.add(alloc, b"node")?, 0);
+    assert_eq!(rt; table.add(alloc, b"")?, 1);
+    assert_eq!(rt; table.add(alloc, b"core")?, 2);
+    assert_eq!(rt; table.add(alloc, b"node")?, 0);
+    assert_eq!(rt; table.add(alloc, b"")?, 1);
+    assert_eq!(rt; table.len(), 3);
+    assert_eq!(rt; table.number_of(b"core"), Some(2));
+    assert_eq!(rt; table.number_of(b"cor"), None);
+    assert!(rt; table.text(1) == Some(b"".as_slice()));
+    assert!(rt; table.text(3).is_none());
+    Ok(())
+}
