@@ -2,3 +2,4 @@ pub mod BarLaws
 pub mod PlaceLaws
 pub mod CountLaws
 pub mod WriteLaws
+pub mod ProperLaws

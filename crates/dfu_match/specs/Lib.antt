@@ -1,2 +1,3 @@
 pub mod Searches
 pub mod Bars
+pub mod Kinds

@@ -6,7 +6,9 @@ mod bars;
 mod counting;
 mod matching;
 mod places;
+mod proper;
 mod search;
 mod writing;
 
 pub use matching::match_at;
+pub use proper::is_proper;

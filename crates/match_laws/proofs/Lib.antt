@@ -3,3 +3,4 @@ pub mod ViewLaws
 pub mod NeedLists
 pub mod MoreAvailable
 pub mod Sizes
+pub mod Live

@@ -1,36 +1,18 @@
 -- Moments of a window, the jobs that are live at them, and how much these take.
-use Rattle.std.proofs.Common.{◌≡◌, ℕ, zero, suc, ◌+◌, ◌<◌, ◌≤◌, min, nat_le, nat_lt, if◌then◌else◌, Bool, true, false, ◌&&◌, ◌||◌, List, [], ◌∷◌, ◌⊎◌, ◌↔◌, inl, inr, refl, sym, ◌∙◌, ap, subst, arith, IsTrue, true≢false, slice_get, Some, length, get_or}
+use Rattle.std.proofs.Common.{◌≡◌, ℕ, zero, suc, ◌+◌, ◌<◌, ◌≤◌, min, nat_le, nat_lt, Bool, true, false, ◌&&◌, ◌||◌, List, [], ◌∷◌, ◌⊎◌, ◌↔◌, inl, inr, refl, sym, ◌∙◌, ap, subst, arith, IsTrue, true≢false, slice_get, Some, length, get_or}
 use Rattle.std.proofs.lemmas.Option.{slice_get-get_or}
-use Rattle.std.specs.List.{AllByRecursion, list_any, sum_by}
+use Rattle.std.specs.List.{AllByRecursion, list_any}
 use Rattle.std.proofs.lemmas.Bool.{cases_lt, and_parts, and_from, or_cases, or_left, or_right}
 use Rattle.std.proofs.lemmas.Bool.Decides.{nat_tests, eqb_tells}
-use Rattle.std.proofs.lemmas.List.Sums.{sum_by-cons}
 use Rattle.flux_defs.specs.declared.vertices.Vertex.{Vertex}
 use Rattle.flux_defs.specs.declared.claims.Claim.{Claim}
 use Rattle.flux_defs.specs.declared.claims.Job.{Job}
 use Rattle.flux_defs.specs.declared.claims.Window.{Window}
-use Rattle.flux_defs.specs.Jobs.{is_live, some_live_claim, take_of, SomeMoment, EachMoment, holds_over, is_on_or_below}
+use Rattle.flux_defs.specs.Jobs.{is_live, some_live_claim, SomeMoment, EachMoment, holds_over, is_on_or_below}
 use Rattle.flux_defs.specs.Closed.{IsClosedOver, IsTouchedOver}
 use Rattle.flux_defs.specs.Free.{taken_at}
+use Rattle.match_laws.proofs.Live.{LivesOn, taken_on}
 use Rattle.plain_jobs.specs.Spans.{overlaps, some_overlap, IsMostTaken, Raises}
-
--- each job that is live at m is live at n
-abbrev pub LivesOn : List Job → ℕ → ℕ → Type 0
-LivesOn jobs m n = AllByRecursion (λ job. IsTrue (is_live m job) → IsTrue (is_live n job)) jobs
-
-abbrev takes_live : ℕ → ℕ → Job → ℕ
-takes_live m v job = if is_live m job then sum_by (take_of v) job.claims else 0
-
-if_mono : (a b : Bool) (n : ℕ) → (IsTrue a → IsTrue b) → (if a then n else 0) ≤ (if b then n else 0)
-if_mono false b n f = omega arith
-if_mono true true n f = omega arith
-if_mono true false n f = absurd (true≢false (sym (f refl)))
-
--- so at n no less is taken
-pub taken_on : (jobs : List Job) (m n v : ℕ) → LivesOn jobs m n → taken_at jobs m v ≤ taken_at jobs n v
-taken_on [] m n v lives = omega arith
-taken_on (job ∷ jobs) m n v lives =
-    omega (arith, sum_by-cons (takes_live m v) job jobs, sum_by-cons (takes_live n v) job jobs, if_mono (is_live m job) (is_live n job) (sum_by (take_of v) job.claims) lives.0, taken_on jobs m n v lives.1)
 
 -- where a span and a window overlap they have a moment
 common : (w : Window) (job : Job) → w.from < w.to → IsTrue (overlaps w job) → (m : ℕ) × (w.from ≤ m) × (m < w.to) × IsTrue (is_live m job)

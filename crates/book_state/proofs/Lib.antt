@@ -1,0 +1,2 @@
+pub mod TieLaws
+pub mod BookLaws

@@ -1,0 +1,9 @@
+//! Which jobs were ever accepted: a map from their ids, of which old versions stay.
+#![tactic(auto)]
+
+mod tables;
+
+pub use tables::{JobTable, Row};
+
+#[cfg(test)]
+mod tests;
