@@ -71,12 +71,12 @@ no_fault_told bytes g (Field path fault) (file, says, right, built, fine) (m, pa
     by : HasMisfit bytes m ⊎ HasUnfitEdge bytes m → ⊥
     by (inl (d, value, misfit)) = let same : Ok file ≡ Err m = sym says.2 ∙ (ap file_of (same_value bytes says.0 d says.1 value) ∙ misfit) in cc
     by (inr (other, said, distinct, first)) =
-      right.1 first.at (subst (λ (f : GraphFile). IsWrongEdge (ids_of f.nodes) f.edges first.at) (same_file bytes other file said says) first.wrong)
+        right.1 first.at (subst (λ (f : GraphFile). IsWrongEdge (ids_of f.nodes) f.edges first.at) (same_file bytes other file said says) first.wrong)
 no_fault_told bytes g (DuplicateNode at) (file, says, right, built, fine) (other, said, least) =
     absurd (right.0 at (subst (λ (f : GraphFile). IsRepeated (ids_of f.nodes) at) (same_file bytes other file said says) least.0))
 no_fault_told bytes g (Edge at) (file, says, right, built, fine) (other, said, distinct, first) =
     absurd (right.1 first.at (subst (λ (f : GraphFile). IsWrongEdge (ids_of f.nodes) f.edges first.at) (same_file bytes other file said says) first.wrong))
 no_fault_told bytes g (Graph fault) (file, says, right, built, fine) (other, said, right-too, told, not) =
     absurd (not (nothing_told (raw_graph (kinds_of file.nodes) (raw_of file)) (raw_names (raw_of file)) fault fine
-      (subst (λ (f : GraphFile). TellsGraph (raw_graph (kinds_of f.nodes) (raw_of f)) (raw_names (raw_of f)) fault) (same_file bytes other file said says) told)))
+    (subst (λ (f : GraphFile). TellsGraph (raw_graph (kinds_of f.nodes) (raw_of f)) (raw_names (raw_of f)) fault) (same_file bytes other file said says) told)))
 no_fault_told bytes g Memory text told = refl

@@ -38,10 +38,11 @@ pub returns-in-Ok-clause-built : goal.returns-in-Ok-clause-built
 returns-in-Ok-clause-built c edges parents =
     let nodes = map node_held c.args.nodes.now in
     let kinds : c.in_ok-names.names ≡ kinds_of nodes = c.in_ok-names.ensures ∙ c.in_ok-kinds.ensures in
-    let raw = made nodes edges (texts c.in_ok-kinds.kinds.keys) c.args.parents.now c.in_ok-raw.raw c.in_ok-kinds.ensures parents c.in_ok-raw.ensures in
-    (subst (λ ks. IsBuiltFrom ks (vertices_of nodes edges) c.in-Ok.graph) kinds (subst (λ rs. IsBuiltFrom c.in_ok-names.names rs c.in-Ok.graph) raw c.in-Ok.ensures.built),
-    subst (λ ks. IsFaultless (raw_graph ks (vertices_of nodes edges)) (raw_names (vertices_of nodes edges))) kinds
-      (subst (λ rs. IsFaultless (raw_graph c.in_ok-names.names rs) (raw_names rs)) raw c.in-Ok.ensures.faultless))
+    let raw = made nodes edges (texts c.in_ok-kinds.kinds.keys) c.args.parents.now c.in_ok-raw.raw c.in_ok-kinds.ensures parents c.in_ok-raw.ensures in (
+      subst (λ ks. IsBuiltFrom ks (vertices_of nodes edges) c.in-Ok.graph) kinds (subst (λ rs. IsBuiltFrom c.in_ok-names.names rs c.in-Ok.graph) raw c.in-Ok.ensures.built),
+      subst (λ ks. IsFaultless (raw_graph ks (vertices_of nodes edges)) (raw_names (vertices_of nodes edges))) kinds
+          (subst (λ rs. IsFaultless (raw_graph c.in_ok-names.names rs) (raw_names rs)) raw c.in-Ok.ensures.faultless),
+    )
 
 pub returns : goal.returns
 returns c = record {
