@@ -84,9 +84,35 @@ whole_or_none None h = omega arith
 whole_or_none (Some n) h = h
 
 plain_node : (g : NamedGraph) (v : ℕ) (x : Vertex) → HasSmallNumbers x → IsPlain 3 (node_data g v x)
-plain_node g v x small =
-    (tt, refl, ((tt, refl, (whole_or_none x.id small.1, refl, (tt, refl, ((tt, refl, tt), refl, (plain_keys 0 (properties_at g v) (ordered_all [] (map readable (unwrap_or (slice_get g.properties v) [])) refl), refl,
-    (whole_or_none x.rank small.2, refl, (small.0, refl, (tt, refl, (tt, refl, tt))))))))), refl, tt))
+plain_node g v x small = (
+  tt,
+  refl,
+  (
+    (
+      tt,
+      refl,
+      (
+        whole_or_none x.id small.1,
+        refl,
+        (
+          tt,
+          refl,
+          (
+            (tt, refl, tt),
+            refl,
+            (
+              plain_keys 0 (properties_at g v) (ordered_all [] (map readable (unwrap_or (slice_get g.properties v) [])) refl),
+              refl,
+              (whole_or_none x.rank small.2, refl, (small.0, refl, (tt, refl, (tt, refl, tt)))),
+            ),
+          ),
+        ),
+      ),
+    ),
+    refl,
+    tt,
+  ),
+)
 
 plain_nodes : (g : NamedGraph) (v : ℕ) (xs : List Vertex) → AllByRecursion HasSmallNumbers xs → ArePlain 3 (nodes_data g v xs)
 plain_nodes g v [] all = tt
