@@ -437,10 +437,8 @@ fn edges_in_their_order(rt: HostRuntime) -> Result<(), Fail> {
 fn roots_and_circles(rt: HostRuntime) -> Result<(), Fail> {
     let alloc = rt.alloc();
     let whole = file(alloc, &[CLUSTER, NODE, CORE], &[TO_NODE, TO_CORE])?;
-    assert_eq!(rt;
-        told(alloc, &whole.as_slice()[..whole.len() - 1]),
-        ("json", 0)
-    );
+    let cut = whole.as_slice().split_last().ok_or("a file")?.1;
+    assert_eq!(rt; told(alloc, cut), ("json", 0));
     let headless = file(alloc, &[CLUSTER, NODE, CORE], &[TO_CORE])?;
     assert_eq!(rt; told(alloc, headless.as_slice()), ("roots", 1));
     let circle = file(
