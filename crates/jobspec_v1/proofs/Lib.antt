@@ -1,0 +1,4 @@
+pub mod Results
+pub mod SaidLaws
+pub mod RequestLaws
+pub mod TaskLaws

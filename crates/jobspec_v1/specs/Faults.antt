@@ -1,0 +1,45 @@
+-- The paths of a jobspec's faults, and when a fault is told.
+use Rattle.std.specs.Prelude.{◌≡◌, ◌⊎◌, ℕ, List, [], ◌++◌, codes, Result, Err}
+use Rattle.std.specs.Result.{result_map_both}
+use Rattle.json_whole.specs.declared.fields.FieldFault.{FieldFault}
+use Rattle.json_fields.specs.Paths.{index}
+use Rattle.jobspec_v1.specs.declared.faults.SpecFault.{SpecFault}
+use Rattle.jobspec_v1.specs.declared.faults.SpecFault.TheVariants.{Field, Label, NotInProfile, Memory}
+use Rattle.jobspec_v1.specs.declared.headers.VertexKey.{VertexKey}
+use Rattle.jobspec_v1.specs.declared.headers.VertexKey.TheVariants as key
+use Rattle.jobspec_v1.specs.declared.headers.KeyFault.{KeyFault}
+use Rattle.jobspec_v1.specs.declared.headers.KeyFault.TheVariants as of_key
+use Rattle.jobspec_v1.specs.declared.headers.Misfit.{Misfit}
+
+-- Of want of memory nothing is said; any other fault is the one that is meant.
+abbrev pub Tells : {A : Type 0} → Result A SpecFault → SpecFault → Type 0
+Tells meant fault = (fault ≡ Memory) ⊎ (meant ≡ Err fault)
+
+-- what a field gives, or its fault at the path
+abbrev pub at_path : {A : Type 0} → List ℕ → Result A FieldFault → Result A SpecFault
+at_path path field = result_map_both (λ x. x) (λ fault. Field path fault) field
+
+-- where a key stands, behind its request vertex
+abbrev pub key_path : VertexKey → List ℕ
+key_path key.Whole = []
+key_path key.Foreign = codes ".*"
+key_path key.TypeName = codes ".type"
+key_path key.Count = codes ".count"
+key_path key.Unit = codes ".unit"
+key_path key.Exclusive = codes ".exclusive"
+key_path key.Label = codes ".label"
+key_path key.With = codes ".with"
+
+-- the path of a key of a member of the list at a path
+abbrev pub vertex_path : List ℕ → ℕ → VertexKey → List ℕ
+vertex_path list at k = list ++ index at ++ key_path k
+
+-- the fault of a key at the path
+abbrev pub fault_at : List ℕ → KeyFault → SpecFault
+fault_at path (of_key.Field fault) = Field path fault
+fault_at path of_key.Label = Label path
+fault_at path of_key.NotInProfile = NotInProfile path
+
+-- what a member of the list at a path gives, or its fault there
+abbrev pub at_vertex : {A : Type 0} → List ℕ → ℕ → Result A Misfit → Result A SpecFault
+at_vertex list at read = result_map_both (λ x. x) (λ m. fault_at (vertex_path list at m.key) m.fault) read

@@ -1,0 +1,6 @@
+pub mod Faults
+pub mod Requests
+pub mod Tasks
+pub mod Attributes
+pub mod Forms
+pub mod Jobspecs

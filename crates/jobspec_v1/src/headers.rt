@@ -1,0 +1,261 @@
+//! What a request vertex says of itself, key by key.
+ghost use Rattle.std.specs.Prelude.{◌≡◌, ◌⊎◌, ◌++◌, [], IsSome, codes, option_map, map, false, true};
+ghost use Rattle.std.specs.List.{list_all, list_any};
+ghost use Rattle.std.specs.Result.{result_map_both};
+ghost use Rattle.serde_json.specs.Find.{as_object};
+ghost use Rattle.serde_json.specs.View.{view, items_view, members_view};
+ghost use Rattle.need_shape.specs.Requests.{is_slot};
+ghost use Rattle.jobspec_v1.specs.Faults.{key_path, vertex_path, fault_at};
+ghost use Rattle.jobspec_v1.specs.Requests.{is_vertex_key, has_own_keys, keys_given, type_given, count_given, unit_given, exclusive_given, is_among, label_given, with_given, said_by, said_held, at_key, of_field};
+
+use crate::faults::SpecFault;
+use json_fields::{GREATEST, list_value, member_path, name_field, some_value};
+use json_whole::{FieldFault, need_text, need_u64};
+use serde_json::{Map, Value};
+use std::alloc::Global;
+use text_table::TextTable;
+
+/// The most characters of the name of a type.
+const TYPE_NAME: usize = 64;
+
+/// A key of a request vertex, or the whole of it, or a key that is none of its own.
+#[derive(Clone, Copy, Debug, PartialEq, Eq)]
+pub enum VertexKey {
+    Whole,
+    Foreign,
+    TypeName,
+    Count,
+    Unit,
+    Exclusive,
+    Label,
+    With,
+}
+
+/// What is wrong with a key.
+#[derive(Clone, Copy, Debug, PartialEq, Eq)]
+pub enum KeyFault {
+    Field(FieldFault),
+    Label,
+    NotInProfile,
+}
+
+/// A key that breaks its rule.
+#[derive(Clone, Copy, Debug, PartialEq, Eq)]
+pub struct Misfit {
+    pub key: VertexKey,
+    pub fault: KeyFault,
+}
+
+/// What a request vertex says of itself: its label where it is a slot, and the values of the list in it.
+#[derive(Clone, Copy)]
+pub struct Header<'a> {
+    pub kind: &'a str,
+    pub count: u64,
+    pub exclusive: Option<bool>,
+    pub label: Option<&'a str>,
+    pub with: &'a [Value],
+}
+
+/// Where a key stands, behind its request vertex.
+pub(crate) fn key_path(key: VertexKey) -> &'static str
+    ensures { result.now ≡ key_path key }
+{
+    match key {
+        VertexKey::Whole => "",
+        VertexKey::Foreign => ".*",
+        VertexKey::TypeName => ".type",
+        VertexKey::Count => ".count",
+        VertexKey::Unit => ".unit",
+        VertexKey::Exclusive => ".exclusive",
+        VertexKey::Label => ".label",
+        VertexKey::With => ".with",
+    }
+}
+
+/// The fault of a key of a member of the list at a path.
+pub(crate) fn misfit_at(alloc: Global, list: &[u8], at: u64, misfit: Misfit) -> SpecFault
+    ensures { (result ≡ SpecFault.Memory) ⊎ (result ≡ fault_at (vertex_path list.now at misfit.key) misfit.fault) }
+{
+    let Ok(path) = member_path(alloc, list, at, key_path(misfit.key)) else {
+        return SpecFault::Memory;
+    };
+    match misfit.fault {
+        KeyFault::Field(fault) => SpecFault::Field { path, fault },
+        KeyFault::Label => SpecFault::Label { path },
+        KeyFault::NotInProfile => SpecFault::NotInProfile { path },
+    }
+}
+
+/// What a key gives, or its fault.
+fn at_key<T>(key: VertexKey, read: Result<T, KeyFault>) -> Result<T, Misfit>
+    ensures { result ≡ at_key key read }
+{
+    match read {
+        Ok(found) => Ok(found),
+        Err(fault) => Err(Misfit { key, fault }),
+    }
+}
+
+fn of_field<T>(field: Result<T, FieldFault>) -> Result<T, KeyFault>
+    ensures { result ≡ of_field field }
+{
+    match field {
+        Ok(found) => Ok(found),
+        Err(fault) => Err(KeyFault::Field(fault)),
+    }
+}
+
+fn is_vertex_key(key: &str) -> bool
+    ensures { result ≡ is_vertex_key key.now }
+{
+    key == "type"
+        || key == "count"
+        || key == "unit"
+        || key == "exclusive"
+        || key == "label"
+        || key == "with"
+}
+
+fn has_own_keys(members: &Map<String, Value>) -> bool
+    ensures { result ≡ has_own_keys (members_view members.now.entries) }
+{
+    members.keys().all(|key| is_vertex_key(key.as_str()))
+}
+
+/// Whether it is an object with no other keys.
+fn keys_given(value: &Value) -> Result<bool, Misfit>
+    ensures { result ≡ keys_given (view value.now) }
+{
+    let Some(members) = value.as_object() else {
+        return Err(Misfit {
+            key: VertexKey::Whole,
+            fault: KeyFault::Field(FieldFault::Kind),
+        });
+    };
+    if !has_own_keys(members) {
+        return Err(Misfit {
+            key: VertexKey::Foreign,
+            fault: KeyFault::NotInProfile,
+        });
+    }
+    Ok(true)
+}
+
+/// Whether a request vertex whose type is called so is a slot.
+pub(crate) fn is_slot(kind: &str) -> bool
+    ensures { result ≡ is_slot kind.now }
+{
+    kind == "slot"
+}
+
+fn type_key(in_slot: bool, value: &Value) -> Result<&str, KeyFault>
+    requires { IsSome (as_object (view value.now)) }
+    ensures { at_key VertexKey.TypeName (result_map_both (λ s. s.now) (λ e. e) result) ≡ type_given in_slot (view value.now) }
+{
+    let kind = of_field(name_field(value, "type", TYPE_NAME))?;
+    if is_slot(kind) && in_slot {
+        return Err(KeyFault::NotInProfile);
+    }
+    Ok(kind)
+}
+
+fn count_key(value: &Value) -> Result<u64, KeyFault>
+    requires { IsSome (as_object (view value.now)) }
+    ensures { at_key VertexKey.Count result ≡ count_given (view value.now) }
+{
+    if let Some(found) = value.get("count") {
+        if found.is_object() || found.is_string() {
+            return Err(KeyFault::NotInProfile);
+        }
+    }
+    of_field(need_u64(value, "count", 1, GREATEST))
+}
+
+fn unit_key(value: &Value) -> Result<bool, KeyFault>
+    ensures { at_key VertexKey.Unit result ≡ unit_given (view value.now) }
+{
+    match value.get("unit") {
+        Some(found) if !found.is_string() => Err(KeyFault::Field(FieldFault::Kind)),
+        _ => Ok(true),
+    }
+}
+
+fn exclusive_key(slot: bool, value: &Value) -> Result<Option<bool>, KeyFault>
+    ensures { at_key VertexKey.Exclusive result ≡ exclusive_given slot (view value.now) }
+{
+    let Some(found) = value.get("exclusive") else {
+        return Ok(None);
+    };
+    match found.as_bool() {
+        None => Err(KeyFault::Field(FieldFault::Kind)),
+        Some(held) if slot && !held => Err(KeyFault::NotInProfile),
+        Some(held) => Ok(Some(held)),
+    }
+}
+
+/// Whether a text is in the table.
+pub(crate) fn is_among(texts: &TextTable, text: &str) -> bool
+    ensures { result ≡ is_among texts.now text.now }
+{
+    texts.number_of(text.as_bytes()).is_some()
+}
+
+fn label_key<'a>(
+    labels: &TextTable,
+    slot: bool,
+    value: &'a Value,
+) -> Result<Option<&'a str>, KeyFault>
+    requires { IsSome (as_object (view value.now)) }
+    ensures { at_key VertexKey.Label (result_map_both (λ found. option_map (λ s. s.now) found) (λ e. e) result) ≡ label_given labels.now slot (view value.now) }
+{
+    if !slot {
+        return Ok(None);
+    }
+    let label = of_field(need_text(value, "label"))?;
+    if label.is_empty() || is_among(labels, label) {
+        return Err(KeyFault::Label);
+    }
+    Ok(Some(label))
+}
+
+fn with_key(slot: bool, value: &Value) -> Result<&[Value], KeyFault>
+    ensures { at_key VertexKey.With (result_map_both (λ ds. items_view ds.now) (λ e. e) result) ≡ with_given slot (view value.now) }
+{
+    let Some(found) = value.get("with") else {
+        if slot {
+            return Err(KeyFault::Field(FieldFault::Missing));
+        }
+        return Ok(&[]);
+    };
+    if slot {
+        return of_field(some_value(found));
+    }
+    let with = of_field(list_value(found))?;
+    Ok(with.as_slice())
+}
+
+/// What a request vertex says of itself, in a slot or not and behind slots with these labels; or the first of its keys'
+/// faults.
+pub fn header_of<'a>(
+    in_slot: bool,
+    labels: &TextTable,
+    value: &'a Value,
+) -> Result<Header<'a>, Misfit>
+    ensures { result_map_both said_held (λ m. m) result ≡ said_by in_slot labels.now (view value.now) }
+{
+    keys_given(value)?;
+    let kind = at_key(VertexKey::TypeName, type_key(in_slot, value))?;
+    let count = at_key(VertexKey::Count, count_key(value))?;
+    at_key(VertexKey::Unit, unit_key(value))?;
+    let slot = is_slot(kind);
+    let exclusive = at_key(VertexKey::Exclusive, exclusive_key(slot, value))?;
+    let label = at_key(VertexKey::Label, label_key(labels, slot, value))?;
+    let with = at_key(VertexKey::With, with_key(slot, value))?;
+    Ok(Header {
+        kind,
+        count,
+        exclusive,
+        label,
+        with,
+    })
+}

@@ -1,0 +1,149 @@
+//! A jobspec of version 1 from its bytes.
+ghost use Rattle.std.specs.Prelude.{◌≡◌, ◌⊎◌, Ok, Err, Some, None, [], true, false, IsSome, IsOk, IfOk, IfErr};
+ghost use Rattle.serde_json.specs.Find.{as_object};
+ghost use Rattle.serde_json.specs.View.{view, items_view};
+ghost use Rattle.flux_defs.specs.Needs.{IsProperAsk};
+ghost use Rattle.need_shape.specs.Requests.{AreRequests};
+ghost use Rattle.jobspec_v1.specs.Faults.{Tells};
+ghost use Rattle.jobspec_v1.specs.Requests.{Requested};
+ghost use Rattle.jobspec_v1.specs.Forms.{is_v1};
+ghost use Rattle.jobspec_v1.specs.Jobspecs.{version_of, resources_of, is_one, ask_for, v1_tasks, v1_terms, v1_in, v1_of};
+
+use crate::attributes::read_attributes;
+use crate::faults::{SpecFault, field_at};
+use crate::forms::is_v1;
+use crate::requests::read_requests;
+use crate::tasks::{check_tasks, task_list};
+use flux_defs::{Ask, List, Text};
+use json_fields::{GREATEST, some_field};
+use json_whole::{FieldFault, ValueFault, need_u64, read_value};
+use need_shape::{RawNeed, ShapeFault, shape};
+use resource_graph::Graph;
+use serde_json::Value;
+use std::alloc::Global;
+use text_table::TextTable;
+
+/// The version of a jobspec, a whole number from 1: Field at `version` where there is none.
+pub fn read_version(alloc: Global, value: &Value) -> Result<u64, SpecFault>
+    requires { IsSome (as_object (view value.now)) }
+    ensures read { IfOk result (λ version. version_of (view value.now) ≡ Ok version) }
+    ensures told { IfErr result (Tells (version_of (view value.now))) }
+{
+    match need_u64(value, "version", 1, GREATEST) {
+        Ok(version) => Ok(version),
+        Err(fault) => Err(field_at(alloc, b"version", fault)),
+    }
+}
+
+/// The request vertices of a jobspec, one or more; `labels`, which has none yet, gains those of their slots. The fault is
+/// the first one, as `read_requests` says, and Field at `resources` where that is no such list.
+pub fn read_resources(
+    alloc: Global,
+    value: &Value,
+    labels: &mut TextTable,
+) -> Result<List<RawNeed>, SpecFault>
+    requires { labels.old ≡ [] }
+    ensures read { IfOk result (λ needs. resources_of (view value.now) ≡ Ok (record { needs = needs; labels = labels.new })) }
+    ensures fine { IfOk result (λ needs. AreRequests false needs) }
+    ensures told { IfErr result (Tells (resources_of (view value.now))) }
+{
+    match some_field(value, "resources") {
+        Ok(values) => read_requests(alloc, values, false, b"resources", labels),
+        Err(fault) => Err(field_at(alloc, b"resources", fault)),
+    }
+}
+
+/// What request vertices ask for over a graph, for so many seconds; or the first fault of their shape.
+pub fn ask_for(
+    alloc: Global,
+    graph: &Graph,
+    duration: u64,
+    request: &List<RawNeed>,
+) -> Result<Ask, SpecFault>
+    requires { AreRequests false request.now }
+    ensures ask { IfOk result (λ ask. ask_for graph.now.resources duration request.now ≡ Ok ask) }
+    ensures proper { IfOk result (IsProperAsk graph.now.resources.vertices) }
+    ensures told { IfErr result (Tells (ask_for graph.now.resources duration request.now)) }
+{
+    match shape(alloc, graph, request) {
+        Ok(needs) => Ok(Ask {
+            needs,
+            duration,
+            barred: List::new(alloc),
+        }),
+        Err(ShapeFault::Memory) => Err(SpecFault::Memory),
+        Err(fault) => Err(SpecFault::Shape(fault)),
+    }
+}
+
+fn is_one(values: &[Value]) -> bool
+    ensures { result ≡ is_one (items_view values.now) }
+{
+    values.len() == 1
+}
+
+/// Refuses a jobspec that has not one task, or has one that breaks a rule of tasks.
+fn check_v1_tasks(alloc: Global, labels: &TextTable, value: &Value) -> Result<(), SpecFault>
+    ensures fine { IsOk result → v1_tasks labels.now (view value.now) ≡ Ok true }
+    ensures told { IfErr result (Tells (v1_tasks labels.now (view value.now))) }
+{
+    match task_list(alloc, value) {
+        Ok(values) if !is_one(values) => Err(SpecFault::Task {
+            path: Text::of(alloc, b"tasks")?,
+        }),
+        Ok(values) => check_tasks(alloc, labels, values),
+        Err(fault) => Err(fault),
+    }
+}
+
+/// The seconds that a jobspec asks for.
+fn v1_duration(alloc: Global, value: &Value) -> Result<u64, SpecFault>
+    ensures read { IfOk result (λ duration. v1_terms (view value.now) ≡ Ok duration) }
+    ensures told { IfErr result (Tells (v1_terms (view value.now))) }
+{
+    match read_attributes(alloc, value) {
+        Ok(attributes) if attributes.constraint.is_some() => Err(SpecFault::NotInProfile {
+            path: Text::of(alloc, b"attributes.system.constraints")?,
+        }),
+        Ok(attributes) => Ok(attributes.duration),
+        Err(fault) => Err(fault),
+    }
+}
+
+/// What a value asks for over a graph.
+fn v1_in(alloc: Global, graph: &Graph, value: &Value) -> Result<Ask, SpecFault>
+    ensures ask { IfOk result (λ ask. v1_in graph.now.resources (view value.now) ≡ Ok ask) }
+    ensures proper { IfOk result (IsProperAsk graph.now.resources.vertices) }
+    ensures told { IfErr result (Tells (v1_in graph.now.resources (view value.now))) }
+{
+    if !value.is_object() {
+        return Err(field_at(alloc, b".", FieldFault::Kind));
+    }
+    let version = read_version(alloc, value)?;
+    if version != 1 {
+        return Err(SpecFault::Version);
+    }
+    let mut labels = TextTable::new(alloc);
+    let request = read_resources(alloc, value, &mut labels)?;
+    if !is_v1(request.items()) {
+        return Err(SpecFault::Form);
+    }
+    check_v1_tasks(alloc, &labels, value)?;
+    let duration = v1_duration(alloc, value)?;
+    ask_for(alloc, graph, duration, &request)
+}
+
+/// What a jobspec V1 (RFC 25) asks for over a graph, from its bytes. The fault is the first one, in this order: no JSON,
+/// the version, the request vertices, the form, the tasks, the attributes, a constraint, the shape. No constraint is read
+/// yet: one that is not null is NotInProfile at `attributes.system.constraints`. What is asked for is proper for the graph.
+pub fn read_v1(alloc: Global, graph: &Graph, bytes: &[u8]) -> Result<Ask, SpecFault>
+    ensures ask { IfOk result (λ ask. v1_of graph.now.resources bytes.now ≡ Ok ask) }
+    ensures proper { IfOk result (IsProperAsk graph.now.resources.vertices) }
+    ensures told { IfErr result (Tells (v1_of graph.now.resources bytes.now)) }
+{
+    match read_value(alloc, bytes) {
+        Ok(value) => v1_in(alloc, graph, &value),
+        Err(ValueFault::NotJson) => Err(SpecFault::NotJson),
+        Err(ValueFault::Memory) => Err(SpecFault::Memory),
+    }
+}

@@ -1,0 +1,97 @@
+//! Request vertices as a jobspec lists them.
+ghost use Rattle.std.specs.Prelude.{◌≡◌, ◌||◌, ◌++◌, ◌∷◌, [], Ok, IfOk, IfErr, OnOk, option_map};
+ghost use Rattle.serde_json.specs.View.{view, items_view};
+ghost use Rattle.need_shape.specs.Requests.{is_slot, AreRequests};
+ghost use Rattle.jobspec_v1.specs.Faults.{Tells, vertex_path};
+ghost use Rattle.jobspec_v1.specs.Requests.{requests_of, request_of, labels_with};
+
+use crate::faults::SpecFault;
+use crate::headers::{VertexKey, header_of, is_slot, key_path, misfit_at};
+use flux_defs::{List, Text};
+use json_fields::member_path;
+use need_shape::RawNeed;
+use serde_json::Value;
+use std::alloc::{AllocError, Global};
+use text_table::TextTable;
+
+/// Adds the label, where there is one.
+fn add_label(alloc: Global, labels: &mut TextTable, label: Option<&str>) -> Result<(), AllocError>
+    ensures { OnOk result (labels.new ≡ labels_with labels.old (option_map (λ s. s.now) label.entry)) }
+{
+    if let Some(text) = label {
+        labels.add(alloc, text.as_bytes())?;
+    }
+    Ok(())
+}
+
+/// Whether what is in a request vertex of this type is in a slot.
+fn is_inside(kind: &str, in_slot: bool) -> bool
+    ensures { result ≡ (is_slot kind.now || in_slot) }
+{
+    is_slot(kind) || in_slot
+}
+
+fn push_request(needs: &mut Vec<RawNeed>, need: RawNeed) -> Result<(), AllocError>
+    ensures { OnOk result (needs.new.items ≡ needs.old.items ++ need ∷ []) }
+{
+    needs.push(need)?;
+    Ok(())
+}
+
+/// The request vertex that the value at an index of the list at a path is, with those in it; `labels` gains those of its
+/// slots.
+#[cycle(requests)]
+fn read_request(
+    alloc: Global,
+    value: &Value,
+    in_slot: bool,
+    list: &[u8],
+    at: u64,
+    labels: &mut TextTable,
+) -> Result<RawNeed, SpecFault>
+    ensures read { IfOk result (λ need. request_of (view value.now) in_slot list.now at labels.old ≡ Ok (record { needs = need ∷ []; labels = labels.new })) }
+    ensures fine { IfOk result (λ need. AreRequests in_slot (need ∷ [])) }
+    ensures told { IfErr result (Tells (request_of (view value.now) in_slot list.now at labels.old)) }
+{
+    let header = match header_of(in_slot, labels, value) {
+        Ok(header) => header,
+        Err(misfit) => return Err(misfit_at(alloc, list, at, misfit)),
+    };
+    add_label(alloc, labels, header.label)?;
+    let kind = Text::of(alloc, header.kind.as_bytes())?;
+    let path = member_path(alloc, list, at, key_path(VertexKey::With))?;
+    let inside = is_inside(header.kind, in_slot);
+    match read_requests(alloc, header.with, inside, path.bytes(), labels) {
+        Ok(with) => Ok(RawNeed {
+            kind,
+            count: header.count,
+            exclusive: header.exclusive,
+            with,
+        }),
+        Err(fault) => Err(fault),
+    }
+}
+
+/// The request vertices that the values of the list at a path are, in a slot or not, with those in each; `labels` gains
+/// those of their slots. The fault is the first one, vertex by vertex, each before those in it, and in each key by key.
+#[cycle(requests)]
+pub fn read_requests(
+    alloc: Global,
+    values: &[Value],
+    in_slot: bool,
+    list: &[u8],
+    labels: &mut TextTable,
+) -> Result<List<RawNeed>, SpecFault>
+    ensures read { IfOk result (λ needs. requests_of (items_view values.now) in_slot list.now 0 labels.old ≡ Ok (record { needs = needs; labels = labels.new })) }
+    ensures fine { IfOk result (λ needs. AreRequests in_slot needs) }
+    ensures told { IfErr result (Tells (requests_of (items_view values.now) in_slot list.now 0 labels.old)) }
+{
+    let mut needs = Vec::with_capacity(alloc, values.len())?;
+    'values: for (at, value) in values.iter().enumerate() {
+        match read_request(alloc, value, in_slot, list, at as u64, labels) {
+            Ok(need) => push_request(&mut needs, need)?,
+            Err(fault) => return Err(fault),
+        }
+    }
+    Ok(List::of_vec(needs))
+}

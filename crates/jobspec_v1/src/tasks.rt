@@ -1,0 +1,121 @@
+//! The tasks of a jobspec.
+ghost use Rattle.std.specs.Prelude.{◌≡◌, ◌⊎◌, ◌∷◌, ℕ, List, Some, None, Ok, Err, IsSome, IfOk, IfErr, IsOk};
+ghost use Rattle.std.specs.Option.{option_map_or};
+ghost use Rattle.serde_json.specs.Find.{as_object};
+ghost use Rattle.serde_json.specs.View.{view, items_view};
+ghost use Rattle.jobspec_v1.specs.Faults.{Tells};
+ghost use Rattle.jobspec_v1.specs.Tasks.{are_texts, is_command, is_label, is_count_or_absent, is_task_count, is_task, tasks_fault, task_fault, task_list};
+
+use crate::faults::{SpecFault, field_at};
+use crate::headers::is_among;
+use json_fields::{GREATEST, member_path, some_field};
+use json_whole::{FieldFault, need_u64};
+use serde_json::Value;
+use std::alloc::Global;
+use text_table::TextTable;
+
+fn are_texts(values: &[Value]) -> bool
+    ensures { result ≡ are_texts (items_view values.now) }
+{
+    for value in values {
+        if !value.is_string() {
+            return false;
+        }
+    }
+    true
+}
+
+/// Whether a value is a list of one or more texts.
+fn is_command(value: &Value) -> bool
+    ensures { result ≡ is_command (view value.now) }
+{
+    match value.as_array() {
+        Some(words) => !words.is_empty() && are_texts(words.as_slice()),
+        None => false,
+    }
+}
+
+/// Whether a value is one of the labels.
+fn is_label(labels: &TextTable, value: &Value) -> bool
+    ensures { result ≡ is_label labels.now (view value.now) }
+{
+    match value.as_str() {
+        Some(text) => is_among(labels, text),
+        None => false,
+    }
+}
+
+/// Whether there is no such key, or a count at it.
+fn is_count_or_absent(value: &Value, key: &str) -> bool
+    requires { IsSome (as_object (view value.now)) }
+    ensures { result ≡ is_count_or_absent key.now (view value.now) }
+{
+    value.get(key).is_none() || need_u64(value, key, 1, GREATEST).is_ok()
+}
+
+/// Whether a value is an object with a count for each slot or for all of them.
+fn is_task_count(value: &Value) -> bool
+    ensures { result ≡ is_task_count (view value.now) }
+{
+    value.is_object()
+        && (value.get("per_slot").is_some() || value.get("total").is_some())
+        && is_count_or_absent(value, "per_slot")
+        && is_count_or_absent(value, "total")
+}
+
+/// Whether an object is a task of a request whose slots have these labels.
+fn is_task(labels: &TextTable, value: &Value) -> bool
+    ensures { result ≡ is_task labels.now (view value.now) }
+{
+    let Some(command) = value.get("command") else {
+        return false;
+    };
+    let Some(slot) = value.get("slot") else {
+        return false;
+    };
+    let Some(count) = value.get("count") else {
+        return false;
+    };
+    is_command(command) && is_label(labels, slot) && is_task_count(count)
+}
+
+/// Refuses a value that is no task.
+fn check_task(alloc: Global, labels: &TextTable, at: u64, value: &Value) -> Result<(), SpecFault>
+    ensures fine { IsOk result → task_fault labels.now at (view value.now) ≡ None }
+    ensures told { IfErr result (λ fault. (fault ≡ SpecFault.Memory) ⊎ (task_fault labels.now at (view value.now) ≡ Some fault)) }
+{
+    if value.is_object() && is_task(labels, value) {
+        return Ok(());
+    }
+    let path = member_path(alloc, b"tasks", at, "")?;
+    if value.is_object() {
+        return Err(SpecFault::Task { path });
+    }
+    Err(SpecFault::Field {
+        path,
+        fault: FieldFault::Kind,
+    })
+}
+
+/// Refuses the first value that is no task of a request whose slots have these labels: Task where it is an object, and
+/// else Field, at its path.
+pub fn check_tasks(alloc: Global, labels: &TextTable, values: &[Value]) -> Result<(), SpecFault>
+    ensures fine { IsOk result → tasks_fault labels.now 0 (items_view values.now) ≡ None }
+    ensures told { IfErr result (λ fault. (fault ≡ SpecFault.Memory) ⊎ (tasks_fault labels.now 0 (items_view values.now) ≡ Some fault)) }
+{
+    'values: for (at, value) in values.iter().enumerate() {
+        check_task(alloc, labels, at as u64, value)?;
+    }
+    Ok(())
+}
+
+/// The values at `tasks`, one or more: Field at `tasks` where it is no such list.
+pub fn task_list(alloc: Global, value: &Value) -> Result<&[Value], SpecFault>
+    ensures read { IfOk result (λ values. task_list (view value.now) ≡ Ok (items_view values.now)) }
+    ensures told { IfErr result (Tells (task_list (view value.now))) }
+{
+    match some_field(value, "tasks") {
+        Ok(values) => Ok(values),
+        Err(fault) => Err(field_at(alloc, b"tasks", fault)),
+    }
+}
