@@ -18,7 +18,7 @@ use std::collections::BTreeSet;
 use std::str;
 
 /// A text as JSON holds it; one that is no UTF-8 gives the empty text.
-fn readable(bytes: &[u8]) -> &str
+pub fn readable(bytes: &[u8]) -> &str
     ensures { result.now ≡ readable bytes.now }
 {
     match str::from_utf8(bytes) {
@@ -28,7 +28,7 @@ fn readable(bytes: &[u8]) -> &str
 }
 
 /// Writes a key with a text.
-fn put_text(writer: &mut Writer, name: &str, text: &str) -> Result<(), AllocError>
+pub fn put_text(writer: &mut Writer, name: &str, text: &str) -> Result<(), AllocError>
     ensures { OnOk result (Adds writer.old writer.new (key name.now ∷ string text.now ∷ [])) }
 {
     writer.key(name)?;
@@ -36,7 +36,7 @@ fn put_text(writer: &mut Writer, name: &str, text: &str) -> Result<(), AllocErro
 }
 
 /// Writes a key with a number.
-fn put_number(writer: &mut Writer, name: &str, n: u64) -> Result<(), AllocError>
+pub fn put_number(writer: &mut Writer, name: &str, n: u64) -> Result<(), AllocError>
     ensures { OnOk result (Adds writer.old writer.new (key name.now ∷ value_tokens (number_data (unsigned n)))) }
 {
     writer.key(name)?;

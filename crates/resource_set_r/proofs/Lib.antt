@@ -1,0 +1,5 @@
+pub mod Filtered
+pub mod NodeLaws
+pub mod GivenLaws
+pub mod Rising
+pub mod OtherLaws
