@@ -1,0 +1,4 @@
+pub mod Decimals
+pub mod LineLaws
+pub mod CommandLaws
+pub mod InputLaws

@@ -1,0 +1,20 @@
+use Rattle.std.proofs.Common.{◌≡◌, ◌+◌, ◌≤◌, ◌++◌, length, map}
+use Rattle.std.specs.List.{AllByRecursion}
+use Rattle.flux_defs.specs.Scheduler.{IsProper}
+use Rattle.text_table.specs.Tables.{with_texts}
+use Rattle.fluxion_lines.specs.Lines.{lines_of}
+use Rattle.fluxion_lines.specs.Inputs.{client_in, clients_of, lines_from, numbered_lines, over_from, over_in}
+use Rattle.fluxion_lines.proofs.input.read_lines.Given as goal
+
+-- what is left completes the lines and clients so far, and has the first line past a limit
+abbrev pub invariant-lines : goal.invariant-lines
+invariant-lines l = record {
+  few : length l.lines.items + length l.rest ≤ length l.bytes;
+  clients : with_texts l.table (map client_in (lines_of l.rest)) ≡ clients_of l.bytes;
+  lines : l.lines.items ++ lines_from l.graph.resources l.table (length l.lines.items + 1) (lines_of l.rest) ≡ numbered_lines l.graph.resources l.bytes;
+  over : over_from l.limits l.table (length l.lines.items + 1) (lines_of l.rest) ≡ over_in l.limits l.bytes;
+  proper : AllByRecursion (λ x. IsProper l.graph.resources.vertices x.command) l.lines.items;
+}
+
+abbrev pub decreases-lines : goal.decreases-lines
+decreases-lines l = length l.rest

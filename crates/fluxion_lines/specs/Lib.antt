@@ -1,0 +1,6 @@
+pub mod Words
+pub mod Reasons
+pub mod Commands
+pub mod Lines
+pub mod Inputs
+pub mod Texts

@@ -1,0 +1,287 @@
+//! What a line commands.
+ghost use Rattle.std.specs.Prelude.{◌≡◌, ◌||◌, List, Err, IfOk, codes};
+ghost use Rattle.std.specs.List.{list_all};
+ghost use Rattle.std.specs.Char.{is_ascii_digit, is_ascii_lowercase};
+ghost use Rattle.flux_defs.specs.declared.vertices.Vertex.{Vertex};
+ghost use Rattle.flux_defs.specs.declared.journal.Command.TheVariants as command;
+ghost use Rattle.flux_defs.specs.Needs.{IsProperAsk};
+ghost use Rattle.flux_defs.specs.Scheduler.{IsProper};
+ghost use Rattle.fluxion_lines.specs.Commands.{is_client, client_of, verb_of, invalid, asked, job_and_ask, ask_alone, number_alone, made, command_by, command_of};
+
+use crate::numbers::number_in;
+use crate::reasons::spec_reason;
+use crate::words::{first_word, skipped};
+use flux_defs::{Ask, Command, Text};
+use jobspec_v1::{SpecFault, read_v1};
+use resource_graph::Graph;
+use std::alloc::{AllocError, Global};
+
+/// How jobspecs are written: as RFC 25 says, or in the canonical form of RFC 14. The canonical form is read by the reader
+/// of RFC 25 until it has its own.
+#[derive(Clone, Copy, Debug, PartialEq, Eq)]
+pub enum Form {
+    V1,
+    Rfc14,
+}
+
+/// The second word of a line.
+#[derive(Clone, Copy, Debug, PartialEq, Eq)]
+pub(crate) enum Verb {
+    Allocate,
+    Reserve,
+    Satisfy,
+    Cancel,
+    Info,
+    Advance,
+}
+
+fn is_client_byte(byte: u8) -> bool
+    ensures { result ≡ (is_ascii_lowercase byte || is_ascii_digit byte) }
+{
+    byte.is_ascii_lowercase() || byte.is_ascii_digit()
+}
+
+fn are_client_bytes(word: &[u8]) -> bool
+    ensures { result ≡ list_all (λ b. is_ascii_lowercase b || is_ascii_digit b) word.now }
+{
+    word.iter().all(|byte| is_client_byte(*byte))
+}
+
+fn is_client(word: &[u8]) -> bool
+    ensures { result ≡ is_client word.now }
+{
+    if word.is_empty() || word.len() > 16 {
+        return false;
+    }
+    are_client_bytes(word)
+}
+
+/// The client that a line belongs to.
+pub(crate) fn client_of(line: &[u8]) -> &[u8]
+    ensures { result.now ≡ client_of line.now }
+{
+    let (word, _) = first_word(line);
+    if is_client(word) {
+        return word;
+    }
+    b"-"
+}
+
+/// The verb that a word is.
+fn verb_of(word: &[u8]) -> Option<Verb>
+    ensures { result ≡ verb_of word.now }
+{
+    if word == b"allocate".as_slice() {
+        return Some(Verb::Allocate);
+    }
+    if word == b"reserve".as_slice() {
+        return Some(Verb::Reserve);
+    }
+    if word == b"satisfy".as_slice() {
+        return Some(Verb::Satisfy);
+    }
+    if word == b"cancel".as_slice() {
+        return Some(Verb::Cancel);
+    }
+    if word == b"info".as_slice() {
+        return Some(Verb::Info);
+    }
+    if word == b"advance".as_slice() {
+        return Some(Verb::Advance);
+    }
+    None
+}
+
+/// A line that can't be read, and why.
+fn invalid(alloc: Global, why: &[u8]) -> Result<Command, AllocError>
+    ensures { IfOk result (λ c. c ≡ invalid why.now) }
+{
+    Ok(Command::Invalid {
+        why: Text::of(alloc, why)?,
+    })
+}
+
+/// The ask of a jobspec, or why it has none.
+fn asked(
+    alloc: Global,
+    graph: &Graph,
+    form: Form,
+    spec: &[u8],
+) -> Result<Result<Ask, Text>, AllocError>
+    ensures read { IfOk result (λ read. read ≡ asked graph.now.resources spec.now) }
+    ensures proper { IfOk result (λ read. IfOk read (IsProperAsk graph.now.resources.vertices)) }
+{
+    let read = match form {
+        Form::V1 => read_v1(alloc, graph, spec),
+        Form::Rfc14 => read_v1(alloc, graph, spec),
+    };
+    match read {
+        Ok(ask) => Ok(Ok(ask)),
+        Err(SpecFault::Memory) => Err(AllocError),
+        Err(fault) => Ok(Err(spec_reason(alloc, &fault)?)),
+    }
+}
+
+/// A reason without an ask or a number.
+fn refused<T>(alloc: Global, why: &[u8]) -> Result<Result<T, Text>, AllocError>
+    ensures { IfOk result (λ read. read ≡ Err why.now) }
+{
+    Ok(Err(Text::of(alloc, why)?))
+}
+
+/// A job and the ask of its jobspec, or why there is none.
+fn job_and_ask(
+    alloc: Global,
+    graph: &Graph,
+    form: Form,
+    words: &[u8],
+) -> Result<Result<(u64, Ask), Text>, AllocError>
+    ensures read { IfOk result (λ read. read ≡ job_and_ask graph.now.resources words.now) }
+    ensures proper { IfOk result (λ read. IfOk read (λ p. IsProperAsk graph.now.resources.vertices p.1)) }
+{
+    let (word, rest) = first_word(words);
+    let spec = skipped(rest);
+    if word.is_empty() || spec.is_empty() {
+        return refused(alloc, b"words");
+    }
+    let Some(job) = number_in(word) else {
+        return refused(alloc, b"job");
+    };
+    match asked(alloc, graph, form, spec)? {
+        Ok(ask) => Ok(Ok((job, ask))),
+        Err(why) => Ok(Err(why)),
+    }
+}
+
+/// The ask of the one jobspec, or why there is none.
+fn ask_alone(
+    alloc: Global,
+    graph: &Graph,
+    form: Form,
+    words: &[u8],
+) -> Result<Result<Ask, Text>, AllocError>
+    ensures read { IfOk result (λ read. read ≡ ask_alone graph.now.resources words.now) }
+    ensures proper { IfOk result (λ read. IfOk read (IsProperAsk graph.now.resources.vertices)) }
+{
+    let spec = skipped(words);
+    if spec.is_empty() {
+        return refused(alloc, b"words");
+    }
+    asked(alloc, graph, form, spec)
+}
+
+/// The one number, or why there is none.
+fn number_alone(alloc: Global, fault: &[u8], words: &[u8]) -> Result<Result<u64, Text>, AllocError>
+    ensures { IfOk result (λ read. read ≡ number_alone fault.now words.now) }
+{
+    let (word, rest) = first_word(words);
+    if word.is_empty() || !skipped(rest).is_empty() {
+        return refused(alloc, b"words");
+    }
+    match number_in(word) {
+        Some(number) => Ok(Ok(number)),
+        None => refused(alloc, fault),
+    }
+}
+
+fn allocate(alloc: Global, graph: &Graph, form: Form, words: &[u8]) -> Result<Command, AllocError>
+    ensures command { IfOk result (λ c. c ≡ command_by graph.now.resources Verb.Allocate words.now) }
+    ensures proper { IfOk result (IsProper graph.now.resources.vertices) }
+{
+    match job_and_ask(alloc, graph, form, words)? {
+        Ok((job, ask)) => Ok(Command::Allocate { job, ask }),
+        Err(why) => Ok(Command::Invalid { why }),
+    }
+}
+
+fn reserve(alloc: Global, graph: &Graph, form: Form, words: &[u8]) -> Result<Command, AllocError>
+    ensures command { IfOk result (λ c. c ≡ command_by graph.now.resources Verb.Reserve words.now) }
+    ensures proper { IfOk result (IsProper graph.now.resources.vertices) }
+{
+    match job_and_ask(alloc, graph, form, words)? {
+        Ok((job, ask)) => Ok(Command::Reserve { job, ask }),
+        Err(why) => Ok(Command::Invalid { why }),
+    }
+}
+
+fn satisfy(alloc: Global, graph: &Graph, form: Form, words: &[u8]) -> Result<Command, AllocError>
+    ensures command { IfOk result (λ c. c ≡ command_by graph.now.resources Verb.Satisfy words.now) }
+    ensures proper { IfOk result (IsProper graph.now.resources.vertices) }
+{
+    match ask_alone(alloc, graph, form, words)? {
+        Ok(ask) => Ok(Command::Satisfy { ask }),
+        Err(why) => Ok(Command::Invalid { why }),
+    }
+}
+
+fn cancel(alloc: Global, words: &[u8]) -> Result<Command, AllocError>
+    ensures command { IfOk result (λ c. c ≡ made command.Cancel (number_alone (codes "job") words.now)) }
+    ensures proper { IfOk result (λ c. (vertices : List Vertex) → IsProper vertices c) }
+{
+    match number_alone(alloc, b"job", words)? {
+        Ok(job) => Ok(Command::Cancel { job }),
+        Err(why) => Ok(Command::Invalid { why }),
+    }
+}
+
+fn info(alloc: Global, words: &[u8]) -> Result<Command, AllocError>
+    ensures command { IfOk result (λ c. c ≡ made command.Info (number_alone (codes "job") words.now)) }
+    ensures proper { IfOk result (λ c. (vertices : List Vertex) → IsProper vertices c) }
+{
+    match number_alone(alloc, b"job", words)? {
+        Ok(job) => Ok(Command::Info { job }),
+        Err(why) => Ok(Command::Invalid { why }),
+    }
+}
+
+fn advance(alloc: Global, words: &[u8]) -> Result<Command, AllocError>
+    ensures command { IfOk result (λ c. c ≡ made command.Advance (number_alone (codes "time") words.now)) }
+    ensures proper { IfOk result (λ c. (vertices : List Vertex) → IsProper vertices c) }
+{
+    match number_alone(alloc, b"time", words)? {
+        Ok(to) => Ok(Command::Advance { to }),
+        Err(why) => Ok(Command::Invalid { why }),
+    }
+}
+
+/// What the words behind a verb command.
+fn command_by(
+    alloc: Global,
+    graph: &Graph,
+    form: Form,
+    verb: Verb,
+    words: &[u8],
+) -> Result<Command, AllocError>
+    ensures command { IfOk result (λ c. c ≡ command_by graph.now.resources verb words.now) }
+    ensures proper { IfOk result (IsProper graph.now.resources.vertices) }
+{
+    match verb {
+        Verb::Allocate => allocate(alloc, graph, form, words),
+        Verb::Reserve => reserve(alloc, graph, form, words),
+        Verb::Satisfy => satisfy(alloc, graph, form, words),
+        Verb::Cancel => cancel(alloc, words),
+        Verb::Info => info(alloc, words),
+        Verb::Advance => advance(alloc, words),
+    }
+}
+
+/// What a line commands: the client's name, a verb, and the verb's words, each behind one space or more.
+pub(crate) fn command_of(
+    alloc: Global,
+    graph: &Graph,
+    form: Form,
+    line: &[u8],
+) -> Result<Command, AllocError>
+    ensures command { IfOk result (λ c. c ≡ command_of graph.now.resources line.now) }
+    ensures proper { IfOk result (IsProper graph.now.resources.vertices) }
+{
+    let (client, rest) = first_word(line);
+    if !is_client(client) {
+        return invalid(alloc, b"client");
+    }
+    let (word, words) = first_word(rest);
+    match verb_of(word) {
+        Some(verb) => command_by(alloc, graph, form, verb, words),
+        None => invalid(alloc, b"command"),
+    }
+}

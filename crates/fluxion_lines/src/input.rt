@@ -1,0 +1,173 @@
+//! All lines of an input.
+ghost use Rattle.std.specs.Prelude.{◌≡◌, ◌⊎◌, ◌^◌, ◌<◌, ◌++◌, ◌∷◌, [], Some, None, IsOk, length, IfOk, IfErr, OnOk};
+ghost use Rattle.std.specs.List.{AllByRecursion};
+ghost use Rattle.flux_defs.specs.Scheduler.{IsProper};
+ghost use Rattle.text_table.specs.Tables.{with_text};
+ghost use Rattle.fluxion_lines.specs.declared.input.Over.{Over};
+ghost use Rattle.fluxion_lines.specs.Inputs.{client_in, line_at, clients_of, numbered_lines, over_at, over_in};
+
+use crate::commands::{Form, client_of, command_of};
+use crate::lines::{cut_line, without_return};
+use flux_defs::{Command, Limits, List, Text};
+use resource_graph::Graph;
+use std::alloc::{AllocError, AllocFailed, Global};
+use text_table::TextTable;
+
+/// A line of the input: the number of its client, its own number from 1, and what it commands.
+#[derive(Debug, Drop)]
+pub struct NumberedLine {
+    pub client: u32,
+    pub line: u32,
+    pub command: Command,
+}
+
+/// The lines of an input in their order, and its clients in the order of their first lines.
+#[derive(Debug, Drop)]
+pub struct Input {
+    pub clients: List<Text>,
+    pub lines: List<NumberedLine>,
+}
+
+/// The line that is the first past a limit, and which limit that is.
+#[derive(Clone, Copy, Debug, PartialEq, Eq)]
+pub enum Over {
+    /// There are too many lines.
+    Lines { line: u64 },
+    /// It has too many bytes before its line feed.
+    LineBytes { line: u64 },
+    /// It is the first line of one client too many.
+    Clients { line: u64 },
+}
+
+/// Why an input isn't read.
+#[derive(Clone, Copy, Debug, PartialEq, Eq)]
+pub enum InputFault {
+    Over(Over),
+    Memory,
+}
+
+impl From<AllocError> for InputFault {
+    ghost use Rattle.std.specs.Prelude.{◌≡◌};
+    ghost use Rattle.fluxion_lines.specs.declared.input.InputFault.TheVariants.{Memory};
+
+    ghost from_gives = { λ _ e. e ≡ Memory };
+
+    fn from(_: AllocError) -> InputFault {
+        InputFault::Memory
+    }
+}
+
+impl<T: Drop> From<AllocFailed<T>> for InputFault {
+    ghost use Rattle.std.specs.Prelude.{◌≡◌};
+    ghost use Rattle.fluxion_lines.specs.declared.input.InputFault.TheVariants.{Memory};
+
+    ghost from_gives = { λ _ e. e ≡ Memory };
+
+    fn from(_: AllocFailed<T>) -> InputFault {
+        InputFault::Memory
+    }
+}
+
+/// The names of the clients.
+fn names_of(alloc: Global, table: &TextTable) -> Result<List<Text>, AllocError>
+    ensures { IfOk result (λ names. names ≡ table.now) }
+{
+    let mut names = Vec::new(alloc);
+    let mut number = 0;
+    while let Some(name) = table.text(number) {
+        names.push(Text::of(alloc, name)?)?;
+        number += 1;
+    }
+    Ok(List::of_vec(names))
+}
+
+/// Which limit a line passes, where it is the line of this number, and the clients are then so many.
+fn over_at(limits: &Limits, at: u64, bytes: usize, clients: usize) -> Option<Over>
+    ensures { result ≡ over_at limits.now at bytes clients }
+{
+    if at > limits.lines {
+        return Some(Over::Lines { line: at });
+    }
+    if bytes as u64 > limits.line_bytes {
+        return Some(Over::LineBytes { line: at });
+    }
+    if clients as u64 > limits.clients {
+        return Some(Over::Clients { line: at });
+    }
+    None
+}
+
+/// The line of a number, from its bytes; the table of clients gains its client.
+fn read_line(
+    alloc: Global,
+    graph: &Graph,
+    form: Form,
+    limits: &Limits,
+    at: u64,
+    raw: &[u8],
+    table: &mut TextTable,
+) -> Result<NumberedLine, InputFault>
+    requires lines { limits.now.lines < 2 ^ 32 }
+    requires clients { limits.now.clients < 2 ^ 32 }
+    ensures line { IfOk result (λ line. line ≡ line_at graph.now.resources table.old at raw.now) }
+    ensures table { OnOk result (table.new ≡ with_text table.old (client_in raw.now)) }
+    ensures within { OnOk result (over_at limits.now at (length raw.now) (length (with_text table.old (client_in raw.now))) ≡ None) }
+    ensures proper { IfOk result (λ line. IsProper graph.now.resources.vertices line.command) }
+    ensures over { IfErr result (λ fault. (fault ≡ InputFault.Memory) ⊎ ((over : Over) × (fault ≡ InputFault.Over over)
+        × (over_at limits.now at (length raw.now) (length (with_text table.old (client_in raw.now))) ≡ Some over))) }
+{
+    let text = without_return(raw);
+    let client = table.add(alloc, client_of(text))?;
+    if let Some(over) = over_at(limits, at, raw.len(), table.len()) {
+        return Err(InputFault::Over(over));
+    }
+    let command = command_of(alloc, graph, form, text)?;
+    Ok(NumberedLine {
+        client: client as u32,
+        line: at as u32,
+        command,
+    })
+}
+
+fn push_line(lines: &mut Vec<NumberedLine>, line: NumberedLine) -> Result<(), AllocError>
+    ensures { OnOk result (lines.new.items ≡ lines.old.items ++ line ∷ []) }
+{
+    lines.push(line)?;
+    Ok(())
+}
+
+/// The lines of an input, over a graph: each of what a client commands, or why it can't be read. Over comes exactly where
+/// a line is past a limit, and tells of the first such line: of more lines than the limit, of more bytes of a line (before
+/// its line feed), or of more clients, looked at in this order. Each command is proper for the graph.
+pub fn read_lines(
+    alloc: Global,
+    graph: &Graph,
+    form: Form,
+    bytes: &[u8],
+    limits: &Limits,
+) -> Result<Input, InputFault>
+    requires lines { limits.now.lines < 2 ^ 32 }
+    requires clients { limits.now.clients < 2 ^ 32 }
+    ensures clients { IfOk result (λ input. input.clients ≡ clients_of bytes.now) }
+    ensures lines { IfOk result (λ input. input.lines ≡ numbered_lines graph.now.resources bytes.now) }
+    ensures proper { IfOk result (λ input. AllByRecursion (λ l. IsProper graph.now.resources.vertices l.command) input.lines) }
+    ensures within { IsOk result → over_in limits.now bytes.now ≡ None }
+    ensures over { IfErr result (λ fault. (fault ≡ InputFault.Memory) ⊎ ((over : Over) × (fault ≡ InputFault.Over over) × (over_in limits.now bytes.now ≡ Some over))) }
+{
+    let mut table = TextTable::new(alloc);
+    let mut lines = Vec::new(alloc);
+    let mut rest = bytes;
+    'lines: while !rest.is_empty() {
+        let (raw, more) = cut_line(rest);
+        let at = lines.len() as u64 + 1;
+        match read_line(alloc, graph, form, limits, at, raw, &mut table) {
+            Ok(line) => push_line(&mut lines, line)?,
+            Err(fault) => return Err(fault),
+        }
+        rest = more;
+    }
+    Ok(Input {
+        clients: names_of(alloc, &table)?,
+        lines: List::of_vec(lines),
+    })
+}

@@ -1,0 +1,15 @@
+//! Lines of commands, read, and the lines that answer them.
+#![tactic(auto)]
+
+mod commands;
+pub mod input;
+mod lines;
+mod numbers;
+mod pieces;
+mod reasons;
+pub mod replies;
+mod words;
+
+pub use commands::Form;
+pub use input::{Input, InputFault, NumberedLine, Over, read_lines};
+pub use replies::{history_text, line_text};
