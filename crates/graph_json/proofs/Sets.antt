@@ -42,7 +42,7 @@ right_none true b h = absurd (true≢false h)
 right_none false b h = h
 
 -- a text that stands twice
-doubled_at : (xs : List (List ℕ)) (x : List ℕ) (rest : List (List ℕ)) → list_any (bytes_eq x) xs ≡ true → IsDistinct bytes_eq (xs ++ x ∷ rest) → ⊥
+pub doubled_at : (xs : List (List ℕ)) (x : List ℕ) (rest : List (List ℕ)) → list_any (bytes_eq x) xs ≡ true → IsDistinct bytes_eq (xs ++ x ∷ rest) → ⊥
 unfolding IsDistinct
 doubled_at [] x rest any d = true≢false (sym any)
 doubled_at (y ∷ xs) x rest any d =

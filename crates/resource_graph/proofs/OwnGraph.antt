@@ -111,7 +111,7 @@ own_item g v [] k = refl
 own_item g v (x ∷ xs) zero = let same : v ≡ v + 0 = omega arith in ap (λ n. Some (own_vertex g n x)) same
 own_item g v (x ∷ xs) (suc k) = let same : suc v + k ≡ v + suc k = omega arith in own_item g (suc v) xs k ∙ ap (λ n. option_map (own_vertex g n) (slice_get xs k)) same
 
-own_at : (g : NamedGraph) (k : ℕ) → slice_get (own_list g) k ≡ option_map (own_vertex g k) (slice_get g.resources.vertices k)
+pub own_at : (g : NamedGraph) (k : ℕ) → slice_get (own_list g) k ≡ option_map (own_vertex g k) (slice_get g.resources.vertices k)
 own_at g k = let same : 0 + k ≡ k = omega arith in own_item g 0 g.resources.vertices k ∙ ap (λ n. option_map (own_vertex g n) (slice_get g.resources.vertices k)) same
 
 module _ (g : NamedGraph) where
