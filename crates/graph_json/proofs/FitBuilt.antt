@@ -1,14 +1,12 @@
 -- The graph that is built from nodes that keep their rules is one that a file can hold.
-use Rattle.std.proofs.Common.{◌≡◌, refl, sym, ap, subst, ◌∙◌, ℕ, zero, suc, ◌-◌, ◌^◌, ◌<◌, ◌≤◌, List, [], ◌∷◌, ◌++◌, length, take, map, get_or, Bool, true, false, cond, Option, Some, None, is_some, if◌then◌else◌, slice_get, IfSome, option_map, option_and_then, arith}
-use Rattle.std.specs.Prelude.{count_by}
+use Rattle.std.proofs.Common.{◌≡◌, refl, sym, ap, subst, ◌∙◌, ℕ, suc, ◌-◌, ◌^◌, ◌<◌, ◌≤◌, List, [], ◌∷◌, ◌++◌, length, take, map, get_or, Bool, true, false, cond, Some, None, if◌then◌else◌, slice_get, IfSome, option_map, option_and_then, arith}
 use Rattle.std.specs.List.{AllByRecursion, list_all, fold}
-use Rattle.std.specs.Option.{option_map_or, IsSomeAnd}
+use Rattle.std.specs.Option.{option_map_or}
 use Rattle.std.proofs.lemmas.Bool.{and_parts, and_from}
-use Rattle.std.proofs.lemmas.List.{length-take, length-map}
+use Rattle.std.proofs.lemmas.List.{length-take}
 use Rattle.std.proofs.lemmas.List.Sums.{AllPass-from_list_all, count_by-le-length}
 use Rattle.std.proofs.lemmas.Option.{slice_get-map, slice_get-get_or, slice_get_within, get_or_from_slice_get}
 use Rattle.flux_defs.specs.declared.vertices.Vertex.{Vertex}
-use Rattle.flux_defs.specs.Graph.{HasKind}
 use Rattle.resource_graph.specs.NamedGraph.{NamedGraph}
 use Rattle.resource_graph.specs.Raw.{IsBuiltFrom, IsRenumbered, shape_of, rank_of, is_node_of, some_ranked, nodes_among}
 use Rattle.resource_graph.specs.declared.raw.RawVertex.{RawVertex}

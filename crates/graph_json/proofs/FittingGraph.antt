@@ -1,5 +1,5 @@
 -- The graph of a file keeps the rules of a file.
-use Rattle.std.proofs.Common.{◌≡◌, refl, sym, ap, subst, ◌∙◌, ℕ, zero, suc, ◌+◌, ◌-◌, ◌^◌, ◌<◌, ◌≤◌, pos, negsuc, List, [], ◌∷◌, ◌++◌, length, take, map, get_or, Bool, true, false, true≢false, ◌&&◌, ◌||◌, ◌==◌, cond, nat_lt, nat_le, Option, Some, None, is_some, Result, Ok, Err, if◌then◌else◌, slice_get, codes, decimal, IfSome, IsTrue, option_map, option_and_then, arith, inl, inr}
+use Rattle.std.proofs.Common.{◌≡◌, refl, sym, ap, subst, ◌∙◌, ℕ, zero, suc, ◌+◌, ◌-◌, ◌^◌, ◌<◌, ◌≤◌, pos, negsuc, List, [], ◌∷◌, ◌++◌, length, Bool, true, false, ◌&&◌, nat_lt, nat_le, Option, Some, None, is_some, Result, Ok, Err, if◌then◌else◌, codes, decimal, IfSome, option_and_then, arith}
 use Rattle.std.specs.List.{AllByRecursion, list_all, fold}
 use Rattle.std.specs.Option.{option_map_or, option_or}
 use Rattle.std.specs.Char.{is_ascii_digit}
@@ -10,25 +10,24 @@ use Rattle.std.specs.Cmp.Lexicographic.{slice_cmp}
 use Rattle.std.specs.BTreeSet.{insert_key}
 use Rattle.std.specs.Result.{result_err, result_map_both}
 use Rattle.std.proofs.lemmas.Bool.{and_parts, and_from, ltb-true, leb-true, lt-ltb, le-leb}
-use Rattle.std.proofs.lemmas.List.{length-append, length-take}
+use Rattle.std.proofs.lemmas.List.{length-append}
 use Rattle.std.proofs.lemmas.Fmt.{digits_decimal}
-use Rattle.std.proofs.lemmas.Option.{slice_get-map, slice_get_within, same_Some}
 use Rattle.json_whole.specs.Field.{text_or_kind, text_field}
 use Rattle.json_whole.specs.declared.fields.FieldFault.{FieldFault}
 use Rattle.json_whole.proofs.Numerals.{digits_by_test}
-use Rattle.serde_json.specs.Data.{Num, unsigned, negative, float, Data, null, boolean, number, string, array, object, Items, no_items, item, Members}
+use Rattle.serde_json.specs.Data.{Num, unsigned, negative, float, Data, null, boolean, number, string, array, object, Items, no_items, item}
 use Rattle.serde_json.specs.Find.{get, as_null, as_number, as_str, as_array, as_object}
-use Rattle.graph_json.specs.Fields.{result_and_then, given, is_name, is_name_byte, is_unit, ruled, ruled_value, ruled_field, ruled_or, ruled_given, small_number, small_or_kind, small_or_none, small_given, size_given, object_value, object_of, object_field, list_or_kind, list_value, list_of, list_field, id_field}
+use Rattle.graph_json.specs.Fields.{result_and_then, given, is_name, is_name_byte, is_unit, ruled, ruled_value, ruled_field, ruled_or, ruled_given, small_number, small_or_kind, small_or_none, small_given, size_given, object_value, object_of, object_field, list_or_kind, list_of, list_field, id_field}
 use Rattle.graph_json.specs.Places.{at_place, at_key}
 use Rattle.graph_json.specs.Nodes.{FileNode, default_name, short_name, name_or_default, name_given, keys_of, texts_in, in_order, first_misfit, unless_misfit, properties_of, properties_or_none, properties_given, node_with, node_of, nodes_of}
 use Rattle.graph_json.specs.GraphFile.{FileLists, GraphFile, lists_in, lists_of, file_of}
 use Rattle.graph_json.specs.Edges.{edges_of}
 use Rattle.graph_json.specs.GraphText.{Says}
-use Rattle.graph_json.specs.FileGraph.{AreProperties, IsFileGraph, HasFileNumbers}
+use Rattle.graph_json.specs.FileGraph.{AreProperties}
 use Rattle.graph_json.specs.declared.places.Misfit.{Misfit}
 use Rattle.graph_json.specs.declared.places.Place.{Place}
 use Rattle.graph_json.specs.declared.places.Place.TheVariants.{Whole, Graph, Nodes, Edges, Node, NodeField, Property, PropertyKey}
-use Rattle.graph_json.specs.declared.places.NodeKey.TheVariants.{Id, Metadata, TypeName, Basename, Number, Name, Rank, Size, Unit, Properties}
+use Rattle.graph_json.specs.declared.places.NodeKey.TheVariants.{Id, Metadata, TypeName, Basename, Number, Name, Rank, Size, Unit}
 use Rattle.graph_json.proofs.OrderedData.{IsOrdered, AreOrdered, get_ordered, in_order-ordered, ordered-in_order, value_of-ordered}
 
 -- ---- what an answer that is no fault was made of

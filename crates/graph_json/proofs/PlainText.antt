@@ -1,6 +1,6 @@
 -- The text of a value whose numbers are whole is its own plain form.
-use Rattle.std.proofs.Common.{◌≡◌, refl, sym, ap, ◌∙◌, ℕ, zero, suc, ◌+◌, ◌-◌, ◌^◌, ◌<◌, ◌≤◌, ◌/◌, ◌%◌, pos, negsuc, List, [], ◌∷◌, ◌++◌, length, take, drop, get_or, Bool, true, false, cond, ◌||◌, ◌⊎◌, inl, inr, ◌==◌, nat_lt, nat_le, decimal, append_assoc, append-nil, arith, one-add}
-use Rattle.std.proofs.lemmas.Bool.{cases_lt, cases_eq, ne_eqb, le-ltb, lt-ltb, le-leb, and_from, cond_both, ltb-true, ltb-false}
+use Rattle.std.proofs.Common.{◌≡◌, refl, sym, ap, ◌∙◌, ℕ, zero, suc, ◌+◌, ◌-◌, ◌^◌, ◌<◌, ◌≤◌, ◌/◌, ◌%◌, pos, negsuc, List, [], ◌∷◌, ◌++◌, length, take, drop, Bool, true, false, cond, ◌||◌, ◌⊎◌, inl, inr, ◌==◌, nat_lt, nat_le, decimal, append_assoc, append-nil, arith, one-add}
+use Rattle.std.proofs.lemmas.Bool.{ne_eqb, lt-ltb, le-leb, and_from, cond_both, ltb-true, ltb-false}
 use Rattle.std.proofs.Math.Seq.{take-append_seam, drop-append_seam}
 use Rattle.std.proofs.lemmas.Fmt.{digits_decimal, digits_value-decimal, decimal_nonempty}
 use Rattle.std.specs.Char.{is_ascii_digit, digit_char}
@@ -14,7 +14,7 @@ use Rattle.json.proofs.Printed.Decimals.{IsNumber-decimal, IsNumber-signed_decim
 use Rattle.serde_json.specs.Data.{Num, unsigned, negative, float, Data, null, boolean, number, string, array, object, Items, no_items, item, Members, no_members, member}
 use Rattle.serde_json.specs.Written.{number_text, compact_text, items_text, members_text, comma_if}
 use Rattle.json_whole.specs.Run.{begins_run, has_zero_fraction, is_run_byte, run_len, first_run, is_number, is_whole, is_negative, written}
-use Rattle.json_whole.specs.Plain.{outside, in_string, escaped, plain_from, plain_of}
+use Rattle.json_whole.specs.Plain.{outside, in_string, plain_from, plain_of}
 use Rattle.json_whole.proofs.Numerals.{digits_by_test}
 use Rattle.json_whole.proofs.Steps.{plain_end, run_at}
 use Rattle.json_whole.proofs.Words.{and_left, and_right, IsRun, run_head, run_rest}
@@ -42,7 +42,7 @@ run_stays x run all begun same rest stops =
     let skipped : 0 + run_len text ≡ length (x ∷ run) = omega arith in
     let left : drop (0 + run_len text) text ≡ rest = ap (λ n. drop n text) skipped ∙ drop-append_seam (x ∷ run) rest in
     run_at text 0 (λ _. begun) ∙ (ap (λ w. written w ++ plain_of (drop (0 + run_len text) text)) first
-        ∙ (ap (λ w. w ++ plain_of (drop (0 + run_len text) text)) same ∙ ap (λ r. (x ∷ run) ++ plain_of r) left))
+    ∙ (ap (λ w. w ++ plain_of (drop (0 + run_len text) text)) same ∙ ap (λ r. (x ∷ run) ++ plain_of r) left))
 
 -- ---- whole numbers
 

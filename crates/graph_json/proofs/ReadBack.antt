@@ -1,18 +1,16 @@
 -- What is written of a graph is a graph file of that graph.
-use Rattle.std.proofs.Common.{◌≡◌, refl, sym, ap, ap₂, subst, ◌∙◌, ℕ, zero, suc, ◌+◌, ◌-◌, ◌^◌, ◌<◌, ◌≤◌, List, [], ◌∷◌, ◌++◌, length, take, drop, map, get_or, Bool, true, false, true≢false, not, ◌&&◌, ◌||◌, cond, if◌then◌else◌, Option, Some, None, is_some, Result, Ok, Err, unwrap_or, slice_get, decimal, IfSome, option_map, option_and_then, append_assoc, append-nil, arith, ◌⊎◌, inl, inr}
-use Rattle.std.specs.List.{IsDistinct, AllByRecursion, find, fold, list_any, list_all}
+use Rattle.std.proofs.Common.{◌≡◌, refl, sym, ap, subst, ◌∙◌, ℕ, zero, suc, ◌+◌, ◌-◌, ◌^◌, ◌<◌, ◌≤◌, List, [], ◌∷◌, ◌++◌, length, take, drop, map, get_or, Bool, true, false, true≢false, not, ◌||◌, cond, if◌then◌else◌, Option, Some, None, is_some, Ok, unwrap_or, slice_get, decimal, IfSome, option_map, option_and_then, append_assoc, append-nil, arith, inl, inr}
+use Rattle.std.specs.List.{IsDistinct, AllByRecursion, find, fold, list_all}
 use Rattle.std.specs.Option.{option_map_or, IsSomeAnd}
 use Rattle.std.specs.Str.{bytes_eq}
-use Rattle.std.proofs.lemmas.Bool.{cases_lt, cases_Bool, false_from_ne_true, or_from}
+use Rattle.std.proofs.lemmas.Bool.{cases_lt, false_from_ne_true, or_from}
 use Rattle.std.proofs.lemmas.Fmt.{decimal_injective}
 use Rattle.std.proofs.lemmas.List.{length-take, take-append-drop, drop_more, take_all, drop_all}
 use Rattle.std.proofs.lemmas.List.Sums.{AllPass-from_list_all}
 use Rattle.std.proofs.lemmas.List.Folds.{list_any_at, Any-from_list_any}
-use Rattle.std.proofs.lemmas.Option.{slice_get-map, slice_get-get_or, slice_get_within, slice_get_past, get_or_from_slice_get, same_Some, unwrap_or-slice_get}
-use Rattle.std.proofs.lemmas.Slice.Eq.{bytes_eq-Decides}
+use Rattle.std.proofs.lemmas.Option.{slice_get-map, slice_get-get_or, slice_get_within, get_or_from_slice_get, same_Some, unwrap_or-slice_get}
 use Rattle.flux_defs.specs.declared.vertices.Vertex.{Vertex}
-use Rattle.flux_defs.specs.Graph.{ResourceGraph, HasKind}
-use Rattle.flux_defs.specs.Graph.{parent_of as parent_in}
+use Rattle.flux_defs.specs.Graph.{HasKind}
 use Rattle.flux_defs.specs.ValidGraph.{NumbersKinds}
 use Rattle.resource_graph.specs.NamedGraph.{NamedGraph, IsWhole}
 use Rattle.resource_graph.specs.Raw.{IsBuiltFrom, raw_graph, raw_names}
@@ -23,17 +21,15 @@ use Rattle.resource_graph.proofs.LineLaws.{no_vertex, parent_read}
 use Rattle.resource_graph.proofs.OneGraph.{same_items}
 use Rattle.resource_graph.proofs.OwnGraph.{built_from_itself, own_faultless, own_at}
 use Rattle.resource_graph.proofs.Queries.{parents_known}
-use Rattle.resource_graph.proofs.ValidLaws.{value_of, at_value}
+use Rattle.resource_graph.proofs.ValidLaws.{value_of}
 use Rattle.graph_json.specs.Nodes.{FileNode}
-use Rattle.graph_json.specs.Edges.{FileEdge, counts, counted, is_among, is_wrong, IsWrongEdge, place_of, parent_of}
+use Rattle.graph_json.specs.Edges.{FileEdge, counted, is_among, is_wrong, IsWrongEdge, place_of, parent_of}
 use Rattle.graph_json.specs.Ids.{ids_of, IsRepeated}
 use Rattle.graph_json.specs.RawLists.{with_text, kinds_of, vertex_of, vertices_of}
-use Rattle.graph_json.specs.GraphFile.{GraphFile}
 use Rattle.graph_json.specs.GraphText.{IsGraphText, HasRightEdges, raw_of}
 use Rattle.graph_json.specs.Fields.{is_name, is_unit}
 use Rattle.graph_json.specs.FileGraph.{IsFileGraph, AreProperties, HasFileNumbers}
 use Rattle.graph_json.specs.WrittenGraph.{graph_data, graph_text, HasSmallNumbers}
-use Rattle.graph_json.specs.declared.places.Misfit.{Misfit}
 use Rattle.graph_json.proofs.EdgeLaws.{same_text, itself, placed, at_place}
 use Rattle.graph_json.proofs.IdLaws.{take_next}
 use Rattle.graph_json.proofs.RawLaws.{distinct_places, kinds-distinct}

@@ -1,27 +1,23 @@
 -- What the value of a graph says as a graph file.
-use Rattle.std.proofs.Common.{◌≡◌, refl, sym, ap, ap₂, ◌∙◌, ℕ, zero, suc, ◌+◌, ◌-◌, ◌^◌, ◌<◌, ◌≤◌, List, [], ◌∷◌, length, map, Bool, true, false, ◌&&◌, nat_lt, nat_le, Option, Some, None, Result, Ok, Err, if◌then◌else◌, unwrap_or, slice_get, get_or, codes, decimal, IsUtf8, IfSome, option_map, arith}
-use Rattle.std.specs.List.{AllByRecursion, list_all}
-use Rattle.std.specs.Str.{is_utf8}
+use Rattle.std.proofs.Common.{◌≡◌, refl, ap, ap₂, ◌∙◌, ℕ, suc, ◌-◌, ◌^◌, ◌<◌, ◌≤◌, List, [], ◌∷◌, length, map, Bool, true, ◌&&◌, nat_lt, nat_le, Option, Some, None, Ok, Err, if◌then◌else◌, unwrap_or, slice_get, get_or, codes, decimal, IsUtf8, IfSome, arith}
+use Rattle.std.specs.List.{list_all}
 use Rattle.std.specs.Result.{result_map_both}
 use Rattle.std.specs.Char.{is_ascii_graphic}
 use Rattle.std.proofs.lemmas.Bool.{and_parts, le-leb, le-ltb}
 use Rattle.std.proofs.lemmas.List.Sums.{AllPass-from_list_all}
 use Rattle.std.proofs.lemmas.Str.{IsUtf8-from_ascii, is_utf8-from_IsUtf8}
 use Rattle.std.proofs.lemmas.Str.Ascii.{IsAscii-from_all}
-use Rattle.serde_json.specs.Data.{Data, Items, string, number, object}
-use Rattle.json_whole.specs.Field.{in_range}
+use Rattle.serde_json.specs.Data.{Data}
 use Rattle.json_whole.specs.declared.fields.FieldFault.{FieldFault}
 use Rattle.flux_defs.specs.declared.vertices.Vertex.{Vertex}
 use Rattle.resource_graph.specs.NamedGraph.{NamedGraph}
-use Rattle.graph_json.specs.Fields.{greatest, is_name, is_name_byte, is_unit, ruled, ruled_field, ruled_given, small_number, small_given, size_given}
+use Rattle.graph_json.specs.Fields.{is_name, is_name_byte, is_unit, ruled, ruled_field, ruled_given, small_number, small_given, size_given}
 use Rattle.graph_json.specs.Nodes.{FileNode, in_order, keys_of, name_given, properties_given, node_with, node_of, nodes_of}
 use Rattle.graph_json.specs.Edges.{FileEdge, edge_of, edges_of}
-use Rattle.graph_json.specs.GraphFile.{FileLists, GraphFile, lists_of, file_of}
+use Rattle.graph_json.specs.GraphFile.{GraphFile, file_of}
 use Rattle.graph_json.specs.FileGraph.{AreProperties, HasFileNumbers}
-use Rattle.graph_json.specs.WrittenGraph.{readable, or_none, keys_object, text_at, properties_at, metadata_data, node_data, nodes_data, edge_data, with_edge, edges_data, graph_data}
-use Rattle.graph_json.specs.declared.places.Misfit.{Misfit}
+use Rattle.graph_json.specs.WrittenGraph.{readable, or_none, keys_object, properties_at, metadata_data, node_data, nodes_data, edge_data, with_edge, edges_data, graph_data}
 use Rattle.graph_json.specs.declared.places.Place.TheVariants.{PropertyKey}
-use Rattle.graph_json.specs.declared.edges.Role.{Role}
 use Rattle.graph_json.specs.declared.edges.Role.TheVariants.{Counted}
 
 -- ---- the file of a graph

@@ -1,5 +1,5 @@
 -- What is written of a graph is read as the value of the graph.
-use Rattle.std.proofs.Common.{◌≡◌, refl, sym, ap, ◌∙◌, ℕ, suc, ◌<◌, ◌^◌, List, [], ◌∷◌, map, Bool, true, false, ◌&&◌, Option, Some, None, IfSome, unwrap_or, slice_get, codes, arith}
+use Rattle.std.proofs.Common.{◌≡◌, refl, sym, ap, ◌∙◌, ℕ, suc, ◌<◌, ◌^◌, List, [], ◌∷◌, map, Bool, true, ◌&&◌, Option, Some, None, IfSome, unwrap_or, slice_get, arith}
 use Rattle.std.specs.List.{AllByRecursion, fold}
 use Rattle.std.specs.Ordering.{nat_cmp, match_ordering, is_lt, ordering_reverse}
 use Rattle.std.specs.declared.cmp.Ordering.{Ordering}
@@ -10,7 +10,6 @@ use Rattle.serde_json.specs.Read.{read}
 use Rattle.json_whole.proofs.Words.{and_left, and_right}
 use Rattle.flux_defs.specs.declared.vertices.Vertex.{Vertex}
 use Rattle.resource_graph.specs.NamedGraph.{NamedGraph}
-use Rattle.graph_json.specs.Nodes.{in_order}
 use Rattle.graph_json.specs.WrittenGraph.{readable, or_none, keys_object, edges_data, with_edge, nodes_data, node_data, edge_data, properties_at, graph_data, graph_text, HasSmallNumbers, HasAllSmallNumbers}
 use Rattle.graph_json.proofs.JsonLaws.{IsWhole, IsPlain, ArePlain, HasPlain, is_below, read_compact}
 

@@ -1,5 +1,5 @@
 -- The text of a valid graph is JSON of the graph's value, as files are read.
-use Rattle.std.proofs.Common.{◌≡◌, refl, sym, ap, subst, ◌∙◌, ℕ, zero, suc, ◌+◌, ◌-◌, ◌^◌, ◌<◌, ◌≤◌, pos, negsuc, List, [], ◌∷◌, ◌++◌, length, map, Bool, true, false, Option, Some, None, if◌then◌else◌, unwrap_or, slice_get, codes, decimal, IsUtf8, IfSome, arith}
+use Rattle.std.proofs.Common.{◌≡◌, refl, ap, ◌∙◌, ℕ, zero, suc, ◌+◌, ◌^◌, ◌<◌, ◌≤◌, pos, negsuc, List, [], ◌∷◌, ◌++◌, length, map, Bool, true, false, Option, Some, None, if◌then◌else◌, unwrap_or, slice_get, codes, decimal, IsUtf8, IfSome, arith}
 use Rattle.std.specs.List.{AllByRecursion, fold}
 use Rattle.std.specs.Ordering.{nat_cmp, match_ordering}
 use Rattle.std.specs.declared.cmp.Ordering.{Ordering}
@@ -14,12 +14,11 @@ use Rattle.json.specs.Print.{quoted}
 use Rattle.serde_json.specs.Data.{Num, unsigned, negative, float, Data, null, boolean, number, string, array, object, Items, no_items, item, Members, no_members, member}
 use Rattle.serde_json.specs.Written.{number_text, compact_text, items_text, members_text, comma_if}
 use Rattle.serde_json.specs.Read.{read}
-use Rattle.json_whole.specs.Plain.{plain_of}
 use Rattle.json_whole.specs.Whole.{value_in, value_of}
 use Rattle.flux_defs.specs.declared.vertices.Vertex.{Vertex}
 use Rattle.resource_graph.specs.NamedGraph.{NamedGraph, path_text}
 use Rattle.graph_json.specs.Nodes.{in_order}
-use Rattle.graph_json.specs.WrittenGraph.{readable, keys_object, text_at, properties_at, paths_data, metadata_data, node_data, nodes_data, contains_data, edge_data, with_edge, edges_data, lists_data, graph_data, graph_text, HasAllSmallNumbers}
+use Rattle.graph_json.specs.WrittenGraph.{readable, keys_object, paths_data, metadata_data, node_data, nodes_data, contains_data, edge_data, with_edge, edges_data, graph_data, graph_text, HasAllSmallNumbers}
 use Rattle.graph_json.proofs.JsonLaws.{IsWhole, IsPlain, ArePlain, HasPlain}
 use Rattle.graph_json.proofs.PlainText.{plain-compact_text}
 use Rattle.graph_json.proofs.WrittenLaws.{plain_graph, read-graph_text}

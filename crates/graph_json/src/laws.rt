@@ -15,7 +15,8 @@ pub fn graphs_of_files_fit_files()
     ensures { (bytes : List ℕ) (g : NamedGraph) → IsGraphText bytes g → IsFileGraph g }
 {}
 
-/// A law: what is written of such a graph is a graph file of that graph.
+/// A law: what is written of such a graph, and so of any graph of a graph file, is a graph file of that graph.
 pub fn written_graphs_are_read_back()
-    ensures { (g : NamedGraph) → IsFileGraph g → IsGraphText (graph_text g) g }
+    ensures written { (g : NamedGraph) → IsFileGraph g → IsGraphText (graph_text g) g }
+    ensures again { (bytes : List ℕ) (g : NamedGraph) → IsGraphText bytes g → IsGraphText (graph_text g) g }
 {}
