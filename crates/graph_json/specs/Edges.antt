@@ -144,10 +144,6 @@ parents_of ids edges = map (parent_of ids edges) ids
 abbrev pub edge_held : EdgeFields → FileEdge
 edge_held e = record { source = id_bytes e.source; target = id_bytes e.target; role = e.role }
 
--- the bytes of each text
-abbrev pub texts : List (Vec ℕ Global) → List (List ℕ)
-texts = map (λ v. v.items)
-
 -- the parents with one more, unless there is one already
 abbrev pub with_parent : List (Option ℕ) → ℕ → ℕ → Option (List (Option ℕ))
 with_parent parents child parent = if is_some (unwrap_or (slice_get parents child) None) then None else Some (slice_set parents child (Some parent))
