@@ -1,5 +1,5 @@
 -- Lines that were played, one after another.
-use Rattle.std.specs.Prelude.{◌≡◌, ℕ, List, ◌++◌, map}
+use Rattle.std.specs.Prelude.{◌≡◌, ℕ, List, ◌∷◌, ◌++◌, map}
 use Rattle.std.specs.List.{AllByRecursion}
 use Rattle.flux_defs.specs.declared.vertices.Vertex.{Vertex}
 use Rattle.flux_defs.specs.declared.journal.Entry.{Entry}
@@ -27,9 +27,10 @@ pub record IsPlayed (old new : Course) (lines : List ClientLine) : Type 0 where
   pub journal : new.journal ≡ old.journal ++ history
   pub lines-are : map line_of history ≡ lines
 
--- only a front of the lines was played
+-- only the lines before one of them were played
 pub record IsPlayedInPart (old new : Course) (lines : List ClientLine) : Type 0 where
   pub front : List ClientLine
+  pub next : ClientLine
   pub rest : List ClientLine
-  pub parts : lines ≡ front ++ rest
+  pub parts : lines ≡ front ++ next ∷ rest
   pub played : IsPlayed old new front

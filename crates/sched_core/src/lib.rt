@@ -12,8 +12,7 @@ pub mod playing;
 mod replying;
 pub mod scheduler;
 mod settling;
-pub mod verdict;
+mod verdict;
 
 pub use playing::{ClientLine, play, play_client};
 pub use scheduler::Core;
-pub use verdict::Verdict;
