@@ -1,0 +1,59 @@
+-- What is found and given at once is the scheduler's reply.
+use Rattle.std.proofs.Common.{◌≡◌, ℕ, ◌+◌, ◌<◌, List, length, inl, inr, refl, sym, subst}
+use Rattle.flux_defs.specs.declared.claims.Claim.{Claim}
+use Rattle.flux_defs.specs.declared.requests.Ask.{Ask}
+use Rattle.flux_defs.specs.declared.journal.Command.TheVariants as command
+use Rattle.flux_defs.specs.declared.journal.Reply.{Reply}
+use Rattle.flux_defs.specs.declared.journal.Reply.TheVariants as reply
+use Rattle.flux_defs.specs.Asks.{window_of, IsLowestFirst}
+use Rattle.flux_defs.specs.Scheduler.{Setting, State, Where, Replies, AcceptedOrFull, accepted_reply}
+use Rattle.flux_defs.specs.Verdicts.{Verdict, Found, Finds, YieldsJob, job_of}
+use Rattle.sched_core.specs.Answered.{IsOfJob, Answers}
+
+pub given_found : (g : Setting) (s : State) (id : ℕ) (ask : Ask) (start : ℕ) (claims : List Claim) (none r : Reply) (m k : ℕ) → s.moment ≡ m → s.claims ≡ k →
+    Where (g.limit < k + length claims) reply.Full (λ x. x ≡ accepted_reply m (job_of g id ask start claims)) r → YieldsJob g s id ask none (Found start claims) r
+given_found g s id ask start claims none r m k em ek h =
+    subst (λ (x : ℕ). Where (g.limit < s.claims + length claims) reply.Full (λ y. y ≡ accepted_reply x (job_of g id ask start claims)) r) (sym em)
+    (subst (λ (x : ℕ). Where (g.limit < x + length claims) reply.Full (λ y. y ≡ accepted_reply m (job_of g id ask start claims)) r) (sym ek) h)
+
+module _ (g : Setting) (s : State) (id : ℕ) (ask : Ask) where
+  accepts : (start : ℕ) (claims : List Claim) (none r : Reply) → IsLowestFirst g.graph.vertices s.jobs ask (window_of g.horizon ask start) claims →
+      YieldsJob g s id ask none (Found start claims) r → AcceptedOrFull g s id ask start r
+  accepts start claims none r low h = (job_of g id ask start claims, record { id-is = refl; start-is = refl; end-is = refl; lowest = low }, h)
+
+  by : (none : Reply) (v w : Verdict) (r : Reply) → v ≡ w → Answers g s id ask none v r → Answers g s id ask none w r
+  by none v w r e h = subst (λ (x : Verdict). Answers g s id ask none x r) e h
+
+  pub now_decided : (v : Verdict) (r : Reply) → Finds g s (command.Allocate id ask) v → Answers g s id ask reply.Busy v r → Replies g s (command.Allocate id ask) r
+  now_decided v r (inl (used, e)) h = inl (used, by reply.Busy v _ r e h)
+  now_decided v r (inr (n, inl (un, e))) h = inr (n, inl (un, by reply.Busy v _ r e h))
+  now_decided v r (inr (n, inr (sat, inl (long, e)))) h = inr (n, inr (sat, inl (long, by reply.Busy v _ r e h)))
+  now_decided v r (inr (n, inr (sat, inr (k, inl (none, e))))) h = inr (n, inr (sat, inr (k, inl (none, by reply.Busy v _ r e h))))
+  now_decided v r (inr (n, inr (sat, inr (k, inr (fit, (claims, low, e)))))) h =
+      inr (n, inr (sat, inr (k, inr (fit, accepts s.moment claims reply.Busy r low (by reply.Busy v _ r e h)))))
+
+  pub start_decided : (v : Verdict) (r : Reply) → Finds g s (command.Reserve id ask) v → Answers g s id ask reply.NoStart v r → Replies g s (command.Reserve id ask) r
+  start_decided v r (inl (used, e)) h = inl (used, by reply.NoStart v _ r e h)
+  start_decided v r (inr (n, inl (un, e))) h = inr (n, inl (un, by reply.NoStart v _ r e h))
+  start_decided v r (inr (n, inr (sat, inl (long, e)))) h = inr (n, inr (sat, inl (long, by reply.NoStart v _ r e h)))
+  start_decided v r (inr (n, inr (sat, inr (k, inl (none, e))))) h = inr (n, inr (sat, inr (k, inl (none, by reply.NoStart v _ r e h))))
+  start_decided v r (inr (n, inr (sat, inr (k, inr (some, (t, early, (claims, low, e))))))) h =
+      inr (n, inr (sat, inr (k, inr (some, (t, early, accepts t claims reply.NoStart r low (by reply.NoStart v _ r e h))))))
+
+  -- a start that was found has a window that counts
+  of_job : (v w : Verdict) → v ≡ w → IsOfJob g.horizon ask w → IsOfJob g.horizon ask v
+  of_job v w e h = subst (IsOfJob g.horizon ask) (sym e) h
+
+  pub now_of_job : (v : Verdict) → Finds g s (command.Allocate id ask) v → IsOfJob g.horizon ask v
+  now_of_job v (inl (used, e)) = of_job v _ e tt
+  now_of_job v (inr (n, inl (un, e))) = of_job v _ e tt
+  now_of_job v (inr (n, inr (sat, inl (long, e)))) = of_job v _ e tt
+  now_of_job v (inr (n, inr (sat, inr (k, inl (none, e))))) = of_job v _ e tt
+  now_of_job v (inr (n, inr (sat, inr (k, inr (fit, (claims, low, e)))))) = of_job v _ e k
+
+  pub start_of_job : (v : Verdict) → Finds g s (command.Reserve id ask) v → IsOfJob g.horizon ask v
+  start_of_job v (inl (used, e)) = of_job v _ e tt
+  start_of_job v (inr (n, inl (un, e))) = of_job v _ e tt
+  start_of_job v (inr (n, inr (sat, inl (long, e)))) = of_job v _ e tt
+  start_of_job v (inr (n, inr (sat, inr (k, inl (none, e))))) = of_job v _ e tt
+  start_of_job v (inr (n, inr (sat, inr (k, inr (some, (t, early, (claims, low, e))))))) = of_job v _ e early.starts.0

@@ -1,0 +1,47 @@
+-- What is kept before the first entry, and what every core keeps.
+use Rattle.std.proofs.Common.{◌≡◌, ℕ, List, [], length, refl, sym, ◌∙◌, ap, subst, arith, Contains}
+use Rattle.std.specs.FinMap.{get, empty, get-empty}
+use Rattle.std.specs.Ordering.{nat_cmp}
+use Rattle.std.proofs.lemmas.List.{take_all}
+use Rattle.flux_defs.specs.declared.journal.Entry.{Entry}
+use Rattle.flux_defs.specs.Scheduler.{first_state}
+use Rattle.flux_defs.specs.Histories.{IsLegal, HasProperCommands}
+use Rattle.flux_defs.specs.Sound.{IsSound, IsSoundThroughout}
+use Rattle.resource_graph.specs.NamedGraph.{IsWhole}
+use Rattle.sound_laws.proofs.Legal.{legal_keeps}
+use Rattle.book_state.specs.declared.held.BookState.{BookState}
+use Rattle.book_state.specs.Books.{graph_of, horizon_of, moment_of, rows_of, StandsFor}
+use Rattle.sched_core.specs.declared.held.Site.{Site}
+use Rattle.sched_core.specs.declared.held.Kept.{Kept}
+use Rattle.sched_core.specs.Courses.{left_by, graph_at, vertices_at, journal_in, setting_in, IsBookOf, IsCore}
+use Rattle.sched_core.proofs.JobLaws.{Told}
+
+nothing : (a : ℕ) → Contains [] a → ⊥
+nothing a h = let lt = h.1 in absurd (omega arith)
+
+book_none : (book : BookState) → moment_of book ≡ 0 → rows_of book ≡ empty → StandsFor book [] → IsBookOf [] book
+book_none book moment rows jobs = record {
+  jobs = jobs;
+  moment = moment;
+  table = λ id. subst (Told [] first_state id) (sym (ap (λ r. get r id) rows ∙ get-empty nat_cmp id)) (record { unused = nothing id; none = refl });
+}
+
+pub first_core : (site : Site) (kept : Kept) → IsWhole (graph_at site) → graph_of kept.book ≡ graph_at site → horizon_of kept.book ≡ site.horizon → moment_of kept.book ≡ 0 → rows_of kept.book ≡ empty →
+    StandsFor kept.book [] → journal_in kept ≡ [] → kept.claims ≡ 0 → IsCore site kept
+first_core site kept whole graph horizon moment rows jobs none claims = record {
+  whole = whole;
+  graph-is = graph;
+  horizon-is = horizon;
+  legal = subst (λ (j : List Entry). IsLegal (setting_in site kept) j) (sym none) tt;
+  proper = subst (λ (j : List Entry). HasProperCommands (vertices_at site) j) (sym none) tt;
+  book-of = subst (λ (j : List Entry). IsBookOf j kept.book) (sym none) (book_none kept.book moment rows jobs);
+  claims-are = subst (λ (j : List Entry). kept.claims ≡ (left_by j).claims) (sym none) claims;
+}
+
+-- after each entry no vertex is oversubscribed
+pub sound_throughout : (site : Site) (kept : Kept) → IsCore site kept → IsSoundThroughout (vertices_at site) (journal_in kept)
+sound_throughout site kept core = legal_keeps (setting_in site kept) (graph_at site).names core.whole.valid (journal_in kept) core.proper core.legal
+
+pub sound_last : (site : Site) (kept : Kept) → IsCore site kept → IsSound (vertices_at site) (left_by (journal_in kept)).jobs
+sound_last site kept core =
+    subst (λ (j : List Entry). IsSound (vertices_at site) (left_by j).jobs) (take_all (length (journal_in kept)) (journal_in kept) (omega arith)) (sound_throughout site kept core (length (journal_in kept)))

@@ -1,0 +1,9 @@
+pub mod Searched
+pub mod JobLaws
+pub mod Decided
+pub mod Grown
+pub mod OnVertices
+pub mod Accepting
+pub mod NextCore
+pub mod FirstCore
+pub mod PlayedLines

@@ -1,0 +1,41 @@
+//! The entry of a command.
+ghost use Rattle.std.specs.Prelude.{◌≡◌, IfOk, IfErr};
+ghost use Rattle.flux_defs.specs.Scheduler.{IsProper};
+ghost use Rattle.sched_core.specs.Courses.{vertices_at, IsCore, Decides};
+
+use crate::appending::append;
+use crate::held::{Kept, Site};
+use crate::replying::reply;
+use flux_defs::{Command, Entry, Steps};
+use std::alloc::AllocError;
+use std::sync::ledger::Ledger;
+
+/// What is kept after the entry of a command. On want of memory the command comes back.
+pub(crate) fn decide<L: Ledger>(
+    site: &Site,
+    kept: &Kept,
+    client: u32,
+    line: u32,
+    command: Command,
+    steps: &mut Steps<L>,
+) -> Result<Kept, (Command, AllocError)>
+    requires core { IsCore site.now kept.now }
+    requires proper { IsProper (vertices_at site.now) command }
+    ensures ok { IfOk result (λ next. Decides site.now kept.now next client line command) }
+    ensures err { IfErr result (λ e. e.0 ≡ command) }
+{
+    match reply(site, kept, &command, steps) {
+        Err(fault) => Err((command, fault)),
+        Ok(reply) => append(
+            site,
+            kept,
+            Entry {
+                client,
+                line,
+                command,
+                reply,
+            },
+            steps,
+        ),
+    }
+}

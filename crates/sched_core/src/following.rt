@@ -1,0 +1,99 @@
+//! The book after an entry.
+ghost use Rattle.std.specs.Prelude.{◌≡◌, ℕ, ◌∷◌, ◌++◌, [], List, IsSome, IfOk};
+ghost use Rattle.flux_defs.specs.declared.journal.Command.TheVariants as command;
+ghost use Rattle.flux_defs.specs.declared.journal.Entry.{Entry};
+ghost use Rattle.flux_defs.specs.declared.journal.Reply.TheVariants as reply;
+ghost use Rattle.flux_defs.specs.Scheduler.{job_with};
+ghost use Rattle.flux_defs.specs.Overtaken.{HasAccepted};
+ghost use Rattle.book_state.specs.Books.{KeepsSetting, MayAdd};
+ghost use Rattle.sched_core.specs.Courses.{left_by, IsBookOf};
+ghost use Rattle.sched_core.specs.Answered.{ChangesNothing, MayFollow};
+
+use crate::settling::find_job;
+use book_state::BookState;
+use flux_defs::{Command, Entry, Job, List, Reply, Steps};
+use std::alloc::{AllocError, Global};
+use std::sync::ledger::Ledger;
+
+/// The book with a job that was accepted.
+fn after_accepted<L: Ledger>(
+    alloc: Global,
+    entries: &List<Entry>,
+    book: &BookState,
+    job: &Job,
+    steps: &mut Steps<L>,
+) -> Result<BookState, AllocError>
+    requires book { IsBookOf entries.now book.now }
+    requires may { MayAdd book.now job.now }
+    ensures setting { IfOk result (KeepsSetting book.now) }
+    ensures book { IfOk result (λ next. (e : Entry) → HasAccepted e job.now → IsBookOf (entries.now ++ e ∷ []) next) }
+{
+    let next = book.after_add(alloc, job, entries.len() as u64, steps)?;
+    Ok(next)
+}
+
+/// The book without the job that was cancelled.
+fn after_cancelled<L: Ledger>(
+    alloc: Global,
+    entries: &List<Entry>,
+    book: &BookState,
+    id: u64,
+    steps: &mut Steps<L>,
+) -> Result<BookState, AllocError>
+    requires book { IsBookOf entries.now book.now }
+    requires there { IsSome (job_with id (left_by entries.now).jobs) }
+    ensures setting { IfOk result (KeepsSetting book.now) }
+    ensures book { IfOk result (λ next. (e : Entry) → e.command ≡ command.Cancel id → e.reply ≡ reply.Cancelled → IsBookOf (entries.now ++ e ∷ []) next) }
+{
+    match find_job(entries, book, id, steps) {
+        None => unreachable!(),
+        Some(job) => {
+            let next = book.after_remove(alloc, job, steps)?;
+            Ok(next)
+        }
+    }
+}
+
+/// The book at another moment.
+fn after_moved(book: &BookState, to: u64) -> Result<BookState, AllocError>
+    ensures setting { IfOk result (KeepsSetting book.now) }
+    ensures book { IfOk result (λ next. (journal : List Entry) (e : Entry) → IsBookOf journal book.now → e.reply ≡ reply.Now to → IsBookOf (journal ++ e ∷ []) next) }
+{
+    let next = book.after_advance(to)?;
+    Ok(next)
+}
+
+/// The same book.
+fn unchanged(book: &BookState) -> Result<BookState, AllocError>
+    ensures setting { IfOk result (KeepsSetting book.now) }
+    ensures book { IfOk result (λ next. (journal : List Entry) (e : Entry) → IsBookOf journal book.now → ChangesNothing e.reply → IsBookOf (journal ++ e ∷ []) next) }
+{
+    let next = book.share()?;
+    Ok(next)
+}
+
+/// The book after one entry more with this command and this reply.
+pub(crate) fn follow<L: Ledger>(
+    alloc: Global,
+    entries: &List<Entry>,
+    book: &BookState,
+    command: &Command,
+    reply: &Reply,
+    steps: &mut Steps<L>,
+) -> Result<BookState, AllocError>
+    requires book { IsBookOf entries.now book.now }
+    requires may { MayFollow book.now (left_by entries.now) command.now reply.now }
+    ensures setting { IfOk result (KeepsSetting book.now) }
+    ensures book { IfOk result (λ next. (e : Entry) → e.command ≡ command.now → e.reply ≡ reply.now → IsBookOf (entries.now ++ e ∷ []) next) }
+{
+    match reply {
+        Reply::Allocated(job) => after_accepted(alloc, entries, book, job, steps),
+        Reply::Reserved(job) => after_accepted(alloc, entries, book, job, steps),
+        Reply::Cancelled => match command {
+            Command::Cancel { job } => after_cancelled(alloc, entries, book, *job, steps),
+            _ => unreachable!(),
+        },
+        Reply::Now { at } => after_moved(book, *at),
+        _ => unchanged(book),
+    }
+}

@@ -1,0 +1,64 @@
+//! The reply that a verdict gives.
+ghost use Rattle.std.specs.Prelude.{◌≡◌, ℕ, ◌+◌, ◌<◌, length, List};
+ghost use Rattle.flux_defs.specs.declared.journal.Reply.TheVariants as reply;
+ghost use Rattle.flux_defs.specs.Graph.{ResourceGraph};
+ghost use Rattle.flux_defs.specs.Asks.{CountsWithin};
+ghost use Rattle.flux_defs.specs.Scheduler.{State, Where, accepted_reply};
+ghost use Rattle.flux_defs.specs.Verdicts.{job_of};
+ghost use Rattle.prune_filters.specs.declared.rules.Rule.{Rule};
+ghost use Rattle.sched_core.specs.Courses.{setting_of};
+ghost use Rattle.sched_core.specs.Answered.{verdict_of, IsOfJob, Answers};
+
+use crate::verdict::Verdict;
+use earliest_search::{Found, window_at};
+use flux_defs::{Ask, Job, Reply};
+
+/// How far a scheduler has come: the present moment, and how many claims the accepted jobs had; and its bounds of both.
+#[derive(Clone, Copy)]
+pub(crate) struct Reached {
+    pub moment: u64,
+    pub horizon: u64,
+    pub claims: u64,
+    pub limit: u64,
+}
+
+/// The job that was found is accepted, unless there is no room for its claims.
+fn accept(reached: Reached, id: u64, ask: &Ask, found: Found) -> Reply
+    requires { CountsWithin reached.horizon ask.now found.start }
+    ensures { (graph : ResourceGraph) (rules : List Rule) →
+        Where (reached.limit < reached.claims + length found.claims) reply.Full
+        (λ r. r ≡ accepted_reply reached.moment (job_of (setting_of graph rules reached.horizon reached.limit) id ask.now found.start found.claims)) result }
+{
+    let Found { start, claims } = found;
+    if u128::from(reached.claims) + claims.len() as u128 > u128::from(reached.limit) {
+        return Reply::Full;
+    }
+    let window = window_at(reached.horizon, ask, start);
+    let job = Job {
+        id,
+        start,
+        end: window.to,
+        claims,
+    };
+    if start == reached.moment {
+        Reply::Allocated(job)
+    } else {
+        Reply::Reserved(job)
+    }
+}
+
+/// The reply to an allocate or a reserve by what was found now; `none` is the reply where nothing fits.
+pub(crate) fn give(reached: Reached, id: u64, ask: &Ask, none: Reply, verdict: Verdict) -> Reply
+    requires { IsOfJob reached.horizon ask.now (verdict_of verdict) }
+    ensures { (graph : ResourceGraph) (rules : List Rule) (s : State) → s.moment ≡ reached.moment → s.claims ≡ reached.claims →
+        Answers (setting_of graph rules reached.horizon reached.limit) s id ask.now none (verdict_of verdict) result }
+{
+    match verdict {
+        Verdict::Found(found) => accept(reached, id, ask, found),
+        Verdict::NoFit => none,
+        Verdict::Unsat => Reply::Unsatisfiable,
+        Verdict::Long => Reply::TooLong,
+        Verdict::Known => Reply::Exists,
+        Verdict::Sat => unreachable!(),
+    }
+}

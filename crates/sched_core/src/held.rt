@@ -1,0 +1,25 @@
+//! What a scheduler holds.
+
+use book_state::BookState;
+use flux_defs::{Entry, List};
+use resource_graph::Graph;
+use std::alloc::Global;
+use std::sync::Arc;
+
+/// What never changes: where memory comes from, the graph, the horizon in seconds, and how many claims all accepted jobs
+/// may have.
+#[derive(Drop)]
+pub(crate) struct Site {
+    pub alloc: Global,
+    pub graph: Arc<Graph, Global>,
+    pub horizon: u64,
+    pub limit: u64,
+}
+
+/// What grows: the journal, the book of the jobs that it leaves, and how many claims the accepted jobs had.
+#[derive(Drop)]
+pub(crate) struct Kept {
+    pub journal: Arc<List<Entry>, Global>,
+    pub book: BookState,
+    pub claims: u64,
+}

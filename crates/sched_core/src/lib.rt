@@ -1,0 +1,18 @@
+//! The scheduler of one thread: a setting that never changes, and a journal of commands with their replies.
+#![tactic(auto)]
+
+mod appending;
+mod copies;
+mod deciding;
+mod finding;
+mod following;
+mod giving;
+mod held;
+pub mod playing;
+mod replying;
+pub mod scheduler;
+mod settling;
+mod verdict;
+
+pub use playing::{ClientLine, play, play_client};
+pub use scheduler::Core;
