@@ -7,3 +7,6 @@ mod sets;
 pub mod writing;
 
 pub use writing::write_r;
+
+#[cfg(test)]
+mod tests;
