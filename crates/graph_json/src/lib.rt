@@ -6,7 +6,7 @@ pub mod faults;
 mod fields;
 mod ids;
 mod nodes;
-mod places;
+pub mod places;
 mod raw_lists;
 pub mod reading;
 pub mod writing;

@@ -1,5 +1,5 @@
 -- Which bytes are a resource set and which, and which fault other bytes have.
-use Rattle.std.specs.Prelude.{◌≡◌, ℕ, suc, ◌^◌, ◌==◌, Bool, true, false, List, [], ◌∷◌, ◌++◌, length, if◌then◌else◌, Option, Some, None, Result, Ok, Err, ⊤, codes}
+use Rattle.std.specs.Prelude.{◌≡◌, ◌⊎◌, ◌<◌, ℕ, suc, ◌^◌, ◌==◌, Bool, true, false, List, [], ◌∷◌, ◌++◌, length, if◌then◌else◌, Option, Some, None, Result, Ok, Err, ⊤, codes}
 use Rattle.std.specs.Result.{result_map_both}
 use Rattle.serde_json.specs.Data.{Data, Items, no_items, item}
 use Rattle.serde_json.specs.Find.{get, as_str}
@@ -70,10 +70,9 @@ set_with rows e =
     result_and_then (second_or_zero place.Expiration (get (codes "expiration") e)) (λ end.
     Ok (record { rows = rows; hosts = hosts; start = start; end = end }))))
 
--- the value has such an `execution` with these ranks
-record pub HasRows (d e : Data) (rows : List RRow) : Type 0 where
-  pub execution : execution_of d ≡ Ok e
-  pub rows_are : rows_in e ≡ Ok rows
+-- the value has this `execution`, with these ranks
+abbrev pub HasRows : Data → Data → List RRow → Type 0
+HasRows d e rows = (execution_of d ≡ Ok e) × (rows_in e ≡ Ok rows)
 
 -- a value is this resource set
 abbrev pub IsSetOf : Data → RSet → Type 0
@@ -92,10 +91,8 @@ abbrev pub IsWrongBehind : Data → Misread → Type 0
 IsWrongBehind d m = (e : Data) × (rows : List RRow) × HasRows d e rows × IsRepeatedRank (ranges_in rows) None × (set_with rows e ≡ Err m)
 
 -- the first that is wrong with a value
-data pub IsMisreadOf (d : Data) (m : Misread) : Type 0 where
-  before : IsWrongBefore d m → IsMisreadOf d m
-  repeated : IsRepeatedIn d m → IsMisreadOf d m
-  behind : IsWrongBehind d m → IsMisreadOf d m
+abbrev pub IsMisreadOf : Data → Misread → Type 0
+IsMisreadOf d m = IsWrongBefore d m ⊎ (IsRepeatedIn d m ⊎ IsWrongBehind d m)
 
 -- the bytes are JSON of a value that is this resource set
 abbrev pub IsRText : List ℕ → RSet → Type 0
