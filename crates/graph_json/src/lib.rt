@@ -7,7 +7,7 @@ mod fields;
 mod ids;
 pub mod laws;
 mod nodes;
-mod places;
+pub mod places;
 mod raw_lists;
 pub mod reading;
 pub mod writing;

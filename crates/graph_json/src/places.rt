@@ -92,7 +92,7 @@ fn push_index(path: &mut Vec<u8>, at: u64) -> Result<(), AllocError>
 }
 
 /// The path of a member of a list with what stands behind it.
-fn member_path(alloc: Global, list: &str, at: u64, rest: &str) -> Result<Vec<u8>, AllocError>
+pub fn member_path(alloc: Global, list: &str, at: u64, rest: &str) -> Result<Vec<u8>, AllocError>
     ensures { IfOk result (λ path. path.items ≡ list.now ++ index at ++ rest.now) }
 {
     let mut path = Vec::from_slice(alloc, list.as_bytes())?;

@@ -54,7 +54,7 @@ fn edge_fault(alloc: Global, fault: EdgeFault) -> ReadFault
 }
 
 /// The list at a key.
-fn list_of<'a>(value: &'a Value, key: &str) -> Result<&'a Vec<Value>, FieldFault>
+pub fn list_of<'a>(value: &'a Value, key: &str) -> Result<&'a Vec<Value>, FieldFault>
     ensures { result_map_both (λ v. items_view v.now.items) (λ e. e) result ≡ list_field key.now (view value.now) }
 {
     let Some(found) = value.get(key) else {

@@ -1,3 +1,6 @@
 pub mod Rows
 pub mod WrittenR
 pub mod WrittenRTokens
+pub mod Misreads
+pub mod ReadRows
+pub mod ReadR

@@ -1,9 +1,20 @@
 //! The resource set R (RFC 20, version 1), written and read.
 #![tactic(auto)]
 
+pub mod faults;
+mod fields;
 mod given;
+mod hosts;
+mod ranks;
+pub mod reading;
 mod rows;
 mod sets;
+pub mod sets_read;
 pub mod writing;
 
+pub use faults::RFault;
+pub use sets_read::{RRow, RSet};
 pub use writing::write_r;
+
+#[cfg(test)]
+mod tests;
