@@ -2,3 +2,4 @@ pub mod Decimals
 pub mod LineLaws
 pub mod CommandLaws
 pub mod InputLaws
+pub mod ScriptLaws

@@ -3,4 +3,5 @@ pub mod Reasons
 pub mod Commands
 pub mod Lines
 pub mod Inputs
+pub mod Scripts
 pub mod Texts

@@ -5,11 +5,12 @@ mod commands;
 pub mod input;
 mod lines;
 mod numbers;
-mod pieces;
+pub mod pieces;
 mod reasons;
 pub mod replies;
 mod words;
 
 pub use commands::Form;
 pub use input::{Input, InputFault, NumberedLine, Over, read_lines};
+pub use numbers::number_in;
 pub use replies::{history_text, line_text};

@@ -23,7 +23,7 @@ fn number_of(digits: &[u8]) -> Option<u64>
 }
 
 /// The number of at most 64 bits that a word is in decimal, without a sign or a leading zero.
-pub(crate) fn number_in(word: &[u8]) -> Option<u64>
+pub fn number_in(word: &[u8]) -> Option<u64>
     ensures { result ≡ number_in word.now }
 {
     number_of(word)

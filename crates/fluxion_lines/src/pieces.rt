@@ -5,14 +5,14 @@ use itoa::Buffer;
 use std::alloc::AllocError;
 
 /// Adds the bytes.
-pub(crate) fn add(text: &mut Vec<u8>, bytes: &[u8]) -> Result<(), AllocError>
+pub fn add(text: &mut Vec<u8>, bytes: &[u8]) -> Result<(), AllocError>
     ensures { OnOk result (text.new.items ≡ text.old.items ++ bytes.now) }
 {
     text.extend_from_slice(bytes)
 }
 
 /// Adds the number in decimal.
-pub(crate) fn add_number(text: &mut Vec<u8>, number: u64) -> Result<(), AllocError>
+pub fn add_number(text: &mut Vec<u8>, number: u64) -> Result<(), AllocError>
     ensures { OnOk result (text.new.items ≡ text.old.items ++ decimal number) }
 {
     let mut buffer = Buffer::new();

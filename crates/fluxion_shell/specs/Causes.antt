@@ -10,7 +10,11 @@ use Rattle.graph_json.specs.declared.faults.ReadFault.TheVariants as read_fault
 use Rattle.fluxion_shell.specs.declared.status.Status.{Status}
 use Rattle.fluxion_shell.specs.declared.status.Status.TheVariants as status
 use Rattle.fluxion_shell.specs.declared.status.Limited.{Limited}
-use Rattle.fluxion_shell.specs.declared.status.Which.TheVariants.{GraphBytes, InputBytes}
+use Rattle.fluxion_shell.specs.declared.status.Which.TheVariants.{GraphBytes, InputBytes, Lines, LineBytes, Clients}
+use Rattle.fluxion_lines.specs.declared.input.Over.{Over}
+use Rattle.fluxion_lines.specs.declared.input.Over.TheVariants as over
+use Rattle.fluxion_lines.specs.Inputs.{over_in}
+use Rattle.fluxion_shell.specs.Outputs.{shipped}
 
 -- how many bytes the graph file and the input may have
 abbrev pub most_bytes : ℕ
@@ -49,11 +53,21 @@ HasFault bytes fault = Tells bytes fault × (fault ≢ read_fault.Memory)
 abbrev pub OrEarlier : Status → Type 0 → Type 0
 OrEarlier result Shown = (result ≡ status.Read) ⊎ ((result ≡ status.Memory) ⊎ Shown)
 
+-- the answer where a line is past a limit
+abbrev pub limit_of : Over → Status
+limit_of (over.Lines line) = status.Limit (record { which = Lines; found = line })
+limit_of (over.LineBytes line) = status.Limit (record { which = LineBytes; found = line })
+limit_of (over.Clients line) = status.Limit (record { which = Clients; found = line })
+
+-- the answer that the input's lines show
+abbrev pub ShowsLines : Status → Option Over → Type 0
+ShowsLines result past = MatchOption past (OrEarlier result ((result ≡ status.Ok) ⊎ (result ≡ status.Write))) (λ over. OrEarlier result (result ≡ limit_of over))
+
 -- the answer that the input's told bytes show
 abbrev pub ShowsInput : Status → List ℕ → Type 0
 ShowsInput result input =
     (most_bytes < length input → OrEarlier result (result ≡ long_input))
-    × (length input ≤ most_bytes → OrEarlier result ((result ≡ status.Ok) ⊎ (result ≡ status.Write)))
+    × (length input ≤ most_bytes → ShowsLines result (over_in shipped input))
 
 -- the answer that the graph file's told bytes show, and what its graph then shows
 pub record ShowsFile (result : Status) (file : List ℕ) (Then : Type 0) : Type 0 where
@@ -82,11 +96,12 @@ pub record HasGraphFile (told : Option Stored) (name : List ℕ) : Type 0 where
   pub graph : NamedGraph
   pub graph-is : IsGraphText file graph
 
--- The input tells its bytes, and they are not too many.
+-- The input tells its bytes, they are not too many, and no line is past a limit.
 pub record HasShortInput (left : Option (List ℕ)) : Type 0 where
   pub input : List ℕ
   pub input-is : left ≡ Some input
   pub short : length input ≤ most_bytes
+  pub within : over_in shipped input ≡ None
 
 -- The graph of the file of this name was read: where the store tells its files, it has such a file, not too long.
 abbrev pub Known : Option Stored → List ℕ → List ℕ → Type 0

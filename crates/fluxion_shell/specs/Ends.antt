@@ -1,7 +1,6 @@
 -- The number and the line that a run ends with.
 use Rattle.std.specs.Prelude.{ℕ, List, [], ◌++◌, codes, decimal}
-use Rattle.json_whole.specs.declared.fields.FieldFault.{FieldFault}
-use Rattle.json_whole.specs.declared.fields.FieldFault.TheVariants.{Missing, Kind, Small, Large, Text}
+use Rattle.json_fields.specs.Words.{field_word}
 use Rattle.resource_graph.specs.declared.raw.GraphFault.{GraphFault}
 use Rattle.resource_graph.specs.declared.raw.GraphFault.TheVariants as graph_fault
 use Rattle.graph_json.specs.declared.faults.ReadFault.{ReadFault}
@@ -9,7 +8,7 @@ use Rattle.graph_json.specs.declared.faults.ReadFault.TheVariants as fault
 use Rattle.fluxion_shell.specs.declared.status.Status.{Status}
 use Rattle.fluxion_shell.specs.declared.status.Status.TheVariants as status
 use Rattle.fluxion_shell.specs.declared.status.Which.{Which}
-use Rattle.fluxion_shell.specs.declared.status.Which.TheVariants.{GraphBytes, InputBytes}
+use Rattle.fluxion_shell.specs.declared.status.Which.TheVariants.{GraphBytes, InputBytes, Lines, LineBytes, Clients}
 
 abbrev pub code_of : Status → ℕ
 code_of status.Ok = 0
@@ -24,13 +23,9 @@ code_of status.NoGraphFile = 8
 abbrev pub word_of : Which → List ℕ
 word_of GraphBytes = codes "graph-bytes "
 word_of InputBytes = codes "input-bytes "
-
-abbrev pub field_word : FieldFault → List ℕ
-field_word Missing = codes "missing"
-field_word Kind = codes "kind"
-field_word Small = codes "small"
-field_word Large = codes "large"
-field_word Text = codes "text"
+word_of Lines = codes "lines "
+word_of LineBytes = codes "line-bytes "
+word_of Clients = codes "clients "
 
 -- what is wrong with a list of vertices; want of memory is never told so
 abbrev pub graph_words : GraphFault → List ℕ

@@ -1,4 +1,5 @@
-pub mod Ends
 pub mod Forms
 pub mod Outputs
+pub mod PlayedText
 pub mod Causes
+pub mod Ends

@@ -1,18 +1,20 @@
 //! The text that answers an input over a graph.
-ghost use Rattle.std.specs.Prelude.{◌≡◌, ◌<◌, ◌^◌, length, IfOk};
+ghost use Rattle.std.specs.Prelude.{◌≡◌, ◌++◌, ◌∷◌, [], Some, None, map, IsOk, IsErrOf, IfOk, OnOk};
 ghost use Rattle.resource_graph.specs.NamedGraph.{IsWhole};
-ghost use Rattle.fluxion_shell.specs.Outputs.{IsSoundOutput};
+ghost use Rattle.fluxion_lines.specs.declared.input.Over.{Over};
+ghost use Rattle.fluxion_lines.specs.Inputs.{over_in};
+ghost use Rattle.sched_core.specs.Played.{AreProper};
+ghost use Rattle.fluxion_shell.specs.Outputs.{shipped, IsSoundOutput};
+ghost use Rattle.fluxion_shell.specs.PlayedText.{client_line, IsPlayedText};
 
-use flux_defs::{Limits, Text};
-use plain_core::site::core_kind;
-use plain_core::{Site, play};
+use flux_defs::{Limits, List, Text};
+use fluxion_lines::{Form, Input, InputFault, NumberedLine, history_text, read_lines};
+use prune_filters::Rules;
 use resource_graph::Graph;
-use slot_lines::lines::read_script;
-use slot_lines::replies::write_history;
+use sched_core::playing::ClientLine;
+use sched_core::{Core, play};
 use std::alloc::{AllocError, Global};
-
-/// The horizon in seconds: ten years of 365 days.
-const HORIZON: u64 = 315_360_000;
+use std::sync::Arc;
 
 /// Every graph is valid; nothing is done.
 fn graph_is_valid(graph: &Graph)
@@ -21,20 +23,76 @@ fn graph_is_valid(graph: &Graph)
     let _ = graph.vertices();
 }
 
-/// The text of the history that answers the input's lines in their order.
-pub fn answer(alloc: Global, graph: &Graph, input: &[u8]) -> Result<Text, AllocError>
-    requires { length input.now < 2 ^ 32 }
-    ensures { IfOk result (IsSoundOutput graph.now input.now) }
+fn push_line(lines: &mut Vec<ClientLine>, line: ClientLine) -> Result<(), AllocError>
+    ensures { OnOk result (lines.new.items ≡ lines.old.items ++ line ∷ []) }
 {
-    graph_is_valid(graph);
-    let script = read_script(alloc, core_kind(graph), input)?;
-    let site = Site {
-        graph,
-        horizon: HORIZON,
-        limit: Limits::shipped().claims,
+    lines.push(line)?;
+    Ok(())
+}
+
+/// The lines, as the scheduler takes them.
+fn client_lines(alloc: Global, lines: List<NumberedLine>) -> Result<Vec<ClientLine>, AllocError>
+    ensures { IfOk result (λ taken. taken.items ≡ map client_line lines) }
+{
+    let mut taken = Vec::new(alloc);
+    for told in lines.into_vec() {
+        let NumberedLine {
+            client,
+            line,
+            command,
+        } = told;
+        push_line(
+            &mut taken,
+            ClientLine {
+                client,
+                line,
+                command,
+            },
+        )?;
+    }
+    Ok(taken)
+}
+
+/// The text of the history that answers lines in their order.
+fn played(
+    alloc: Global,
+    graph: Graph,
+    horizon: u64,
+    clients: &List<Text>,
+    lines: Vec<ClientLine>,
+) -> Result<Text, AllocError>
+    requires { AreProper graph.resources.vertices lines.items }
+    ensures { IfOk result (IsPlayedText graph horizon clients.now lines.items) }
+{
+    let graph = Arc::new(alloc, graph)?;
+    let Ok(rules) = Rules::read(alloc, b"ALL:core") else {
+        return Err(AllocError);
     };
-    let lines = script.lines.items()[0].items();
-    let history = play(alloc, &site, 0, lines)?;
-    let text = write_history(alloc, graph, &script.clients, history.as_slice())?;
-    Ok(Text::of_vec(text))
+    let shared = Arc::try_clone(&graph)?;
+    let mut core = Core::new(alloc, shared, rules, horizon, Limits::shipped().claims)?;
+    play(&mut core, lines)?;
+    history_text(alloc, &graph, clients, core.entries())
+}
+
+/// The text of the history that answers the input's lines in their order, up to a horizon in seconds; or the first line
+/// that is past a limit.
+pub fn answer(
+    alloc: Global,
+    graph: Graph,
+    horizon: u64,
+    input: &[u8],
+) -> Result<Text, InputFault>
+    ensures output { IfOk result (IsSoundOutput graph horizon input.now) }
+    ensures within { IsOk result → over_in shipped input.now ≡ None }
+    ensures over { (over : Over) → IsErrOf result (InputFault.Over over) → over_in shipped input.now ≡ Some over }
+{
+    graph_is_valid(&graph);
+    let limits = Limits::shipped();
+    let Input { clients, lines } = match read_lines(alloc, &graph, Form::Rfc14, input, &limits) {
+        Ok(read) => read,
+        Err(fault) => return Err(fault),
+    };
+    let lines = client_lines(alloc, lines)?;
+    let text = played(alloc, graph, horizon, &clients, lines)?;
+    Ok(text)
 }

@@ -1,25 +1,12 @@
 //! What is wrong with a graph file, in words.
 ghost use Rattle.std.specs.Prelude.{◌≡◌, ◌++◌, decimal, OnOk};
-ghost use Rattle.fluxion_shell.specs.Ends.{field_word, graph_words, fault_words};
+ghost use Rattle.fluxion_shell.specs.Ends.{graph_words, fault_words};
 
+use fluxion_lines::pieces::{add, add_number};
 use graph_json::ReadFault;
-use json_whole::FieldFault;
+use json_fields::field_word;
 use resource_graph::GraphFault;
-use slot_lines::pieces::{add, add_number};
 use std::alloc::AllocError;
-
-/// What is wrong with a field.
-fn field_word(fault: FieldFault) -> &'static [u8]
-    ensures { result.now ≡ field_word fault }
-{
-    match fault {
-        FieldFault::Missing => b"missing",
-        FieldFault::Kind => b"kind",
-        FieldFault::Small => b"small",
-        FieldFault::Large => b"large",
-        FieldFault::Text => b"text",
-    }
-}
 
 /// Adds the words and the number.
 fn add_counted(line: &mut Vec<u8>, words: &[u8], number: u64) -> Result<(), AllocError>
@@ -66,7 +53,7 @@ pub(crate) fn add_fault(line: &mut Vec<u8>, fault: &ReadFault) -> Result<(), All
             add(line, b"field ")?;
             add(line, path.bytes())?;
             add(line, b" ")?;
-            add(line, field_word(*fault))
+            add(line, field_word(*fault).as_bytes())
         }
         ReadFault::DuplicateNode { at } => add_counted(line, b"node ", *at),
         ReadFault::Edge { at } => add_counted(line, b"edge ", *at),

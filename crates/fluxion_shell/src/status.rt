@@ -4,8 +4,8 @@ ghost use Rattle.fluxion_shell.specs.Ends.{code_of, line_of};
 
 use crate::fault_texts::add_fault;
 use flux_defs::Text;
+use fluxion_lines::pieces::{add, add_number};
 use graph_json::ReadFault;
-use slot_lines::pieces::{add, add_number};
 use std::alloc::{AllocError, Global};
 
 /// How a run ends.
@@ -29,7 +29,8 @@ pub enum Status {
     NoGraphFile,
 }
 
-/// Which limit was passed, and the number that was found past it.
+/// Which limit was passed, and the number that was found past it: of bytes, one more than the limit; else the number of the
+/// line, from 1.
 #[derive(Clone, Copy, Debug, PartialEq, Eq)]
 pub struct Limited {
     pub which: Which,
@@ -43,6 +44,12 @@ pub enum Which {
     GraphBytes,
     /// The bytes of the input.
     InputBytes,
+    /// The lines of the input.
+    Lines,
+    /// The bytes of one of its lines.
+    LineBytes,
+    /// Its clients.
+    Clients,
 }
 
 /// The number that the program ends with.
@@ -97,6 +104,9 @@ fn limit_line(alloc: Global, limited: &Limited) -> Result<Text, AllocError>
     let word: &[u8] = match limited.which {
         Which::GraphBytes => b"graph-bytes ",
         Which::InputBytes => b"input-bytes ",
+        Which::Lines => b"lines ",
+        Which::LineBytes => b"line-bytes ",
+        Which::Clients => b"clients ",
     };
     add(&mut line, word)?;
     add_number(&mut line, limited.found)?;

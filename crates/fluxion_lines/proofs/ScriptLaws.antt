@@ -1,0 +1,188 @@
+-- The lines of an input in their order, and those of each client.
+use Rattle.std.proofs.Common.{◌≡◌, ℕ, zero, suc, ◌+◌, ◌<◌, ◌≤◌, ◌==◌, ◌||◌, Bool, true, false, cond, if◌then◌else◌, List, [], ◌∷◌, ◌++◌, map, filter, length, length-append, get_or, All, Contains, Option, Some, None, slice_get, option_map, inl, inr, refl, sym, ◌∙◌, ap, subst, arith}
+use Rattle.std.specs.List.{AllByRecursion, list_any, range_with_len}
+use Rattle.std.proofs.lemmas.Bool.{ne_eqb}
+use Rattle.std.proofs.lemmas.Bool.Decides.{nat_tests}
+use Rattle.std.proofs.lemmas.List.FromFn.{length-range_with_len, length-map-range_with_len, get_or-range_with_len}
+use Rattle.std.proofs.lemmas.Option.{slice_get-map, slice_get_within, slice_get_cases}
+use Rattle.std.specs.Str.{bytes_eq}
+use Rattle.flux_defs.specs.declared.journal.Line.{Line}
+use Rattle.flux_defs.specs.declared.journal.Script.{Script}
+use Rattle.flux_defs.specs.Graph.{ResourceGraph}
+use Rattle.flux_defs.specs.Scripts.{HasLines, has_number, Interleaves}
+use Rattle.text_table.specs.Tables.{with_text, with_texts}
+use Rattle.fluxion_lines.specs.Lines.{lines_of}
+use Rattle.fluxion_lines.specs.Inputs.{client_in, clients_of, lines_from, numbered_lines}
+use Rattle.fluxion_lines.specs.Scripts.{line_held, lines_by, script_of, input_order}
+use Rattle.fluxion_lines.specs.declared.input.NumberedLine.{NumberedLine}
+use Rattle.fluxion_lines.proofs.LineLaws.{place_within}
+
+-- ---- lists
+
+all_and : {X : Type 0} {P Q R : X → Type 0} (xs : List X) → ((x : X) → P x → Q x → R x) → AllByRecursion P xs → AllByRecursion Q xs → AllByRecursion R xs
+all_and [] f ps qs = tt
+all_and (x ∷ xs) f ps qs = (f x ps.0 qs.0, all_and xs f ps.1 qs.1)
+
+pub all_mapped : {X Y : Type 0} {P : Y → Type 0} (f : X → Y) (xs : List X) → AllByRecursion (λ x. P (f x)) xs → AllByRecursion P (map f xs)
+all_mapped f [] h = tt
+all_mapped f (x ∷ xs) h = (h.0, all_mapped f xs h.1)
+
+pub all_unmapped : {X Y : Type 0} {P : Y → Type 0} (f : X → Y) (xs : List X) → AllByRecursion P (map f xs) → AllByRecursion (λ x. P (f x)) xs
+all_unmapped f [] h = tt
+all_unmapped f (x ∷ xs) h = (h.0, all_unmapped f xs h.1)
+
+-- what all have by recursion, each at its place has
+pub at_each : {X : Type 0} (P : X → Type 0) (xs : List X) → AllByRecursion P xs → All P xs
+at_each P [] h k d lt = absurd (omega arith)
+at_each P (x ∷ xs) h zero d lt = h.0
+at_each P (x ∷ xs) h (suc k) d lt = at_each P xs h.1 k d (omega arith)
+
+in_more : {X : Type 0} (y : X) (xs : List X) (x : X) → Contains xs x → Contains (y ∷ xs) x
+in_more y xs x (k, lt, is) = (suc k, omega (arith, lt), is)
+
+in_mapped : {X Y : Type 0} (f : X → Y) (xs : List X) (x : X) (k : ℕ) → k < length xs → get_or xs k x ≡ x → Contains (map f xs) (f x)
+in_mapped f [] x k lt e = absurd (omega arith)
+in_mapped f (y ∷ ys) x zero lt e = (0, omega arith, ap f e)
+in_mapped f (y ∷ ys) x (suc k) lt e = let r = in_mapped f ys x k (omega arith) e in (suc r.0, (let s = r.1 in omega arith), r.2)
+
+same_eq : (n : ℕ) → (n == n) ≡ true
+same_eq n = grind (arith, nat_tests)
+
+-- ---- numbers rise
+
+abbrev RiseFrom : ℕ → List NumberedLine → Type 0
+RiseFrom at [] = Unit {0}
+RiseFrom at (l ∷ ls) = (at ≤ l.line) × RiseFrom (l.line + 1) ls
+
+rises : (g : ResourceGraph) (clients : List (List ℕ)) (at : ℕ) (raws : List (List ℕ)) → RiseFrom at (lines_from g clients at raws)
+rises g clients at [] = tt
+rises g clients at (raw ∷ raws) = (omega arith, rises g (with_text clients (client_in raw)) (at + 1) raws)
+
+-- no line of a client has a lesser number
+none_by : (c : ℕ) (b : Bool) (n : ℕ) (l : NumberedLine) (held : List Line) → n < l.line → has_number held n ≡ false → has_number (cond b (line_held l ∷ held) held) n ≡ false
+none_by c true n l held lt none = ap (λ t. t || has_number held n) (ne_eqb l.line n (λ same. omega (arith, same, lt))) ∙ none
+none_by c false n l held lt none = none
+
+mapped_filter : (c : ℕ) (b : Bool) (l : NumberedLine) (ls : List NumberedLine) →
+    map line_held (cond b (l ∷ filter (λ x. x.client == c) ls) (filter (λ x. x.client == c) ls)) ≡ cond b (line_held l ∷ lines_by c ls) (lines_by c ls)
+mapped_filter c true l ls = refl
+mapped_filter c false l ls = refl
+
+-- one line more
+by_more : (c : ℕ) (l : NumberedLine) (ls : List NumberedLine) → lines_by c (l ∷ ls) ≡ cond (l.client == c) (line_held l ∷ lines_by c ls) (lines_by c ls)
+by_more c l ls = mapped_filter c (l.client == c) l ls
+
+none_before : (c n at : ℕ) (ls : List NumberedLine) → RiseFrom at ls → n < at → has_number (lines_by c ls) n ≡ false
+none_before c n at [] rise lt = refl
+none_before c n at (l ∷ ls) rise lt =
+    let low = rise.0 in
+    ap (λ held. has_number held n) (by_more c l ls)
+    ∙ none_by c (l.client == c) n l (lines_by c ls) (omega (arith, low, lt)) (none_before c n (l.line + 1) ls rise.1 (omega (arith, low, lt)))
+
+-- a client's lines have exactly its numbers
+head_by : (b : Bool) (l : NumberedLine) (held : List Line) → has_number held l.line ≡ false → has_number (cond b (line_held l ∷ held) held) l.line ≡ b
+head_by true l held none = ap (λ t. t || has_number held l.line) (same_eq l.line)
+head_by false l held none = none
+
+tail_by : (b : Bool) (l x : NumberedLine) (held : List Line) → l.line < x.line → has_number (cond b (line_held l ∷ held) held) x.line ≡ has_number held x.line
+tail_by true l x held lt = ap (λ t. t || has_number held x.line) (ne_eqb l.line x.line (λ same. omega (arith, same, lt)))
+tail_by false l x held lt = refl
+
+past : (at : ℕ) (ls : List NumberedLine) → RiseFrom at ls → AllByRecursion (λ x. at ≤ x.line) ls
+past at [] rise = tt
+past at (l ∷ ls) rise = let low = rise.0 in (low, all_and ls (λ x p q. omega (arith, low, p)) (past (l.line + 1) ls rise.1) (past (l.line + 1) ls rise.1))
+
+own_numbers : (c at : ℕ) (ls : List NumberedLine) → RiseFrom at ls → AllByRecursion (λ l. has_number (lines_by c ls) l.line ≡ (l.client == c)) ls
+own_numbers c at [] rise = tt
+own_numbers c at (l ∷ ls) rise =
+    let more = by_more c l ls in
+    let later = past (l.line + 1) ls rise.1 in
+    (
+      ap (λ held. has_number held l.line) more ∙ head_by (l.client == c) l (lines_by c ls) (none_before c l.line (l.line + 1) ls rise.1 (omega arith)),
+      all_and ls (λ x low own. ap (λ held. has_number held x.line) more ∙ (tail_by (l.client == c) l x (lines_by c ls) (omega (arith, low)) ∙ own)) later (own_numbers c (l.line + 1) ls rise.1),
+    )
+
+filtered_by : (b : Bool) (n : ℕ) (l : NumberedLine) (rest : List ℕ) (ls : List NumberedLine) → rest ≡ map (λ x. x.line) (map line_held ls) →
+    cond b (l.line ∷ rest) rest ≡ map (λ x. x.line) (map line_held (cond b (l ∷ ls) ls))
+filtered_by true n l rest ls is = ap (λ ns. l.line ∷ ns) is
+filtered_by false n l rest ls is = is
+
+-- a test of numbers that tells a client's lines
+told_apart : (c : ℕ) (test : ℕ → Bool) (ls : List NumberedLine) → AllByRecursion (λ l. test l.line ≡ (l.client == c)) ls → filter test (map (λ l. l.line) ls) ≡ map (λ l. l.line) (lines_by c ls)
+told_apart c test [] tells = refl
+told_apart c test (l ∷ ls) tells =
+    let rest = filter test (map (λ x. x.line) ls) in
+    ap (λ b. cond b (l.line ∷ rest) rest) tells.0 ∙ filtered_by (l.client == c) l.line l rest (filter (λ x. x.client == c) ls) (told_apart c test ls tells.1)
+
+-- each line is among those of its client
+among_by : (b : Bool) (l x : NumberedLine) (held : List Line) → Contains held (line_held x) → Contains (cond b (line_held l ∷ held) held) (line_held x)
+among_by true l x held has = in_more (line_held l) held (line_held x) has
+among_by false l x held has = has
+
+first_by : (b : Bool) (l : NumberedLine) (held : List Line) → b ≡ true → Contains (cond b (line_held l ∷ held) held) (line_held l)
+first_by true l held is = (0, omega arith, refl)
+first_by false l held is = absurd (cc)
+
+among : (ls : List NumberedLine) → AllByRecursion (λ l. Contains (lines_by l.client ls) (line_held l)) ls
+among [] = tt
+among (l ∷ ls) = (
+  subst (λ held. Contains held (line_held l)) (sym (by_more l.client l ls)) (first_by (l.client == l.client) l (lines_by l.client ls) (same_eq l.client)),
+  all_and ls (λ x has also. subst (λ held. Contains held (line_held x)) (sym (by_more x.client l ls)) (among_by (l.client == x.client) l x (lines_by x.client ls) has)) (among ls) (among ls),
+)
+
+-- ---- clients
+
+one_text : (b : Bool) (texts : List (List ℕ)) (t : List ℕ) → length texts ≤ length (if b then texts else texts ++ t ∷ [])
+one_text true texts t = omega arith
+one_text false texts t = let long = length-append texts (t ∷ []) in omega (arith, long)
+
+grows : (texts more : List (List ℕ)) → length texts ≤ length (with_texts texts more)
+grows texts [] = omega arith
+grows texts (t ∷ more) = let one = one_text (list_any (bytes_eq t) texts) texts t in let rest = grows (with_text texts t) more in omega (arith, one, rest)
+
+few : (g : ResourceGraph) (clients : List (List ℕ)) (at : ℕ) (raws : List (List ℕ)) → AllByRecursion (λ l. l.client < length (with_texts clients (map client_in raws))) (lines_from g clients at raws)
+few g clients at [] = tt
+few g clients at (raw ∷ raws) =
+    let place = place_within clients (client_in raw) in
+    let rest = grows (with_text clients (client_in raw)) (map client_in raws) in
+    (omega (arith, place, rest), few g (with_text clients (client_in raw)) (at + 1) raws)
+
+-- ---- the script
+
+in_range : (n c : ℕ) → c < n → slice_get (range_with_len 0 n) c ≡ Some c
+in_range n c lt = elim (slice_get_cases (range_with_len 0 n) c).1 [
+    | inl (x, within, some, is) ↦ some ∙ ap Some (sym is ∙ get_or-range_with_len 0 n c x lt)
+    | inr (gone, none) ↦ absurd (let long = length-range_with_len 0 n in omega (arith, long, gone, lt))
+  ]
+
+some_is : {X : Type 0} (x y : X) → Some x ≡ Some y → x ≡ y
+some_is x y e = cc
+
+module _ (g : ResourceGraph) (bytes : List ℕ) where
+  abbrev lines : List NumberedLine
+  lines = numbered_lines g bytes
+
+  abbrev count : ℕ
+  count = length (clients_of bytes)
+
+  has_lines : (c : ℕ) → c < count → HasLines (script_of g bytes) c (lines_by c lines)
+  has_lines c lt = slice_get-map (λ client. lines_by client lines) (range_with_len 0 count) c ∙ ap (option_map (λ client. lines_by client lines)) (in_range count c lt)
+
+  lines_are : (c : ℕ) (ls : List Line) → HasLines (script_of g bytes) c ls → lines_by c lines ≡ ls
+  lines_are c ls had =
+      let within = slice_get_within (map (λ client. lines_by client lines) (range_with_len 0 count)) c ls had in
+      let long = length-map-range_with_len (λ client. lines_by client lines) 0 count in
+      some_is (lines_by c lines) ls (sym (has_lines c (omega (arith, within, long))) ∙ had)
+
+  -- each line is one of its client's
+  pub held : AllByRecursion (λ l. HasLines (script_of g bytes) l.client (lines_by l.client lines) × Contains (lines_by l.client lines) (line_held l)) lines
+  held = all_and lines (λ l lt has. (has_lines l.client lt, has)) (few g [] 1 (lines_of bytes)) (among lines)
+
+  -- the order of the input interleaves the script
+  pub interleaves : Interleaves (script_of g bytes) (input_order g bytes)
+  interleaves = record {
+    known = at_each _ (input_order g bytes) (all_mapped (λ l. l.line) lines
+        (all_and lines (λ l h k. (l.client, lines_by l.client lines, h.0, in_mapped (λ x. x.line) (lines_by l.client lines) (line_held l) h.1.0 h.1.1 h.1.2)) held held));
+    each = λ c ls had. subst (λ (x : List Line). filter (has_number x) (input_order g bytes) ≡ map (λ l. l.line) x) (lines_are c ls had)
+        (told_apart c (has_number (lines_by c lines)) lines (own_numbers c 1 lines (rises g [] 1 (lines_of bytes))));
+  }
