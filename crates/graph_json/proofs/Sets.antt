@@ -1,8 +1,7 @@
--- Texts in a set, in the order in which they were added.
-use Rattle.std.proofs.Common.{◌≡◌, refl, sym, ap, subst, ◌∙◌, ℕ, suc, List, [], ◌∷◌, ◌++◌, map, Vec, Global, Bool, true, false, not, ◌||◌, true≢false, Some, append_assoc, append-nil, arith, ◌+◌, cond, position, nat_lt, length, None, option_map, if◌then◌else◌, Bor, string_bytes, ◌==◌}
+-- Texts without repeats, in the order in which they were added.
+use Rattle.std.proofs.Common.{◌≡◌, refl, sym, ap, subst, ◌∙◌, ℕ, suc, List, [], ◌∷◌, ◌++◌, map, Bool, true, false, not, ◌||◌, true≢false, Some, arith, ◌+◌, cond, position, nat_lt, length, None, option_map, if◌then◌else◌, Bor, string_bytes, ◌==◌}
 use Rattle.std.proofs.lemmas.Bool.{ne_eqb}
 use Rattle.std.proofs.lemmas.Bool.Decides.{nat_tests}
-use Rattle.std.proofs.lemmas.List.{length-map, map-append}
 use Rattle.std.proofs.lemmas.Map.Keys.{IsDistinct-push}
 use Rattle.std.specs.Cmp.Lexicographic.{nat_list_eq_equiv}
 use Rattle.std.specs.List.{IsDistinct, AllByRecursion, list_any, position_or_len}
@@ -26,18 +25,6 @@ either : (a b : Bool) → (a || b) ≡ true → (a ≡ true → ⊥) → (b ≡ 
 either true b h left right = left refl
 either false b h left right = right h
 
-neither : (a b : Bool) → a ≡ false → b ≡ false → (a || b) ≡ false
-neither true b e f = absurd (true≢false e)
-neither false b e f = f
-
-left_none : (a b : Bool) → (a || b) ≡ false → a ≡ false
-left_none true b h = h
-left_none false b h = refl
-
-right_none : (a b : Bool) → (a || b) ≡ false → b ≡ false
-right_none true b h = absurd (true≢false h)
-right_none false b h = h
-
 -- a text that stands twice
 pub doubled_at : (xs : List (List ℕ)) (x : List ℕ) (rest : List (List ℕ)) → list_any (bytes_eq x) xs ≡ true → IsDistinct bytes_eq (xs ++ x ∷ rest) → ⊥
 unfolding IsDistinct
@@ -45,22 +32,6 @@ doubled_at [] x rest any d = true≢false (sym any)
 doubled_at (y ∷ xs) x rest any d =
     either (bytes_eq x y) _ any (λ same. true≢false (sym same ∙ (nat_list_eq_equiv.symm x y ∙ all_at_middle (λ z. bytes_eq y z ≡ false) xs x rest d.0)))
     (λ h. doubled_at xs x rest h d.1)
-
-module _ {A : Type 0} (f : A → List ℕ) where
-  -- one more text is added
-  pub kept-more : (xs rest : List A) (x : A) (old new all : List (List ℕ)) → xs ≡ x ∷ rest → new ≡ old ++ f x ∷ [] → old ++ map f xs ≡ all → new ++ map f rest ≡ all
-  kept-more xs rest x old new all split more kept = rw more (append_assoc old (f x ∷ []) (map f rest) ∙ (ap (λ ys. old ++ map f ys) (sym split) ∙ kept))
-
-  -- a text is not new
-  pub doubled : (xs rest : List A) (x : A) (old all : List (List ℕ)) → xs ≡ x ∷ rest → old ++ map f xs ≡ all → list_any (bytes_eq (f x)) old ≡ true → IsDistinct bytes_eq all → ⊥
-  doubled xs rest x old all split kept any d =
-      let whole : old ++ f x ∷ map f rest ≡ all = ap (λ ys. old ++ map f ys) (sym split) ∙ kept in
-      let P : List (List ℕ) → Type 0 = λ ys. IsDistinct bytes_eq ys in
-      doubled_at old (f x) (map f rest) any (subst P (sym whole) d)
-
-  -- no text is left
-  pub kept-end : (xs : List A) (old all : List (List ℕ)) → xs ≡ [] → old ++ map f xs ≡ all → old ≡ all
-  kept-end xs old all none kept = sym (append-nil old) ∙ (ap (λ ys. old ++ map f ys) (sym none) ∙ kept)
 
 pub distinct-more : (old new : List (List ℕ)) (x : List ℕ) → new ≡ old ++ x ∷ [] → list_any (bytes_eq x) old ≡ false → IsDistinct bytes_eq old → IsDistinct bytes_eq new
 distinct-more old new x more absent d =
