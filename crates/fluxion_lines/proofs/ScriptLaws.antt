@@ -1,5 +1,5 @@
 -- The lines of an input in their order, and those of each client.
-use Rattle.std.proofs.Common.{◌≡◌, ℕ, zero, suc, ◌+◌, ◌<◌, ◌≤◌, ◌==◌, ◌||◌, Bool, true, false, cond, if◌then◌else◌, List, [], ◌∷◌, ◌++◌, map, filter, length, length-append, get_or, All, Contains, Option, Some, None, slice_get, option_map, inl, inr, refl, sym, ◌∙◌, ap, subst, arith}
+use Rattle.std.proofs.Common.{◌≡◌, ℕ, zero, suc, ◌+◌, ◌<◌, ◌≤◌, ◌==◌, ◌||◌, Bool, true, false, cond, if◌then◌else◌, List, [], ◌∷◌, ◌++◌, map, filter, length, length-append, get_or, All, Contains, Some, slice_get, option_map, inl, inr, refl, sym, ◌∙◌, ap, subst, arith}
 use Rattle.std.specs.List.{AllByRecursion, list_any, range_with_len}
 use Rattle.std.proofs.lemmas.Bool.{ne_eqb}
 use Rattle.std.proofs.lemmas.Bool.Decides.{nat_tests}
@@ -7,7 +7,6 @@ use Rattle.std.proofs.lemmas.List.FromFn.{length-range_with_len, length-map-rang
 use Rattle.std.proofs.lemmas.Option.{slice_get-map, slice_get_within, slice_get_cases}
 use Rattle.std.specs.Str.{bytes_eq}
 use Rattle.flux_defs.specs.declared.journal.Line.{Line}
-use Rattle.flux_defs.specs.declared.journal.Script.{Script}
 use Rattle.flux_defs.specs.Graph.{ResourceGraph}
 use Rattle.flux_defs.specs.Scripts.{HasLines, has_number, Interleaves}
 use Rattle.text_table.specs.Tables.{with_text, with_texts}
@@ -23,13 +22,13 @@ all_and : {X : Type 0} {P Q R : X → Type 0} (xs : List X) → ((x : X) → P x
 all_and [] f ps qs = tt
 all_and (x ∷ xs) f ps qs = (f x ps.0 qs.0, all_and xs f ps.1 qs.1)
 
-pub all_mapped : {X Y : Type 0} {P : Y → Type 0} (f : X → Y) (xs : List X) → AllByRecursion (λ x. P (f x)) xs → AllByRecursion P (map f xs)
-all_mapped f [] h = tt
-all_mapped f (x ∷ xs) h = (h.0, all_mapped f xs h.1)
+pub all_mapped : {X Y : Type 0} (P : Y → Type 0) (f : X → Y) (xs : List X) → AllByRecursion (λ x. P (f x)) xs → AllByRecursion P (map f xs)
+all_mapped P f [] h = tt
+all_mapped P f (x ∷ xs) h = (h.0, all_mapped P f xs h.1)
 
-pub all_unmapped : {X Y : Type 0} {P : Y → Type 0} (f : X → Y) (xs : List X) → AllByRecursion P (map f xs) → AllByRecursion (λ x. P (f x)) xs
-all_unmapped f [] h = tt
-all_unmapped f (x ∷ xs) h = (h.0, all_unmapped f xs h.1)
+pub all_unmapped : {X Y : Type 0} (P : Y → Type 0) (f : X → Y) (xs : List X) → AllByRecursion P (map f xs) → AllByRecursion (λ x. P (f x)) xs
+all_unmapped P f [] h = tt
+all_unmapped P f (x ∷ xs) h = (h.0, all_unmapped P f xs h.1)
 
 -- what all have by recursion, each at its place has
 pub at_each : {X : Type 0} (P : X → Type 0) (xs : List X) → AllByRecursion P xs → All P xs
@@ -96,8 +95,7 @@ own_numbers : (c at : ℕ) (ls : List NumberedLine) → RiseFrom at ls → AllBy
 own_numbers c at [] rise = tt
 own_numbers c at (l ∷ ls) rise =
     let more = by_more c l ls in
-    let later = past (l.line + 1) ls rise.1 in
-    (
+    let later = past (l.line + 1) ls rise.1 in (
       ap (λ held. has_number held l.line) more ∙ head_by (l.client == c) l (lines_by c ls) (none_before c l.line (l.line + 1) ls rise.1 (omega arith)),
       all_and ls (λ x low own. ap (λ held. has_number held x.line) more ∙ (tail_by (l.client == c) l x (lines_by c ls) (omega (arith, low)) ∙ own)) later (own_numbers c (l.line + 1) ls rise.1),
     )
@@ -151,9 +149,9 @@ few g clients at (raw ∷ raws) =
 
 in_range : (n c : ℕ) → c < n → slice_get (range_with_len 0 n) c ≡ Some c
 in_range n c lt = elim (slice_get_cases (range_with_len 0 n) c).1 [
-    | inl (x, within, some, is) ↦ some ∙ ap Some (sym is ∙ get_or-range_with_len 0 n c x lt)
-    | inr (gone, none) ↦ absurd (let long = length-range_with_len 0 n in omega (arith, long, gone, lt))
-  ]
+  | inl (x, within, some, is) ↦ some ∙ ap Some (let at = get_or-range_with_len 0 n c x lt in omega (arith, at, is))
+  | inr (gone, none) ↦ absurd (let long = length-range_with_len 0 n in omega (arith, long, gone, lt))
+]
 
 some_is : {X : Type 0} (x y : X) → Some x ≡ Some y → x ≡ y
 some_is x y e = cc
@@ -178,11 +176,20 @@ module _ (g : ResourceGraph) (bytes : List ℕ) where
   pub held : AllByRecursion (λ l. HasLines (script_of g bytes) l.client (lines_by l.client lines) × Contains (lines_by l.client lines) (line_held l)) lines
   held = all_and lines (λ l lt has. (has_lines l.client lt, has)) (few g [] 1 (lines_of bytes)) (among lines)
 
+  -- the number is that of a line of some client
+  abbrev IsKnown : ℕ → Type 0
+  IsKnown n = (c : ℕ) × (ls : List Line) × HasLines (script_of g bytes) c ls × Contains (map (λ l. l.line) ls) n
+
+  abbrev IsHeld : NumberedLine → Type 0
+  IsHeld l = HasLines (script_of g bytes) l.client (lines_by l.client lines) × Contains (lines_by l.client lines) (line_held l)
+
+  known_line : (l : NumberedLine) → IsHeld l → IsHeld l → IsKnown l.line
+  known_line l h also = (l.client, lines_by l.client lines, h.0, in_mapped (λ x. x.line) (lines_by l.client lines) (line_held l) h.1.0 h.1.1 h.1.2)
+
   -- the order of the input interleaves the script
   pub interleaves : Interleaves (script_of g bytes) (input_order g bytes)
   interleaves = record {
-    known = at_each _ (input_order g bytes) (all_mapped (λ l. l.line) lines
-        (all_and lines (λ l h k. (l.client, lines_by l.client lines, h.0, in_mapped (λ x. x.line) (lines_by l.client lines) (line_held l) h.1.0 h.1.1 h.1.2)) held held));
+    known = at_each IsKnown (input_order g bytes) (all_mapped IsKnown (λ l. l.line) lines (all_and lines known_line held held));
     each = λ c ls had. subst (λ (x : List Line). filter (has_number x) (input_order g bytes) ≡ map (λ l. l.line) x) (lines_are c ls had)
         (told_apart c (has_number (lines_by c lines)) lines (own_numbers c 1 lines (rises g [] 1 (lines_of bytes))));
   }
