@@ -193,3 +193,7 @@ module _ (g : ResourceGraph) (bytes : List ℕ) where
     each = λ c ls had. subst (λ (x : List Line). filter (has_number x) (input_order g bytes) ≡ map (λ l. l.line) x) (lines_are c ls had)
         (told_apart c (has_number (lines_by c lines)) lines (own_numbers c 1 lines (rises g [] 1 (lines_of bytes))));
   }
+
+  -- each line is one of some client's lines
+  pub told : AllByRecursion (λ l. (ls : List Line) × HasLines (script_of g bytes) l.client ls × Contains ls (line_held l)) lines
+  told = all_and lines (λ l h also. (lines_by l.client lines, h.0, h.1)) held held

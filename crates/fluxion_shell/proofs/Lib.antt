@@ -1,5 +1,4 @@
-pub mod Served
-pub mod OneClient
+pub mod FourWords
+pub mod TwoWords
 pub mod Output
 pub mod Shown
-pub mod TwoWords

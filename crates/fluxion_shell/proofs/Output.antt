@@ -1,47 +1,50 @@
 -- A history that was played and its text are an output.
-use Rattle.std.proofs.Common.{◌≡◌, ℕ, List, [], ◌∷◌, map, get_or, sym, ◌∙◌, ap, subst}
+use Rattle.std.proofs.Common.{◌≡◌, ℕ, List, [], ◌∷◌, map, Contains, refl, sym, ◌∙◌, ap, subst}
+use Rattle.std.specs.List.{AllByRecursion}
 use Rattle.flux_defs.specs.declared.journal.Entry.{Entry}
 use Rattle.flux_defs.specs.declared.journal.Line.{Line}
-use Rattle.flux_defs.specs.declared.journal.Script.{Script}
 use Rattle.flux_defs.specs.declared.vertices.Vertex.{Vertex}
-use Rattle.flux_defs.specs.ValidGraph.{IsValidGraph}
-use Rattle.flux_defs.specs.Histories.{HasProperCommands}
+use Rattle.flux_defs.specs.Scheduler.{IsProper}
+use Rattle.flux_defs.specs.Scripts.{HasLines}
 use Rattle.resource_graph.specs.NamedGraph.{NamedGraph}
-use Rattle.slot_lines.specs.Lines.{IsScriptOf}
-use Rattle.slot_lines.specs.Texts.{history_text}
-use Rattle.plain_core.specs.Sites.{IsCoreKind}
-use Rattle.plain_core.specs.Played.{line_of, AreServed, IsPlayed}
-use Rattle.sound_laws.proofs.Legal.{legal_keeps}
-use Rattle.fluxion_shell.specs.Outputs.{served_setting, IsSoundOutput}
-use Rattle.fluxion_shell.proofs.OneClient.{interleaves, plays}
-use Rattle.fluxion_shell.proofs.Served.{lines_served}
+use Rattle.sched_core.specs.declared.playing.ClientLine.{ClientLine}
+use Rattle.sched_core.specs.Played.{AreProper, line_of}
+use Rattle.fluxion_lines.specs.declared.input.NumberedLine.{NumberedLine}
+use Rattle.fluxion_lines.specs.Inputs.{clients_of, numbered_lines}
+use Rattle.fluxion_lines.specs.Scripts.{script_of, input_order}
+use Rattle.fluxion_lines.proofs.ScriptLaws.{all_mapped, all_unmapped, at_each, interleaves, told}
+use Rattle.fluxion_shell.specs.Outputs.{IsSoundOutput}
+use Rattle.fluxion_shell.specs.PlayedText.{client_line, IsPlayedText}
 
-proper_of : (vertices : List Vertex) (history : List Entry) → AreServed vertices (map line_of history) → HasProperCommands vertices history
-proper_of vertices [] served = tt
-proper_of vertices (e ∷ es) served = (served.0.1, proper_of vertices es served.1)
+numbers_of : (history : List Entry) → map (λ (l : ClientLine). l.line) (map line_of history) ≡ map (λ e. e.line) history
+numbers_of [] = refl
+numbers_of (e ∷ es) = ap (λ ns. e.line ∷ ns) (numbers_of es)
 
-module _ (g : NamedGraph) (valid : IsValidGraph g.resources g.names) (core : ℕ) (cores : IsCoreKind g.resources core) (input : List ℕ) (script : Script) (read : IsScriptOf core input script) where
-  -- the one client's lines
-  pub only_lines : (lines found : List Line) (items : List (List Line)) → lines ≡ found → found ≡ get_or items 0 found → items ≡ script.lines → script.lines ≡ lines ∷ []
-  only_lines lines found items a b e = read.lines-are ∙ ap (λ x. x ∷ []) (sym (a ∙ (b ∙ ap (λ xs. get_or xs 0 found) (e ∙ read.lines-are))))
+numbers_in : (lines : List NumberedLine) → map (λ (l : ClientLine). l.line) (map client_line lines) ≡ map (λ l. l.line) lines
+numbers_in [] = refl
+numbers_in (l ∷ ls) = ap (λ ns. l.line ∷ ns) (numbers_in ls)
 
-  -- the script's lines are served
-  pub served : (lines : List Line) → script.lines ≡ lines ∷ [] → AreServed g.resources.vertices lines
-  served lines one = subst (AreServed g.resources.vertices) (let same : read.lines ∷ [] ≡ lines ∷ [] = sym read.lines-are ∙ one in cc) (lines_served g valid core cores 1 read.lines input read.read)
+-- proper commands, as the scheduler takes them
+pub proper_lines : (vertices : List Vertex) (lines : List NumberedLine) → AllByRecursion (λ l. IsProper vertices l.command) lines → AreProper vertices (map client_line lines)
+proper_lines vertices lines proper = all_mapped (λ (l : ClientLine). IsProper vertices l.command) client_line lines proper
 
-  pub sound_output : (lines : List Line) → script.lines ≡ lines ∷ [] → (history : List Entry) → IsPlayed (served_setting g) 0 lines history → (text : List ℕ) → text ≡ history_text g script.clients history →
-      IsSoundOutput g input text
-  sound_output lines one history played text is = record {
-    output = record {
-      core = core;
-      core-is = cores;
-      script = script;
-      script-is = read;
-      interleaves = interleaves script lines one;
-      history = history;
-      plays = plays script lines one (served_setting g) history played;
-      text-is = is;
-    };
-    sound = legal_keeps (served_setting g) g.names valid history
-        (proper_of g.resources.vertices history (subst (AreServed g.resources.vertices) (sym played.lines-are) (served lines one))) played.legal;
-  }
+pub sound_output : (g : NamedGraph) (horizon : ℕ) (input text : List ℕ) → IsPlayedText g horizon (clients_of input) (map client_line (numbered_lines g.resources input)) text → IsSoundOutput g horizon input text
+sound_output g horizon input text played =
+    let IsTold : ClientLine → Type 0 = λ x. (ls : List Line) × HasLines (script_of g.resources input) x.client ls × Contains ls (record { line = x.line; command = x.command }) in
+    let lines = numbered_lines g.resources input in
+    let answers : AllByRecursion IsTold (map line_of played.history) = subst (AllByRecursion IsTold) (sym played.lines-are) (all_mapped IsTold client_line lines (told g.resources input)) in
+    record {
+      output = record {
+        rules = played.rules;
+        rules-are = played.rules-are;
+        interleaves = interleaves g.resources input;
+        history = played.history;
+        plays = record {
+          lines = sym (numbers_of played.history) ∙ (ap (map (λ (l : ClientLine). l.line)) played.lines-are ∙ numbers_in lines);
+          answers = at_each _ played.history (all_unmapped IsTold line_of played.history answers);
+          legal = played.legal;
+        };
+        text-is = played.text-is;
+      };
+      sound = played.sound;
+    }

@@ -7,11 +7,15 @@ use Rattle.resource_graph.specs.NamedGraph.{NamedGraph}
 use Rattle.graph_json.specs.GraphText.{IsGraphText}
 use Rattle.graph_json.specs.declared.faults.ReadFault.{ReadFault}
 use Rattle.graph_json.proofs.TextLaws.{no_fault_told}
+use Rattle.fluxion_lines.specs.declared.input.Over.{Over}
+use Rattle.fluxion_lines.specs.declared.input.Over.TheVariants as over_at
+use Rattle.fluxion_lines.specs.Inputs.{over_in}
+use Rattle.fluxion_shell.specs.Outputs.{shipped}
 use Rattle.fluxion_shell.specs.declared.status.Status.{Status}
 use Rattle.fluxion_shell.specs.declared.status.Status.TheVariants as status
 use Rattle.fluxion_shell.specs.declared.status.Limited.{Limited}
-use Rattle.fluxion_shell.specs.declared.status.Which.TheVariants.{GraphBytes, InputBytes}
-use Rattle.fluxion_shell.specs.Causes.{most_bytes, past_graph, long_graph, long_input, told_file, WhereTold, OrEarlier, HasFault, AppendsFrontOfSome, ShowsInput, ShowsFile, ShowsStore, Shows, ShowsPrint, Known, FailsWith, HasGraphFile, HasShortInput}
+use Rattle.fluxion_shell.specs.declared.status.Which.TheVariants.{GraphBytes, InputBytes, Lines, LineBytes, Clients}
+use Rattle.fluxion_shell.specs.Causes.{most_bytes, past_graph, long_graph, long_input, told_file, WhereTold, OrEarlier, HasFault, AppendsFrontOfSome, ShowsLines, ShowsInput, limit_of, ShowsFile, ShowsStore, Shows, ShowsPrint, Known, FailsWith, HasGraphFile, HasShortInput}
 
 pub known : (told : Option Stored) (name old new : List ℕ) → old ≡ [] →
     IfSome told (λ files. (bytes : List ℕ) × (file_of files name ≡ Some bytes) × (length bytes ≤ 268435456) × (new ≡ old ++ bytes)) → Known told name new
@@ -26,10 +30,13 @@ earlier_answer result A (inl read) = inl read
 earlier_answer result A (inr memory) = inr (inl memory)
 
 -- an answer that came before what the input shows
+pub earlier_lines : (past : Option Over) (result : Status) → (result ≡ status.Read) ⊎ (result ≡ status.Memory) → ShowsLines result past
+earlier_lines None result early = earlier_answer result _ early
+earlier_lines (Some over) result early = earlier_answer result _ early
+
 pub earlier_input : (left : Option (List ℕ)) (result : Status) → (result ≡ status.Read) ⊎ (result ≡ status.Memory) → IfSome left (ShowsInput result)
 earlier_input None result early = tt
-earlier_input (Some input) result (inl read) = ((λ many. inl read), (λ few. inl read))
-earlier_input (Some input) result (inr memory) = ((λ many. inr (inl memory)), (λ few. inr (inl memory)))
+earlier_input (Some input) result early = ((λ many. earlier_answer result _ early), (λ few. earlier_lines (over_in shipped input) result early))
 
 module _ (told : Option Stored) (name : List ℕ) (bytes : List ℕ) (told_bytes : Known told name bytes) where
   shown : (result : Status) (Then : Type 0) → (length bytes ≤ 268435456 → ShowsFile result bytes Then) → ShowsStore result told name Then
@@ -64,14 +71,25 @@ module _ (told : Option Stored) (name : List ℕ) (bytes : List ℕ) (told_bytes
         by None h = tt
         by (Some input) h = ((λ many. inr (inr refl)), (λ few. absurd (omega arith)))
 
-    -- the input was read
-    pub shows_read : (left : Option (List ℕ)) (input : List ℕ) (result : Status) → length input ≤ 268435456 → IfSome left (λ bytes. input ≡ bytes) → (result ≡ status.Ok) ⊎ (result ≡ status.Write) →
-        Shows result told name left
-    shows_read left input result few is ends = shows_then result (IfSome left (ShowsInput result)) (by left is)
+    -- the input was read, and this is shown of its lines
+    shows_lines : (left : Option (List ℕ)) (input : List ℕ) (result : Status) → length input ≤ 268435456 → IfSome left (λ bytes. input ≡ bytes) → ShowsLines result (over_in shipped input) → Shows result told name left
+    shows_lines left input result few is lines_shown = shows_then result (IfSome left (ShowsInput result)) (by left is)
       where
         by : (o : Option (List ℕ)) → IfSome o (λ bytes. input ≡ bytes) → IfSome o (ShowsInput result)
         by None h = tt
-        by (Some lines) h = ((λ many. absurd (let same : length input ≡ length lines = ap length h in omega arith)), (λ few. inr (inr ends)))
+        by (Some lines) h = (
+          (λ many. absurd (let same : length input ≡ length lines = ap length h in omega arith)),
+          (λ few. subst (λ (i : List ℕ). ShowsLines result (over_in shipped i)) h lines_shown),
+        )
+
+    -- no line is past a limit
+    pub shows_read : (left : Option (List ℕ)) (input : List ℕ) (result : Status) → length input ≤ 268435456 → IfSome left (λ bytes. input ≡ bytes) → over_in shipped input ≡ None →
+        (result ≡ status.Ok) ⊎ (result ≡ status.Write) → Shows result told name left
+    shows_read left input result few is within ends = shows_lines left input result few is (subst (ShowsLines result) (sym within) (inr (inr ends)))
+
+    -- this line is
+    pub shows_over : (left : Option (List ℕ)) (input : List ℕ) (over : Over) → length input ≤ 268435456 → IfSome left (λ bytes. input ≡ bytes) → over_in shipped input ≡ Some over → Shows (limit_of over) told name left
+    shows_over left input over few is past = shows_lines left input (limit_of over) few is (subst (ShowsLines (limit_of over)) (sym past) (inr (inr refl)))
 
     -- reading the input failed, or memory was wanting
     pub shows_earlier : (left : Option (List ℕ)) (result : Status) → (result ≡ status.Read) ⊎ (result ≡ status.Memory) → Shows result told name left
@@ -104,6 +122,46 @@ told_holds (Some files) name P (bytes, at, p) = subst (λ (o : Option (List ℕ)
 
 pub input_is_no_graph : record { which = InputBytes; found = most_bytes + 1 } ≡ past_graph → ⊥
 input_is_no_graph same = let which : InputBytes ≡ GraphBytes = ap (λ (l : Limited). l.which) same in cc
+
+-- the limit of a line is no other answer
+limited_is : (a b : Limited) → status.Limit a ≡ status.Limit b → a ≡ b
+limited_is a b same = cc
+
+apart : (a b : Limited) → (a.which ≡ b.which → ⊥) → status.Limit a ≡ status.Limit b → ⊥
+apart a b other same = other (ap (λ (l : Limited). l.which) (limited_is a b same))
+
+pub over_is_no_graph : (over : Over) → limit_of over ≡ long_graph → ⊥
+over_is_no_graph (over_at.Lines line) same = apart (record { which = Lines; found = line }) past_graph (λ (which : Lines ≡ GraphBytes). cc) same
+over_is_no_graph (over_at.LineBytes line) same = apart (record { which = LineBytes; found = line }) past_graph (λ (which : LineBytes ≡ GraphBytes). cc) same
+over_is_no_graph (over_at.Clients line) same = apart (record { which = Clients; found = line }) past_graph (λ (which : Clients ≡ GraphBytes). cc) same
+
+abbrev past_input : Limited
+past_input = record { which = InputBytes; found = most_bytes + 1 }
+
+pub over_is_no_input : (over : Over) → limit_of over ≡ long_input → ⊥
+over_is_no_input (over_at.Lines line) same = apart (record { which = Lines; found = line }) past_input (λ (which : Lines ≡ InputBytes). cc) same
+over_is_no_input (over_at.LineBytes line) same = apart (record { which = LineBytes; found = line }) past_input (λ (which : LineBytes ≡ InputBytes). cc) same
+over_is_no_input (over_at.Clients line) same = apart (record { which = Clients; found = line }) past_input (λ (which : Clients ≡ InputBytes). cc) same
+
+found_is : (a b : Limited) → status.Limit a ≡ status.Limit b → a.found ≡ b.found
+found_is a b same = ap (λ (l : Limited). l.found) (limited_is a b same)
+
+pub over_is_one : (a b : Over) → limit_of a ≡ limit_of b → a ≡ b
+over_is_one (over_at.Lines m) (over_at.Lines n) same = ap over_at.Lines (found_is (record { which = Lines; found = m }) (record { which = Lines; found = n }) same)
+over_is_one (over_at.Lines m) (over_at.LineBytes n) same = absurd (apart (record { which = Lines; found = m }) (record { which = LineBytes; found = n }) (λ (which : Lines ≡ LineBytes). cc) same)
+over_is_one (over_at.Lines m) (over_at.Clients n) same = absurd (apart (record { which = Lines; found = m }) (record { which = Clients; found = n }) (λ (which : Lines ≡ Clients). cc) same)
+over_is_one (over_at.LineBytes m) (over_at.Lines n) same = absurd (apart (record { which = LineBytes; found = m }) (record { which = Lines; found = n }) (λ (which : LineBytes ≡ Lines). cc) same)
+over_is_one (over_at.LineBytes m) (over_at.LineBytes n) same = ap over_at.LineBytes (found_is (record { which = LineBytes; found = m }) (record { which = LineBytes; found = n }) same)
+over_is_one (over_at.LineBytes m) (over_at.Clients n) same = absurd (apart (record { which = LineBytes; found = m }) (record { which = Clients; found = n }) (λ (which : LineBytes ≡ Clients). cc) same)
+over_is_one (over_at.Clients m) (over_at.Lines n) same = absurd (apart (record { which = Clients; found = m }) (record { which = Lines; found = n }) (λ (which : Clients ≡ Lines). cc) same)
+over_is_one (over_at.Clients m) (over_at.LineBytes n) same = absurd (apart (record { which = Clients; found = m }) (record { which = LineBytes; found = n }) (λ (which : Clients ≡ LineBytes). cc) same)
+over_is_one (over_at.Clients m) (over_at.Clients n) same = ap over_at.Clients (found_is (record { which = Clients; found = m }) (record { which = Clients; found = n }) same)
+
+-- it is a limit, and no other answer
+pub over_is_limit : (over : Over) → (limited : Limited) × (limit_of over ≡ status.Limit limited)
+over_is_limit (over_at.Lines line) = (record { which = Lines; found = line }, refl)
+over_is_limit (over_at.LineBytes line) = (record { which = LineBytes; found = line }, refl)
+over_is_limit (over_at.Clients line) = (record { which = Clients; found = line }, refl)
 
 -- why no graph was read
 module _ (told : Option Stored) (name : List ℕ) (faults faults_now refused refused_now : ℕ) where
@@ -199,7 +257,7 @@ pub completes : (result : Status) (told : Option Stored) (name : List ℕ) (left
     (result ≡ status.Read → ⊥) → (result ≡ status.Write → ⊥) → HasGraphFile told name → HasShortInput left → (result ≡ status.Ok) ⊎ (result ≡ status.Memory)
 completes result told name left shows read write order lines =
     let input : ShowsInput result lines.input = subst (λ (o : Option (List ℕ)). IfSome o (ShowsInput result)) lines.input-is (after_graph result told name (IfSome left (ShowsInput result)) shows order) in
-    left_over read write (input.1 lines.short)
+    left_over read write (subst (ShowsLines result) lines.within (input.1 lines.short))
 
 -- the same of a run that writes the graph
 pub completes_print : (result : Status) (told : Option Stored) (name : List ℕ) → ShowsPrint result told name →

@@ -92,7 +92,7 @@ fn horizon_call(words: &[String]) -> Option<ServeCall<'_>>
 /// The graph file and the horizon, where the words ask to serve.
 pub fn serve_call(words: &[String]) -> Option<ServeCall<'_>>
     ensures { MatchOption result ((served : Served) → IsServe (map string_bytes words.now) served → ⊥)
-        (λ call. IsServe (map string_bytes words.now) (served_held call.entry)) }
+        (λ call. IsServe (map string_bytes words.now) (served_held call)) }
 {
     match graph_name("serve", words) {
         Some(name) => Some(ServeCall {

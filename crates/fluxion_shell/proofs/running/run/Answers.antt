@@ -2,10 +2,10 @@ use Rattle.std.proofs.Common.{◌≡◌, ◌⊎◌, ◌↔◌, inl, inr, ℕ, �
 use Rattle.flux_io.specs.Counts.{Rose}
 use Rattle.flux_io.specs.Stores.{file_of}
 use Rattle.fluxion_shell.specs.declared.status.Status.TheVariants as status
-use Rattle.fluxion_shell.specs.Forms.{IsServe, IsPrint}
+use Rattle.fluxion_shell.specs.Forms.{Served, IsServe, IsPrint, served_held}
 use Rattle.fluxion_shell.specs.Causes.{most_bytes, told_file, WhereTold, AppendsSome, AppendsFrontOfSome, HasFault, Shows, ShowsPrint}
 use Rattle.fluxion_shell.specs.Outputs.{Answers, AnswersSoundly, Prints}
-use Rattle.fluxion_shell.proofs.TwoWords.{same_name, one_form, serve_name, print_name}
+use Rattle.fluxion_shell.proofs.TwoWords.{same_name, same_call, one_form, serve_name, print_name}
 use Rattle.fluxion_shell.proofs.Shown.{completes, completes_print}
 use Rattle.fluxion_shell.proofs.running.run.Goals as goal
 
@@ -14,65 +14,65 @@ neither no_a no_b (inl a) = no_a a
 neither no_a no_b (inr b) = no_b b
 
 pub returns-in-Some-clause-history : goal.returns-in-Some-clause-history
-returns-in-Some-clause-history g c = λ name is same.
-    subst (λ (n : List ℕ). WhereTold (told_file (g.F.Files.told c.args.files.now) n) (g.S.Source.left c.args.input.now) (λ file lines. AppendsSome (g.O.Sink.held c.args.out.now) (g.O.Sink.held c.serve.new.out) (Answers file lines))) (same_name _ (map string_bytes c.args.words.now) c.in-Some.name.now name c.in-Some.ensures is) (c.serve.ensures.history same)
+returns-in-Some-clause-history g c = λ served is same.
+    subst (λ (n : Served). WhereTold (told_file (g.F.Files.told c.args.files.now) n.name) (g.S.Source.left c.args.input.now) (λ file lines. AppendsSome (g.O.Sink.held c.args.out.now) (g.O.Sink.held c.serve.new.out) (Answers n.horizon file lines))) (same_call (map string_bytes c.args.words.now) (served_held c.in-Some.call) served c.in-Some.ensures is) (c.serve.ensures.history same)
 
 pub returns-in-Some-clause-sound : goal.returns-in-Some-clause-sound
-returns-in-Some-clause-sound g c = λ name is same.
-    subst (λ (n : List ℕ). WhereTold (told_file (g.F.Files.told c.args.files.now) n) (g.S.Source.left c.args.input.now) (λ file lines. AppendsSome (g.O.Sink.held c.args.out.now) (g.O.Sink.held c.serve.new.out) (AnswersSoundly file lines))) (same_name _ (map string_bytes c.args.words.now) c.in-Some.name.now name c.in-Some.ensures is) (c.serve.ensures.sound same)
+returns-in-Some-clause-sound g c = λ served is same.
+    subst (λ (n : Served). WhereTold (told_file (g.F.Files.told c.args.files.now) n.name) (g.S.Source.left c.args.input.now) (λ file lines. AppendsSome (g.O.Sink.held c.args.out.now) (g.O.Sink.held c.serve.new.out) (AnswersSoundly n.horizon file lines))) (same_call (map string_bytes c.args.words.now) (served_held c.in-Some.call) served c.in-Some.ensures is) (c.serve.ensures.sound same)
 
 pub returns-in-Some-clause-front : goal.returns-in-Some-clause-front
-returns-in-Some-clause-front g c = λ name is same.
-    subst (λ (n : List ℕ). WhereTold (told_file (g.F.Files.told c.args.files.now) n) (g.S.Source.left c.args.input.now) (λ file lines. AppendsFrontOfSome (g.O.Sink.held c.args.out.now) (g.O.Sink.held c.serve.new.out) (AnswersSoundly file lines))) (same_name _ (map string_bytes c.args.words.now) c.in-Some.name.now name c.in-Some.ensures is) (c.serve.ensures.front same)
+returns-in-Some-clause-front g c = λ served is same.
+    subst (λ (n : Served). WhereTold (told_file (g.F.Files.told c.args.files.now) n.name) (g.S.Source.left c.args.input.now) (λ file lines. AppendsFrontOfSome (g.O.Sink.held c.args.out.now) (g.O.Sink.held c.serve.new.out) (AnswersSoundly n.horizon file lines))) (same_call (map string_bytes c.args.words.now) (served_held c.in-Some.call) served c.in-Some.ensures is) (c.serve.ensures.front same)
 
 pub returns-in-Some-clause-printed : goal.returns-in-Some-clause-printed
-returns-in-Some-clause-printed g c = λ name is same. absurd (one_form (map string_bytes c.args.words.now) c.in-Some.name.now name c.in-Some.ensures is)
+returns-in-Some-clause-printed g c = λ name is same. absurd (one_form (map string_bytes c.args.words.now) (served_held c.in-Some.call) name c.in-Some.ensures is)
 
 pub returns-in-Some-clause-print_front : goal.returns-in-Some-clause-print_front
-returns-in-Some-clause-print_front g c = λ name is same. absurd (one_form (map string_bytes c.args.words.now) c.in-Some.name.now name c.in-Some.ensures is)
+returns-in-Some-clause-print_front g c = λ name is same. absurd (one_form (map string_bytes c.args.words.now) (served_held c.in-Some.call) name c.in-Some.ensures is)
 
 pub returns-in-Some-clause-idle : goal.returns-in-Some-clause-idle
-returns-in-Some-clause-idle g c = λ name is. absurd (one_form (map string_bytes c.args.words.now) c.in-Some.name.now name c.in-Some.ensures is)
+returns-in-Some-clause-idle g c = λ name is. absurd (one_form (map string_bytes c.args.words.now) (served_held c.in-Some.call) name c.in-Some.ensures is)
 
 pub returns-in-Some-clause-print_first : goal.returns-in-Some-clause-print_first
-returns-in-Some-clause-print_first g c = λ name is. absurd (one_form (map string_bytes c.args.words.now) c.in-Some.name.now name c.in-Some.ensures is)
+returns-in-Some-clause-print_first g c = λ name is. absurd (one_form (map string_bytes c.args.words.now) (served_held c.in-Some.call) name c.in-Some.ensures is)
 
 pub returns-in-Some-clause-print_room : goal.returns-in-Some-clause-print_room
-returns-in-Some-clause-print_room g c = λ name is. absurd (one_form (map string_bytes c.args.words.now) c.in-Some.name.now name c.in-Some.ensures is)
+returns-in-Some-clause-print_room g c = λ name is. absurd (one_form (map string_bytes c.args.words.now) (served_held c.in-Some.call) name c.in-Some.ensures is)
 
 pub returns-in-Some-clause-print_complete : goal.returns-in-Some-clause-print_complete
-returns-in-Some-clause-print_complete g c = λ name is order files out. absurd (one_form (map string_bytes c.args.words.now) c.in-Some.name.now name c.in-Some.ensures is)
+returns-in-Some-clause-print_complete g c = λ name is order files out. absurd (one_form (map string_bytes c.args.words.now) (served_held c.in-Some.call) name c.in-Some.ensures is)
 
 pub returns-in-Some-clause-no_file : goal.returns-in-Some-clause-no_file
 returns-in-Some-clause-no_file g c = λ name is same.
-    subst (λ (n : List ℕ). Rose (g.F.Files.refused c.args.files.now) (g.F.Files.refused c.serve.new.files) × IfSome (g.F.Files.told c.args.files.now) (λ all. file_of all n ≡ None)) (serve_name (map string_bytes c.args.words.now) c.in-Some.name.now name c.in-Some.ensures is) (c.serve.ensures.no_file same)
+    subst (λ (n : List ℕ). Rose (g.F.Files.refused c.args.files.now) (g.F.Files.refused c.serve.new.files) × IfSome (g.F.Files.told c.args.files.now) (λ all. file_of all n ≡ None)) (serve_name (map string_bytes c.args.words.now) (served_held c.in-Some.call) name c.in-Some.ensures is) (c.serve.ensures.no_file same)
 
 pub returns-in-Some-clause-graph_limit : goal.returns-in-Some-clause-graph_limit
 returns-in-Some-clause-graph_limit g c = λ name is same.
-    subst (λ (n : List ℕ). Rose (g.F.Files.refused c.args.files.now) (g.F.Files.refused c.serve.new.files) × IfSome (told_file (g.F.Files.told c.args.files.now) n) (λ file. most_bytes < length file)) (serve_name (map string_bytes c.args.words.now) c.in-Some.name.now name c.in-Some.ensures is) (c.serve.ensures.graph_limit same)
+    subst (λ (n : List ℕ). Rose (g.F.Files.refused c.args.files.now) (g.F.Files.refused c.serve.new.files) × IfSome (told_file (g.F.Files.told c.args.files.now) n) (λ file. most_bytes < length file)) (serve_name (map string_bytes c.args.words.now) (served_held c.in-Some.call) name c.in-Some.ensures is) (c.serve.ensures.graph_limit same)
 
 pub returns-in-Some-clause-graph : goal.returns-in-Some-clause-graph
 returns-in-Some-clause-graph g c = λ name is fault same.
-    subst (λ (n : List ℕ). IfSome (told_file (g.F.Files.told c.args.files.now) n) (λ file. HasFault file fault)) (serve_name (map string_bytes c.args.words.now) c.in-Some.name.now name c.in-Some.ensures is) (c.serve.ensures.graph fault same)
+    subst (λ (n : List ℕ). IfSome (told_file (g.F.Files.told c.args.files.now) n) (λ file. HasFault file fault)) (serve_name (map string_bytes c.args.words.now) (served_held c.in-Some.call) name c.in-Some.ensures is) (c.serve.ensures.graph fault same)
 
 pub returns-in-Some-clause-usage : goal.returns-in-Some-clause-usage
-returns-in-Some-clause-usage g c = ((λ same. absurd (c.serve.ensures.usage same)), (λ none. absurd (none c.in-Some.name.now (inl c.in-Some.ensures))))
+returns-in-Some-clause-usage g c = ((λ same. absurd (c.serve.ensures.usage same)), (λ none. absurd (none c.in-Some.call.name.now (inl (c.in-Some.call.horizon, c.in-Some.ensures)))))
 
 pub returns-in-Some-clause-first : goal.returns-in-Some-clause-first
-returns-in-Some-clause-first g c = λ name is.
-    subst (λ (n : List ℕ). Shows c.serve.result (g.F.Files.told c.args.files.now) n (g.S.Source.left c.args.input.now)) (same_name _ (map string_bytes c.args.words.now) c.in-Some.name.now name c.in-Some.ensures is) c.serve.ensures.first
+returns-in-Some-clause-first g c = λ served is.
+    subst (λ (n : Served). Shows c.serve.result (g.F.Files.told c.args.files.now) n.name (g.S.Source.left c.args.input.now)) (same_call (map string_bytes c.args.words.now) (served_held c.in-Some.call) served c.in-Some.ensures is) c.serve.ensures.first
 
 pub returns-in-Some-clause-room : goal.returns-in-Some-clause-room
-returns-in-Some-clause-room g c = λ name is.
-    subst (λ (n : List ℕ). WhereTold (told_file (g.F.Files.told c.args.files.now) n) (g.S.Source.left c.args.input.now) (λ file lines. IfSome (g.O.Sink.room c.args.out.now) (λ room. ((text : List ℕ) → Answers file lines text → length text ≤ room) → g.O.Sink.faults c.serve.new.out ≡ g.O.Sink.faults c.args.out.now))) (same_name _ (map string_bytes c.args.words.now) c.in-Some.name.now name c.in-Some.ensures is) c.serve.ensures.room
+returns-in-Some-clause-room g c = λ served is.
+    subst (λ (n : Served). WhereTold (told_file (g.F.Files.told c.args.files.now) n.name) (g.S.Source.left c.args.input.now) (λ file lines. IfSome (g.O.Sink.room c.args.out.now) (λ room. ((text : List ℕ) → Answers n.horizon file lines text → length text ≤ room) → g.O.Sink.faults c.serve.new.out ≡ g.O.Sink.faults c.args.out.now))) (same_call (map string_bytes c.args.words.now) (served_held c.in-Some.call) served c.in-Some.ensures is) c.serve.ensures.room
 
 pub returns-in-Some-clause-end : goal.returns-in-Some-clause-end
 returns-in-Some-clause-end g c = λ name is same. c.serve.ensures.end same
 
 pub returns-in-Some-clause-complete : goal.returns-in-Some-clause-complete
-returns-in-Some-clause-complete g c = λ name is order lines files input out.
-    completes c.serve.result (g.F.Files.told c.args.files.now) name (g.S.Source.left c.args.input.now)
-    (subst (λ (n : List ℕ). Shows c.serve.result (g.F.Files.told c.args.files.now) n (g.S.Source.left c.args.input.now)) (same_name _ (map string_bytes c.args.words.now) c.in-Some.name.now name c.in-Some.ensures is) c.serve.ensures.first)
+returns-in-Some-clause-complete g c = λ served is order lines files input out.
+    completes c.serve.result (g.F.Files.told c.args.files.now) served.name (g.S.Source.left c.args.input.now)
+    (subst (λ (n : Served). Shows c.serve.result (g.F.Files.told c.args.files.now) n.name (g.S.Source.left c.args.input.now)) (same_call (map string_bytes c.args.words.now) (served_held c.in-Some.call) served c.in-Some.ensures is) c.serve.ensures.first)
     (λ read. neither files input (c.serve.ensures.read read))
     (λ write. out (c.serve.ensures.write write))
     order lines

@@ -4,8 +4,15 @@ use Rattle.fluxion_shell.specs.declared.status.Status.{Status}
 use Rattle.fluxion_shell.specs.declared.status.Status.TheVariants as status
 use Rattle.fluxion_shell.specs.Causes.{AppendsSome, AppendsFrontOfSome, ShowsInput, Shows, FailsWith}
 use Rattle.fluxion_shell.specs.Outputs.{IsSoundOutput, Answers, AnswersSoundly}
-use Rattle.fluxion_shell.proofs.Shown.{shows_earlier, shows_long_input, shows_read, earlier_input, where_told, fails_limit, fails_graph, fails_limits, fails_shows, input_is_no_graph, front_of, no_fault}
+use Rattle.fluxion_shell.proofs.Shown.{shows_earlier, shows_long_input, shows_read, earlier_input, where_told, fails_limit, fails_graph, fails_limits, fails_shows, input_is_no_graph, over_is_limit, over_is_no_graph, over_is_no_input, over_is_one, shows_over, front_of, no_fault}
 use Rattle.fluxion_shell.proofs.running.serve.Goals as goal
+
+pub returns-in-Err-clause-line_limit : goal.returns-in-Err-clause-line_limit
+returns-in-Err-clause-line_limit g c = λ over same.
+    let limit = over_is_limit over in
+    let fails = FailsWith (g.F.Files.told c.args.files.now) c.args.name.now (g.F.Files.faults c.args.files.now) (g.F.Files.faults c.load.new.files) (g.F.Files.refused c.args.files.now) (g.F.Files.refused c.load.new.files) in
+    let graph = fails_limits (g.F.Files.told c.args.files.now) c.args.name.now (g.F.Files.faults c.args.files.now) (g.F.Files.faults c.load.new.files) (g.F.Files.refused c.args.files.now) (g.F.Files.refused c.load.new.files) limit.0 (subst fails (same ∙ limit.1) c.in-Err.ensures.failed) in
+    absurd (over_is_no_graph over (limit.1 ∙ graph))
 
 pub returns-in-Err-clause-history : goal.returns-in-Err-clause-history
 returns-in-Err-clause-history g c = λ same.
@@ -102,8 +109,8 @@ returns-in-Err-Memory-clause-first g c =
     let loaded = c.in-Ok.ensures.loaded in
     shows_earlier told name loaded.0 loaded.1 c.in-Ok.graph loaded.2 left status.Memory (inr refl)
 
-pub returns-in-Err-answer-clause-first : goal.returns-in-Err-answer-clause-first
-returns-in-Err-answer-clause-first g c =
+pub returns-in-Err-Memory-answer-clause-first : goal.returns-in-Err-Memory-answer-clause-first
+returns-in-Err-Memory-answer-clause-first g c =
     let told = g.F.Files.told c.args.files.now in
     let name = c.args.name.now in
     let left = g.S.Source.left c.args.input.now in
@@ -116,9 +123,9 @@ returns-in-Ok-write_all-clause-history g c = λ _.
     let name = c.args.name.now in
     let left = g.S.Source.left c.args.input.now in
     let loaded = c.in-Ok.ensures.loaded in
-    let sound = subst (λ (i : List ℕ). IsSoundOutput c.in-Ok.graph i c.in-Ok-answer.text) c.bytes.ensures c.in-Ok-answer.ensures in
+    let sound = subst (λ (i : List ℕ). IsSoundOutput c.in-Ok.graph c.args.horizon i c.in-Ok-answer.text) c.bytes.ensures c.in-Ok-answer.ensures.output in
     where_told told name loaded.0 loaded.1 left c.in-Ok-read_all.lines
-    (λ file lines. AppendsSome (g.O.Sink.held c.args.out.now) (g.O.Sink.held c.write_all.new.out) (Answers file lines)) c.in-Ok-read_all.ensures.whole
+    (λ file lines. AppendsSome (g.O.Sink.held c.args.out.now) (g.O.Sink.held c.write_all.new.out) (Answers c.args.horizon file lines)) c.in-Ok-read_all.ensures.whole
     (c.in-Ok-answer.text, record { graph = c.in-Ok.graph; graph-is = loaded.2; output = sound.output }, c.in-Ok-write_all.ensures.whole)
 
 pub returns-in-Ok-write_all-clause-sound : goal.returns-in-Ok-write_all-clause-sound
@@ -127,9 +134,9 @@ returns-in-Ok-write_all-clause-sound g c = λ _.
     let name = c.args.name.now in
     let left = g.S.Source.left c.args.input.now in
     let loaded = c.in-Ok.ensures.loaded in
-    let sound = subst (λ (i : List ℕ). IsSoundOutput c.in-Ok.graph i c.in-Ok-answer.text) c.bytes.ensures c.in-Ok-answer.ensures in
+    let sound = subst (λ (i : List ℕ). IsSoundOutput c.in-Ok.graph c.args.horizon i c.in-Ok-answer.text) c.bytes.ensures c.in-Ok-answer.ensures.output in
     where_told told name loaded.0 loaded.1 left c.in-Ok-read_all.lines
-    (λ file lines. AppendsSome (g.O.Sink.held c.args.out.now) (g.O.Sink.held c.write_all.new.out) (AnswersSoundly file lines)) c.in-Ok-read_all.ensures.whole
+    (λ file lines. AppendsSome (g.O.Sink.held c.args.out.now) (g.O.Sink.held c.write_all.new.out) (AnswersSoundly c.args.horizon file lines)) c.in-Ok-read_all.ensures.whole
     (c.in-Ok-answer.text, record { graph = c.in-Ok.graph; graph-is = loaded.2; output = sound }, c.in-Ok-write_all.ensures.whole)
 
 pub returns-in-Ok-write_all-clause-first : goal.returns-in-Ok-write_all-clause-first
@@ -138,7 +145,7 @@ returns-in-Ok-write_all-clause-first g c =
     let name = c.args.name.now in
     let left = g.S.Source.left c.args.input.now in
     let loaded = c.in-Ok.ensures.loaded in
-    shows_read told name loaded.0 loaded.1 c.in-Ok.graph loaded.2 left c.in-Ok-read_all.lines status.Ok c.in-Ok-read_all.ensures.most c.in-Ok-read_all.ensures.whole (inl refl)
+    shows_read told name loaded.0 loaded.1 c.in-Ok.graph loaded.2 left c.in-Ok-read_all.lines status.Ok c.in-Ok-read_all.ensures.most c.in-Ok-read_all.ensures.whole ? (inl refl)
 
 pub returns-in-Ok-write_all-clause-room : goal.returns-in-Ok-write_all-clause-room
 returns-in-Ok-write_all-clause-room g c =
@@ -146,12 +153,12 @@ returns-in-Ok-write_all-clause-room g c =
     let name = c.args.name.now in
     let left = g.S.Source.left c.args.input.now in
     let loaded = c.in-Ok.ensures.loaded in
-    let sound = subst (λ (i : List ℕ). IsSoundOutput c.in-Ok.graph i c.in-Ok-answer.text) c.bytes.ensures c.in-Ok-answer.ensures in
+    let sound = subst (λ (i : List ℕ). IsSoundOutput c.in-Ok.graph c.args.horizon i c.in-Ok-answer.text) c.bytes.ensures c.in-Ok-answer.ensures.output in
     where_told told name loaded.0 loaded.1 left c.in-Ok-read_all.lines
-    (λ file lines. IfSome (g.O.Sink.room c.args.out.now) (λ room. ((x : List ℕ) → Answers file lines x → length x ≤ room) → g.O.Sink.faults c.write_all.new.out ≡ g.O.Sink.faults c.args.out.now))
+    (λ file lines. IfSome (g.O.Sink.room c.args.out.now) (λ room. ((x : List ℕ) → Answers c.args.horizon file lines x → length x ≤ room) → g.O.Sink.faults c.write_all.new.out ≡ g.O.Sink.faults c.args.out.now))
     c.in-Ok-read_all.ensures.whole
     (no_fault _ (g.O.Sink.room c.args.out.now) (length c.in-Ok-answer.text) (g.O.Sink.faults c.args.out.now) (g.O.Sink.faults c.write_all.new.out)
-    (λ r. (x : List ℕ) → Answers loaded.0 c.in-Ok-read_all.lines x → length x ≤ r)
+    (λ r. (x : List ℕ) → Answers c.args.horizon loaded.0 c.in-Ok-read_all.lines x → length x ≤ r)
     (λ r each. each c.in-Ok-answer.text (record { graph = c.in-Ok.graph; graph-is = loaded.2; output = sound.output })) c.write_all.ensures.fits)
 
 pub returns-clause-front : goal.returns-clause-front
@@ -160,10 +167,10 @@ returns-clause-front g c = λ _.
     let name = c.args.name.now in
     let left = g.S.Source.left c.args.input.now in
     let loaded = c.in-Ok.ensures.loaded in
-    let sound = subst (λ (i : List ℕ). IsSoundOutput c.in-Ok.graph i c.in-Ok-answer.text) c.bytes.ensures c.in-Ok-answer.ensures in
+    let sound = subst (λ (i : List ℕ). IsSoundOutput c.in-Ok.graph c.args.horizon i c.in-Ok-answer.text) c.bytes.ensures c.in-Ok-answer.ensures.output in
     where_told told name loaded.0 loaded.1 left c.in-Ok-read_all.lines
-    (λ file lines. AppendsFrontOfSome (g.O.Sink.held c.args.out.now) (g.O.Sink.held c.write_all.new.out) (AnswersSoundly file lines)) c.in-Ok-read_all.ensures.whole
-    (front_of _ _ _ _ c.in-Ok-answer.text (AnswersSoundly loaded.0 c.in-Ok-read_all.lines) c.write_all.ensures.front (record { graph = c.in-Ok.graph; graph-is = loaded.2; output = sound }))
+    (λ file lines. AppendsFrontOfSome (g.O.Sink.held c.args.out.now) (g.O.Sink.held c.write_all.new.out) (AnswersSoundly c.args.horizon file lines)) c.in-Ok-read_all.ensures.whole
+    (front_of _ _ _ _ c.in-Ok-answer.text (AnswersSoundly c.args.horizon loaded.0 c.in-Ok-read_all.lines) c.write_all.ensures.front (record { graph = c.in-Ok.graph; graph-is = loaded.2; output = sound }))
 
 pub returns-clause-first : goal.returns-clause-first
 returns-clause-first g c =
@@ -171,7 +178,7 @@ returns-clause-first g c =
     let name = c.args.name.now in
     let left = g.S.Source.left c.args.input.now in
     let loaded = c.in-Ok.ensures.loaded in
-    shows_read told name loaded.0 loaded.1 c.in-Ok.graph loaded.2 left c.in-Ok-read_all.lines status.Write c.in-Ok-read_all.ensures.most c.in-Ok-read_all.ensures.whole (inr refl)
+    shows_read told name loaded.0 loaded.1 c.in-Ok.graph loaded.2 left c.in-Ok-read_all.lines status.Write c.in-Ok-read_all.ensures.most c.in-Ok-read_all.ensures.whole ? (inr refl)
 
 pub returns-clause-room : goal.returns-clause-room
 returns-clause-room g c =
@@ -179,10 +186,10 @@ returns-clause-room g c =
     let name = c.args.name.now in
     let left = g.S.Source.left c.args.input.now in
     let loaded = c.in-Ok.ensures.loaded in
-    let sound = subst (λ (i : List ℕ). IsSoundOutput c.in-Ok.graph i c.in-Ok-answer.text) c.bytes.ensures c.in-Ok-answer.ensures in
+    let sound = subst (λ (i : List ℕ). IsSoundOutput c.in-Ok.graph c.args.horizon i c.in-Ok-answer.text) c.bytes.ensures c.in-Ok-answer.ensures.output in
     where_told told name loaded.0 loaded.1 left c.in-Ok-read_all.lines
-    (λ file lines. IfSome (g.O.Sink.room c.args.out.now) (λ room. ((x : List ℕ) → Answers file lines x → length x ≤ room) → g.O.Sink.faults c.write_all.new.out ≡ g.O.Sink.faults c.args.out.now))
+    (λ file lines. IfSome (g.O.Sink.room c.args.out.now) (λ room. ((x : List ℕ) → Answers c.args.horizon file lines x → length x ≤ room) → g.O.Sink.faults c.write_all.new.out ≡ g.O.Sink.faults c.args.out.now))
     c.in-Ok-read_all.ensures.whole
     (no_fault _ (g.O.Sink.room c.args.out.now) (length c.in-Ok-answer.text) (g.O.Sink.faults c.args.out.now) (g.O.Sink.faults c.write_all.new.out)
-    (λ r. (x : List ℕ) → Answers loaded.0 c.in-Ok-read_all.lines x → length x ≤ r)
+    (λ r. (x : List ℕ) → Answers c.args.horizon loaded.0 c.in-Ok-read_all.lines x → length x ≤ r)
     (λ r each. each c.in-Ok-answer.text (record { graph = c.in-Ok.graph; graph-is = loaded.2; output = sound.output })) c.write_all.ensures.fits)
