@@ -13,6 +13,7 @@ pub mod sets_read;
 pub mod writing;
 
 pub use faults::RFault;
+pub use reading::read_r;
 pub use sets_read::{RRow, RSet};
 pub use writing::write_r;
 
