@@ -1,18 +1,18 @@
 -- Edges, one more at a time.
-use Rattle.std.proofs.Common.{◌≡◌, refl, sym, ap, subst, ◌∙◌, ℕ, zero, suc, ◌+◌, ◌<◌, ◌≤◌, List, [], ◌∷◌, ◌++◌, length, take, map, Bool, true, false, true≢false, not, ◌&&◌, ◌||◌, cond, if◌then◌else◌, Some, None, Option, is_some, unwrap_or, option_map, option_and_then, slice_get, slice_set, ◌⊎◌, inl, inr, arith, append-nil, Result, Ok, Err}
+use Rattle.std.proofs.Common.{◌≡◌, refl, sym, ap, subst, ◌∙◌, ℕ, zero, suc, ◌+◌, ◌<◌, ◌≤◌, List, [], ◌∷◌, ◌++◌, length, take, map, Bool, true, false, true≢false, ◌||◌, cond, if◌then◌else◌, Some, None, Option, is_some, unwrap_or, option_map, option_and_then, slice_get, slice_set, ◌⊎◌, inl, inr, arith, append-nil, Result, Ok, Err}
 use borrow.Author.Count.{below_more, below_none}
 use Rattle.std.proofs.lemmas.Bool.{cases_lt}
 use Rattle.std.proofs.lemmas.Slice.Eq.{bytes_eq-Decides}
 use Rattle.std.proofs.lemmas.List.{take_all}
 use Rattle.std.proofs.lemmas.List.Elements.{filter_map-append}
-use Rattle.std.proofs.lemmas.Option.{slice_get_within, slice_get_past, slice_get-map}
+use Rattle.std.proofs.lemmas.Option.{slice_get_past, slice_get-map}
 use Rattle.std.specs.Cmp.Lexicographic.{nat_list_eq_equiv}
-use Rattle.std.specs.List.{IsDistinct, AllByRecursion, filter_map, find, list_any}
+use Rattle.std.specs.List.{IsDistinct, AllByRecursion, find}
 use Rattle.std.specs.Option.{option_map_or}
 use Rattle.std.specs.Str.{bytes_eq}
 use Rattle.serde_json.specs.View.{view, items_view}
 use Rattle.serde_json.specs.declared.value.Value.{Value}
-use Rattle.graph_json.specs.Edges.{FileEdge, edge_of, edges_of, counts, counted, if_counted, is_among, is_wrong, is_wrong_as, IsWrongEdge, place_of, parent_of, parents_of, with_parent, joined, joined_as, HasJoined}
+use Rattle.graph_json.specs.Edges.{FileEdge, edge_of, edges_of, counts, counted, is_among, is_wrong, IsWrongEdge, place_of, parent_of, parents_of, with_parent, joined, joined_as, HasJoined}
 use Rattle.graph_json.specs.declared.places.Misfit.{Misfit}
 use Rattle.graph_json.specs.declared.edges.Role.{Role}
 use Rattle.graph_json.specs.declared.edges.Role.TheVariants.{Counted, Skipped, Refused}

@@ -1,16 +1,16 @@
 -- A set of texts, one more at a time.
-use Rattle.std.proofs.Common.{◌≡◌, refl, sym, ap, subst, ◌∙◌, ℕ, ◌+◌, ◌<◌, ◌≤◌, List, [], ◌∷◌, ◌++◌, length, take, get_or, map, true, false, true≢false, not, Some, Option, ◌⊎◌, inl, inr, slice_get, arith}
+use Rattle.std.proofs.Common.{◌≡◌, refl, sym, ap, subst, ◌∙◌, ℕ, ◌+◌, ◌<◌, ◌≤◌, List, [], ◌∷◌, ◌++◌, length, take, true, false, true≢false, Some, ◌⊎◌, inl, inr, slice_get, arith}
 use borrow.Author.Count.{below_more, below_none}
 use Rattle.std.proofs.lemmas.Bool.{cases_lt}
 use Rattle.std.proofs.lemmas.List.{take_more, take_all}
-use Rattle.std.proofs.lemmas.Option.{slice_get_within, slice_get_past, get_or_from_slice_get, slice_get-map}
+use Rattle.std.proofs.lemmas.Option.{slice_get_within, slice_get_past, get_or_from_slice_get}
 use Rattle.std.specs.List.{IsDistinct}
 use Rattle.std.specs.Option.{option_map_or}
 use Rattle.std.specs.Str.{bytes_eq}
 use Rattle.resource_graph.specs.Told.{IsLeastBad}
 use Rattle.graph_json.specs.Edges.{is_among}
 use Rattle.graph_json.specs.Ids.{IsRepeated, IsSetOf, IsSetTo}
-use Rattle.graph_json.proofs.Sets.{distinct-more, distinct-nil, not_new}
+use Rattle.graph_json.proofs.Sets.{distinct-more, distinct-nil}
 
 -- one more item
 pub take_next : {A : Type 0} (xs : List A) (k : ℕ) (x : A) → slice_get xs k ≡ Some x → take (k + 1) xs ≡ take k xs ++ x ∷ []

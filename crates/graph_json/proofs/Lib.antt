@@ -6,3 +6,10 @@ pub mod TextLaws
 pub mod WriterLaws
 pub mod JsonLaws
 pub mod WrittenLaws
+pub mod PlainText
+pub mod WrittenText
+pub mod WrittenFile
+pub mod ReadBack
+pub mod OrderedData
+pub mod FittingGraph
+pub mod FitBuilt

@@ -1,5 +1,5 @@
 -- The types and the parents of raw vertices.
-use Rattle.std.proofs.Common.{◌≡◌, refl, sym, ap, subst, ◌∙◌, ℕ, zero, suc, ◌+◌, ◌<◌, ◌≤◌, List, [], ◌∷◌, ◌++◌, length, map, get_or, Bool, true, false, true≢false, if◌then◌else◌, Some, None, Option, IsSome, option_map, option_and_then, slice_get, ◌⊎◌, inl, inr, arith}
+use Rattle.std.proofs.Common.{◌≡◌, refl, sym, ap, ◌∙◌, ℕ, ◌+◌, ◌<◌, ◌≤◌, List, [], ◌∷◌, ◌++◌, length, map, get_or, Bool, true, false, true≢false, if◌then◌else◌, Some, None, Option, IsSome, option_map, option_and_then, slice_get, ◌⊎◌, inl, inr, arith}
 use Rattle.std.proofs.lemmas.Bool.{cases_lt}
 use Rattle.std.proofs.lemmas.List.{length-map, length-append}
 use Rattle.std.proofs.lemmas.Map.Keys.{IsDistinct-push, apart_from_distinct}
@@ -11,7 +11,7 @@ use Rattle.resource_graph.specs.Raw.{KindsApart}
 use Rattle.graph_json.specs.Nodes.{FileNode}
 use Rattle.graph_json.specs.Edges.{FileEdge, is_among, parent_of, parents_of, place_of}
 use Rattle.graph_json.specs.Ids.{ids_of}
-use Rattle.graph_json.specs.RawLists.{with_text, kinds_of, vertices_of, zip_with}
+use Rattle.graph_json.specs.RawLists.{with_text, kinds_of, zip_with}
 use Rattle.graph_json.proofs.Sets.{distinct-nil}
 use Rattle.graph_json.proofs.EdgeLaws.{itself, at_place}
 

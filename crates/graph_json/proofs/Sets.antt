@@ -1,5 +1,5 @@
 -- Texts in a set, in the order in which they were added.
-use Rattle.std.proofs.Common.{◌≡◌, refl, sym, ap, subst, ◌∙◌, ℕ, zero, suc, List, [], ◌∷◌, ◌++◌, map, Vec, Global, Bool, true, false, not, ◌||◌, true≢false, Some, slice_get, append_assoc, append-nil, arith, ◌&&◌, ◌+◌, cond, position, nat_eq, nat_lt, length, Option, None, option_map, if◌then◌else◌, Bor, string_bytes}
+use Rattle.std.proofs.Common.{◌≡◌, refl, sym, ap, subst, ◌∙◌, ℕ, suc, List, [], ◌∷◌, ◌++◌, map, Vec, Global, Bool, true, false, not, ◌||◌, true≢false, Some, append_assoc, append-nil, arith, ◌+◌, cond, position, nat_lt, length, None, option_map, if◌then◌else◌, Bor, string_bytes}
 use Rattle.std.proofs.lemmas.Bool.Decides.{nat_tests}
 use Rattle.std.proofs.lemmas.List.{length-map, map-append}
 use Rattle.std.proofs.lemmas.Map.Keys.{IsDistinct-push}
@@ -42,7 +42,7 @@ right_none true b h = absurd (true≢false h)
 right_none false b h = h
 
 -- a text that stands twice
-doubled_at : (xs : List (List ℕ)) (x : List ℕ) (rest : List (List ℕ)) → list_any (bytes_eq x) xs ≡ true → IsDistinct bytes_eq (xs ++ x ∷ rest) → ⊥
+pub doubled_at : (xs : List (List ℕ)) (x : List ℕ) (rest : List (List ℕ)) → list_any (bytes_eq x) xs ≡ true → IsDistinct bytes_eq (xs ++ x ∷ rest) → ⊥
 unfolding IsDistinct
 doubled_at [] x rest any d = true≢false (sym any)
 doubled_at (y ∷ xs) x rest any d =

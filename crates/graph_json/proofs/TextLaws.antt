@@ -1,12 +1,11 @@
 -- What was found of a file, as what the bytes tell.
-use Rattle.std.proofs.Common.{◌≡◌, sym, ap, subst, refl, ◌∙◌, ℕ, List, Some, None, Ok, Err, Result, MatchResult, ◌⊎◌, inl, inr}
-use Rattle.std.specs.Result.{result_map_both}
+use Rattle.std.proofs.Common.{◌≡◌, sym, ap, subst, refl, ◌∙◌, ℕ, List, Some, None, Ok, Err, Result, IfOk, IfErr, MatchResult, ◌⊎◌, inl, inr}
 use Rattle.serde_json.specs.Data.{Data}
 use Rattle.resource_graph.specs.NamedGraph.{NamedGraph}
-use Rattle.resource_graph.specs.Raw.{raw_graph, raw_names}
+use Rattle.resource_graph.specs.Raw.{IsBuiltFrom, raw_graph, raw_names}
 use Rattle.resource_graph.specs.Told.{Tells as TellsGraph}
+use Rattle.resource_graph.proofs.OneGraph.{one_graph}
 use Rattle.resource_graph.proofs.ToldLaws.{nothing_told}
-use Rattle.graph_json.specs.Fields.{result_and_then}
 use Rattle.graph_json.specs.Nodes.{FileNode, nodes_of}
 use Rattle.graph_json.specs.Edges.{edges_of, IsWrongEdge, IsFirstWrong}
 use Rattle.graph_json.specs.Ids.{ids_of, IsRepeated}
@@ -58,10 +57,15 @@ module _ (bytes : List ℕ) where
 same_value : (bytes : List ℕ) (c d : Data) → IsValueOf bytes c → IsValueOf bytes d → c ≡ d
 same_value bytes c d one other = let same : Some c ≡ Some d = sym one ∙ other in cc
 
-same_file : (bytes : List ℕ) (a b : GraphFile) → Says bytes a → Says bytes b → a ≡ b
+pub same_file : (bytes : List ℕ) (a b : GraphFile) → Says bytes a → Says bytes b → a ≡ b
 same_file bytes a b (c, value, file) (d, other, again) =
     let same : Ok a ≡ Ok b = sym file ∙ (ap file_of (same_value bytes c d value other) ∙ again) in
     cc
+
+-- bytes are a graph file of at most one graph
+pub one_graph_told : (bytes : List ℕ) (g h : NamedGraph) → IsGraphText bytes g → IsGraphText bytes h → g ≡ h
+one_graph_told bytes g h (file, says, right, built, fine) (other, said, right-too, built-too, fine-too) =
+    one_graph (kinds_of file.nodes) (raw_of file) g h built (subst (λ (f : GraphFile). IsBuiltFrom (kinds_of f.nodes) (raw_of f) h) (same_file bytes other file said says) built-too)
 
 -- a graph file has no fault
 pub no_fault_told : (bytes : List ℕ) (g : NamedGraph) (fault : ReadFault) → IsGraphText bytes g → Tells bytes fault → fault ≡ Memory
@@ -80,3 +84,8 @@ no_fault_told bytes g (Graph fault) (file, says, right, built, fine) (other, sai
     absurd (not (nothing_told (raw_graph (kinds_of file.nodes) (raw_of file)) (raw_names (raw_of file)) fault fine
     (subst (λ (f : GraphFile). TellsGraph (raw_graph (kinds_of f.nodes) (raw_of f)) (raw_names (raw_of f)) fault) (same_file bytes other file said says) told)))
 no_fault_told bytes g Memory text told = refl
+
+-- bytes that are a graph file of a graph are read as that graph, or memory is wanting
+pub one_answer : (bytes : List ℕ) (r : Result NamedGraph ReadFault) → IfOk r (IsGraphText bytes) → IfErr r (Tells bytes) → (g : NamedGraph) → IsGraphText bytes g → (r ≡ Ok g) ⊎ (r ≡ Err Memory)
+one_answer bytes (Ok h) read told g text = inl (ap Ok (one_graph_told bytes h g read text))
+one_answer bytes (Err fault) read told g text = inr (ap Err (no_fault_told bytes g fault text told))

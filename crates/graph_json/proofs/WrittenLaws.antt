@@ -1,5 +1,5 @@
 -- What is written of a graph is read as the value of the graph.
-use Rattle.std.proofs.Common.{◌≡◌, refl, sym, ap, ◌∙◌, ℕ, suc, ◌<◌, ◌^◌, List, [], ◌∷◌, map, Bool, true, false, ◌&&◌, Option, Some, None, IfSome, unwrap_or, slice_get, codes, arith}
+use Rattle.std.proofs.Common.{◌≡◌, refl, sym, ap, ◌∙◌, ℕ, suc, ◌<◌, ◌^◌, List, [], ◌∷◌, map, Bool, true, ◌&&◌, Option, Some, None, IfSome, unwrap_or, slice_get, arith}
 use Rattle.std.specs.List.{AllByRecursion, fold}
 use Rattle.std.specs.Ordering.{nat_cmp, match_ordering, is_lt, ordering_reverse}
 use Rattle.std.specs.declared.cmp.Ordering.{Ordering}
@@ -10,27 +10,26 @@ use Rattle.serde_json.specs.Read.{read}
 use Rattle.json_whole.proofs.Words.{and_left, and_right}
 use Rattle.flux_defs.specs.declared.vertices.Vertex.{Vertex}
 use Rattle.resource_graph.specs.NamedGraph.{NamedGraph}
-use Rattle.graph_json.specs.Nodes.{in_order}
 use Rattle.graph_json.specs.WrittenGraph.{readable, or_none, keys_object, edges_data, with_edge, nodes_data, node_data, edge_data, properties_at, graph_data, graph_text, HasSmallNumbers, HasAllSmallNumbers}
 use Rattle.graph_json.proofs.JsonLaws.{IsWhole, IsPlain, ArePlain, HasPlain, is_below, read_compact}
 
 -- ---- keys in order
 
-abbrev less : List ℕ → List ℕ → Bool
+abbrev pub less : List ℕ → List ℕ → Bool
 less k l = is_lt (slice_cmp nat_cmp k l)
 
-abbrev below : List ℕ → List (List ℕ) → Bool
+abbrev pub below : List ℕ → List (List ℕ) → Bool
 below k [] = true
 below k (l ∷ ls) = less k l && below k ls
 
-abbrev ordered : List (List ℕ) → Bool
+abbrev pub ordered : List (List ℕ) → Bool
 ordered [] = true
 ordered (k ∷ ks) = below k ks && ordered ks
 
 both : (a b : Bool) → a ≡ true → b ≡ true → (a && b) ≡ true
 both a b p q = ap (λ x. x && b) p ∙ q
 
-is_less : (o : Ordering) → is_lt o ≡ true → o ≡ Less
+pub is_less : (o : Ordering) → is_lt o ≡ true → o ≡ Less
 is_less Less e = refl
 is_less Equal e = absurd (cc)
 is_less Greater e = absurd (cc)
@@ -51,7 +50,7 @@ below_insert x k (y ∷ ys) p h = by (slice_cmp nat_cmp k y) (below_insert x k y
     by Equal ih = h
     by Greater ih = both (less x y) _ (and_left (less x y) (below x ys) h) ih
 
-ordered_insert : (k : List ℕ) (ks : List (List ℕ)) → ordered ks ≡ true → ordered (insert_key (slice_cmp nat_cmp) ks k) ≡ true
+pub ordered_insert : (k : List ℕ) (ks : List (List ℕ)) → ordered ks ≡ true → ordered (insert_key (slice_cmp nat_cmp) ks k) ≡ true
 ordered_insert k [] h = refl
 ordered_insert k (x ∷ xs) h = by (slice_cmp nat_cmp k x) refl (ordered_insert k xs (and_right (below x xs) (ordered xs) h))
   where
@@ -65,7 +64,7 @@ ordered_insert k (x ∷ xs) h = by (slice_cmp nat_cmp k x) refl (ordered_insert 
     by Equal e ih = h
     by Greater e ih = both (below x (insert_key (slice_cmp nat_cmp) xs k)) _ (below_insert x k xs (after e) (and_left (below x xs) (ordered xs) h)) ih
 
-ordered_all : (ks more : List (List ℕ)) → ordered ks ≡ true → ordered (fold (insert_key (slice_cmp nat_cmp)) ks more) ≡ true
+pub ordered_all : (ks more : List (List ℕ)) → ordered ks ≡ true → ordered (fold (insert_key (slice_cmp nat_cmp)) ks more) ≡ true
 ordered_all ks [] h = h
 ordered_all ks (k ∷ more) h = ordered_all (insert_key (slice_cmp nat_cmp) ks k) more (ordered_insert k ks h)
 
@@ -129,7 +128,7 @@ plain_edges v (x ∷ xs) = by x.parent (plain_edges (suc v) xs)
     by None ih = ih
     by (Some p) ih = (plain_edge p v, ih)
 
-plain_graph : (g : NamedGraph) → HasAllSmallNumbers g → IsPlain 6 (graph_data g)
+pub plain_graph : (g : NamedGraph) → HasAllSmallNumbers g → IsPlain 6 (graph_data g)
 plain_graph g small = ((plain_edges 0 g.resources.vertices, refl, (plain_nodes g 0 g.resources.vertices small, refl, tt)), refl, tt)
 
 pub read-graph_text : (g : NamedGraph) → HasAllSmallNumbers g → read (graph_text g) ≡ Some (graph_data g)

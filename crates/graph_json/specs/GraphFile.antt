@@ -1,5 +1,5 @@
 -- What a graph file says: its nodes and its edges.
-use Rattle.std.specs.Prelude.{ℕ, List, Result, codes}
+use Rattle.std.specs.Prelude.{List, Result, codes}
 use Rattle.std.specs.Result.{result_map_both}
 use Rattle.serde_json.specs.Data.{Data, Items}
 use Rattle.graph_json.specs.Fields.{result_and_then, object_value, object_field, list_field}

@@ -1,5 +1,5 @@
 -- Which bytes are a graph file and of which graph, and which fault other bytes have.
-use Rattle.std.specs.Prelude.{◌≡◌, ◌≢◌, ◌⊎◌, ℕ, List, Some, None, Ok, Err, Result}
+use Rattle.std.specs.Prelude.{◌≡◌, ◌≢◌, ◌⊎◌, ℕ, List, Some, None, Ok, Err}
 use Rattle.json_whole.specs.Whole.{value_of}
 use Rattle.serde_json.specs.Data.{Data}
 use Rattle.resource_graph.specs.NamedGraph.{NamedGraph}

@@ -8,3 +8,4 @@ pub mod GraphFile
 pub mod GraphText
 pub mod WrittenGraph
 pub mod WrittenTokens
+pub mod FileGraph

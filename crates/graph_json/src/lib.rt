@@ -5,6 +5,7 @@ mod edges;
 pub mod faults;
 mod fields;
 mod ids;
+pub mod laws;
 mod nodes;
 pub mod places;
 mod raw_lists;
@@ -12,6 +13,9 @@ pub mod reading;
 pub mod writing;
 
 pub use faults::ReadFault;
+pub use laws::{
+    a_graph_text_has_one_graph, graphs_of_files_fit_files, written_graphs_are_read_back,
+};
 pub use reading::{graph_texts_have_no_fault, read_graph};
 pub use writing::{write_graph, written_graphs_are_json};
 

@@ -1,5 +1,5 @@
 //! A graph from the bytes of a graph file.
-ghost use Rattle.std.specs.Prelude.{◌≡◌, ◌≤◌, ◌↔◌, IsTrue, ℕ, List, codes, [], length, map, IfOk, IfErr};
+ghost use Rattle.std.specs.Prelude.{◌≡◌, ◌≤◌, ◌↔◌, ◌⊎◌, IsTrue, ℕ, List, codes, [], length, map, Ok, Err, IfOk, IfErr};
 ghost use Rattle.std.specs.List.{IsDistinct};
 ghost use Rattle.std.specs.Str.{bytes_eq};
 ghost use Rattle.std.specs.Result.{result_map_both};
@@ -184,9 +184,11 @@ fn graph_of(alloc: Global, value: &Value) -> Result<Graph, ReadFault>
 }
 
 /// The graph of the bytes of a graph file (JSON Graph Format, with RFC 4's keys of a vertex). Sizes are whole numbers,
-/// and ranks and ids are at most 4294967294. The fault is the first of `ReadFault` that holds.
+/// and ranks and ids are at most 4294967294. The fault is the first of `ReadFault` that holds. Bytes that are a file of
+/// some graph, as what `write_graph` writes of a graph of a file, give that graph or the answer that no memory is left.
 pub fn read_graph(alloc: Global, bytes: &[u8]) -> Result<Graph, ReadFault>
     ensures graph { IfOk result (IsGraphText bytes.now) }
+    ensures only { (graph : NamedGraph) → IsGraphText bytes.now graph → (result ≡ Ok graph) ⊎ (result ≡ Err ReadFault.Memory) }
     ensures fault { IfErr result (Tells bytes.now) }
 {
     match read_value(alloc, bytes) {

@@ -20,3 +20,5 @@ pub mod ToldLaws
 pub mod RepeatLaws
 pub mod KeyLaws
 pub mod OrderLaws
+pub mod OneGraph
+pub mod OwnGraph

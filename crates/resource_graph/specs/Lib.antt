@@ -11,3 +11,4 @@ pub mod Arranged
 pub mod Checks
 pub mod Told
 pub mod Keys
+pub mod OwnList

@@ -9,6 +9,7 @@ mod climbs;
 mod doubles;
 mod endless;
 pub mod graph;
+pub mod laws;
 mod lines;
 mod links;
 mod order;
@@ -18,6 +19,7 @@ mod repeats;
 mod tables;
 
 pub use graph::Graph;
+pub use laws::{a_graph_is_built_from_itself, a_list_has_one_graph};
 pub use raw::{GraphFault, RawVertex};
 
 #[cfg(test)]

@@ -1,8 +1,8 @@
-use Rattle.std.proofs.Common.{arith, ap, sym, subst, refl, ◌∙◌, ◌≡◌, ℕ, ◌+◌, ◌<◌, ◌≤◌, List, [], length, get_or, false, true, Bool, if◌then◌else◌, Some, None, Ok, Err, Result, slice_get}
+use Rattle.std.proofs.Common.{arith, ap, sym, subst, refl, ◌∙◌, ◌≡◌, ℕ, ◌<◌, List, length, get_or, if◌then◌else◌, Some, None, Ok, Err, Result, slice_get}
 use Rattle.std.proofs.lemmas.Option.{slice_get_read}
 use Rattle.serde_json.specs.View.{view, items_view}
 use Rattle.serde_json.specs.declared.value.Value.{Value}
-use Rattle.graph_json.specs.Edges.{FileEdge, edge_held, edge_of, edges_of, texts, joined, parents_of, HasJoined}
+use Rattle.graph_json.specs.Edges.{FileEdge, edge_held, edge_of, edges_of, texts, joined, HasJoined}
 use Rattle.graph_json.specs.declared.places.Misfit.{Misfit}
 use Rattle.graph_json.proofs.EdgeLaws.{edges-at, edges-length, joined-none, joined-more, wrong_edge, unfit_edge, all_right, all_joined}
 use Rattle.graph_json.proofs.edges.join_edges.Goals as goal

@@ -1,8 +1,8 @@
-use Rattle.std.proofs.Common.{arith, ap, sym, subst, ◌∙◌, ◌≡◌, ℕ, ◌<◌, ◌≤◌, List, [], length, map, get_or, false, true, Some, option_map, slice_get}
+use Rattle.std.proofs.Common.{arith, ap, sym, subst, ◌∙◌, ◌≡◌, ℕ, ◌<◌, List, [], length, map, get_or, Some, option_map, slice_get}
 use Rattle.std.proofs.lemmas.List.{length-map}
 use Rattle.std.proofs.lemmas.Option.{slice_get_read, slice_get-map}
 use Rattle.graph_json.specs.Nodes.{node_held, id_bytes}
-use Rattle.graph_json.specs.Edges.{texts, is_among}
+use Rattle.graph_json.specs.Edges.{texts}
 use Rattle.graph_json.specs.Ids.{ids_of, IsSetTo}
 use Rattle.graph_json.specs.declared.nodes.NodeFields.{NodeFields}
 use Rattle.graph_json.proofs.Sets.{not_new, not_old}

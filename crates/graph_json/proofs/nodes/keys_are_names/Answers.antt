@@ -1,6 +1,5 @@
-use Rattle.std.proofs.Common.{rules, tests, ◌≡◌, sym, ◌∙◌, refl, ap, List, [], ◌∷◌, map, ◌&&◌, Global, String, string_bytes}
+use Rattle.std.proofs.Common.{rules, tests, ◌≡◌, ◌∙◌, refl, ap, List, [], ◌∷◌, map, ◌&&◌, string_bytes}
 use Rattle.std.specs.List.{list_all}
-use Rattle.std.specs.Map.{keys_of as map_keys}
 use Rattle.std.proofs.lemmas.Iterator.Search.{all_from_yields_List}
 use Rattle.std.proofs.lemmas.Iterator.Consumers.{YieldsList-from_rest}
 use Rattle.serde_json.specs.View.{members_view}

@@ -1,4 +1,4 @@
-use Rattle.std.proofs.Common.{ap, sym, ◌∙◌, ◌≡◌, List, ℕ, map, true}
+use Rattle.std.proofs.Common.{ap, sym, ◌∙◌, ◌≡◌, true}
 use Rattle.std.specs.List.{list_any}
 use Rattle.std.specs.Str.{bytes_eq}
 use Rattle.graph_json.specs.Edges.{texts, is_among}

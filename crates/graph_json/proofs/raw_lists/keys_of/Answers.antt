@@ -1,4 +1,4 @@
-use Rattle.std.proofs.Common.{ap, sym, ◌∙◌, ◌++◌, List, [], map, append-nil, string_bytes, ◌≡◌, ℕ}
+use Rattle.std.proofs.Common.{ap, sym, ◌∙◌, ◌++◌, [], map, append-nil, string_bytes, ◌≡◌}
 use Rattle.graph_json.proofs.Sets.{keys_of-entries}
 use Rattle.graph_json.proofs.raw_lists.keys_of.Goals as goal
 

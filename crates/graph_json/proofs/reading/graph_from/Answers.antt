@@ -1,11 +1,9 @@
-use Rattle.std.proofs.Common.{◌≡◌, ◌≤◌, sym, ap, subst, ◌∙◌, refl, arith, true≢false, ℕ, List, length, map, Some, Option, slice_get}
+use Rattle.std.proofs.Common.{◌≡◌, sym, ap, subst, ◌∙◌, arith, true≢false, ℕ, List, length, map, Option, slice_get}
 use Rattle.std.proofs.lemmas.List.{length-map}
-use Rattle.resource_graph.specs.NamedGraph.{NamedGraph}
 use Rattle.resource_graph.specs.Raw.{IsBuiltFrom, KindsApart, raw_graph, raw_names}
 use Rattle.resource_graph.specs.Faults.{IsFaultless}
 use Rattle.resource_graph.specs.Told.{Tells}
 use Rattle.resource_graph.specs.declared.raw.RawVertex.{RawVertex}
-use Rattle.resource_graph.specs.declared.raw.GraphFault.{GraphFault}
 use Rattle.graph_json.specs.Nodes.{FileNode, node_held}
 use Rattle.graph_json.specs.Edges.{FileEdge, texts, parent_of, parents_of}
 use Rattle.graph_json.specs.Ids.{ids_of}

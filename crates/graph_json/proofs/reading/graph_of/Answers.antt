@@ -1,8 +1,7 @@
-use Rattle.std.proofs.Common.{◌≡◌, Err, sym, ap, subst, ◌∙◌, refl, ℕ, List, map, Ok, Result, length, take, drop, ◌++◌, append-nil, arith, Option, IfOk, IfErr}
+use Rattle.std.proofs.Common.{◌≡◌, Err, ap, subst, ◌∙◌, ℕ, List, map, Ok, Result, length, take, drop, ◌++◌, append-nil, arith, Option, IfOk, IfErr}
 use Rattle.std.proofs.lemmas.List.{take_all, drop_all}
 use Rattle.serde_json.specs.Data.{Data}
 use Rattle.serde_json.specs.View.{view, items_view}
-use Rattle.serde_json.specs.declared.value.Value.{Value}
 use Rattle.graph_json.specs.Nodes.{FileNode, node_held, nodes_of}
 use Rattle.graph_json.specs.Edges.{FileEdge, texts, edges_of, counted, parents_of, IsFirstWrong, IsWrongEdge}
 use Rattle.graph_json.specs.Ids.{ids_of, IsRepeated, IsSetOf}

@@ -1,5 +1,5 @@
-use Rattle.std.proofs.Common.{◌≡◌, subst, ℕ, List, [], ◌∷◌, map, codes}
-use Rattle.json.specs.Token.{Token, key, string}
+use Rattle.std.proofs.Common.{subst, [], ◌∷◌, map, codes}
+use Rattle.json.specs.Token.{key, string}
 use Rattle.serde_json.specs.Data.{object}
 use Rattle.graph_json.specs.Nodes.{in_order}
 use Rattle.graph_json.specs.WrittenGraph.{readable, keys_object}

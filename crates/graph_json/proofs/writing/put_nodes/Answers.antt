@@ -1,6 +1,5 @@
-use Rattle.std.proofs.Common.{arith, ap, subst, sym, refl, ◌∙◌, ◌≡◌, ℕ, zero, suc, Option, Some, None, [], length, slice_get, ◌+◌, ◌<◌, ◌∷◌, ◌++◌, List, drop, append_assoc}
+use Rattle.std.proofs.Common.{arith, ap, sym, refl, ◌∙◌, ◌≡◌, ℕ, zero, suc, Option, Some, None, [], length, slice_get, ◌+◌, ◌<◌, ◌∷◌, ◌++◌, List, drop, append_assoc}
 use Rattle.std.specs.Option.{option_map_or}
-use Rattle.json.specs.Token.{Token}
 use Rattle.flux_defs.specs.declared.vertices.Vertex.{Vertex}
 use Rattle.resource_graph.specs.NamedGraph.{NamedGraph}
 use Rattle.graph_json.specs.WrittenGraph.{node_data, nodes_data}

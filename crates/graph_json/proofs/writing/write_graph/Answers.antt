@@ -1,7 +1,5 @@
-use Rattle.std.proofs.Common.{◌≡◌, ap, sym, ◌∙◌, ℕ, List, [], ◌++◌}
-use Rattle.json.specs.Token.{Token}
+use Rattle.std.proofs.Common.{ap, ◌∙◌, ◌++◌}
 use Rattle.json.specs.Print.{print}
-use Rattle.serde_json.specs.Written.{compact_text}
 use Rattle.serde_json.proofs.Texts.{print-outline}
 use Rattle.graph_json.specs.WrittenGraph.{lists_data, graph_data, graph_text}
 use Rattle.graph_json.specs.WrittenTokens.{Adds, value_tokens}

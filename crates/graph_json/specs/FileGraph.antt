@@ -1,0 +1,25 @@
+-- Which graphs a graph file can hold.
+use Rattle.std.specs.Prelude.{◌≡◌, ℕ, ◌≤◌, ◌-◌, ◌^◌, List, IfSome, IsTrue}
+use Rattle.std.specs.List.{AllByRecursion, list_all}
+use Rattle.flux_defs.specs.declared.vertices.Vertex.{Vertex}
+use Rattle.resource_graph.specs.NamedGraph.{NamedGraph, IsWhole}
+use Rattle.graph_json.specs.Fields.{is_name, is_unit}
+use Rattle.graph_json.specs.Nodes.{in_order}
+
+-- the properties of a vertex: names, in byte order, each once
+abbrev pub AreProperties : List (List ℕ) → Type 0
+AreProperties list = IsTrue (list_all (is_name 255) list) × (in_order list ≡ list)
+
+-- the id and the rank of a vertex leave the greatest number of 32 bits free
+abbrev pub HasFileNumbers : Vertex → Type 0
+HasFileNumbers x = IfSome x.id (λ n. n ≤ 2 ^ 32 - 2) × IfSome x.rank (λ n. n ≤ 2 ^ 32 - 2)
+
+-- A valid graph whose texts and numbers keep the rules of a graph file.
+pub record IsFileGraph (g : NamedGraph) : Type 0 where
+  pub whole : IsWhole g
+  pub kinds : IsTrue (list_all (is_name 64) g.resources.kinds)
+  pub names : IsTrue (list_all (is_name 255) g.names)
+  pub bases : IsTrue (list_all (is_name 255) g.bases)
+  pub units : IsTrue (list_all is_unit g.units)
+  pub properties : AllByRecursion AreProperties g.properties
+  pub numbers : AllByRecursion HasFileNumbers g.resources.vertices
