@@ -5,3 +5,8 @@ pub mod Rising
 pub mod OtherLaws
 pub mod ReadLaws
 pub mod RowsRead
+pub mod IdsBack
+pub mod RowsBack
+pub mod HostsBack
+pub mod JsonBack
+pub mod SetsBack
