@@ -1,21 +1,18 @@
 -- The hosts of a job: what they are called, and that their hostlists are plain texts.
-use Rattle.std.proofs.Common.{◌≡◌, ℕ, zero, suc, ◌+◌, ◌-◌, ◌<◌, ◌≤◌, ◌==◌, ◌&&◌, ◌||◌, Bool, true, false, List, [], ◌∷◌, ◌++◌, length, map, take, drop, Option, Some, None, refl, sym, ◌∙◌, ap, subst, arith, cond, if◌then◌else◌, IsUtf8, IsTrue, IfSome, All, slice_get, slice_index, unwrap_or, option_and_then, is_some, true≢false, inl, inr}
-use Rattle.std.specs.List.{AllByRecursion, filter_map, find, list_all}
+use Rattle.std.proofs.Common.{◌≡◌, ℕ, zero, suc, ◌+◌, ◌<◌, ◌≤◌, ◌==◌, ◌&&◌, Bool, true, false, List, [], ◌∷◌, ◌++◌, length, take, drop, Option, Some, None, refl, sym, ◌∙◌, ap, subst, arith, cond, if◌then◌else◌, IsUtf8, IsTrue, IfSome, slice_get, slice_index, unwrap_or, option_and_then, is_some, true≢false, inl, inr}
+use Rattle.std.specs.List.{AllByRecursion, find, list_all}
 use Rattle.std.specs.Option.{option_map_or}
-use Rattle.std.specs.Char.{is_ascii_alphanumeric}
-use Rattle.std.proofs.lemmas.Bool.{and_parts, or_cases, eqb-true, cases_eq, cases_lt}
+use Rattle.std.proofs.lemmas.Bool.{and_parts, cases_eq, cases_lt}
 use Rattle.std.proofs.lemmas.Bool.Decides.{nat_tests}
-use Rattle.std.proofs.lemmas.Option.{slice_get-get_or, slice_get_within}
-use Rattle.std.proofs.lemmas.List.Elements.{All-from_recursion}
+use Rattle.std.proofs.lemmas.Option.{slice_get-get_or}
 use Rattle.std.proofs.lemmas.Str.{IsUtf8-from_ascii}
-use Rattle.std.specs.Str.{IsAscii}
 use Rattle.graph_laws.proofs.Containment.{equal_from}
 use Rattle.flux_defs.specs.declared.vertices.Vertex.{Vertex}
 use Rattle.flux_defs.specs.Graph.{is_at_or_below}
 use Rattle.resource_graph.specs.NamedGraph.{NamedGraph}
 use Rattle.idset_text.specs.Idsets.{ids_from}
 use Rattle.idset_text.specs.Hostlists.{is_name_byte, is_name, prefix_of, digits_of, digits_place, continues, run_text, texts_from, hostlist_texts}
-use Rattle.resource_set_r.specs.Rows.{numbers, rank_of, node_above, rank_above, node_with, host_of, is_of_type, id_of_type}
+use Rattle.resource_set_r.specs.Rows.{rank_of, node_above, rank_above, node_with, host_of, is_of_type, id_of_type}
 use Rattle.resource_set_r.specs.ReadBack.{HasIdNumbers}
 use Rattle.resource_set_r.proofs.Filtered.{find_some}
 use Rattle.resource_set_r.proofs.IdsBack.{Small}

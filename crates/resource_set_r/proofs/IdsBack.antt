@@ -1,33 +1,29 @@
 -- Ids that are written are read again, and what is known of the ids of a job.
-use Rattle.std.proofs.Common.{◌≡◌, ℕ, zero, suc, ◌+◌, ◌-◌, ◌^◌, ◌<◌, ◌≤◌, ◌==◌, ◌&&◌, nat_eq, nat_le, nat_lt, Bool, true, false, List, [], ◌∷◌, ◌++◌, length, map, fold, Option, Some, None, Result, Ok, Err, refl, sym, ◌∙◌, ap, subst, arith, cond, if◌then◌else◌, append_assoc, IsUtf8, IfSome, All, slice_get, option_and_then, decimal}
-use Rattle.std.specs.List.{cons_option, AllByRecursion, filter, filter_map, flat_map, join_with_byte, count_by}
-use Rattle.std.specs.Option.{option_map_or}
+use Rattle.std.proofs.Common.{◌≡◌, ℕ, zero, suc, ◌+◌, ◌-◌, ◌^◌, ◌<◌, ◌≤◌, ◌==◌, ◌&&◌, nat_eq, nat_le, nat_lt, Bool, true, false, List, [], ◌∷◌, ◌++◌, fold, Option, Some, None, Ok, refl, sym, ◌∙◌, ap, subst, arith, cond, if◌then◌else◌, append_assoc, IsUtf8, decimal}
+use Rattle.std.specs.List.{cons_option, AllByRecursion, filter_map, flat_map, count_by}
 use Rattle.std.specs.List.Sorted.{IsStrictlySortedBy, IsStrictlyIncreasing}
 use Rattle.std.specs.Ordering.{nat_cmp, match_ordering}
 use Rattle.std.specs.declared.cmp.Ordering.{Ordering}
 use Rattle.std.specs.declared.cmp.Ordering.TheVariants.{Less, Equal, Greater}
 use Rattle.std.specs.BTreeSet.{insert_key}
-use Rattle.std.specs.Str.{is_utf8}
 use Rattle.std.proofs.lemmas.Bool.{ne_eqb, eqb-true}
 use Rattle.std.proofs.lemmas.Bool.Decides.{nat_tests}
 use Rattle.std.proofs.lemmas.List.Elements.{All-from_recursion}
 use Rattle.std.proofs.lemmas.Str.{IsUtf8-append, IsUtf8-nil, IsUtf8-from_ascii, is_utf8-from_IsUtf8}
 use Rattle.std.proofs.lemmas.Fmt.{IsAscii-decimal}
 use Rattle.json.proofs.Printed.Utf8.{IsUtf8-are_ascii}
-use Rattle.flux_defs.specs.declared.vertices.Vertex.{Vertex}
 use Rattle.graph_json.specs.WrittenGraph.{readable}
 use Rattle.idset_text.specs.declared.idsets.Range.{Range}
-use Rattle.idset_text.specs.Idsets.{idset_of, ids_from, ids_between, is_within, ids_of, runs_of, range_text, runs_text, idset_text, Rises}
+use Rattle.idset_text.specs.Idsets.{ids_from, ids_between, is_within, ids_of, runs_of, range_text, runs_text, idset_text, Rises}
 use Rattle.idset_text.proofs.IdsetTexts.{idset_of-runs_text, runs_rise, ids_rise, ids_of-runs_of}
 use Rattle.resource_set_r.specs.declared.faults.Place.{Place}
-use Rattle.resource_set_r.specs.declared.faults.Misread.{Misread}
 use Rattle.resource_set_r.specs.declared.rows.Children.{Children}
 use Rattle.resource_set_r.specs.declared.rows.Element.{Element}
 use Rattle.resource_set_r.specs.Rows.{rising, is_same, with_rank, element_of, elements_from, elements}
 use Rattle.resource_set_r.specs.ReadRows.{idset_read, idset_text_at, covers, IsRepeatedRank}
 use Rattle.std.proofs.lemmas.Map.Keys.{IsStrictlyIncreasing-from_sorted, sorted_from_strictly_increasing}
 use Rattle.std.proofs.lemmas.List.Sums.{sum_by-cons, sum_by-append}
-use Rattle.resource_set_r.proofs.Rising.{rising_increases, sorted_front, sorted_rest}
+use Rattle.resource_set_r.proofs.Rising.{sorted_front, sorted_rest}
 
 abbrev pub Small : ℕ → Type 0
 Small n = n < 4294967295

@@ -1,10 +1,10 @@
 -- R that is written of a job is JSON of its value.
-use Rattle.std.proofs.Common.{◌≡◌, refl, ap, ◌∙◌, ℕ, suc, ◌^◌, ◌<◌, ◌≤◌, List, [], ◌∷◌, map, Bool, true, false, cond, Option, Some, None, if◌then◌else◌, codes, IsUtf8, arith}
+use Rattle.std.proofs.Common.{◌≡◌, refl, ap, ◌∙◌, ℕ, ◌^◌, ◌<◌, List, [], ◌∷◌, Bool, true, false, cond, Some, None, if◌then◌else◌, codes, IsUtf8, arith}
 use Rattle.std.specs.List.{AllByRecursion, filter}
 use Rattle.std.specs.Str.{is_utf8}
 use Rattle.std.proofs.lemmas.Str.{is_utf8-from_IsUtf8}
 use Rattle.json.proofs.Printed.Utf8.{IsUtf8-are_ascii}
-use Rattle.serde_json.specs.Data.{Data, number, string, array, object, unsigned, Items, Members, no_members, member}
+use Rattle.serde_json.specs.Data.{number, unsigned, Members, no_members, member}
 use Rattle.serde_json.specs.Written.{compact_text}
 use Rattle.serde_json.specs.Read.{read}
 use Rattle.json_whole.specs.Whole.{value_in, value_of}
@@ -13,7 +13,6 @@ use Rattle.flux_defs.specs.declared.claims.Claim.TheVariants.{Take, Hold, Pass}
 use Rattle.flux_defs.specs.declared.claims.Job.{Job}
 use Rattle.flux_defs.specs.Jobs.{vertex_of}
 use Rattle.resource_graph.specs.NamedGraph.{NamedGraph, path_text}
-use Rattle.graph_json.specs.WrittenGraph.{readable}
 use Rattle.graph_json.proofs.JsonLaws.{IsPlain, ArePlain, HasPlain, is_below, read_compact}
 use Rattle.graph_json.proofs.PlainText.{plain-compact_text}
 use Rattle.graph_json.proofs.WrittenText.{IsClear, AreClear, HasClear, utf8_value, clear_readable}

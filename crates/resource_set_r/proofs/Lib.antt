@@ -10,3 +10,4 @@ pub mod RowsBack
 pub mod HostsBack
 pub mod JsonBack
 pub mod SetsBack
+pub mod OneSet

@@ -1,11 +1,10 @@
 -- Elements and hosts that are written are read again.
-use Rattle.std.proofs.Common.{◌≡◌, ℕ, zero, suc, ◌+◌, ◌^◌, ◌<◌, ◌≤◌, ◌==◌, ◌&&◌, nat_eq, Bool, true, false, List, [], ◌∷◌, ◌++◌, length, map, take, drop, Option, Some, None, Result, Ok, Err, refl, sym, ◌∙◌, ap, subst, arith, if◌then◌else◌, append_assoc, IsUtf8, IsTrue, All, codes, slice_index, unwrap_or, slice_get}
+use Rattle.std.proofs.Common.{◌≡◌, ℕ, suc, ◌^◌, ◌≤◌, true, List, [], ◌∷◌, ◌++◌, length, map, Some, Ok, Err, refl, sym, ◌∙◌, ap, arith, if◌then◌else◌, IsUtf8, codes}
 use Rattle.std.specs.List.{AllByRecursion, flat_map}
 use Rattle.std.specs.Result.{result_map_both}
 use Rattle.std.proofs.lemmas.Bool.{le-ltb, eq-eqb}
-use Rattle.std.proofs.lemmas.List.{length-map}
 use Rattle.std.proofs.lemmas.Grind.{flat_map-append}
-use Rattle.serde_json.specs.Data.{Data, number, string, array, object, unsigned, Items, no_items, item, Members, no_members, member}
+use Rattle.serde_json.specs.Data.{number, string, object, unsigned, Members, no_members, member}
 use Rattle.serde_json.specs.Find.{get}
 use Rattle.graph_json.specs.Fields.{result_and_then}
 use Rattle.graph_json.specs.WrittenGraph.{readable}
@@ -13,16 +12,14 @@ use Rattle.resource_graph.specs.NamedGraph.{NamedGraph}
 use Rattle.flux_defs.specs.declared.claims.Claim.{Claim}
 use Rattle.idset_text.specs.declared.hostlists.Hosts.{Hosts}
 use Rattle.idset_text.specs.declared.idsets.Range.{Range}
-use Rattle.idset_text.specs.Idsets.{ids_between, ids_of, runs_of, idset_text}
+use Rattle.idset_text.specs.Idsets.{ids_between, ids_of, runs_of}
 use Rattle.idset_text.specs.Hostlists.{hostlist_of, names_of, own_names, AreHostlistsOf}
 use Rattle.resource_set_r.specs.declared.faults.Place.{Place}
 use Rattle.resource_set_r.specs.declared.faults.Place.TheVariants as place
-use Rattle.resource_set_r.specs.declared.faults.Misread.{Misread}
 use Rattle.resource_set_r.specs.declared.faults.Misread.TheVariants as misread
 use Rattle.resource_set_r.specs.declared.rows.Children.{Children}
 use Rattle.resource_set_r.specs.declared.rows.Element.{Element}
 use Rattle.resource_set_r.specs.declared.sets_read.RRow.{RRow}
-use Rattle.resource_set_r.specs.Misreads.{at_field}
 use Rattle.resource_set_r.specs.ReadRows.{idset_or_none, row_with, row_of, rows_from, execution_of, ranges_in}
 use Rattle.resource_set_r.specs.ReadR.{hosts_read, host_value, hosts_from, hosts_fit, hosts_for, second_or_zero}
 use Rattle.resource_set_r.specs.ReadBack.{row_of_element}

@@ -1,6 +1,6 @@
 -- R that is written of a job is R of a set that says what the job has.
-use Rattle.std.proofs.Common.{◌≡◌, refl, sym, ap, subst, ◌∙◌, ℕ, ◌+◌, ◌^◌, ◌<◌, ◌≤◌, List, [], ◌∷◌, length, map, Option, Some, None, Result, Ok, Err, IsTrue, All, codes, arith}
-use Rattle.std.specs.List.{AllByRecursion, flat_map, filter_map, filter}
+use Rattle.std.proofs.Common.{◌≡◌, refl, sym, ap, subst, ◌∙◌, ℕ, ◌^◌, ◌≤◌, List, [], ◌∷◌, length, map, Option, None, Ok, IsTrue, codes, arith}
+use Rattle.std.specs.List.{AllByRecursion, filter_map, filter}
 use Rattle.std.specs.List.Sorted.{IsStrictlyIncreasing}
 use Rattle.std.proofs.lemmas.List.{length-map}
 use Rattle.std.proofs.lemmas.List.Elements.{All-from_recursion}
@@ -9,18 +9,16 @@ use Rattle.flux_defs.specs.declared.vertices.Vertex.{Vertex}
 use Rattle.flux_defs.specs.declared.claims.Job.{Job}
 use Rattle.graph_json.specs.Fields.{result_and_then}
 use Rattle.resource_graph.specs.NamedGraph.{NamedGraph}
-use Rattle.idset_text.specs.declared.hostlists.Hosts.{Hosts}
 use Rattle.idset_text.specs.Idsets.{ids_of}
 use Rattle.idset_text.specs.Hostlists.{is_name, names_of, hostlist_texts, AreHostlistsOf}
 use Rattle.idset_text.proofs.HostlistTexts.{texts_again}
-use Rattle.resource_set_r.specs.declared.faults.Misread.{Misread}
 use Rattle.resource_set_r.specs.declared.faults.Place.TheVariants as place
 use Rattle.resource_set_r.specs.declared.rows.Children.{Children}
 use Rattle.resource_set_r.specs.declared.rows.Element.{Element}
 use Rattle.resource_set_r.specs.declared.sets_read.RRow.{RRow}
 use Rattle.resource_set_r.specs.declared.sets_read.RSet.{RSet}
-use Rattle.resource_set_r.specs.Rows.{given, ids_among, rank_above, ranks_in, host_of, type_called, part_of, id_of_type, children_in, elements, elements_of, is_other}
-use Rattle.resource_set_r.specs.WrittenR.{elements_data, texts_data, nodelist, execution_data, r_data, r_text}
+use Rattle.resource_set_r.specs.Rows.{given, ids_among, rank_above, ranks_in, host_of, type_called, part_of, id_of_type, children_in, elements_of, is_other}
+use Rattle.resource_set_r.specs.WrittenR.{execution_data, r_data, r_text}
 use Rattle.resource_set_r.specs.ReadRows.{rows_in, ranges_in, IsRepeatedRank}
 use Rattle.resource_set_r.specs.ReadR.{hosts_in, seconds_of, second_or_zero, set_with, IsRText}
 use Rattle.resource_set_r.specs.ReadBack.{row_of_element, CanBeRead, IsOfJob}

@@ -1,5 +1,5 @@
 -- What is written of a job is read again.
-use Rattle.std.specs.Prelude.{◌≡◌, ℕ, ◌^◌, ◌<◌, ◌≤◌, List, length, map, All, IfSome, IsTrue, slice_get}
+use Rattle.std.specs.Prelude.{◌≡◌, ◌^◌, ◌<◌, ◌≤◌, length, map, IfSome, IsTrue}
 use Rattle.std.specs.List.{AllByRecursion}
 use Rattle.flux_defs.specs.declared.vertices.Vertex.{Vertex}
 use Rattle.flux_defs.specs.declared.claims.Claim.{Claim}

@@ -14,7 +14,7 @@ pub mod sets_read;
 pub mod writing;
 
 pub use faults::RFault;
-pub use laws::written_sets_are_read_back;
+pub use laws::{a_text_has_one_set, written_sets_are_read_back};
 pub use reading::read_r;
 pub use sets_read::{RRow, RSet};
 pub use writing::write_r;

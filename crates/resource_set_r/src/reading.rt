@@ -1,9 +1,13 @@
 //! A resource set from the bytes of R.
-ghost use Rattle.std.specs.Prelude.{◌≡◌, ℕ, List, Ok, length, IfOk, IfErr, IsSome};
+ghost use Rattle.std.specs.Prelude.{◌≡◌, ℕ, List, Ok, length, IfOk, IfErr, IsSome, MatchResult};
 ghost use Rattle.serde_json.specs.Data.{Data};
 ghost use Rattle.serde_json.specs.Find.{as_object};
 ghost use Rattle.serde_json.specs.View.{view};
+ghost use Rattle.flux_defs.specs.declared.claims.Job.{Job};
 ghost use Rattle.idset_text.specs.Idsets.{ids_of};
+ghost use Rattle.resource_graph.specs.NamedGraph.{NamedGraph};
+ghost use Rattle.resource_set_r.specs.ReadBack.{CanBeRead, IsOfJob};
+ghost use Rattle.resource_set_r.specs.WrittenR.{r_text};
 ghost use Rattle.resource_set_r.specs.Misreads.{Gives};
 ghost use Rattle.resource_set_r.specs.ReadRows.{execution_of, ranges_in};
 ghost use Rattle.resource_set_r.specs.ReadR.{seconds_of, set_with, IsSetOf, IsErrorOf, IsToldAs, IsRText, Tells};
@@ -105,11 +109,8 @@ fn fault_of(alloc: Global, misread: Misread) -> RFault
     }
 }
 
-/// The resource set of the bytes of R (RFC 20, version 1). Keys that it doesn't know are passed over; `core`, `gpu` and
-/// `nodelist` count as empty where they are absent, and `starttime` and `expiration` as 0. The fault is the first that holds
-/// of: the text, `version`, `execution`, the elements of `R_lite` in order with `rank`, `core` and `gpu` of each, a rank that
-/// two items have, `nodelist`, the number of hosts, `starttime`, `expiration`.
-pub fn read_r(alloc: Global, bytes: &[u8]) -> Result<RSet, RFault>
+/// What the bytes are read as.
+fn read(alloc: Global, bytes: &[u8]) -> Result<RSet, RFault>
     ensures set { IfOk result (IsRText bytes.now) }
     ensures fault { IfErr result (Tells bytes.now) }
 {
@@ -122,4 +123,18 @@ pub fn read_r(alloc: Global, bytes: &[u8]) -> Result<RSet, RFault>
         Err(ValueFault::NotJson) => Err(RFault::NotJson),
         Err(ValueFault::Memory) => Err(RFault::Memory),
     }
+}
+
+/// The resource set of the bytes of R (RFC 20, version 1). Keys that it doesn't know are passed over; `core`, `gpu` and
+/// `nodelist` count as empty where they are absent, and `starttime` and `expiration` as 0. The fault is the first that holds
+/// of: the text, `version`, `execution`, the elements of `R_lite` in order with `rank`, `core` and `gpu` of each, a rank that
+/// two items have, `nodelist`, the number of hosts, `starttime`, `expiration`.
+pub fn read_r(alloc: Global, bytes: &[u8]) -> Result<RSet, RFault>
+    ensures set { IfOk result (IsRText bytes.now) }
+    ensures fault { IfErr result (Tells bytes.now) }
+
+    // What `write_r` wrote of a job is read as the job's ranks, cores, gpus, hosts, start and end, unless memory runs out.
+    ensures again { (g : NamedGraph) (job : Job) → bytes.now ≡ r_text g job → CanBeRead g job → MatchResult result (IsOfJob g job) (λ fault. fault ≡ RFault.Memory) }
+{
+    read(alloc, bytes)
 }

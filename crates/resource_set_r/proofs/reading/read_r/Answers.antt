@@ -1,11 +1,5 @@
-use Rattle.std.proofs.Common.{subst}
-use Rattle.serde_json.specs.View.{view}
-use Rattle.resource_set_r.specs.declared.faults.ReadError.{ReadError}
-use Rattle.resource_set_r.specs.ReadR.{IsErrorOf}
-use Rattle.resource_set_r.proofs.RowsRead.{told}
+use Rattle.resource_set_r.proofs.OneSet.{read_again}
 use Rattle.resource_set_r.proofs.reading.read_r.Goals as goal
 
-pub returns-in-Err-Misread-clause-fault : goal.returns-in-Err-Misread-clause-fault
-returns-in-Err-Misread-clause-fault c =
-    let wrong = subst (λ (e : ReadError). IsErrorOf (view c.in-Ok.value) e) c.in-Err-Misread.field-0-is c.in-Err-Misread.ensures.error in
-    told c.args.bytes.now c.in-Err-Misread.misread c.fault_of.result c.fault_of.ensures (view c.in-Ok.value, c.in-Ok.ensures.value, wrong)
+pub returns-clause-again : goal.returns-clause-again
+returns-clause-again c = read_again c.args.bytes.now c.read.result c.read.ensures.set c.read.ensures.fault
