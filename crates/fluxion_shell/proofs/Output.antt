@@ -1,5 +1,5 @@
 -- A history that was played and its text are an output.
-use Rattle.std.proofs.Common.{◌≡◌, ℕ, List, [], ◌∷◌, map, Contains, refl, sym, ◌∙◌, ap, subst}
+use Rattle.std.proofs.Common.{◌≡◌, ℕ, List, [], ◌∷◌, map, Contains, Result, Ok, Err, inl, inr, ◌⊎◌, refl, sym, ◌∙◌, ap, subst}
 use Rattle.std.specs.List.{AllByRecursion}
 use Rattle.flux_defs.specs.declared.journal.Entry.{Entry}
 use Rattle.flux_defs.specs.declared.journal.Line.{Line}
@@ -10,6 +10,9 @@ use Rattle.resource_graph.specs.NamedGraph.{NamedGraph}
 use Rattle.sched_core.specs.declared.playing.ClientLine.{ClientLine}
 use Rattle.sched_core.specs.Played.{AreProper, line_of}
 use Rattle.fluxion_lines.specs.declared.input.NumberedLine.{NumberedLine}
+use Rattle.fluxion_lines.specs.declared.input.Over.{Over}
+use Rattle.fluxion_lines.specs.declared.input.InputFault.{InputFault}
+use Rattle.fluxion_lines.specs.declared.input.InputFault.TheVariants as fault
 use Rattle.fluxion_lines.specs.Inputs.{clients_of, numbered_lines}
 use Rattle.fluxion_lines.specs.Scripts.{script_of, input_order}
 use Rattle.fluxion_lines.proofs.ScriptLaws.{all_mapped, all_unmapped, at_each, interleaves, told}
@@ -48,3 +51,17 @@ sound_output g horizon input text played =
       };
       sound = played.sound;
     }
+
+fault_is : (f e : InputFault) → (let r : Result (List ℕ) InputFault = Err f in r ≡ Err e) → f ≡ e
+fault_is f e same = cc
+
+over_is : (a b : Over) → fault.Over a ≡ fault.Over b → a ≡ b
+over_is a b same = cc
+
+no_memory : (over : Over) → fault.Memory ≡ fault.Over over → ⊥
+no_memory over same = cc
+
+-- the line that a fault tells of
+pub told_over : (P : Over → Type 0) (f : InputFault) (over : Over) → (f ≡ fault.Memory) ⊎ ((o : Over) × (f ≡ fault.Over o) × P o) → (let r : Result (List ℕ) InputFault = Err f in r ≡ Err (fault.Over over)) → P over
+told_over P f over (inl memory) is = absurd (no_memory over (sym memory ∙ fault_is f (fault.Over over) is))
+told_over P f over (inr (o, told, p)) is = subst P (over_is o over (sym told ∙ fault_is f (fault.Over over) is)) p

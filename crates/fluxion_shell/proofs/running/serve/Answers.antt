@@ -3,7 +3,8 @@ use Rattle.graph_json.specs.declared.faults.ReadFault.{ReadFault}
 use Rattle.fluxion_shell.specs.declared.status.Status.{Status}
 use Rattle.fluxion_shell.specs.declared.status.Status.TheVariants as status
 use Rattle.fluxion_shell.specs.Causes.{AppendsSome, AppendsFrontOfSome, ShowsInput, Shows, FailsWith}
-use Rattle.fluxion_shell.specs.Outputs.{IsSoundOutput, Answers, AnswersSoundly}
+use Rattle.fluxion_lines.specs.Inputs.{over_in}
+use Rattle.fluxion_shell.specs.Outputs.{shipped, IsSoundOutput, Answers, AnswersSoundly}
 use Rattle.fluxion_shell.proofs.Shown.{shows_earlier, shows_long_input, shows_read, earlier_input, where_told, fails_limit, fails_graph, fails_limits, fails_shows, input_is_no_graph, over_is_limit, over_is_no_graph, over_is_no_input, over_is_one, shows_over, front_of, no_fault}
 use Rattle.fluxion_shell.proofs.running.serve.Goals as goal
 
@@ -145,7 +146,7 @@ returns-in-Ok-write_all-clause-first g c =
     let name = c.args.name.now in
     let left = g.S.Source.left c.args.input.now in
     let loaded = c.in-Ok.ensures.loaded in
-    shows_read told name loaded.0 loaded.1 c.in-Ok.graph loaded.2 left c.in-Ok-read_all.lines status.Ok c.in-Ok-read_all.ensures.most c.in-Ok-read_all.ensures.whole ? (inl refl)
+    shows_read told name loaded.0 loaded.1 c.in-Ok.graph loaded.2 left c.in-Ok-read_all.lines status.Ok c.in-Ok-read_all.ensures.most c.in-Ok-read_all.ensures.whole (ap (over_in shipped) (sym c.bytes.ensures) ∙ c.in-Ok-answer.ensures.within refl) (inl refl)
 
 pub returns-in-Ok-write_all-clause-room : goal.returns-in-Ok-write_all-clause-room
 returns-in-Ok-write_all-clause-room g c =
@@ -178,7 +179,7 @@ returns-clause-first g c =
     let name = c.args.name.now in
     let left = g.S.Source.left c.args.input.now in
     let loaded = c.in-Ok.ensures.loaded in
-    shows_read told name loaded.0 loaded.1 c.in-Ok.graph loaded.2 left c.in-Ok-read_all.lines status.Write c.in-Ok-read_all.ensures.most c.in-Ok-read_all.ensures.whole ? (inr refl)
+    shows_read told name loaded.0 loaded.1 c.in-Ok.graph loaded.2 left c.in-Ok-read_all.lines status.Write c.in-Ok-read_all.ensures.most c.in-Ok-read_all.ensures.whole (ap (over_in shipped) (sym c.bytes.ensures) ∙ c.in-Ok-answer.ensures.within refl) (inr refl)
 
 pub returns-clause-room : goal.returns-clause-room
 returns-clause-room g c =
@@ -193,3 +194,13 @@ returns-clause-room g c =
     (no_fault _ (g.O.Sink.room c.args.out.now) (length c.in-Ok-answer.text) (g.O.Sink.faults c.args.out.now) (g.O.Sink.faults c.write_all.new.out)
     (λ r. (x : List ℕ) → Answers c.args.horizon loaded.0 c.in-Ok-read_all.lines x → length x ≤ r)
     (λ r each. each c.in-Ok-answer.text (record { graph = c.in-Ok.graph; graph-is = loaded.2; output = sound.output })) c.write_all.ensures.fits)
+
+pub returns-in-Err-Over-clause-first : goal.returns-in-Err-Over-clause-first
+returns-in-Err-Over-clause-first g c =
+    let told = g.F.Files.told c.args.files.now in
+    let name = c.args.name.now in
+    let left = g.S.Source.left c.args.input.now in
+    let loaded = c.in-Ok.ensures.loaded in
+    let past = ap (over_in shipped) (sym c.bytes.ensures) ∙ c.answer.ensures.over c.in-Err-Over.over (c.in-Err-Over.is ∙ ap Err c.in-Err-Over.field-0-is) in
+    subst (λ (r : Status). Shows r told name left) (sym c.limit_of.ensures)
+    (shows_over told name loaded.0 loaded.1 c.in-Ok.graph loaded.2 left c.in-Ok-read_all.lines c.in-Err-Over.over c.in-Ok-read_all.ensures.most c.in-Ok-read_all.ensures.whole past)
