@@ -1,11 +1,11 @@
 -- Edges, one more at a time.
-use Rattle.std.proofs.Common.{◌≡◌, refl, sym, ap, subst, ◌∙◌, ℕ, zero, suc, ◌+◌, ◌<◌, ◌≤◌, List, [], ◌∷◌, ◌++◌, length, take, map, Bool, true, false, true≢false, ◌||◌, cond, if◌then◌else◌, Some, None, Option, is_some, unwrap_or, option_map, option_and_then, slice_get, slice_set, ◌⊎◌, inl, inr, arith, append-nil, Result, Ok, Err}
+use Rattle.std.proofs.Common.{◌≡◌, refl, sym, ap, subst, ◌∙◌, ℕ, zero, suc, ◌+◌, ◌<◌, ◌≤◌, List, [], ◌∷◌, ◌++◌, length, take, map, Bool, true, false, true≢false, ◌||◌, cond, if◌then◌else◌, Some, None, Option, is_some, unwrap_or, option_map, option_and_then, slice_get, slice_set, IfSome, ◌⊎◌, inl, inr, arith, append-nil, Result, Ok, Err}
 use borrow.Author.Count.{below_more, below_none}
 use Rattle.std.proofs.lemmas.Bool.{cases_lt}
 use Rattle.std.proofs.lemmas.Slice.Eq.{bytes_eq-Decides}
 use Rattle.std.proofs.lemmas.List.{take_all}
 use Rattle.std.proofs.lemmas.List.Elements.{filter_map-append}
-use Rattle.std.proofs.lemmas.Option.{slice_get_past, slice_get-map}
+use Rattle.std.proofs.lemmas.Option.{slice_get_within, slice_get_past, slice_get-map}
 use Rattle.std.specs.Cmp.Lexicographic.{nat_list_eq_equiv}
 use Rattle.std.specs.List.{IsDistinct, AllByRecursion, find}
 use Rattle.std.specs.Option.{option_map_or}
@@ -50,6 +50,10 @@ at_place (x ∷ xs) id k e = by_first (bytes_eq id x) refl (place_of xs id) (λ 
     by_first true same o p at = let zero_is : 0 ≡ k = cc in rw (← zero_is) (ap Some (sym (same_text id x same)))
     by_first false same None p at = cc
     by_first false same (Some j) p at = let next : suc j ≡ k = cc in rw (← next) (p j refl)
+
+pub place_within : (xs : List (List ℕ)) (id : List ℕ) (o : Option ℕ) → o ≡ place_of xs id → IfSome o (λ k. k < length xs)
+place_within xs id None e = tt
+place_within xs id (Some k) e = slice_get_within xs k id (at_place xs id k (sym e))
 
 -- ---- parents
 

@@ -1,7 +1,7 @@
--- Texts in a set, in the order in which they were added.
-use Rattle.std.proofs.Common.{◌≡◌, refl, sym, ap, subst, ◌∙◌, ℕ, suc, List, [], ◌∷◌, ◌++◌, map, Vec, Global, Bool, true, false, not, ◌||◌, true≢false, Some, append_assoc, append-nil, arith, ◌+◌, cond, position, nat_lt, length, None, option_map, if◌then◌else◌, Bor, string_bytes}
+-- Texts without repeats, in the order in which they were added.
+use Rattle.std.proofs.Common.{◌≡◌, refl, sym, ap, subst, ◌∙◌, ℕ, suc, List, [], ◌∷◌, ◌++◌, map, Bool, true, false, not, ◌||◌, true≢false, Some, arith, ◌+◌, cond, position, nat_lt, length, None, option_map, if◌then◌else◌, Bor, string_bytes, ◌==◌}
+use Rattle.std.proofs.lemmas.Bool.{ne_eqb}
 use Rattle.std.proofs.lemmas.Bool.Decides.{nat_tests}
-use Rattle.std.proofs.lemmas.List.{length-map, map-append}
 use Rattle.std.proofs.lemmas.Map.Keys.{IsDistinct-push}
 use Rattle.std.specs.Cmp.Lexicographic.{nat_list_eq_equiv}
 use Rattle.std.specs.List.{IsDistinct, AllByRecursion, list_any, position_or_len}
@@ -14,12 +14,8 @@ use Rattle.std.specs.BTreeSet.{insert_key}
 use Rattle.serde_json.specs.View.{members_view}
 use Rattle.serde_json.proofs.Views.{Entry}
 use Rattle.graph_json.specs.Nodes.{keys_of}
-use Rattle.graph_json.specs.Edges.{texts, is_among, place_of}
+use Rattle.graph_json.specs.Edges.{is_among, place_of}
 use Rattle.graph_json.specs.RawLists.{with_text}
-
-pub list_any-texts : (q : List ℕ) (vs : List (Vec ℕ Global)) → list_any (λ v. bytes_eq q v.items) vs ≡ list_any (bytes_eq q) (texts vs)
-list_any-texts q [] = refl
-list_any-texts q (v ∷ vs) = ap (λ b. bytes_eq q v.items || b) (list_any-texts q vs)
 
 all_at_middle : {X : Type 0} (P : X → Type 0) (xs : List X) (x : X) (rest : List X) → AllByRecursion P (xs ++ x ∷ rest) → P x
 all_at_middle P [] x rest h = h.0
@@ -29,18 +25,6 @@ either : (a b : Bool) → (a || b) ≡ true → (a ≡ true → ⊥) → (b ≡ 
 either true b h left right = left refl
 either false b h left right = right h
 
-neither : (a b : Bool) → a ≡ false → b ≡ false → (a || b) ≡ false
-neither true b e f = absurd (true≢false e)
-neither false b e f = f
-
-left_none : (a b : Bool) → (a || b) ≡ false → a ≡ false
-left_none true b h = h
-left_none false b h = refl
-
-right_none : (a b : Bool) → (a || b) ≡ false → b ≡ false
-right_none true b h = absurd (true≢false h)
-right_none false b h = h
-
 -- a text that stands twice
 pub doubled_at : (xs : List (List ℕ)) (x : List ℕ) (rest : List (List ℕ)) → list_any (bytes_eq x) xs ≡ true → IsDistinct bytes_eq (xs ++ x ∷ rest) → ⊥
 unfolding IsDistinct
@@ -49,34 +33,10 @@ doubled_at (y ∷ xs) x rest any d =
     either (bytes_eq x y) _ any (λ same. true≢false (sym same ∙ (nat_list_eq_equiv.symm x y ∙ all_at_middle (λ z. bytes_eq y z ≡ false) xs x rest d.0)))
     (λ h. doubled_at xs x rest h d.1)
 
-module _ {A : Type 0} (f : A → List ℕ) where
-  -- one more text is added
-  pub kept-more : (xs rest : List A) (x : A) (old new all : List (List ℕ)) → xs ≡ x ∷ rest → new ≡ old ++ f x ∷ [] → old ++ map f xs ≡ all → new ++ map f rest ≡ all
-  kept-more xs rest x old new all split more kept = rw more (append_assoc old (f x ∷ []) (map f rest) ∙ (ap (λ ys. old ++ map f ys) (sym split) ∙ kept))
-
-  -- a text is not new
-  pub doubled : (xs rest : List A) (x : A) (old all : List (List ℕ)) → xs ≡ x ∷ rest → old ++ map f xs ≡ all → list_any (bytes_eq (f x)) old ≡ true → IsDistinct bytes_eq all → ⊥
-  doubled xs rest x old all split kept any d =
-      let whole : old ++ f x ∷ map f rest ≡ all = ap (λ ys. old ++ map f ys) (sym split) ∙ kept in
-      let P : List (List ℕ) → Type 0 = λ ys. IsDistinct bytes_eq ys in
-      doubled_at old (f x) (map f rest) any (subst P (sym whole) d)
-
-  -- no text is left
-  pub kept-end : (xs : List A) (old all : List (List ℕ)) → xs ≡ [] → old ++ map f xs ≡ all → old ≡ all
-  kept-end xs old all none kept = sym (append-nil old) ∙ (ap (λ ys. old ++ map f ys) (sym none) ∙ kept)
-
-position_or_len-texts : (q : List ℕ) (vs : List (Vec ℕ Global)) → position_or_len (λ v. bytes_eq q v.items) vs ≡ position_or_len (bytes_eq q) (texts vs)
-position_or_len-texts q [] = refl
-position_or_len-texts q (v ∷ vs) = ap (λ n. cond (not (bytes_eq q v.items)) (1 + n) 0) (position_or_len-texts q vs)
-
 pub distinct-more : (old new : List (List ℕ)) (x : List ℕ) → new ≡ old ++ x ∷ [] → list_any (bytes_eq x) old ≡ false → IsDistinct bytes_eq old → IsDistinct bytes_eq new
 distinct-more old new x more absent d =
     let P : List (List ℕ) → Type 0 = λ ys. IsDistinct bytes_eq ys in
     subst P (sym more) (IsDistinct-push nat_list_eq_equiv old x d absent)
-
--- the place of a text among the texts
-pub position-texts : (q : List ℕ) (vs : List (Vec ℕ Global)) → position (λ v. bytes_eq q v.items) vs ≡ position (bytes_eq q) (texts vs)
-position-texts q vs = rw (← position_or_len-texts q vs, length-map) refl
 
 pub distinct-nil : IsDistinct bytes_eq []
 unfolding IsDistinct
@@ -128,9 +88,13 @@ keys_of-entries (e ∷ es) = ap (λ ks. string_bytes e.0 ∷ ks) (keys_of-entrie
 pub with_text-there : (texts : List (List ℕ)) (text : List ℕ) → is_among texts text ≡ true → texts ≡ with_text texts text
 with_text-there texts text there = rw there refl
 
-texts_by : (b : Bool) (keys : List (Vec ℕ Global)) (v : Vec ℕ Global) → texts (if b then keys else keys ++ v ∷ []) ≡ (if b then texts keys else texts keys ++ v.items ∷ [])
-texts_by true keys v = refl
-texts_by false keys v = map-append (λ x. x.items) keys (v ∷ [])
+-- ---- the place past the last
 
-pub with_text-inserted : (keys : List (Vec ℕ Global)) (v : Vec ℕ Global) → texts (if list_any (λ x. bytes_eq v.items x.items) keys then keys else keys ++ v ∷ []) ≡ with_text (texts keys) v.items
-with_text-inserted keys v = texts_by (list_any (λ x. bytes_eq v.items x.items) keys) keys v ∙ ap (λ b. if b then texts keys else texts keys ++ v.items ∷ []) (list_any-texts v.items keys)
+end_by : (b : Bool) (n len : ℕ) (any : Bool) → (n == len) ≡ not any → (cond (not b) (1 + n) 0 == suc len) ≡ not (b || any)
+end_by true n len any same = ne_eqb 0 (suc len) (λ e. omega arith)
+end_by false n len any same = let one : (1 + n == suc len) ≡ (n == len) = grind (arith, nat_tests) in one ∙ same
+
+-- a text that would stand past the last is not among them
+pub at_the_end : (q : List ℕ) (xs : List (List ℕ)) → (position_or_len (bytes_eq q) xs == length xs) ≡ not (list_any (bytes_eq q) xs)
+at_the_end q [] = refl
+at_the_end q (x ∷ xs) = end_by (bytes_eq q x) (position_or_len (bytes_eq q) xs) (length xs) (list_any (bytes_eq q) xs) (at_the_end q xs)

@@ -1,6 +1,5 @@
 -- The edges of a graph file, and whom they make the parent of whom.
-use Rattle.std.specs.Prelude.{◌≡◌, ℕ, suc, ◌<◌, List, [], ◌∷◌, map, take, Bool, true, false, not, ◌&&◌, ◌||◌, if◌then◌else◌, Option, Some, None, is_some, unwrap_or, slice_get, slice_set, option_map, option_and_then, IsTrue, Result, Ok, Err, codes, Vec}
-use Rattle.std.specs.declared.alloc.Global.{Global}
+use Rattle.std.specs.Prelude.{◌≡◌, ℕ, suc, ◌<◌, List, [], ◌∷◌, map, take, Bool, true, false, not, ◌&&◌, ◌||◌, if◌then◌else◌, Option, Some, None, is_some, unwrap_or, slice_get, slice_set, option_map, option_and_then, IsTrue, Result, Ok, Err, codes}
 use Rattle.std.specs.List.{AllByRecursion, filter_map, find, list_any}
 use Rattle.std.specs.Option.{option_map_or}
 use Rattle.std.specs.Str.{bytes_eq}
@@ -143,10 +142,6 @@ parents_of ids edges = map (parent_of ids edges) ids
 
 abbrev pub edge_held : EdgeFields → FileEdge
 edge_held e = record { source = id_bytes e.source; target = id_bytes e.target; role = e.role }
-
--- the bytes of each text
-abbrev pub texts : List (Vec ℕ Global) → List (List ℕ)
-texts = map (λ v. v.items)
 
 -- the parents with one more, unless there is one already
 abbrev pub with_parent : List (Option ℕ) → ℕ → ℕ → Option (List (Option ℕ))

@@ -7,13 +7,13 @@ ghost use Rattle.serde_json.specs.Find.{as_object};
 ghost use Rattle.serde_json.specs.View.{view, items_view};
 ghost use Rattle.graph_json.specs.Fields.{given};
 ghost use Rattle.graph_json.specs.Nodes.{id_bytes};
-ghost use Rattle.graph_json.specs.Edges.{role_in, role_of, name_role, is_contained, is_plain, object_or_none, edge_with, edge_of, edges_of, edge_held, texts, place_of, joined, counted, parents_of, IsWrongEdge, IsFirstWrong};
+ghost use Rattle.graph_json.specs.Edges.{role_in, role_of, name_role, is_contained, is_plain, object_or_none, edge_with, edge_of, edges_of, edge_held, place_of, joined, counted, parents_of, IsWrongEdge, IsFirstWrong};
 
 use crate::fields::{NodeId, given, id_field};
 use crate::places::{EdgeKey, Misfit, Place, at_place};
-use indexmap::IndexSet;
 use json_whole::FieldFault;
 use serde_json::Value;
+use text_table::TextTable;
 
 /// What is made of an edge.
 #[derive(Clone, Copy, Debug, PartialEq, Eq)]
@@ -138,18 +138,18 @@ fn edge_of(at: u64, value: &Value) -> Result<EdgeFields<'_>, Misfit>
     })
 }
 
-/// The place of a text in the set's order.
-pub(crate) fn place_of_text(ids: &IndexSet<Vec<u8>>, text: &[u8]) -> Option<usize>
-    ensures place { result ≡ place_of (texts ids.now.keys) text.now }
-    ensures within { IfSome result (λ place. place < length ids.now.keys) }
+/// The place of a text in the table.
+pub(crate) fn place_of_text(ids: &TextTable, text: &[u8]) -> Option<usize>
+    ensures place { result ≡ place_of ids.now text.now }
+    ensures within { IfSome result (λ place. place < length ids.now) }
 {
-    ids.get_index_of(text)
+    ids.number_of(text)
 }
 
 /// The place of a node.
-fn place_of(ids: &IndexSet<Vec<u8>>, id: NodeId) -> Option<usize>
-    ensures place { result ≡ place_of (texts ids.now.keys) (id_bytes id.entry) }
-    ensures within { IfSome result (λ place. place < length ids.now.keys) }
+fn place_of(ids: &TextTable, id: NodeId) -> Option<usize>
+    ensures place { result ≡ place_of ids.now (id_bytes id.entry) }
+    ensures within { IfSome result (λ place. place < length ids.now) }
 {
     match id {
         NodeId::Written(text) => place_of_text(ids, text.as_bytes()),
@@ -162,9 +162,9 @@ fn place_of(ids: &IndexSet<Vec<u8>>, id: NodeId) -> Option<usize>
 }
 
 /// Notes the parent that an edge gives its target; false where the edge is wrong.
-fn join(ids: &IndexSet<Vec<u8>>, parents: &mut [Option<usize>], edge: EdgeFields) -> bool
-    requires { length parents.old ≡ length ids.now.keys }
-    ensures { joined (texts ids.now.keys) parents.old (edge_held edge.entry) ≡ (if result then Some parents.new else None) }
+fn join(ids: &TextTable, parents: &mut [Option<usize>], edge: EdgeFields) -> bool
+    requires { length parents.old ≡ length ids.now }
+    ensures { joined ids.now parents.old (edge_held edge.entry) ≡ (if result then Some parents.new else None) }
 {
     match edge.role {
         Role::Skipped => true,
@@ -187,15 +187,15 @@ fn join(ids: &IndexSet<Vec<u8>>, parents: &mut [Option<usize>], edge: EdgeFields
 
 /// Notes by node the place of its parent, or tells the first edge that is wrong.
 pub(crate) fn join_edges(
-    ids: &IndexSet<Vec<u8>>,
+    ids: &TextTable,
     edges: &[Value],
     parents: &mut [Option<usize>],
 ) -> Result<(), EdgeFault>
-    requires none { parents.old ≡ parents_of (texts ids.now.keys) [] }
-    requires distinct { IsDistinct bytes_eq (texts ids.now.keys) }
-    ensures joined { OnOk result (parents.new ≡ parents_of (texts ids.now.keys) (counted (edges_of 0 (items_view edges.now)))) }
-    ensures right { OnOk result ((k : ℕ) → IsWrongEdge (texts ids.now.keys) (edges_of 0 (items_view edges.now)) k → ⊥) }
-    ensures wrong { IfErr result (IsFirstWrong (texts ids.now.keys) (edges_of 0 (items_view edges.now))) }
+    requires none { parents.old ≡ parents_of ids.now [] }
+    requires distinct { IsDistinct bytes_eq ids.now }
+    ensures joined { OnOk result (parents.new ≡ parents_of ids.now (counted (edges_of 0 (items_view edges.now)))) }
+    ensures right { OnOk result ((k : ℕ) → IsWrongEdge ids.now (edges_of 0 (items_view edges.now)) k → ⊥) }
+    ensures wrong { IfErr result (IsFirstWrong ids.now (edges_of 0 (items_view edges.now))) }
 {
     'edges: for (at, value) in edges.iter().enumerate() {
         match edge_of(at as u64, value) {

@@ -4,7 +4,7 @@ ghost use Rattle.std.specs.Ordering.{nat_cmp};
 ghost use Rattle.std.specs.Cmp.Lexicographic.{slice_cmp};
 ghost use Rattle.std.specs.BTreeSet.{insert_key};
 ghost use Rattle.graph_json.specs.Nodes.{node_held, name_held, properties_held, keys_of, texts_in, in_order};
-ghost use Rattle.graph_json.specs.Edges.{texts, place_of, parents_of, counted};
+ghost use Rattle.graph_json.specs.Edges.{place_of, parents_of, counted};
 ghost use Rattle.graph_json.specs.Ids.{ids_of};
 ghost use Rattle.graph_json.specs.RawLists.{with_text, kinds_of, vertex_of, vertices_of, zip_with};
 ghost use Rattle.serde_json.specs.View.{items_view, members_view};
@@ -12,11 +12,11 @@ ghost use Rattle.serde_json.specs.View.{items_view, members_view};
 use crate::edges::place_of_text;
 use crate::nodes::{NodeFields, Properties};
 use flux_defs::{List, Text};
-use indexmap::IndexSet;
 use resource_graph::RawVertex;
 use serde_json::{Map, Value};
 use std::alloc::{AllocError, Global};
 use std::collections::BTreeSet;
+use text_table::TextTable;
 
 /// The keys of an object, as texts.
 fn keys_of(alloc: Global, members: &Map<String, Value>) -> Result<List<Text>, AllocError>
@@ -66,35 +66,34 @@ fn properties_list(alloc: Global, properties: Properties) -> Result<List<Text>, 
 }
 
 /// The types of the nodes, in the order of their first nodes.
-pub(crate) fn kind_set(alloc: Global, nodes: &[NodeFields]) -> Result<IndexSet<Vec<u8>>, AllocError>
-    ensures { IfOk result (λ set. texts set.keys ≡ kinds_of (map node_held nodes.now)) }
+pub(crate) fn kind_table(alloc: Global, nodes: &[NodeFields]) -> Result<TextTable, AllocError>
+    ensures { IfOk result (λ table. table ≡ kinds_of (map node_held nodes.now)) }
 {
-    let mut set = IndexSet::new(alloc);
+    let mut table = TextTable::new(alloc);
     'nodes: for node in nodes {
-        add_kind(alloc, &mut set, node.kind)?;
+        add_kind(alloc, &mut table, node.kind)?;
     }
-    Ok(set)
+    Ok(table)
 }
 
-/// Adds a type to the set, unless it is there.
-fn add_kind(alloc: Global, set: &mut IndexSet<Vec<u8>>, kind: &str) -> Result<(), AllocError>
-    ensures { OnOk result (texts set.new.keys ≡ with_text (texts set.old.keys) kind.now) }
+/// Adds a type to the table, unless it is there.
+fn add_kind(alloc: Global, table: &mut TextTable, kind: &str) -> Result<(), AllocError>
+    ensures { OnOk result (table.new ≡ with_text table.old kind.now) }
 {
-    if set.contains(kind.as_bytes()) {
+    if place_of_text(table, kind.as_bytes()).is_some() {
         return Ok(());
     }
-    let key = Vec::from_slice(alloc, kind.as_bytes())?;
-    set.insert(key)?;
+    table.add(alloc, kind.as_bytes())?;
     Ok(())
 }
 
-/// The texts of a set, in its order.
-pub(crate) fn set_texts(alloc: Global, set: &IndexSet<Vec<u8>>) -> Result<List<Text>, AllocError>
-    ensures { IfOk result (λ list. list ≡ texts set.now.keys) }
+/// The texts of a table, in its order.
+pub(crate) fn table_texts(alloc: Global, table: &TextTable) -> Result<List<Text>, AllocError>
+    ensures { IfOk result (λ list. list ≡ table.now) }
 {
-    let mut list = Vec::with_capacity(alloc, set.len())?;
-    'keys: for key in set.as_slice() {
-        list.push(Text::of(alloc, key.as_slice())?)?;
+    let mut list = Vec::with_capacity(alloc, table.len())?;
+    'texts: for text in table.texts() {
+        list.push(Text::of(alloc, text.as_slice())?)?;
     }
     Ok(List::of_vec(list))
 }
@@ -102,13 +101,13 @@ pub(crate) fn set_texts(alloc: Global, set: &IndexSet<Vec<u8>>) -> Result<List<T
 /// The raw vertex of a node, among these types and with this parent.
 fn vertex_of(
     alloc: Global,
-    kinds: &IndexSet<Vec<u8>>,
+    kinds: &TextTable,
     node: &NodeFields,
     parent: Option<usize>,
 ) -> Result<RawVertex, AllocError>
-    requires few { length kinds.now.keys ≤ 65536 }
+    requires few { length kinds.now ≤ 65536 }
     requires within { IfSome parent (λ p. p < 65536) }
-    ensures { IfOk result (λ vertex. vertex ≡ vertex_of (texts kinds.now.keys) (node_held node.now) parent) }
+    ensures { IfOk result (λ vertex. vertex ≡ vertex_of kinds.now (node_held node.now) parent) }
 {
     let kind = kind_number(kinds, node.kind);
     let base = Text::of(alloc, node.base.as_bytes())?;
@@ -129,9 +128,9 @@ fn vertex_of(
 }
 
 /// The number of a type.
-fn kind_number(kinds: &IndexSet<Vec<u8>>, kind: &str) -> u32
-    requires { length kinds.now.keys ≤ 65536 }
-    ensures { result ≡ unwrap_or (place_of (texts kinds.now.keys) kind.now) 0 }
+fn kind_number(kinds: &TextTable, kind: &str) -> u32
+    requires { length kinds.now ≤ 65536 }
+    ensures { result ≡ unwrap_or (place_of kinds.now kind.now) 0 }
 {
     match place_of_text(kinds, kind.as_bytes()) {
         Some(place) => place as u32,
@@ -168,14 +167,14 @@ fn name_text(alloc: Global, node: &NodeFields) -> Result<Text, AllocError>
 /// The raw vertices of the nodes, with these parents.
 pub(crate) fn vertices_of(
     alloc: Global,
-    kinds: &IndexSet<Vec<u8>>,
+    kinds: &TextTable,
     nodes: &[NodeFields],
     parents: &[Option<usize>],
 ) -> Result<List<RawVertex>, AllocError>
-    requires few { length kinds.now.keys ≤ 65536 }
+    requires few { length kinds.now ≤ 65536 }
     requires as_many { length parents.now ≡ length nodes.now }
     requires within { (i p : ℕ) → slice_get parents.now i ≡ Some (Some p) → p < 65536 }
-    ensures { IfOk result (λ list. list ≡ zip_with (vertex_of (texts kinds.now.keys)) (map node_held nodes.now) parents.now) }
+    ensures { IfOk result (λ list. list ≡ zip_with (vertex_of kinds.now) (map node_held nodes.now) parents.now) }
 {
     let mut list = Vec::with_capacity(alloc, nodes.len())?;
     'nodes: for at in 0..nodes.len() {

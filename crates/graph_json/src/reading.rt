@@ -18,10 +18,10 @@ ghost use Rattle.graph_json.specs.GraphText.{IsValueOf, IsGraphText, Tells, IsTo
 
 use crate::edges::{EdgeFault, join_edges};
 use crate::faults::ReadFault;
-use crate::ids::id_set;
+use crate::ids::id_table;
 use crate::nodes::{NodeFields, NodesFault, nodes_of};
 use crate::places::{Misfit, Place, at_place, path_of};
-use crate::raw_lists::{kind_set, set_texts, vertices_of};
+use crate::raw_lists::{kind_table, table_texts, vertices_of};
 use json_whole::{FieldFault, ValueFault, read_value};
 use resource_graph::{Graph, GraphFault};
 use serde_json::Value;
@@ -142,8 +142,8 @@ fn graph_from(
             found: nodes.len() as u64,
         }));
     }
-    let kinds = kind_set(alloc, nodes)?;
-    let names = set_texts(alloc, &kinds)?;
+    let kinds = kind_table(alloc, nodes)?;
+    let names = table_texts(alloc, &kinds)?;
     let raw = vertices_of(alloc, &kinds, nodes, parents)?;
     match Graph::build(alloc, names, raw) {
         Ok(graph) => Ok(graph),
@@ -171,7 +171,7 @@ fn graph_of(alloc: Global, value: &Value) -> Result<Graph, ReadFault>
         Err(NodesFault::Memory) => return Err(ReadFault::Memory),
     };
     let held = nodes.as_slice();
-    let ids = match id_set(alloc, held)? {
+    let ids = match id_table(alloc, held)? {
         Ok(ids) => ids,
         Err(at) => return Err(ReadFault::DuplicateNode { at }),
     };

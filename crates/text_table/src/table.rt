@@ -1,7 +1,7 @@
 //! Texts, numbered in the order in which they were first seen.
 ghost use Rattle.std.specs.Prelude.{◌≡◌, ◌≤◌, [], length, position, slice_get, option_map, IfOk, OnOk, OnErr};
 ghost use Rattle.std.specs.Str.{bytes_eq};
-ghost use Rattle.text_table.specs.Tables.{place_of, with_text};
+ghost use Rattle.text_table.specs.Tables.{place_of, texts_of, with_text};
 
 use indexmap::IndexSet;
 use std::alloc::{AllocError, Global};
@@ -31,6 +31,15 @@ impl TextTable {
         TextTable {
             set: IndexSet::new(alloc),
         }
+    }
+
+    /// The table of no texts, with room for as many.
+    pub fn with_capacity(alloc: Global, count: usize) -> Result<TextTable, AllocError>
+        ensures { IfOk result (λ table. table ≡ []) }
+    {
+        Ok(TextTable {
+            set: IndexSet::with_capacity(alloc, count)?,
+        })
     }
 
     /// How many texts it has.
@@ -66,6 +75,13 @@ impl TextTable {
             Some(number) => number,
             None => self.len(),
         }
+    }
+
+    /// Its texts, by their numbers.
+    pub fn texts(&self) -> &[Vec<u8>]
+        ensures { texts_of result.now ≡ self.now }
+    {
+        self.set.as_slice()
     }
 
     /// The text of this number.

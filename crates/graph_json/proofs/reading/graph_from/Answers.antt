@@ -5,7 +5,7 @@ use Rattle.resource_graph.specs.Faults.{IsFaultless}
 use Rattle.resource_graph.specs.Told.{Tells}
 use Rattle.resource_graph.specs.declared.raw.RawVertex.{RawVertex}
 use Rattle.graph_json.specs.Nodes.{FileNode, node_held}
-use Rattle.graph_json.specs.Edges.{FileEdge, texts, parent_of, parents_of}
+use Rattle.graph_json.specs.Edges.{FileEdge, parent_of, parents_of}
 use Rattle.graph_json.specs.Ids.{ids_of}
 use Rattle.graph_json.specs.RawLists.{kinds_of, vertex_of, vertices_of, zip_with}
 use Rattle.graph_json.proofs.RawLaws.{kinds-few, kinds-apart, parents-within, zipped}
@@ -19,7 +19,7 @@ made nodes edges kinds parents raw ke pe re = re ∙ ap (λ ks. zip_with (vertex
 pub vertices_of-requires-clause-few : goal.vertices_of-requires-clause-few
 vertices_of-requires-clause-few c =
     let nodes = map node_held c.args.nodes.now in
-    omega (arith, kinds-few nodes, length-map c.args.nodes.now node_held, length-map c.in_ok-kinds.kinds.keys (λ v. v.items), ap length c.in_ok-kinds.ensures)
+    omega (arith, kinds-few nodes, length-map c.args.nodes.now node_held, ap length c.in_ok-kinds.ensures)
 
 pub vertices_of-requires-clause-within : goal.vertices_of-requires-clause-within
 vertices_of-requires-clause-within c i p at =
@@ -36,7 +36,7 @@ pub returns-in-Ok-clause-built : goal.returns-in-Ok-clause-built
 returns-in-Ok-clause-built c edges parents =
     let nodes = map node_held c.args.nodes.now in
     let kinds : c.in_ok-names.names ≡ kinds_of nodes = c.in_ok-names.ensures ∙ c.in_ok-kinds.ensures in
-    let raw = made nodes edges (texts c.in_ok-kinds.kinds.keys) c.args.parents.now c.in_ok-raw.raw c.in_ok-kinds.ensures parents c.in_ok-raw.ensures in (
+    let raw = made nodes edges c.in_ok-kinds.kinds c.args.parents.now c.in_ok-raw.raw c.in_ok-kinds.ensures parents c.in_ok-raw.ensures in (
       subst (λ ks. IsBuiltFrom ks (vertices_of nodes edges) c.in-Ok.graph) kinds (subst (λ rs. IsBuiltFrom c.in_ok-names.names rs c.in-Ok.graph) raw c.in-Ok.ensures.built),
       subst (λ ks. IsFaultless (raw_graph ks (vertices_of nodes edges)) (raw_names (vertices_of nodes edges))) kinds
           (subst (λ rs. IsFaultless (raw_graph c.in_ok-names.names rs) (raw_names rs)) raw c.in-Ok.ensures.faultless),
@@ -48,7 +48,7 @@ returns c = record {
   told = λ edges parents.
       let nodes = map node_held c.args.nodes.now in
       let kinds : c.in_ok-names.names ≡ kinds_of nodes = c.in_ok-names.ensures ∙ c.in_ok-kinds.ensures in
-      let raw = made nodes edges (texts c.in_ok-kinds.kinds.keys) c.args.parents.now c.in_ok-raw.raw c.in_ok-kinds.ensures parents c.in_ok-raw.ensures in (
+      let raw = made nodes edges c.in_ok-kinds.kinds c.args.parents.now c.in_ok-raw.raw c.in_ok-kinds.ensures parents c.in_ok-raw.ensures in (
         subst (λ ks. Tells (raw_graph ks (vertices_of nodes edges)) (raw_names (vertices_of nodes edges)) c.in-Err.fault) kinds
             (subst (λ rs. Tells (raw_graph c.in_ok-names.names rs) (raw_names rs) c.in-Err.fault) raw c.in-Err.ensures.told),
         λ memory. true≢false (sym (c.is_memory.ensures.1 memory) ∙ c.if-is_memory.false),

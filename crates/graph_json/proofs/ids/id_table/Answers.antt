@@ -1,13 +1,12 @@
-use Rattle.std.proofs.Common.{arith, ap, sym, subst, ◌∙◌, ◌≡◌, ℕ, ◌<◌, List, [], length, map, get_or, Some, option_map, slice_get}
+use Rattle.std.proofs.Common.{arith, ap, sym, subst, ◌∙◌, ◌≡◌, ℕ, ◌<◌, List, length, map, get_or, Some, option_map, slice_get}
 use Rattle.std.proofs.lemmas.List.{length-map}
 use Rattle.std.proofs.lemmas.Option.{slice_get_read, slice_get-map}
 use Rattle.graph_json.specs.Nodes.{node_held, id_bytes}
-use Rattle.graph_json.specs.Edges.{texts}
 use Rattle.graph_json.specs.Ids.{ids_of, IsSetTo}
 use Rattle.graph_json.specs.declared.nodes.NodeFields.{NodeFields}
 use Rattle.graph_json.proofs.Sets.{not_new, not_old}
 use Rattle.graph_json.proofs.IdLaws.{set-none, set-more, set-repeated, set-all}
-use Rattle.graph_json.proofs.ids.id_set.Goals as goal
+use Rattle.graph_json.proofs.ids.id_table.Goals as goal
 
 id_at : (nodes : List NodeFields) (k : ℕ) (x : NodeFields) → k < length nodes → x ≡ get_or nodes k x → slice_get (ids_of (map node_held nodes)) k ≡ Some (id_bytes x.id)
 id_at nodes k x within here =
@@ -16,22 +15,21 @@ id_at nodes k x within here =
 
 pub nodes-init : goal.nodes-init
 nodes-init c =
-    let none : texts c.in_ok-set.set.keys ≡ [] = ap texts c.in_ok-set.ensures.empty in
     let ids = ids_of (map node_held c.args.nodes.now) in
-    subst (λ found. IsSetTo ids 0 found) (sym none) (set-none ids)
+    subst (λ found. IsSetTo ids 0 found) (sym c.in_ok-table.ensures) (set-none ids)
 
 pub returns-then-not-branch : goal.returns-then-not-branch
 returns-then-not-branch c =
     let x = c.index-nodes-at.result in
-    set-repeated (ids_of (map node_held c.args.nodes.now)) c.nodes.at (id_bytes x.id) (texts c.nodes.set.keys) c.nodes.invariant (id_at c.args.nodes.now c.nodes.at x (omega arith) c.index-nodes-at.is) (not_old _ _ c.in_ok-add_id.ensures.new c.if-not-branch.true)
+    set-repeated (ids_of (map node_held c.args.nodes.now)) c.nodes.at (id_bytes x.id) c.nodes.table c.nodes.invariant (id_at c.args.nodes.now c.nodes.at x (omega arith) c.index-nodes-at.is) (not_old _ _ c.in_ok-add_id.ensures.new c.if-not-branch.true)
 
 pub nodes-preserved : goal.nodes-preserved
 nodes-preserved c =
     let x = c.index-nodes-at.result in
-    set-more (ids_of (map node_held c.args.nodes.now)) c.nodes.at (id_bytes x.id) (texts c.nodes.set.keys) (texts c.add_id.new.set.keys) c.nodes.invariant (id_at c.args.nodes.now c.nodes.at x (omega arith) c.index-nodes-at.is)
+    set-more (ids_of (map node_held c.args.nodes.now)) c.nodes.at (id_bytes x.id) c.nodes.table c.add_id.new.table c.nodes.invariant (id_at c.args.nodes.now c.nodes.at x (omega arith) c.index-nodes-at.is)
     (not_new _ _ c.in_ok-add_id.ensures.new c.if-not-branch.false) (c.in_ok-add_id.ensures.added c.if-not-branch.false)
 
 pub returns : goal.returns
 returns c =
     let nodes = c.args.nodes.now in
-    set-all (ids_of (map node_held nodes)) c.nodes.at (texts c.nodes.set.keys) c.nodes.invariant (simp length-map (omega arith))
+    set-all (ids_of (map node_held nodes)) c.nodes.at c.nodes.table c.nodes.invariant (simp length-map (omega arith))
