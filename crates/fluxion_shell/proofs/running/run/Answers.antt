@@ -88,6 +88,6 @@ returns-in-Some-graph_name-clause-print_complete g c = λ name is order files ou
 
 pub returns-in-None-clause-usage : goal.returns-in-None-clause-usage
 returns-in-None-clause-usage g c = ((λ _ name names. elim names [
-  | inl serve ↦ c.in-None.ensures (record { name = name; horizon = serve.0 }) serve.1
-  | inr print ↦ c.in-None-graph_name.ensures name print
+  | inl serve ↦ c.in_default.ensures (record { name = name; horizon = serve.0 }) serve.1
+  | inr print ↦ c.in-None.ensures name print
 ]), (λ _. refl))
