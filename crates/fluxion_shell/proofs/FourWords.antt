@@ -1,6 +1,5 @@
 -- A list of four items.
-use Rattle.std.proofs.Common.{◌≡◌, ℕ, ◌<◌, ◌≤◌, String, Global, map, string_bytes, codes, List, [], ◌∷◌, length, get_or, sym, ◌∙◌, ap, arith}
-use Rattle.fluxion_shell.specs.Forms.{IsCall, IsHorizonCall}
+use Rattle.std.proofs.Common.{◌≡◌, ℕ, ◌<◌, ◌≤◌, List, [], ◌∷◌, length, get_or, ap, arith}
 
 pub four_items : {X : Type 0} (xs : List X) (a b c d : X) → 4 ≤ length xs → length xs < 5 → a ≡ get_or xs 0 a → b ≡ get_or xs 1 b → c ≡ get_or xs 2 c → d ≡ get_or xs 3 d → xs ≡ a ∷ b ∷ c ∷ d ∷ []
 four_items [] a b c d least most p q r s = absurd (omega arith)

@@ -1,5 +1,5 @@
 -- A history that was played and its text are an output.
-use Rattle.std.proofs.Common.{◌≡◌, ℕ, List, [], ◌∷◌, map, Contains, Result, Ok, Err, inl, inr, ◌⊎◌, refl, sym, ◌∙◌, ap, subst}
+use Rattle.std.proofs.Common.{◌≡◌, ℕ, List, [], ◌∷◌, map, Contains, Result, Err, inl, inr, ◌⊎◌, refl, sym, ◌∙◌, ap, subst}
 use Rattle.std.specs.List.{AllByRecursion}
 use Rattle.flux_defs.specs.declared.journal.Entry.{Entry}
 use Rattle.flux_defs.specs.declared.journal.Line.{Line}
@@ -14,7 +14,7 @@ use Rattle.fluxion_lines.specs.declared.input.Over.{Over}
 use Rattle.fluxion_lines.specs.declared.input.InputFault.{InputFault}
 use Rattle.fluxion_lines.specs.declared.input.InputFault.TheVariants as fault
 use Rattle.fluxion_lines.specs.Inputs.{clients_of, numbered_lines}
-use Rattle.fluxion_lines.specs.Scripts.{script_of, input_order}
+use Rattle.fluxion_lines.specs.Scripts.{script_of}
 use Rattle.fluxion_lines.proofs.ScriptLaws.{all_mapped, all_unmapped, at_each, interleaves, told}
 use Rattle.fluxion_shell.specs.Outputs.{IsSoundOutput}
 use Rattle.fluxion_shell.specs.PlayedText.{client_line, IsPlayedText}

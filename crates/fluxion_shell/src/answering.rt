@@ -76,12 +76,7 @@ fn played(
 
 /// The text of the history that answers the input's lines in their order, up to a horizon in seconds; or the first line
 /// that is past a limit.
-pub fn answer(
-    alloc: Global,
-    graph: Graph,
-    horizon: u64,
-    input: &[u8],
-) -> Result<Text, InputFault>
+pub fn answer(alloc: Global, graph: Graph, horizon: u64, input: &[u8]) -> Result<Text, InputFault>
     ensures output { IfOk result (IsSoundOutput graph horizon input.now) }
     ensures within { IsOk result → over_in shipped input.now ≡ None }
     ensures over { (over : Over) → IsErrOf result (InputFault.Over over) → over_in shipped input.now ≡ Some over }

@@ -1,11 +1,7 @@
-use Rattle.std.proofs.Common.{◌≡◌, ◌⊎◌, inl, inr, ℕ, List, map, Option, Some, None, Err, IsErrOf, refl, sym, ◌∙◌, ap, subst}
-use Rattle.flux_defs.specs.declared.limits.Limits.{Limits}
+use Rattle.std.proofs.Common.{◌≡◌, ℕ, List, map, Some, refl, sym, ◌∙◌, ap, subst}
 use Rattle.sched_core.specs.declared.playing.ClientLine.{ClientLine}
 use Rattle.sched_core.specs.Played.{AreProper}
-use Rattle.fluxion_lines.specs.declared.input.Over.{Over}
-use Rattle.fluxion_lines.specs.declared.input.InputFault.{InputFault}
-use Rattle.fluxion_lines.specs.declared.input.InputFault.TheVariants as fault
-use Rattle.fluxion_lines.specs.Inputs.{clients_of, numbered_lines, over_in}
+use Rattle.fluxion_lines.specs.Inputs.{clients_of, over_in}
 use Rattle.fluxion_shell.specs.Outputs.{shipped}
 use Rattle.fluxion_shell.specs.PlayedText.{client_line, IsPlayedText}
 use Rattle.fluxion_shell.proofs.Output.{proper_lines, sound_output, told_over}

@@ -1,5 +1,4 @@
-use Rattle.std.proofs.Common.{◌≡◌, ◌⊎◌, ℕ, ◌≤◌, List, length, Ok, Err, IfSome, inl, inr, refl, sym, ◌∙◌, ap, subst}
-use Rattle.fluxion_shell.specs.declared.status.Status.{Status}
+use Rattle.std.proofs.Common.{◌≡◌, ◌⊎◌, ℕ, ◌≤◌, List, length, IfSome, inl, inr, refl, ◌∙◌, subst}
 use Rattle.fluxion_shell.specs.declared.status.Status.TheVariants as status
 use Rattle.fluxion_shell.specs.Causes.{OrEarlier, AppendsSome, AppendsFrontOfSome, FailsWith}
 use Rattle.fluxion_shell.specs.Outputs.{Prints}

@@ -1,11 +1,10 @@
-use Rattle.std.proofs.Common.{◌≡◌, ◌⊎◌, ◌↔◌, inl, inr, ℕ, ◌<◌, ◌≤◌, List, length, IfSome, None, map, string_bytes, refl, sym, ◌∙◌, ap, subst}
+use Rattle.std.proofs.Common.{◌≡◌, ◌⊎◌, inl, inr, ℕ, ◌<◌, ◌≤◌, List, length, IfSome, None, map, string_bytes, refl, subst}
 use Rattle.flux_io.specs.Counts.{Rose}
 use Rattle.flux_io.specs.Stores.{file_of}
-use Rattle.fluxion_shell.specs.declared.status.Status.TheVariants as status
-use Rattle.fluxion_shell.specs.Forms.{Served, IsServe, IsPrint, served_held}
+use Rattle.fluxion_shell.specs.Forms.{Served, served_held}
 use Rattle.fluxion_shell.specs.Causes.{most_bytes, told_file, WhereTold, AppendsSome, AppendsFrontOfSome, HasFault, Shows, ShowsPrint}
-use Rattle.fluxion_shell.specs.Outputs.{Answers, AnswersSoundly, Prints}
-use Rattle.fluxion_shell.proofs.TwoWords.{same_name, same_call, one_form, serve_name, print_name}
+use Rattle.fluxion_shell.specs.Outputs.{Answers, AnswersSoundly}
+use Rattle.fluxion_shell.proofs.TwoWords.{same_name, same_call, one_form, serve_name}
 use Rattle.fluxion_shell.proofs.Shown.{completes, completes_print}
 use Rattle.fluxion_shell.proofs.running.run.Goals as goal
 
@@ -87,7 +86,10 @@ returns-in-Some-graph_name-clause-print_complete g c = λ name is order files ou
     order
 
 pub returns-in-None-clause-usage : goal.returns-in-None-clause-usage
-returns-in-None-clause-usage g c = ((λ _ name names. elim names [
-  | inl serve ↦ c.in_default.ensures (record { name = name; horizon = serve.0 }) serve.1
-  | inr print ↦ c.in-None.ensures name print
-]), (λ _. refl))
+returns-in-None-clause-usage g c = (
+  (λ _ name names. elim names [
+    | inl serve ↦ c.in_default.ensures (record { name = name; horizon = serve.0 }) serve.1
+    | inr print ↦ c.in-None.ensures name print
+  ]),
+  (λ _. refl),
+)

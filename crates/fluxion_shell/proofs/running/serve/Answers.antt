@@ -1,11 +1,10 @@
-use Rattle.std.proofs.Common.{◌≡◌, ℕ, ◌≤◌, List, length, Ok, Err, IfSome, inl, inr, refl, sym, ◌∙◌, ap, subst}
-use Rattle.graph_json.specs.declared.faults.ReadFault.{ReadFault}
+use Rattle.std.proofs.Common.{◌≡◌, ℕ, ◌≤◌, List, length, Err, IfSome, inl, inr, refl, sym, ◌∙◌, ap, subst}
 use Rattle.fluxion_shell.specs.declared.status.Status.{Status}
 use Rattle.fluxion_shell.specs.declared.status.Status.TheVariants as status
 use Rattle.fluxion_shell.specs.Causes.{AppendsSome, AppendsFrontOfSome, ShowsInput, Shows, FailsWith}
 use Rattle.fluxion_lines.specs.Inputs.{over_in}
 use Rattle.fluxion_shell.specs.Outputs.{shipped, IsSoundOutput, Answers, AnswersSoundly}
-use Rattle.fluxion_shell.proofs.Shown.{shows_earlier, shows_long_input, shows_read, earlier_input, where_told, fails_limit, fails_graph, fails_limits, fails_shows, input_is_no_graph, over_is_limit, over_is_no_graph, over_is_no_input, over_is_one, shows_over, front_of, no_fault}
+use Rattle.fluxion_shell.proofs.Shown.{shows_earlier, shows_long_input, shows_read, earlier_input, where_told, fails_limit, fails_graph, fails_limits, fails_shows, input_is_no_graph, over_is_limit, over_is_no_graph, shows_over, front_of, no_fault}
 use Rattle.fluxion_shell.proofs.running.serve.Goals as goal
 
 pub returns-in-Err-clause-line_limit : goal.returns-in-Err-clause-line_limit

@@ -1,8 +1,8 @@
-use Rattle.std.proofs.Common.{◌≡◌, ℕ, List, [], ◌∷◌, not, Bool, true, false, map, codes, string_bytes, true≢false, refl, sym, ◌∙◌, ap, subst}
+use Rattle.std.proofs.Common.{◌≡◌, [], ◌∷◌, not, Bool, true, false, map, string_bytes, true≢false, refl, sym, ◌∙◌, ap, subst}
 use Rattle.std.proofs.lemmas.Bool.Decides.{Decides-eqb}
 use Rattle.std.proofs.lemmas.Slice.Eq.{slice_eq-Decides}
 use Rattle.fluxion_shell.specs.Forms.{IsPlainWord}
-use Rattle.fluxion_shell.proofs.TwoWords.{two_items, first_word, second_word}
+use Rattle.fluxion_shell.proofs.TwoWords.{two_items, first_word}
 use Rattle.fluxion_shell.proofs.words.graph_name.Goals as goal
 
 not_of : (b : Bool) → not b ≡ true → b ≡ true → ⊥

@@ -1,4 +1,4 @@
-use Rattle.std.proofs.Common.{◌≡◌, ℕ, List, [], ◌∷◌, map, string_bytes, codes, None, sym, ◌∙◌, ap, subst}
+use Rattle.std.proofs.Common.{◌≡◌, map, string_bytes, sym, ◌∙◌, ap, subst}
 use Rattle.fluxion_shell.specs.Forms.{IsHorizon}
 use Rattle.fluxion_shell.proofs.FourWords.{four_items, word_at}
 use Rattle.fluxion_shell.proofs.words.horizon_call.Goals as goal

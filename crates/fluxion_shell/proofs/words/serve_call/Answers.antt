@@ -1,4 +1,4 @@
-use Rattle.std.proofs.Common.{◌≡◌, ℕ, List, Option, Some, None, MatchOption, inl, inr, map, string_bytes, codes}
+use Rattle.std.proofs.Common.{ℕ, List, Option, Some, None, MatchOption, inl, inr, map, string_bytes, codes}
 use Rattle.fluxion_shell.specs.Forms.{IsCall, IsHorizonCall, Served, IsServe, served_held}
 use Rattle.fluxion_shell.specs.declared.words.ServeCall.{ServeCall}
 use Rattle.fluxion_shell.proofs.words.serve_call.Goals as goal
