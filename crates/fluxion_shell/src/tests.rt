@@ -15,7 +15,7 @@ const GRAPH: &[u8] =
 const ROWS: [(&[u8], &[u8]); 5] = [
     (
         b"a allocate 1 {\"version\":1,\"resources\":[{\"type\":\"slot\",\"count\":2,\"label\":\"task\",\"with\":[{\"type\":\"core\",\"count\":3}]}],\"tasks\":[{\"command\":[\"app\"],\"slot\":\"task\",\"count\":{\"per_slot\":1}}],\"attributes\":{\"system\":{\"duration\":60}}}",
-        b"0 1 a allocated 1 0 {\"execution\":{\"R_lite\":[{\"children\":{\"core\":\"0,1,2\"},\"rank\":\"0\"},{\"children\":{\"core\":\"0,1,2\"},\"rank\":\"1\"}],\"expiration\":60,\"nodelist\":[\"node0\",\"node1\"],\"starttime\":0},\"version\":1}",
+        b"0 1 a allocated 1 0 {\"execution\":{\"R_lite\":[{\"children\":{\"core\":\"0-2\"},\"rank\":\"0-1\"}],\"expiration\":60,\"nodelist\":[\"node[0-1]\"],\"starttime\":0},\"version\":1}",
     ),
     (
         b"a allocate 1 {\"version\":1,\"resources\":[{\"type\":\"slot\",\"count\":1,\"label\":\"task\",\"with\":[{\"type\":\"core\",\"count\":1}]}],\"tasks\":[{\"command\":[\"app\"],\"slot\":\"task\",\"count\":{\"per_slot\":1}}],\"attributes\":{\"system\":{\"duration\":60}}}",
@@ -29,7 +29,7 @@ const ROWS: [(&[u8], &[u8]); 5] = [
         b"a allocate 3 {\"version\":1,\"resources\":[{\"type\":\"slot\",\"count\":1,\"label\":\"task\",\"with\":[{\"type\":\"core\",\"count\":2}]}],\"tasks\":[{\"command\":[\"app\"],\"slot\":\"task\",\"count\":{\"per_slot\":1}}],\"attributes\":{\"system\":{\"duration\":60}}}",
         b"3 4 a busy",
     ),
-    (b"a cancel 1", b"4 5 a invalid profile ."),
+    (b"a release 1", b"4 5 a invalid command"),
 ];
 
 /// The words of a run over the file `g`.
@@ -252,6 +252,14 @@ fn each_status_has_its_number(rt: HostRuntime) -> Result<(), Fail> {
         fault_line(alloc, &input_bytes)?.bytes(),
         b"fluxion: limit: input-bytes 268435457\n".as_slice()
     );
+    let clients = Status::Limit(Limited {
+        which: Which::Clients,
+        found: 65,
+    });
+    assert_eq!(rt;
+        fault_line(alloc, &clients)?.bytes(),
+        b"fluxion: limit: clients 65\n".as_slice()
+    );
     assert_eq!(rt; fault_line(alloc, &Status::Ok)?.bytes().len(), 0);
     assert_eq!(rt; code(&Status::Ok), 0);
     assert_eq!(rt; code(&Status::Usage), 2);
@@ -261,5 +269,64 @@ fn each_status_has_its_number(rt: HostRuntime) -> Result<(), Fail> {
     assert_eq!(rt; code(&Status::Memory), 6);
     assert_eq!(rt; code(&input_bytes), 7);
     assert_eq!(rt; code(&Status::NoGraphFile), 8);
+    Ok(())
+}
+
+/// How a run over one line of so many bytes ends.
+fn ends_of_length(alloc: Global, bytes: usize) -> Result<Status, AllocError> {
+    let line = vec![in alloc; b'a'; bytes]?;
+    let mut files = SureFiles::new(store(alloc, GRAPH)?);
+    let mut input = SureSource::new(Text::of_vec(line), 65_536);
+    let mut out = SureSink::new(alloc, 100);
+    out.reserve(100)?;
+    let words = words(alloc, "serve", "g")?;
+    Ok(run(
+        alloc,
+        words.as_slice(),
+        &mut files,
+        &mut input,
+        &mut out,
+    ))
+}
+
+#[test]
+fn a_long_line_is_past_a_limit(rt: HostRuntime) -> Result<(), Fail> {
+    let alloc = rt.alloc();
+    assert_eq!(rt; code(&ends_of_length(alloc, 1_048_576)?), 0);
+    let past = ends_of_length(alloc, 1_048_577)?;
+    assert_eq!(rt; code(&past), 7);
+    assert_eq!(rt;
+        fault_line(alloc, &past)?.bytes(),
+        b"fluxion: limit: line-bytes 1\n".as_slice()
+    );
+    Ok(())
+}
+
+/// How a run with this horizon ends.
+fn ends_at(alloc: Global, horizon: &str) -> Result<Status, AllocError> {
+    let mut words = words(alloc, "serve", "g")?;
+    words.push(String::from_str(alloc, "--horizon")?)?;
+    words.push(String::from_str(alloc, horizon)?)?;
+    let mut files = SureFiles::new(store(alloc, GRAPH)?);
+    let mut input = SureSource::new(Text::of(alloc, b"")?, 100);
+    let mut out = SureSink::new(alloc, 100);
+    Ok(run(
+        alloc,
+        words.as_slice(),
+        &mut files,
+        &mut input,
+        &mut out,
+    ))
+}
+
+#[test]
+fn a_horizon_is_a_number_of_seconds(rt: HostRuntime) -> Result<(), Fail> {
+    let alloc = rt.alloc();
+    for horizon in ["1", "1000", "1099511627776"] {
+        assert_eq!(rt; code(&ends_at(alloc, horizon)?), 0, "{horizon}");
+    }
+    for horizon in ["", "0", "01", "+1", "-1", "1.5", "ten", "1099511627777"] {
+        assert_eq!(rt; code(&ends_at(alloc, horizon)?), 2, "{horizon}");
+    }
     Ok(())
 }
