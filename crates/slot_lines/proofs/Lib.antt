@@ -1,5 +1,0 @@
-pub mod Numbers
-pub mod SlotLaws
-pub mod LineLaws
-pub mod CommaLaws
-pub mod RowLaws

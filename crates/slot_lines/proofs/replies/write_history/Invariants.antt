@@ -1,7 +1,0 @@
-use Rattle.std.proofs.Common.{◌≡◌, ◌++◌, drop}
-use Rattle.slot_lines.specs.Texts.{history_text_from}
-use Rattle.slot_lines.proofs.replies.write_history.Given as goal
-
--- the text of the entries that are left completes it
-abbrev pub invariant-loop-at : goal.invariant-loop-at
-invariant-loop-at l = history_text_from l.graph l.clients 0 l.history ≡ l.text.items ++ history_text_from l.graph l.clients l.at (drop l.at l.history)

@@ -1,4 +1,0 @@
-pub mod Slots
-pub mod Lines
-pub mod Texts
-pub mod Examples
