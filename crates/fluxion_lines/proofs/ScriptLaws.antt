@@ -1,11 +1,15 @@
 -- The lines of an input in their order, and those of each client.
-use Rattle.std.proofs.Common.{◌≡◌, ℕ, zero, suc, ◌+◌, ◌<◌, ◌≤◌, ◌==◌, ◌||◌, Bool, true, false, cond, if◌then◌else◌, List, [], ◌∷◌, ◌++◌, map, filter, length, length-append, get_or, All, Contains, Some, slice_get, option_map, inl, inr, refl, sym, ◌∙◌, ap, subst, arith}
+use Rattle.std.proofs.Common.{◌≡◌, ◌≢◌, ◌-◌, unwrap_or, slice_set, append-nil, ℕ, zero, suc, ◌+◌, ◌<◌, ◌≤◌, ◌==◌, ◌||◌, Bool, true, false, cond, if◌then◌else◌, List, [], ◌∷◌, ◌++◌, map, filter, length, length-append, get_or, All, Contains, Option, Some, slice_get, option_map, inl, inr, refl, sym, ◌∙◌, ap, subst, arith}
 use Rattle.std.specs.List.{AllByRecursion, list_any, range_with_len}
 use Rattle.std.proofs.lemmas.Bool.{ne_eqb}
 use Rattle.std.proofs.lemmas.Bool.Decides.{nat_tests}
 use Rattle.std.proofs.lemmas.List.FromFn.{length-range_with_len, length-map-range_with_len, get_or-range_with_len}
 use Rattle.std.proofs.lemmas.Option.{slice_get-map, slice_get_within, slice_get_cases}
 use Rattle.std.specs.Str.{bytes_eq}
+use Rattle.std.proofs.lemmas.List.{map-append}
+use Rattle.std.proofs.lemmas.List.Elements.{filter-append}
+use Rattle.sound_laws.proofs.Members.{all_filter}
+use Rattle.flux_defs.specs.declared.journal.Command.{Command}
 use Rattle.flux_defs.specs.declared.journal.Line.{Line}
 use Rattle.flux_defs.specs.Graph.{ResourceGraph}
 use Rattle.flux_defs.specs.Scripts.{HasLines, has_number, Interleaves}
@@ -145,6 +149,33 @@ few g clients at (raw ∷ raws) =
     let rest = grows (with_text clients (client_in raw)) (map client_in raws) in
     (omega (arith, place, rest), few g (with_text clients (client_in raw)) (at + 1) raws)
 
+-- ---- lists by client, one line more
+
+-- the same numbers have the same where two functions agree on them
+agree : {X : Type 0} (F G : ℕ → X) (a n : ℕ) → ((c : ℕ) → a ≤ c → F c ≡ G c) → map F (range_with_len a n) ≡ map G (range_with_len a n)
+agree F G a zero same = refl
+agree F G a (suc n) same = λ i. same a (omega arith) i ∷ agree F G (a + 1) n (λ c low. same c (omega (arith, low))) i
+
+-- one value changed, of those from a on
+changed : {X : Type 0} (F G : ℕ → X) (a n k : ℕ) (x : X) → k < n → ((c : ℕ) → c ≢ a + k → F c ≡ G c) → x ≡ G (a + k) → slice_set (map F (range_with_len a n)) k x ≡ map G (range_with_len a n)
+changed F G a zero k x lt same is = absurd (omega (arith, lt))
+changed F G a (suc n) zero x lt same is = λ i. (is ∙ ap G (let here : a + 0 ≡ a = omega arith in here)) i ∷ agree F G (a + 1) n (λ c low. same c (λ at. omega (arith, low, at))) i
+changed F G a (suc n) (suc k) x lt same is =
+    λ i. same a (λ at. omega (arith, at)) i ∷ changed F G (a + 1) n k x (omega (arith, lt)) (λ c other. same c (λ at. other (omega (arith, at)))) (is ∙ ap G (let there : a + suc k ≡ a + 1 + k = omega arith in there)) i
+
+filtered_more : (c : ℕ) (done : List NumberedLine) (l : NumberedLine) → lines_by c (done ++ l ∷ []) ≡ lines_by c done ++ lines_by c (l ∷ [])
+filtered_more c done l =
+    ap (map line_held) (filter-append (λ x. x.client == c) done (l ∷ [])) ∙ map-append line_held (filter (λ x. x.client == c) done) (filter (λ x. x.client == c) (l ∷ []))
+
+of_other : (c : ℕ) (done : List NumberedLine) (l : NumberedLine) → c ≢ l.client → lines_by c done ≡ lines_by c (done ++ l ∷ [])
+of_other c done l other = sym (filtered_more c done l ∙ (ap (λ ls. lines_by c done ++ ls) (by_more c l [] ∙ ap (λ b. cond b (line_held l ∷ []) []) (ne_eqb l.client c (λ same. other (sym same)))) ∙ append-nil (lines_by c done)))
+
+of_own : (done : List NumberedLine) (l : NumberedLine) → lines_by l.client done ++ line_held l ∷ [] ≡ lines_by l.client (done ++ l ∷ [])
+of_own done l = sym (filtered_more l.client done l ∙ ap (λ ls. lines_by l.client done ++ ls) (by_more l.client l [] ∙ ap (λ b. cond b (line_held l ∷ []) []) (same_eq l.client)))
+
+unwrapped : {X : Type 0} (o : Option X) (x d : X) → o ≡ Some x → unwrap_or o d ≡ x
+unwrapped o x d is = ap (λ t. unwrap_or t d) is
+
 -- ---- the script
 
 in_range : (n c : ℕ) → c < n → slice_get (range_with_len 0 n) c ≡ Some c
@@ -197,3 +228,53 @@ module _ (g : ResourceGraph) (bytes : List ℕ) where
   -- each line is one of some client's lines
   pub told : AllByRecursion (λ l. (ls : List Line) × HasLines (script_of g bytes) l.client ls × Contains ls (line_held l)) lines
   told = all_and lines (λ l h also. (lines_by l.client lines, h.0, h.1)) held held
+
+-- ---- made line by line
+
+listed_at : (count c : ℕ) (done : List NumberedLine) → c < count → slice_get (map (λ client. lines_by client done) (range_with_len 0 count)) c ≡ Some (lines_by c done)
+listed_at count c done lt = slice_get-map (λ client. lines_by client done) (range_with_len 0 count) c ∙ ap (option_map (λ client. lines_by client done)) (in_range count c lt)
+
+pub line_added : (count : ℕ) (done : List NumberedLine) (l : NumberedLine) (lists : List (List Line)) → l.client < count → lists ≡ map (λ client. lines_by client done) (range_with_len 0 count) →
+    slice_set lists l.client (unwrap_or (slice_get lists l.client) [] ++ line_held l ∷ []) ≡ map (λ client. lines_by client (done ++ l ∷ [])) (range_with_len 0 count)
+line_added count done l lists lt are =
+    let old = map (λ client. lines_by client done) (range_with_len 0 count) in
+    let own : unwrap_or (slice_get old l.client) [] ≡ lines_by l.client done = unwrapped (slice_get old l.client) (lines_by l.client done) [] (listed_at count l.client done lt) in
+    (λ i. slice_set (are i) l.client (unwrap_or (slice_get (are i) l.client) [] ++ line_held l ∷ []))
+    ∙ (ap (λ (ls : List Line). slice_set old l.client (ls ++ line_held l ∷ [])) own
+    ∙ changed (λ client. lines_by client done) (λ client. lines_by client (done ++ l ∷ [])) 0 count l.client (lines_by l.client done ++ line_held l ∷ []) lt
+    (λ c other. of_other c done l (λ same. other (let at : c ≡ 0 + l.client = omega (arith, same) in at)))
+    (of_own done l ∙ ap (λ n. lines_by n (done ++ l ∷ [])) (let at : l.client ≡ 0 + l.client = omega arith in at)))
+
+pub no_more : (count k : ℕ) → k < count → map (λ client. lines_by client []) (range_with_len k (count - k)) ≡ [] ∷ map (λ client. lines_by client []) (range_with_len (k + 1) (count - (k + 1)))
+no_more count k lt = ap (λ n. map (λ client. lines_by client []) (range_with_len k n)) (let one : count - k ≡ suc (count - (k + 1)) = omega (arith, lt) in one)
+
+pub few_clients : (g : ResourceGraph) (bytes : List ℕ) → AllByRecursion (λ l. l.client < length (clients_of bytes)) (numbered_lines g bytes)
+few_clients g bytes = few g [] 1 (lines_of bytes)
+
+-- ---- each client's commands are proper
+
+held_filtered : (P : Command → Type 0) (c : ℕ) (ls : List NumberedLine) → AllByRecursion (λ l. P l.command) ls → AllByRecursion (λ (l : Line). P l.command) (lines_by c ls)
+held_filtered P c ls all = all_mapped (λ (l : Line). P l.command) line_held (filter (λ x. x.client == c) ls) (all_filter (λ (l : NumberedLine). P l.command) (λ x. x.client == c) ls all)
+
+each_number : (P : ℕ → Type 0) (a n : ℕ) → ((c : ℕ) → P c) → AllByRecursion P (range_with_len a n)
+each_number P a zero f = tt
+each_number P a (suc n) f = (f a, each_number P (a + 1) n f)
+
+pub proper_lists : (P : Command → Type 0) (count : ℕ) (ls : List NumberedLine) → AllByRecursion (λ l. P l.command) ls →
+    AllByRecursion (λ (lines : List Line). AllByRecursion (λ (l : Line). P l.command) lines) (map (λ client. lines_by client ls) (range_with_len 0 count))
+proper_lists P count ls all =
+    all_mapped (λ (lines : List Line). AllByRecursion (λ (l : Line). P l.command) lines) (λ client. lines_by client ls) (range_with_len 0 count)
+    (each_number (λ c. AllByRecursion (λ (l : Line). P l.command) (lines_by c ls)) 0 count (λ c. held_filtered P c ls all))
+
+pub at_split : {X : Type 0} (P : X → Type 0) (xs ys zs : List X) (z : X) → xs ≡ ys ++ z ∷ zs → AllByRecursion P xs → P z
+at_split {X} P xs ys zs z is all = split ys (subst (AllByRecursion P) is all)
+  where
+    split : (ys : List X) → AllByRecursion P (ys ++ z ∷ zs) → P z
+    split [] h = h.0
+    split (y ∷ ys) h = split ys h.1
+
+-- what is changed twice has the last value
+pub set_twice : {X : Type 0} (xs : List X) (k : ℕ) (x y : X) → slice_set (slice_set xs k x) k y ≡ slice_set xs k y
+set_twice [] k x y = refl
+set_twice (z ∷ xs) zero x y = refl
+set_twice (z ∷ xs) (suc k) x y = ap (λ ys. z ∷ ys) (set_twice xs k x y)
