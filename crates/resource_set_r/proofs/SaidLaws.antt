@@ -1,7 +1,7 @@
 -- What R says of a job, in the words of its claims.
-use Rattle.std.proofs.Common.{◌≡◌, ℕ, ◌+◌, ◌<◌, ◌≤◌, ◌==◌, ◌||◌, ◌↔◌, Bool, true, false, List, length, Option, Some, None, inl, inr, refl, sym, ◌∙◌, ap, subst, arith, true≢false, IsTrue, option_and_then, is_some, if◌then◌else◌}
+use Rattle.std.proofs.Common.{◌≡◌, ℕ, ◌+◌, ◌<◌, ◌==◌, ◌||◌, Bool, true, false, List, length, Option, Some, None, inl, inr, refl, sym, ◌∙◌, ap, subst, arith, true≢false, IsTrue, option_and_then, is_some, if◌then◌else◌}
 use Rattle.std.specs.Prelude.{slice_get}
-use Rattle.std.specs.List.{list_any, Contains, filter_map, flat_map}
+use Rattle.std.specs.List.{Contains, filter_map, flat_map}
 use Rattle.std.specs.Option.{option_map_or, IsSomeAnd}
 use Rattle.std.specs.Str.{bytes_eq}
 use Rattle.std.proofs.lemmas.Bool.{or_cases, or_left, or_right}
@@ -16,12 +16,12 @@ use Rattle.flux_defs.specs.ValidGraph.{IsValidGraph, HasType, HasId, HasRank}
 use Rattle.graph_laws.proofs.Containment.{ParentsFirst, below_self, line, equal_to, equal_from}
 use Rattle.graph_laws.proofs.Preorder.{parents_first}
 use Rattle.resource_graph.specs.Checks.{FindsFirst}
-use Rattle.resource_graph.proofs.ValidLaws.{value_of, from_value}
+use Rattle.resource_graph.proofs.ValidLaws.{value_of}
 use Rattle.resource_graph.proofs.CheckLaws.{Passes, finds_position}
 use Rattle.resource_set_r.specs.Rows.{numbers, is_given_by, given_by, given, rank_of, node_above, rank_above, is_in_rank, ranks_in, type_called, is_of_type, id_of_type, part_of, ids_among}
-use Rattle.resource_set_r.specs.Said.{IsGiven, IsShared, IsChild, AreRanksOfClaims, AreIdsOfClaims}
+use Rattle.resource_set_r.specs.Said.{IsShared, IsChild, AreRanksOfClaims, AreIdsOfClaims}
 use Rattle.resource_set_r.proofs.Members.{Stands, contains_stands, stands_contains, of_rising, in_rising, of_filter, in_filter, of_filter_map, in_filter_map, of_flat_map, in_flat_map, of_ids, in_ids, of_any, in_any}
-use Rattle.resource_set_r.proofs.NodeLaws.{node_ranked, ranked_node, rank_has, below_within, node_above_is, node_above_at, in_rank_at, type_called_found}
+use Rattle.resource_set_r.proofs.NodeLaws.{ranked_node, rank_has, below_within, node_above_is, node_above_at, in_rank_at, type_called_found}
 
 -- ---- what is given
 

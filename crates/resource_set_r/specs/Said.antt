@@ -1,5 +1,5 @@
 -- What R says of a job, in the words of its claims.
-use Rattle.std.specs.Prelude.{◌≡◌, ℕ, ◌↔◌, ◌||◌, List, IsTrue}
+use Rattle.std.specs.Prelude.{ℕ, ◌↔◌, ◌||◌, List, IsTrue}
 use Rattle.std.specs.List.{list_any, Contains}
 use Rattle.flux_defs.specs.declared.vertices.Vertex.{Vertex}
 use Rattle.flux_defs.specs.declared.claims.Claim.{Claim}
