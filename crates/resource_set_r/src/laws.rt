@@ -1,5 +1,5 @@
 //! Laws of what is written and read.
-ghost use Rattle.std.specs.Prelude.{◌≡◌, ℕ, ◌≤◌, ◌^◌, List};
+ghost use Rattle.std.specs.Prelude.{◌≡◌, ◌≢◌, ℕ, ◌≤◌, ◌^◌, List};
 ghost use Rattle.std.specs.List.{AllByRecursion};
 ghost use Rattle.flux_defs.specs.declared.claims.Job.{Job};
 ghost use Rattle.graph_json.specs.FileGraph.{IsFileGraph};
@@ -18,10 +18,11 @@ pub fn written_sets_are_read_back()
     ensures { AreReadBack }
 {}
 
-/// A law: the bytes say one set, and have no fault where they say one.
+/// A law: the bytes say one set at most, have no fault where they say one, and have one fault at most, want of memory aside.
 pub fn a_text_has_one_set()
     ensures one { (bytes : List ℕ) (a b : RSet) → IsRText bytes a → IsRText bytes b → a ≡ b }
     ensures faultless { (bytes : List ℕ) (set : RSet) (fault : RFault) → IsRText bytes set → Tells bytes fault → fault ≡ RFault.Memory }
+    ensures one_fault { (bytes : List ℕ) (a b : RFault) → a ≢ RFault.Memory → b ≢ RFault.Memory → Tells bytes a → Tells bytes b → a ≡ b }
 {}
 
 /// A law: a job with quantities of 64 bits, from and to seconds up to 2^46, on a graph that a graph file can hold is such a job.
