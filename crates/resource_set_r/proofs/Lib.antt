@@ -11,3 +11,6 @@ pub mod HostsBack
 pub mod JsonBack
 pub mod SetsBack
 pub mod OneSet
+pub mod FileBack
+pub mod Members
+pub mod SaidLaws

@@ -44,7 +44,7 @@ module _ (g : ResourceGraph) (names : List (List ℕ)) (valid : IsValidGraph g n
   first = parents_first g valid.preorder
 
   -- what is at or below a vertex is a vertex
-  below_within : (v u : ℕ) → u < length g.vertices → IsTrue (is_at_or_below g.vertices v u) → v < length g.vertices
+  pub below_within : (v u : ℕ) → u < length g.vertices → IsTrue (is_at_or_below g.vertices v u) → v < length g.vertices
   below_within v u lt h =
       elim (cases_lt v (length g.vertices)) [
         | inl within ↦ within

@@ -5,3 +5,4 @@ pub mod Misreads
 pub mod ReadRows
 pub mod ReadR
 pub mod ReadBack
+pub mod Said

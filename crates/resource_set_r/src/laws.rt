@@ -1,6 +1,11 @@
 //! Laws of what is written and read.
-ghost use Rattle.std.specs.Prelude.{◌≡◌, ℕ, List};
-ghost use Rattle.resource_set_r.specs.ReadBack.{AreReadBack};
+ghost use Rattle.std.specs.Prelude.{◌≡◌, ◌≢◌, ℕ, ◌≤◌, ◌^◌, List};
+ghost use Rattle.std.specs.List.{AllByRecursion};
+ghost use Rattle.flux_defs.specs.declared.claims.Job.{Job};
+ghost use Rattle.graph_json.specs.FileGraph.{IsFileGraph};
+ghost use Rattle.resource_graph.specs.NamedGraph.{NamedGraph};
+ghost use Rattle.resource_set_r.specs.ReadBack.{AreReadBack, CanBeRead, HasSmallQuantity};
+ghost use Rattle.resource_set_r.specs.Said.{AreIdsOfClaims, AreRanksOfClaims};
 ghost use Rattle.resource_set_r.specs.ReadR.{IsRText, Tells};
 
 use crate::faults::RFault;
@@ -13,8 +18,26 @@ pub fn written_sets_are_read_back()
     ensures { AreReadBack }
 {}
 
-/// A law: the bytes say one set, and have no fault where they say one.
+/// A law: the bytes say one set at most, have no fault where they say one, and have one fault at most, want of memory aside.
 pub fn a_text_has_one_set()
     ensures one { (bytes : List ℕ) (a b : RSet) → IsRText bytes a → IsRText bytes b → a ≡ b }
     ensures faultless { (bytes : List ℕ) (set : RSet) (fault : RFault) → IsRText bytes set → Tells bytes fault → fault ≡ RFault.Memory }
+    ensures one_fault { (bytes : List ℕ) (a b : RFault) → a ≢ RFault.Memory → b ≢ RFault.Memory → Tells bytes a → Tells bytes b → a ≡ b }
+{}
+
+/// A law: a job with quantities of 64 bits, from and to seconds up to 2^46, on a graph that a graph file can hold is such a job.
+pub fn jobs_on_graphs_of_files_can_be_read()
+    ensures { (g : NamedGraph) (job : Job) → IsFileGraph g → AllByRecursion HasSmallQuantity job.claims → job.start ≤ 2 ^ 46 → job.end ≤ 2 ^ 46 → CanBeRead g job }
+{}
+
+/// A law: the ranks of R are those of the nodes for which some claim is on the node or below it, or which lie at or below a held
+/// vertex.
+pub fn ranks_are_those_of_the_claims()
+    ensures { AreRanksOfClaims }
+{}
+
+/// A law: the ids of a rank's children are those of the vertices of the type at or below its node which have a claim or lie at or
+/// below a held vertex.
+pub fn ids_are_those_of_the_claims()
+    ensures { AreIdsOfClaims }
 {}
