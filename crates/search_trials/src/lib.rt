@@ -1,5 +1,5 @@
-//! Trials of the searches and of the scheduler of one thread: their answers are compared with those of a plain search that
-//! tries all, on small graphs.
+//! Trials: the searches beside a plain search that tries all, on small graphs, and the scheduler beside a plain one; and
+//! worked rows, of the searches, of the scheduler, of jobspecs, and of the shapes of request vertices.
 #![tactic(auto)]
 
 #[cfg(test)]
@@ -9,6 +9,8 @@ mod dice;
 #[cfg(test)]
 mod graphs;
 #[cfg(test)]
+mod jobspecs;
+#[cfg(test)]
 mod matches;
 #[cfg(test)]
 mod plain;
@@ -16,6 +18,8 @@ mod plain;
 mod rows;
 #[cfg(test)]
 mod scripts;
+#[cfg(test)]
+mod shapes;
 #[cfg(test)]
 mod starts;
 #[cfg(test)]
