@@ -25,7 +25,7 @@ use Rattle.graph_json.proofs.WrittenLaws.{plain_graph, read-graph_text}
 
 -- each text of the value is UTF-8
 abbrev mutual
-  IsClear : Data → Type 0
+  pub IsClear : Data → Type 0
   IsClear null = Unit {0}
   IsClear (boolean b) = Unit {0}
   IsClear (number m) = Unit {0}
@@ -33,11 +33,11 @@ abbrev mutual
   IsClear (array ds) = AreClear ds
   IsClear (object ms) = HasClear ms
 
-  AreClear : Items → Type 0
+  pub AreClear : Items → Type 0
   AreClear no_items = Unit {0}
   AreClear (item d ds) = IsClear d × AreClear ds
 
-  HasClear : Members → Type 0
+  pub HasClear : Members → Type 0
   HasClear no_members = Unit {0}
   HasClear (member k d ms) = IsUtf8 k × IsClear d × HasClear ms
 
@@ -52,7 +52,7 @@ utf8_comma true text u = IsUtf8-append (44 ∷ []) text (IsUtf8-are_ascii (44 �
 utf8_comma false text u = u
 
 mutual
-  utf8_value : (n : ℕ) (d : Data) → IsPlain n d → IsClear d → IsUtf8 (compact_text d)
+  pub utf8_value : (n : ℕ) (d : Data) → IsPlain n d → IsClear d → IsUtf8 (compact_text d)
   utf8_value n null h c = IsUtf8-are_ascii (compact_text null) refl
   utf8_value n (boolean b) h c = IsUtf8-boolean b
   utf8_value n (number m) h c = utf8_number m h
@@ -75,7 +75,7 @@ mutual
 
 -- ---- a graph's value
 
-clear_readable : (text : List ℕ) → IsUtf8 (readable text)
+pub clear_readable : (text : List ℕ) → IsUtf8 (readable text)
 clear_readable text = by (is_utf8 text) refl
   where
     by : (b : Bool) → is_utf8 text ≡ b → IsUtf8 (if b then text else [])

@@ -3,3 +3,11 @@ pub mod NodeLaws
 pub mod GivenLaws
 pub mod Rising
 pub mod OtherLaws
+pub mod ReadLaws
+pub mod RowsRead
+pub mod IdsBack
+pub mod RowsBack
+pub mod HostsBack
+pub mod JsonBack
+pub mod SetsBack
+pub mod OneSet

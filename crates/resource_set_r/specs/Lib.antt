@@ -4,3 +4,4 @@ pub mod WrittenRTokens
 pub mod Misreads
 pub mod ReadRows
 pub mod ReadR
+pub mod ReadBack

@@ -1,5 +1,5 @@
 -- Which bytes are a resource set and which, and which fault other bytes have.
-use Rattle.std.specs.Prelude.{◌≡◌, ◌⊎◌, ◌<◌, ℕ, suc, ◌^◌, ◌==◌, Bool, true, false, List, [], ◌∷◌, ◌++◌, length, if◌then◌else◌, Option, Some, None, Result, Ok, Err, ⊤, codes}
+use Rattle.std.specs.Prelude.{◌≡◌, ◌⊎◌, ℕ, suc, ◌^◌, ◌==◌, Bool, true, List, [], ◌++◌, length, if◌then◌else◌, Option, Some, None, Result, Ok, Err, ⊤, codes}
 use Rattle.std.specs.Result.{result_map_both}
 use Rattle.serde_json.specs.Data.{Data, Items, no_items, item}
 use Rattle.serde_json.specs.Find.{get, as_str}
@@ -16,6 +16,8 @@ use Rattle.resource_set_r.specs.declared.faults.Misread.{Misread}
 use Rattle.resource_set_r.specs.declared.faults.Misread.TheVariants as misread
 use Rattle.resource_set_r.specs.declared.faults.RFault.{RFault}
 use Rattle.resource_set_r.specs.declared.faults.RFault.TheVariants as fault
+use Rattle.resource_set_r.specs.declared.faults.ReadError.{ReadError}
+use Rattle.resource_set_r.specs.declared.faults.ReadError.TheVariants as error
 use Rattle.resource_set_r.specs.declared.sets_read.RRow.{RRow}
 use Rattle.resource_set_r.specs.declared.sets_read.RSet.{RSet}
 use Rattle.resource_set_r.specs.Misreads.{path_of, at_field}
@@ -47,11 +49,13 @@ abbrev pub hosts_fit : Items → List RRow → List Hosts → Bool
 hosts_fit no_items rows hosts = true
 hosts_fit (item d ds) rows hosts = length (names_of hosts) == length (ids_of (ranges_in rows))
 
+-- the hosts that a list has for these ranks
+abbrev pub hosts_for : List RRow → Items → Result (List Hosts) Misread
+hosts_for rows ds = result_and_then (hosts_from 0 ds) (λ hosts. if hosts_fit ds rows hosts then Ok hosts else Err misread.Hosts)
+
 -- the hosts of these ranks
 abbrev pub hosts_in : List RRow → Data → Result (List Hosts) Misread
-hosts_in rows e = result_and_then (nodelist_or_none (get (codes "nodelist") e)) (λ ds.
-    result_and_then (hosts_from 0 ds) (λ hosts.
-    if hosts_fit ds rows hosts then Ok hosts else Err misread.Hosts))
+hosts_in rows e = result_and_then (nodelist_or_none (get (codes "nodelist") e)) (hosts_for rows)
 
 -- ---- seconds
 
@@ -62,13 +66,19 @@ second_or_zero at (Some d) = at_field at (u64_of 0 (2 ^ 46) (Some d))
 
 -- ---- the whole
 
+-- the start and the end
+abbrev pub seconds_of : Data → Result (ℕ × ℕ) Misread
+seconds_of e =
+    result_and_then (second_or_zero place.Starttime (get (codes "starttime") e)) (λ start.
+    result_and_then (second_or_zero place.Expiration (get (codes "expiration") e)) (λ end.
+    Ok (start, end)))
+
 -- what is read behind these ranks
 abbrev pub set_with : List RRow → Data → Result RSet Misread
 set_with rows e =
     result_and_then (hosts_in rows e) (λ hosts.
-    result_and_then (second_or_zero place.Starttime (get (codes "starttime") e)) (λ start.
-    result_and_then (second_or_zero place.Expiration (get (codes "expiration") e)) (λ end.
-    Ok (record { rows = rows; hosts = hosts; start = start; end = end }))))
+    result_and_then (seconds_of e) (λ seconds.
+    Ok (record { rows = rows; hosts = hosts; start = seconds.0; end = seconds.1 })))
 
 -- the value has this `execution`, with these ranks
 abbrev pub HasRows : Data → Data → List RRow → Type 0
@@ -111,3 +121,20 @@ Tells bytes (fault.Idset path) = (at : Place) × (path ≡ path_of at) × HasMis
 Tells bytes fault.Hosts = HasMisread bytes misread.Hosts
 Tells bytes (fault.RepeatedRank rank) = HasMisread bytes (misread.RepeatedRank rank)
 Tells bytes fault.Memory = ⊤
+
+-- ---- for private clauses
+
+-- the fault tells of this misread, or of want of memory
+abbrev pub IsToldAs : Misread → RFault → Type 0
+IsToldAs m fault.NotJson = ⊥
+IsToldAs m (fault.Field path f) = (at : Place) × (path ≡ path_of at) × (m ≡ misread.Field at f)
+IsToldAs m fault.Version = m ≡ misread.Version
+IsToldAs m (fault.Idset path) = (at : Place) × (path ≡ path_of at) × (m ≡ misread.Idset at)
+IsToldAs m fault.Hosts = m ≡ misread.Hosts
+IsToldAs m (fault.RepeatedRank rank) = m ≡ misread.RepeatedRank rank
+IsToldAs m fault.Memory = ⊤
+
+-- the error is the first that is wrong with the value, or want of memory
+abbrev pub IsErrorOf : Data → ReadError → Type 0
+IsErrorOf d (error.Misread m) = IsMisreadOf d m
+IsErrorOf d error.Memory = ⊤

@@ -1,5 +1,5 @@
 -- What a resource set says of its ranks.
-use Rattle.std.specs.Prelude.{◌≡◌, ℕ, suc, ◌<◌, ◌^◌, ◌-◌, ◌==◌, List, [], ◌∷◌, if◌then◌else◌, Option, Some, None, is_some, Result, Ok, Err, MatchOption, codes}
+use Rattle.std.specs.Prelude.{ℕ, suc, nat_le, ◌<◌, ◌^◌, ◌-◌, ◌==◌, List, [], ◌∷◌, if◌then◌else◌, Option, Some, None, Result, Ok, Err, MatchOption, codes}
 use Rattle.std.specs.List.{flat_map, count_by}
 use Rattle.std.specs.Result.{result_map_both}
 use Rattle.serde_json.specs.Data.{Data, Items, no_items, item}
@@ -7,7 +7,7 @@ use Rattle.serde_json.specs.Find.{get, as_str}
 use Rattle.json_whole.specs.Field.{text_or_kind, text_field, u64_field}
 use Rattle.graph_json.specs.Fields.{result_and_then, object_value, object_field, list_field}
 use Rattle.idset_text.specs.declared.idsets.Range.{Range}
-use Rattle.idset_text.specs.Idsets.{idset_of, is_within, ids_of}
+use Rattle.idset_text.specs.Idsets.{idset_of, is_within}
 use Rattle.resource_set_r.specs.declared.faults.Place.{Place}
 use Rattle.resource_set_r.specs.declared.faults.Place.TheVariants as place
 use Rattle.resource_set_r.specs.declared.faults.Misread.{Misread}
@@ -93,3 +93,10 @@ IsCoveredTwice ranges rank = 1 < covers ranges rank
 abbrev pub IsRepeatedRank : List Range → Option ℕ → Type 0
 IsRepeatedRank ranges found =
     MatchOption found ((rank : ℕ) → IsCoveredTwice ranges rank → ⊥) (λ rank. IsCoveredTwice ranges rank × ((q : ℕ) → q < rank → IsCoveredTwice ranges q → ⊥))
+
+-- ---- for private clauses
+
+-- the first start of a range that is not above the end of the one before
+abbrev pub overlap_from : Range → List Range → Option ℕ
+overlap_from last [] = None
+overlap_from last (range ∷ ranges) = if nat_le range.lo last.hi then Some range.lo else overlap_from range ranges

@@ -5,6 +5,7 @@ pub mod faults;
 mod fields;
 mod given;
 mod hosts;
+pub mod laws;
 mod ranks;
 pub mod reading;
 mod rows;
@@ -13,6 +14,8 @@ pub mod sets_read;
 pub mod writing;
 
 pub use faults::RFault;
+pub use laws::{a_text_has_one_set, written_sets_are_read_back};
+pub use reading::read_r;
 pub use sets_read::{RRow, RSet};
 pub use writing::write_r;
 

@@ -1,7 +1,9 @@
 //! Worked resource sets.
-use crate::write_r;
+use crate::{RFault, RSet, read_r, write_r};
 use flux_defs::{Claim, Job, List};
 use graph_json::read_graph;
+use idset_text::{Range, has_host};
+use json_whole::FieldFault;
 use resource_graph::Graph;
 use std::alloc::{AllocError, Global};
 use std::test::Fail;
@@ -98,5 +100,150 @@ fn holds_give_what_is_below(rt: HostRuntime) -> Result<(), Fail> {
     assert!(rt; writes(rt.alloc(), RACK, &[hold(3)], SOCKET)?);
     assert!(rt; writes(rt.alloc(), RACK, &[hold(4)], CORE)?);
     assert!(rt; writes(rt.alloc(), RACK, &[pass(0), take(10, 5)], STORAGE)?);
+    Ok(())
+}
+
+const READ: &str =
+    r#"{"execution":{"R_lite":[{"children":{"core":"0"},"rank":"0,2-3"}],"expiration":60,"nodelist":["node0","node[2-3]"],"starttime":0},"version":1}"#;
+
+/// What is told of a text.
+fn word(alloc: Global, text: &str) -> &'static str {
+    match read_r(alloc, text.as_bytes()) {
+        Ok(_) => "ok",
+        Err(RFault::NotJson) => "json",
+        Err(RFault::Field { .. }) => "field",
+        Err(RFault::Version) => "version",
+        Err(RFault::Idset { .. }) => "idset",
+        Err(RFault::Hosts) => "hosts",
+        Err(RFault::RepeatedRank { .. }) => "repeated",
+        Err(RFault::Memory) => "memory",
+    }
+}
+
+/// Whether the field at the path has the fault.
+fn is_field(alloc: Global, text: &str, want: &str, kind: FieldFault) -> bool {
+    match read_r(alloc, text.as_bytes()) {
+        Err(RFault::Field { path, fault }) => path.bytes() == want.as_bytes() && fault == kind,
+        _ => false,
+    }
+}
+
+/// Whether these are the ranges.
+fn are(ranges: &List<Range>, want: &[Range]) -> bool {
+    ranges.items() == want
+}
+
+/// The first row, and how many there are.
+fn is_first_row(set: &RSet) -> bool {
+    let ranks = [Range { lo: 0, hi: 0 }, Range { lo: 2, hi: 3 }];
+    match set.rows.items() {
+        [row] => {
+            are(&row.ranks, &ranks)
+                && are(&row.cores, &[Range { lo: 0, hi: 0 }])
+                && row.gpus.is_empty()
+        }
+        _ => false,
+    }
+}
+
+/// Whether the hosts, the start and the end are those of the text above.
+fn has_hosts(set: &RSet) -> bool {
+    set.hosts.len() == 2
+        && has_host(&set.hosts, b"node0")
+        && has_host(&set.hosts, b"node2")
+        && has_host(&set.hosts, b"node3")
+        && set.start == 0
+        && set.end == 60
+}
+
+#[test]
+fn a_set_is_read(rt: HostRuntime) -> Result<(), Fail> {
+    match read_r(rt.alloc(), READ.as_bytes()) {
+        Ok(set) => {
+            assert!(rt; is_first_row(&set));
+            assert!(rt; has_hosts(&set));
+        }
+        Err(_) => assert!(rt; false),
+    }
+    Ok(())
+}
+
+#[test]
+fn faults_are_told(rt: HostRuntime) -> Result<(), Fail> {
+    let cases: [(&str, &str); 10] = [
+        (r#"{"version":1,"execution":{"R_lite":[]}}"#, "ok"),
+        (r#"{"version":1,"execution":{"R_lite":[]}"#, "json"),
+        (r#"{"version":2,"execution":{"R_lite":[]}}"#, "version"),
+        (
+            r#"{"version":1,"execution":{"R_lite":[{"rank":"0,2","children":{}}],"nodelist":["a[1-3]"]}}"#,
+            "hosts",
+        ),
+        (
+            r#"{"version":1,"execution":{"R_lite":[{"rank":"0-2","children":{}}],"nodelist":["a","b"]}}"#,
+            "hosts",
+        ),
+        (
+            r#"{"version":1,"execution":{"R_lite":[{"rank":"3,5","children":{}},{"rank":"4-5","children":{}}]}}"#,
+            "repeated",
+        ),
+        (
+            r#"{"version":1,"execution":{"R_lite":[{"rank":"5","children":{}},{"rank":"5","children":{}}],"nodelist":["-["]}}"#,
+            "repeated",
+        ),
+        (
+            r#"{"version":1,"execution":{"R_lite":[{"rank":"3,1","children":{}}]}}"#,
+            "idset",
+        ),
+        (
+            r#"{"version":1,"execution":{"R_lite":[{"rank":"3","children":{"gpu":"01"}}]}}"#,
+            "idset",
+        ),
+        (
+            r#"{"version":1.0,"execution":{"R_lite":[{"rank":"0-4294967294","children":{}}],"starttime":1.0}}"#,
+            "ok",
+        ),
+    ];
+    for (text, want) in cases {
+        assert_eq!(rt; word(rt.alloc(), text), want, "{text}");
+    }
+    Ok(())
+}
+
+#[test]
+fn fields_are_told(rt: HostRuntime) -> Result<(), Fail> {
+    let cases: [(&str, &str, FieldFault); 9] = [
+        ("[]", ".", FieldFault::Kind),
+        ("{}", "version", FieldFault::Missing),
+        (r#"{"version":-1}"#, "version", FieldFault::Small),
+        (r#"{"version":1}"#, "execution", FieldFault::Missing),
+        (
+            r#"{"version":1,"execution":{}}"#,
+            "execution.R_lite",
+            FieldFault::Missing,
+        ),
+        (
+            r#"{"version":1,"execution":{"R_lite":[{"rank":"0","children":{}},{"rank":"1"}]}}"#,
+            "execution.R_lite[1].children",
+            FieldFault::Missing,
+        ),
+        (
+            r#"{"version":1,"execution":{"R_lite":[{"rank":"0","children":{"core":null}}]}}"#,
+            "execution.R_lite[0].children.core",
+            FieldFault::Kind,
+        ),
+        (
+            r#"{"version":1,"execution":{"R_lite":[],"nodelist":["a","b["]}}"#,
+            "execution.nodelist[1]",
+            FieldFault::Text,
+        ),
+        (
+            r#"{"version":1,"execution":{"R_lite":[],"starttime":70368744177665}}"#,
+            "execution.starttime",
+            FieldFault::Large,
+        ),
+    ];
+    for (text, path, fault) in cases {
+        assert!(rt; is_field(rt.alloc(), text, path, fault), "{text}");
+    }
     Ok(())
 }

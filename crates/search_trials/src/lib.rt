@@ -1,6 +1,9 @@
-//! Trials of the searches: their answers are compared with those of a plain search that tries all, on small graphs.
+//! Trials of the searches and of the scheduler of one thread: their answers are compared with those of a plain search that
+//! tries all, on small graphs.
 #![tactic(auto)]
 
+#[cfg(test)]
+mod core_rows;
 #[cfg(test)]
 mod dice;
 #[cfg(test)]
@@ -8,7 +11,11 @@ mod graphs;
 #[cfg(test)]
 mod matches;
 #[cfg(test)]
+mod plain;
+#[cfg(test)]
 mod rows;
+#[cfg(test)]
+mod scripts;
 #[cfg(test)]
 mod starts;
 #[cfg(test)]

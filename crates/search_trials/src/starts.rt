@@ -14,10 +14,10 @@ use std::marker::Brand;
 use std::sync::ledger::{Blank, Ledger};
 use std::test::Fail;
 
-const HORIZON: u64 = 14;
+pub(crate) const HORIZON: u64 = 14;
 
 /// The window of an ask, where it counts.
-fn window_from(ask: &Ask, start: u64) -> Option<Window> {
+pub(crate) fn window_from(ask: &Ask, start: u64) -> Option<Window> {
     if start >= HORIZON {
         return None;
     }
@@ -33,7 +33,7 @@ fn window_from(ask: &Ask, start: u64) -> Option<Window> {
 }
 
 /// The first second from `now` on at which all tries find claims, with these.
-fn first_start(
+pub(crate) fn first_start(
     alloc: Global,
     graph: &Graph,
     jobs: &List<Job>,
