@@ -1,5 +1,5 @@
 //! Trials of the searches and of the scheduler of one thread: their answers are compared with those of a plain search that
-//! tries all, on small graphs.
+//! tries all, on small graphs. The limits on an input are tried too.
 #![tactic(auto)]
 
 #[cfg(test)]
@@ -8,6 +8,8 @@ mod core_rows;
 mod dice;
 #[cfg(test)]
 mod graphs;
+#[cfg(test)]
+mod limits;
 #[cfg(test)]
 mod matches;
 #[cfg(test)]
