@@ -1,5 +1,6 @@
 //! Trials: the searches beside a plain search that tries all, on small graphs, and the scheduler beside a plain one; and
-//! worked rows, of the searches, of the scheduler, of jobspecs, and of the shapes of request vertices.
+//! worked rows, of the searches, of the scheduler, of jobspecs, of the shapes of request vertices, and of the limits on an
+//! input.
 #![tactic(auto)]
 
 #[cfg(test)]
@@ -10,6 +11,8 @@ mod dice;
 mod graphs;
 #[cfg(test)]
 mod jobspecs;
+#[cfg(test)]
+mod limits;
 #[cfg(test)]
 mod matches;
 #[cfg(test)]
