@@ -4,6 +4,8 @@
 pub mod answering;
 mod fault_texts;
 pub mod loading;
+#[cfg(test)]
+mod rows;
 pub mod running;
 pub mod status;
 #[cfg(test)]

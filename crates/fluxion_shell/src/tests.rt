@@ -280,13 +280,7 @@ fn ends_of_length(alloc: Global, bytes: usize) -> Result<Status, AllocError> {
     let mut out = SureSink::new(alloc, 100);
     out.reserve(100)?;
     let words = words(alloc, "serve", "g")?;
-    Ok(run(
-        alloc,
-        words.as_slice(),
-        &mut files,
-        &mut input,
-        &mut out,
-    ))
+    Ok(run(alloc, words.as_slice(), &mut files, &mut input, &mut out))
 }
 
 #[test]
@@ -310,13 +304,7 @@ fn ends_at(alloc: Global, horizon: &str) -> Result<Status, AllocError> {
     let mut files = SureFiles::new(store(alloc, GRAPH)?);
     let mut input = SureSource::new(Text::of(alloc, b"")?, 100);
     let mut out = SureSink::new(alloc, 100);
-    Ok(run(
-        alloc,
-        words.as_slice(),
-        &mut files,
-        &mut input,
-        &mut out,
-    ))
+    Ok(run(alloc, words.as_slice(), &mut files, &mut input, &mut out))
 }
 
 #[test]
