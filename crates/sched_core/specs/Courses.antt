@@ -80,7 +80,7 @@ vertices_at site = (arc_value site.graph).resources.vertices
 
 -- the journal that is kept
 abbrev pub journal_in : Kept → List Entry
-journal_in kept = arc_value kept.journal
+journal_in kept = kept.journal
 
 -- what never changes, with the rules that the book keeps
 abbrev pub setting_in : Site → Kept → Setting

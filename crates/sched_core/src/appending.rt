@@ -1,17 +1,15 @@
 //! A journal with one entry more.
-ghost use Rattle.std.specs.Prelude.{◌≡◌, ℕ, ◌+◌, length, IfOk, IfErr};
+ghost use Rattle.std.specs.Prelude.{◌≡◌, ℕ, ◌+◌, length, IfErr, OnOk};
 ghost use Rattle.flux_defs.specs.declared.journal.Entry.{Entry};
 ghost use Rattle.flux_defs.specs.Scheduler.{State, IsProper, Replies, after};
 ghost use Rattle.flux_defs.specs.declared.journal.Command.{Command};
 ghost use Rattle.sched_core.specs.Courses.{left_by, journal_in, vertices_at, setting_in, IsCore, Grows};
 ghost use Rattle.sched_core.specs.Answered.{HasRoom};
 
-use crate::copies::{copy_entries, take_last};
 use crate::following::follow;
 use crate::held::{Kept, Site};
 use flux_defs::{Command, Entry, Reply, Steps};
-use std::alloc::{AllocError, AllocFailed};
-use std::sync::Arc;
+use std::alloc::AllocError;
 use std::sync::ledger::Ledger;
 
 /// How many claims the accepted jobs had after this reply.
@@ -26,18 +24,18 @@ fn claims_after(limit: u64, claims: u64, reply: &Reply) -> u64
     }
 }
 
-/// What is kept after one entry more. On want of memory the command comes back.
+/// Keeps one entry more. On want of memory the command comes back, and nothing is changed.
 pub(crate) fn append<L: Ledger>(
     site: &Site,
-    kept: &Kept,
+    kept: &mut Kept,
     entry: Entry,
     steps: &mut Steps<L>,
-) -> Result<Kept, (Command, AllocError)>
-    requires core { IsCore site.now kept.now }
+) -> Result<(), (Command, AllocError)>
+    requires core { IsCore site.now kept.old }
     requires proper { IsProper (vertices_at site.now) entry.command }
-    requires reply { Replies (setting_in site.now kept.now) (left_by (journal_in kept.now)) entry.command entry.reply }
-    ensures ok { IfOk result (λ next. Grows site.now kept.now next entry) }
-    ensures err { IfErr result (λ e. e.0 ≡ entry.command) }
+    requires reply { Replies (setting_in site.now kept.old) (left_by (journal_in kept.old)) entry.command entry.reply }
+    ensures ok { OnOk result (Grows site.now kept.old kept.new entry) }
+    ensures err { IfErr result (λ e. (kept.new ≡ kept.old) × (e.0 ≡ entry.command)) }
 {
     let Ok(book) = follow(
         site.alloc,
@@ -49,22 +47,13 @@ pub(crate) fn append<L: Ledger>(
     ) else {
         return Err((entry.command, AllocError));
     };
-    let Ok(mut entries) = copy_entries(site.alloc, &kept.journal) else {
-        return Err((entry.command, AllocError));
-    };
     let claims = claims_after(site.limit, kept.claims, &entry.reply);
-    if let Err((entry, fault)) = entries.push(entry) {
-        return Err((entry.command, fault));
-    }
-    match Arc::new(site.alloc, entries) {
-        Ok(journal) => Ok(Kept {
-            journal,
-            book,
-            claims,
-        }),
-        Err(failed) => {
-            let AllocFailed { value, .. } = failed;
-            Err((take_last(value).command, AllocError))
+    match kept.journal.push(entry) {
+        Ok(()) => {
+            kept.book = book;
+            kept.claims = claims;
+            Ok(())
         }
+        Err((entry, fault)) => Err((entry.command, fault)),
     }
 }

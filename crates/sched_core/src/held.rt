@@ -19,7 +19,7 @@ pub(crate) struct Site {
 /// What grows: the journal, the book of the jobs that it leaves, and how many claims the accepted jobs had.
 #[derive(Drop)]
 pub(crate) struct Kept {
-    pub journal: Arc<List<Entry>, Global>,
+    pub journal: List<Entry>,
     pub book: BookState,
     pub claims: u64,
 }

@@ -2,7 +2,6 @@
 #![tactic(auto)]
 
 mod appending;
-mod copies;
 mod deciding;
 mod finding;
 mod following;

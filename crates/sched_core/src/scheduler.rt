@@ -56,7 +56,6 @@ impl Core {
         // this call tells that the graph is valid
         let _valid = graph.vertices();
         let book = BookState::new(alloc, Arc::try_clone(&graph)?, rules, horizon)?;
-        let journal = Arc::new(alloc, List::new(alloc))?;
         Ok(Core {
             site: Site {
                 alloc,
@@ -65,7 +64,7 @@ impl Core {
                 limit: claims,
             },
             kept: Kept {
-                journal,
+                journal: List::new(alloc),
                 book,
                 claims: 0,
             },
@@ -148,12 +147,16 @@ impl Core {
     {
         let mut steps: Steps<L> = Steps::new(blank);
         let at = self.kept.journal.len() as u64;
-        match decide(&self.site, &self.kept, client, line, command, &mut steps) {
+        match decide(
+            &self.site,
+            &mut self.kept,
+            client,
+            line,
+            command,
+            &mut steps,
+        ) {
+            Ok(()) => Ok(at),
             Err(fault) => Err(fault),
-            Ok(next) => {
-                self.kept = next;
-                Ok(at)
-            }
         }
     }
 }

@@ -1,14 +1,13 @@
-use Rattle.std.proofs.Common.{◌≡◌, ℕ, List, [], ◌∷◌, ◌++◌, refl, sym, ◌∙◌, ap, subst}
+use Rattle.std.proofs.Common.{ℕ, refl, sym, subst}
 use Rattle.flux_defs.specs.declared.journal.Entry.{Entry}
-use Rattle.sched_core.specs.Courses.{left_by, journal_in, IsBookOf}
-use Rattle.sched_core.specs.Answered.{MayFollow, HasRoom}
+use Rattle.sched_core.specs.Courses.{left_by, journal_in}
+use Rattle.sched_core.specs.Answered.{HasRoom}
 use Rattle.sched_core.proofs.NextCore.{owed_here, grows}
 use Rattle.sched_core.proofs.appending.append.Goals as goal
 
 pub follow-requires-clause-may : goal.follow-requires-clause-may
 follow-requires-clause-may g c =
     let kept = c.args.kept.now in
-    subst (λ (j : List Entry). MayFollow kept.book (left_by j) c.args.entry.command c.args.entry.reply) (sym c.deref.ensures)
     (owed_here c.args.site.now kept c.requires.core c.args.entry c.requires.proper c.requires.reply).0
 
 pub claims_after-claims-requires : goal.claims_after-claims-requires
@@ -20,13 +19,10 @@ claims_after-claims-requires g c =
           (owed_here c.args.site.now kept core c.args.entry c.requires.proper c.requires.reply).1;
     }
 
-pub returns-in-Ok-new-clause-ok : goal.returns-in-Ok-new-clause-ok
-returns-in-Ok-new-clause-ok g c =
+pub returns-in-Ok-push-clause-ok : goal.returns-in-Ok-push-clause-ok
+returns-in-Ok-push-clause-ok g c =
     let kept = c.args.kept.now in
     let core = c.requires.core in
     let entry : Entry = c.args.entry in
-    let same : c.in-Ok-copy_entries.entries ≡ journal_in kept = c.in-Ok-copy_entries.ensures ∙ c.deref-2.ensures in
-    grows c.args.site.now kept core entry c.requires.proper c.requires.reply _ c.in-Ok.ensures.setting
-    (subst (λ (j : List Entry). IsBookOf (j ++ entry ∷ []) c.in-Ok.book) c.deref.ensures (c.in-Ok.ensures.book entry refl refl))
-    (c.in-Ok-new.ensures.ok ∙ c.in_default-push.ensures.ok ∙ ap (λ j. j ++ entry ∷ []) same)
+    grows c.args.site.now kept core entry c.requires.proper c.requires.reply _ c.in-Ok.ensures.setting (c.in-Ok.ensures.book entry refl refl) c.in-Ok-push.ensures.ok
     (c.claims_after-claims.ensures (left_by (journal_in kept)) entry.command (sym core.claims-are))

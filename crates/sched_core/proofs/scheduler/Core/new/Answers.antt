@@ -7,4 +7,4 @@ pub invariant_of-result : goal.invariant_of-result
 invariant_of-result c =
     let book = c.in_ok-book.ensures in
     first_core _ _ (subst IsWhole c.deref.ensures c.vertices-valid.ensures.valid) (book.graph ∙ c.in_ok-try_clone.ensures) book.horizon book.moment book.rows book.jobs
-    (c.in_ok-journal.ensures.ok ∙ c.new-2.ensures) refl
+    c.new-2.ensures refl
