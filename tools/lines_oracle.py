@@ -601,9 +601,11 @@ def spec_text(mixed, spec):
     how = mixed.random()
     if how < 0.04:
         at = mixed.randrange(len(text))
-        text = text[:at] + mixed.choice(['"', "0", "{", "]", "e", "-", ".", "\\", "\ud800", "\t", ",", "1.0"]) + text[at + mixed.randint(0, 1) :]
+        piece = mixed.choice(['"', "0", "{", "]", "e", "-", ".", "\\", "\ud800", "\t", ",", "1.0"])
+        text = text[:at] + piece + text[at + mixed.randint(0, 1) :]
     elif how < 0.05:
-        text = '{"version":0,"x":' + mixed.choice(['"\\ud83d"', "1.5e", "[" * 126 + "]" * 126, "[" * 127 + "1" + "]" * 127, "[" * 126 + "1.5" + "]" * 126, '"\\ud83d\\ude00"']) + "," + text[1:]
+        nested = ["[" * 126 + "]" * 126, "[" * 127 + "1" + "]" * 127, "[" * 126 + "1.5" + "]" * 126]
+        text = '{"version":0,"x":' + mixed.choice(['"\\ud83d"', "1.5e", *nested, '"\\ud83d\\ude00"']) + "," + text[1:]
     return text.encode("utf-8", "surrogatepass")
 
 
