@@ -6,7 +6,8 @@ lines_oracle.py answer GRAPH INPUT [--horizon N]        prints what `fluxion ser
 lines_oracle.py compare PROGRAM FIRST LAST              makes and answers for each seed, and compares with the program
 
 It shares no code with the program. Claims are looked for by walking all vertices and all jobs, and the earliest start by
-trying every second of a horizon up to 100, else now and every end of a job. Graphs have to be valid ones.
+trying every second of a horizon up to 100, else now and every end of a job. Graphs have to be valid ones, and the limits on
+lines, bytes and clients aren't looked at.
 """
 import json
 import os
@@ -492,6 +493,7 @@ def a_graph(mixed):
     racks, nodes, sockets = mixed.choice([0, 0, 1, 2, 3]), mixed.choice([1, 2, 2, 3, 4, 6, 9]), mixed.choice([0, 0, 1, 2])
     cores, gpus = mixed.choice([0, 1, 2, 3, 4, 4, 4, 6, 8]), mixed.choice([0, 0, 0, 1, 2, 3])
     under_core, memory = mixed.random() < 0.08, mixed.random() < 0.3
+    own_names, first = mixed.choice([0, 0, 0, 1, 2, 3]), mixed.choice([0, 0, 0, 7, 97])
     ranked, gaps, uneven = mixed.choice(["", "", "mixed", "gaps"]), mixed.random() < 0.3, mixed.random() < 0.3
 
     def add(above, kind, number, **more):
@@ -509,9 +511,9 @@ def a_graph(mixed):
     top = add(None, "cluster", mixed.choice([0, None]))
     holders = [top, *(add(top, "rack", n) for n in numbers(racks))][1 if racks and mixed.random() < 0.8 else 0 :]
     ranks = mixed.sample(range(nodes * (3 if ranked == "gaps" else 1)), nodes)
-    for at, n in enumerate(numbers(nodes)):
-        names = [{}, {"name": f"n{n:02}"}, {"basename": "host"}, {"name": f"x{n}-{n % 3}"}]
-        more = {**names[mixed.randrange(4) if mixed.random() < 0.3 else 0], **({"rank": ranks[at]} if ranked else {})}
+    for at, n in enumerate(number + first for number in numbers(nodes)):
+        names = [{}, {"name": f"n{n:02}"}, {"name": f"n{n:03}"}, {"basename": "host"}, {"name": f"x{n}-{n % 3}"}]
+        more = {**names[mixed.randrange(5) if mixed.random() < 0.2 else own_names], **({"rank": ranks[at]} if ranked else {})}
         node = add(mixed.choice(holders), "node", n, **more)
         places = [add(node, "socket", s) for s in range(sockets)] or [node]
         own_cores = [add(mixed.choice(places), "core", c) for c in numbers(mixed.randint(0, cores) if uneven else cores)]
@@ -535,14 +537,14 @@ def a_spec(mixed, nodes, cores, gpus, horizon):
     top = slot
     if mixed.random() < 0.55:
         top = {"type": "node", "count": size(nodes), "with": [slot]}
-        slot["count"] = mixed.choice([1, 1, 1, 1, 2])
+        slot["count"] = mixed.choices([1, 2, 2**45, 2**46], [80, 20, 1, 2])[0]
         if mixed.random() < 0.5:
             top["exclusive"] = mixed.choice([True, True, False])
     for part in parts:
         if mixed.random() < 0.15:
             part["exclusive"] = mixed.choice([True, False])
         if mixed.random() < 0.1:
-            part.update(mixed.choice([{"unit": "x"}, {"with": []}, {"label": 7}]))
+            part.update(mixed.choice([{"unit": "x"}, {"with": []}, {"label": 7}, {"with": [{"type": "gpu", "count": 1}]}]))
     if mixed.random() < 0.1:
         slot["exclusive"] = True
     lasting = [0, 1, 2, 5, mixed.randint(1, 12), mixed.randint(1, max(1, min(horizon, 2**46) // 4)), horizon, horizon + 1]
@@ -599,9 +601,11 @@ def spec_text(mixed, spec):
     how = mixed.random()
     if how < 0.04:
         at = mixed.randrange(len(text))
-        text = text[:at] + mixed.choice(['"', "0", "{", "]", "e", "-", ".", "\\", "\ud800", "\t", ",", "1.0"]) + text[at + mixed.randint(0, 1) :]
+        piece = mixed.choice(['"', "0", "{", "]", "e", "-", ".", "\\", "\ud800", "\t", ",", "1.0"])
+        text = text[:at] + piece + text[at + mixed.randint(0, 1) :]
     elif how < 0.05:
-        text = '{"version":0,"x":' + mixed.choice(['"\\ud83d"', "1.5e", "[" * 126 + "]" * 126, "[" * 127 + "1" + "]" * 127, "[" * 126 + "1.5" + "]" * 126, '"\\ud83d\\ude00"']) + "," + text[1:]
+        nested = ["[" * 126 + "]" * 126, "[" * 127 + "1" + "]" * 127, "[" * 126 + "1.5" + "]" * 126]
+        text = '{"version":0,"x":' + mixed.choice(['"\\ud83d"', "1.5e", *nested, '"\\ud83d\\ude00"']) + "," + text[1:]
     return text.encode("utf-8", "surrogatepass")
 
 
