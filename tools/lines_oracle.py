@@ -17,6 +17,8 @@ import subprocess
 import sys
 import tempfile
 
+from text_oracle import hostlist_items, write_idset
+
 sys.set_int_max_str_digits(0)
 MOST_CLAIMS = 2_097_152
 MOST_WHOLE = 2**46
@@ -397,40 +399,15 @@ class Scheduler:
             for kind in ("core", "gpu"):
                 ids = sorted(graph.ids[v] for v in graph.below(node, kind) if is_given(v))
                 if ids:
-                    children[kind] = idset(ids)
+                    children[kind] = write_idset(ids)
             if rows and rows[-1][0] == children:
                 rows[-1][1].append(node)
             else:
                 rows.append((children, [node]))
-        ranks = [{"children": children, "rank": idset([graph.ranks[n] for n in nodes])} for children, nodes in rows]
-        names = hostlist([graph.names[node] for _, nodes in rows for node in nodes])
+        ranks = [{"children": children, "rank": write_idset([graph.ranks[n] for n in nodes])} for children, nodes in rows]
+        names = hostlist_items([graph.names[node] for _, nodes in rows for node in nodes])
         execution = {"R_lite": ranks, "expiration": job.end, "nodelist": names, "starttime": job.start}
         return json.dumps({"execution": execution, "version": 1}, separators=(",", ":"))
-
-
-def idset(ids):
-    runs = []
-    for id in ids:
-        if runs and runs[-1][1] + 1 == id:
-            runs[-1][1] = id
-        else:
-            runs.append([id, id])
-    return ",".join(str(lo) if lo == hi else f"{lo}-{hi}" for lo, hi in runs)
-
-
-def hostlist(names):
-    """By run the prefix, the first and the last digits."""
-    runs = []
-    for name in names:
-        prefix, digits = re.fullmatch(r"(.*?)([0-9]*)", name).groups()
-        if runs and 1 <= len(digits) <= 9 and runs[-1][0] == prefix and 1 <= len(runs[-1][2]) <= 9:
-            first, last = runs[-1][1:]
-            no_zeros = all(d == "0" or d[0] != "0" for d in (first, digits))
-            if int(digits) == int(last) + 1 and (len(digits) == len(first) or no_zeros):
-                runs[-1][2] = digits
-                continue
-        runs.append([prefix, digits, digits])
-    return [p + a if a == b else f"{p}[{a}-{b}]" for p, a, b in runs]
 
 
 # Lines

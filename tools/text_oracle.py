@@ -103,7 +103,7 @@ def continues(run, name):
     return int(digits) == int(last) + 1 and (len(digits) == len(first) or no_zero)
 
 
-def write_hostlist(names):
+def hostlist_items(names):
     runs = []
     for name in names:
         if runs and continues(runs[-1], name):
@@ -114,7 +114,7 @@ def write_hostlist(names):
     for run in runs:
         (prefix, first), (_, last) = parts_of(run[0]), parts_of(run[-1])
         texts.append(run[0] if len(run) == 1 else f"{prefix}[{first}-{last}]")
-    return " ".join(texts)
+    return texts
 
 
 def answer(case):
@@ -125,7 +125,7 @@ def answer(case):
         return read_hostlist(text)
     if word == "x":
         return write_idset([int(id) for id in text.split()])
-    return write_hostlist(text.split())
+    return " ".join(hostlist_items(text.split()))
 
 
 def main():
