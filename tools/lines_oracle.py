@@ -5,9 +5,9 @@ lines_oracle.py make SEED LINES GRAPH INPUT             writes a graph file and 
 lines_oracle.py answer GRAPH INPUT [--horizon N]        prints what `fluxion serve GRAPH [--horizon N] < INPUT` has to print
 lines_oracle.py compare PROGRAM FIRST LAST              makes and answers for each seed, and compares with the program
 
-It shares no code with the program. Claims are looked for by walking all vertices and all jobs, and the earliest start by
-trying every second of a horizon up to 100, else now and every end of a job. Graphs have to be valid ones, and the limits on
-lines, bytes and clients aren't looked at.
+It shares no code with the program; id sets and host lists come from text_oracle.py. Claims are looked for by walking all
+vertices and all jobs, and the earliest start by trying every second of a horizon up to 100, else now and every end of a job.
+Graphs have to be valid ones, and the limits on lines, bytes and clients aren't looked at.
 """
 import json
 import os
