@@ -1,18 +1,21 @@
 -- What a jobspec V1 (RFC 25) asks for, or the first fault of it, in the order in which faults are told.
-use Rattle.std.specs.Prelude.{ℕ, ◌==◌, List, [], if◌then◌else◌, Bool, false, true, not, Option, Some, None, is_some, Result, Ok, Err, codes}
+use Rattle.std.specs.Prelude.{ℕ, ◌==◌, List, [], if◌then◌else◌, Bool, false, true, not, Option, Some, None, Result, Ok, Err, codes}
+use Rattle.std.specs.Result.{result_map_both}
 use Rattle.serde_json.specs.Data.{Data, Items, no_items, item}
 use Rattle.json_whole.specs.Whole.{value_of}
 use Rattle.json_whole.specs.Field.{u64_field}
 use Rattle.json_fields.specs.Values.{result_and_then, object_value, some_field}
 use Rattle.flux_defs.specs.declared.requests.Ask.{Ask}
 use Rattle.flux_defs.specs.Graph.{ResourceGraph}
+use Rattle.resource_graph.specs.NamedGraph.{NamedGraph}
 use Rattle.need_shape.specs.declared.raw.RawNeed.{RawNeed}
 use Rattle.need_shape.specs.declared.raw.ShapeFault.{ShapeFault}
 use Rattle.need_shape.specs.Types.{types_for}
 use Rattle.need_shape.specs.Shapes.{outside, needs_in}
 use Rattle.need_shape.specs.Faults.{list_fault}
+use Rattle.node_constraints.specs.Bars.{bars_of}
 use Rattle.jobspec_v1.specs.declared.faults.SpecFault.{SpecFault}
-use Rattle.jobspec_v1.specs.declared.faults.SpecFault.TheVariants.{NotJson, Version, Form, Task, Shape, NotInProfile}
+use Rattle.jobspec_v1.specs.declared.faults.SpecFault.TheVariants.{NotJson, Version, Form, Task, Shape, Constraint}
 use Rattle.jobspec_v1.specs.Faults.{at_path}
 use Rattle.jobspec_v1.specs.Requests.{greatest, Requested, requests_of}
 use Rattle.jobspec_v1.specs.Tasks.{task_list, tasks_fault}
@@ -38,13 +41,25 @@ abbrev pub resources_of : Data → Result Requested SpecFault
 resources_of d =
     result_and_then (at_path (codes "resources") (some_field (codes "resources") d)) (λ ds. requests_of ds false (codes "resources") 0 [])
 
-abbrev pub unless_shape : ResourceGraph → ℕ → List RawNeed → Option ShapeFault → Result Ask SpecFault
-unless_shape g duration request None = Ok (record { needs = needs_in (types_for g request) outside request; duration = duration; barred = [] })
-unless_shape g duration request (Some fault) = Err (Shape fault)
+-- the nodes that a constraint bars: none where there is none
+abbrev pub bars_in : NamedGraph → Option Data → Result (List ℕ) SpecFault
+bars_in g None = Ok []
+bars_in g (Some d) = result_map_both (λ bars. bars) (λ path. Constraint path) (bars_of g d)
 
--- the ask of request vertices over a graph, for so many seconds
-abbrev pub ask_for : ResourceGraph → ℕ → List RawNeed → Result Ask SpecFault
-ask_for g duration request = unless_shape g duration request (list_fault (types_for g request) outside request)
+abbrev pub unless_shape : ResourceGraph → ℕ → List ℕ → List RawNeed → Option ShapeFault → Result Ask SpecFault
+unless_shape g duration barred request None = Ok (record { needs = needs_in (types_for g request) outside request; duration = duration; barred = barred })
+unless_shape g duration barred request (Some fault) = Err (Shape fault)
+
+-- the ask of request vertices over a graph, for so many seconds and without the barred nodes
+abbrev pub ask_for : ResourceGraph → ℕ → List ℕ → List RawNeed → Result Ask SpecFault
+ask_for g duration barred request = unless_shape g duration barred request (list_fault (types_for g request) outside request)
+
+-- what a jobspec with these request vertices asks for, by its attributes
+abbrev pub ask_by : NamedGraph → List RawNeed → Data → Result Ask SpecFault
+ask_by g request d =
+    result_and_then (terms_of d) (λ terms.
+    result_and_then (bars_in g terms.constraint) (λ bars.
+    ask_for g.resources terms.duration bars request))
 
 -- ---- those of V1
 
@@ -60,14 +75,8 @@ v1_tasks labels d =
     result_and_then (unless (not (is_one tasks)) (Task (codes "tasks"))) (λ _.
     unless_fault (tasks_fault labels 0 tasks)))
 
--- no constraint is read yet
-abbrev pub v1_terms : Data → Result ℕ SpecFault
-v1_terms d =
-    result_and_then (terms_of d) (λ terms.
-    if is_some terms.constraint then Err (NotInProfile (codes "attributes.system.constraints")) else Ok terms.duration)
-
 -- what a value asks for over a graph
-abbrev pub v1_in : ResourceGraph → Data → Result Ask SpecFault
+abbrev pub v1_in : NamedGraph → Data → Result Ask SpecFault
 v1_in g d =
     result_and_then (at_path (codes ".") (object_value d)) (λ _.
     result_and_then (version_of d) (λ version.
@@ -75,13 +84,12 @@ v1_in g d =
     result_and_then (resources_of d) (λ requested.
     result_and_then (unless (not (is_v1 requested.needs)) Form) (λ _.
     result_and_then (v1_tasks requested.labels d) (λ _.
-    result_and_then (v1_terms d) (λ duration.
-    ask_for g duration requested.needs)))))))
+    ask_by g requested.needs d))))))
 
-abbrev pub v1_or_no_json : ResourceGraph → Option Data → Result Ask SpecFault
+abbrev pub v1_or_no_json : NamedGraph → Option Data → Result Ask SpecFault
 v1_or_no_json g None = Err NotJson
 v1_or_no_json g (Some d) = v1_in g d
 
 -- what the bytes of a jobspec ask for over a graph, or their first fault
-abbrev pub v1_of : ResourceGraph → List ℕ → Result Ask SpecFault
+abbrev pub v1_of : NamedGraph → List ℕ → Result Ask SpecFault
 v1_of g bytes = v1_or_no_json g (value_of bytes)

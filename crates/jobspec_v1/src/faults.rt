@@ -56,7 +56,7 @@ impl<T: Drop> From<AllocFailed<T>> for SpecFault {
 }
 
 /// The fault of a field at a path.
-pub(crate) fn field_at(alloc: Global, path: &[u8], fault: FieldFault) -> SpecFault
+pub fn field_at(alloc: Global, path: &[u8], fault: FieldFault) -> SpecFault
     ensures { (result ≡ SpecFault.Memory) ⊎ (result ≡ SpecFault.Field path.now fault) }
 {
     match Text::of(alloc, path) {

@@ -1,13 +1,15 @@
 //! A jobspec of version 1 from its bytes.
-ghost use Rattle.std.specs.Prelude.{◌≡◌, ◌⊎◌, Ok, Err, Some, None, [], true, false, IsSome, IsOk, IfOk, IfErr};
+ghost use Rattle.std.specs.Prelude.{◌≡◌, ◌⊎◌, Ok, Err, Some, None, [], true, false, IsSome, IsOk, IfOk, IfErr, option_map};
+ghost use Rattle.std.specs.List.{AllByRecursion};
 ghost use Rattle.serde_json.specs.Find.{as_object};
 ghost use Rattle.serde_json.specs.View.{view, items_view};
-ghost use Rattle.flux_defs.specs.Needs.{IsProperAsk};
+ghost use Rattle.flux_defs.specs.Graph.{IsNode};
+ghost use Rattle.flux_defs.specs.Needs.{IsProperAsk, AreRisingFrom};
 ghost use Rattle.need_shape.specs.Requests.{AreRequests};
 ghost use Rattle.jobspec_v1.specs.Faults.{Tells};
 ghost use Rattle.jobspec_v1.specs.Requests.{Requested};
 ghost use Rattle.jobspec_v1.specs.Forms.{is_v1};
-ghost use Rattle.jobspec_v1.specs.Jobspecs.{version_of, resources_of, is_one, ask_for, v1_tasks, v1_terms, v1_in, v1_of};
+ghost use Rattle.jobspec_v1.specs.Jobspecs.{version_of, resources_of, bars_in, is_one, ask_for, ask_by, v1_tasks, v1_in, v1_of};
 
 use crate::attributes::read_attributes;
 use crate::faults::{SpecFault, field_at};
@@ -18,6 +20,7 @@ use flux_defs::{Ask, List, Text};
 use json_fields::{GREATEST, some_field};
 use json_whole::{FieldFault, ValueFault, need_u64, read_value};
 use need_shape::{RawNeed, ShapeFault, shape};
+use node_constraints::{ConstraintFault, barred};
 use resource_graph::Graph;
 use serde_json::Value;
 use std::alloc::Global;
@@ -53,27 +56,70 @@ pub fn read_resources(
     }
 }
 
-/// What request vertices ask for over a graph, for so many seconds; or the first fault of their shape.
-pub fn ask_for(
+/// The nodes that a constraint bars: none where there is none.
+fn bars_in(
+    alloc: Global,
+    graph: &Graph,
+    constraint: Option<&Value>,
+) -> Result<List<u32>, SpecFault>
+    ensures bars { IfOk result (λ bars. bars_in graph.now (option_map (λ v. view v.now) constraint.entry) ≡ Ok bars) }
+    ensures rising { IfOk result (λ bars. AreRisingFrom 0 bars) }
+    ensures nodes { IfOk result (λ bars. AllByRecursion (IsNode graph.now.resources.vertices) bars) }
+    ensures told { IfErr result (Tells (bars_in graph.now (option_map (λ v. view v.now) constraint.entry))) }
+{
+    let Some(constraint) = constraint else {
+        return Ok(List::new(alloc));
+    };
+    match barred(alloc, graph, constraint) {
+        Ok(bars) => Ok(bars),
+        Err(ConstraintFault::Form { path }) => Err(SpecFault::Constraint { path }),
+        Err(ConstraintFault::Memory) => Err(SpecFault::Memory),
+    }
+}
+
+/// What request vertices ask for over a graph, for so many seconds and without the barred nodes; or the first fault of their
+/// shape.
+fn ask_for(
     alloc: Global,
     graph: &Graph,
     duration: u64,
+    barred: List<u32>,
     request: &List<RawNeed>,
 ) -> Result<Ask, SpecFault>
-    requires { AreRequests false request.now }
-    ensures ask { IfOk result (λ ask. ask_for graph.now.resources duration request.now ≡ Ok ask) }
+    requires rising { AreRisingFrom 0 barred }
+    requires nodes { AllByRecursion (IsNode graph.now.resources.vertices) barred }
+    requires request { AreRequests false request.now }
+    ensures ask { IfOk result (λ ask. ask_for graph.now.resources duration barred request.now ≡ Ok ask) }
     ensures proper { IfOk result (IsProperAsk graph.now.resources.vertices) }
-    ensures told { IfErr result (Tells (ask_for graph.now.resources duration request.now)) }
+    ensures told { IfErr result (Tells (ask_for graph.now.resources duration barred request.now)) }
 {
     match shape(alloc, graph, request) {
         Ok(needs) => Ok(Ask {
             needs,
             duration,
-            barred: List::new(alloc),
+            barred,
         }),
         Err(ShapeFault::Memory) => Err(SpecFault::Memory),
         Err(fault) => Err(SpecFault::Shape(fault)),
     }
+}
+
+/// What a jobspec with these request vertices asks for over a graph, by its attributes. The fault is the first one, of the
+/// attributes, then of the constraint, then of the shape. What is asked for is proper for the graph.
+pub fn ask_by(
+    alloc: Global,
+    graph: &Graph,
+    value: &Value,
+    request: &List<RawNeed>,
+) -> Result<Ask, SpecFault>
+    requires { AreRequests false request.now }
+    ensures ask { IfOk result (λ ask. ask_by graph.now request.now (view value.now) ≡ Ok ask) }
+    ensures proper { IfOk result (IsProperAsk graph.now.resources.vertices) }
+    ensures told { IfErr result (Tells (ask_by graph.now request.now (view value.now))) }
+{
+    let attributes = read_attributes(alloc, value)?;
+    let bars = bars_in(alloc, graph, attributes.constraint)?;
+    ask_for(alloc, graph, attributes.duration, bars, request)
 }
 
 fn is_one(values: &[Value]) -> bool
@@ -96,25 +142,11 @@ fn check_v1_tasks(alloc: Global, labels: &TextTable, value: &Value) -> Result<()
     }
 }
 
-/// The seconds that a jobspec asks for.
-fn v1_duration(alloc: Global, value: &Value) -> Result<u64, SpecFault>
-    ensures read { IfOk result (λ duration. v1_terms (view value.now) ≡ Ok duration) }
-    ensures told { IfErr result (Tells (v1_terms (view value.now))) }
-{
-    match read_attributes(alloc, value) {
-        Ok(attributes) if attributes.constraint.is_some() => Err(SpecFault::NotInProfile {
-            path: Text::of(alloc, b"attributes.system.constraints")?,
-        }),
-        Ok(attributes) => Ok(attributes.duration),
-        Err(fault) => Err(fault),
-    }
-}
-
 /// What a value asks for over a graph.
 fn v1_in(alloc: Global, graph: &Graph, value: &Value) -> Result<Ask, SpecFault>
-    ensures ask { IfOk result (λ ask. v1_in graph.now.resources (view value.now) ≡ Ok ask) }
+    ensures ask { IfOk result (λ ask. v1_in graph.now (view value.now) ≡ Ok ask) }
     ensures proper { IfOk result (IsProperAsk graph.now.resources.vertices) }
-    ensures told { IfErr result (Tells (v1_in graph.now.resources (view value.now))) }
+    ensures told { IfErr result (Tells (v1_in graph.now (view value.now))) }
 {
     if !value.is_object() {
         return Err(field_at(alloc, b".", FieldFault::Kind));
@@ -129,17 +161,16 @@ fn v1_in(alloc: Global, graph: &Graph, value: &Value) -> Result<Ask, SpecFault>
         return Err(SpecFault::Form);
     }
     check_v1_tasks(alloc, &labels, value)?;
-    let duration = v1_duration(alloc, value)?;
-    ask_for(alloc, graph, duration, &request)
+    ask_by(alloc, graph, value, &request)
 }
 
 /// What a jobspec V1 (RFC 25) asks for over a graph, from its bytes. The fault is the first one, in this order: no JSON,
-/// the version, the request vertices, the form, the tasks, the attributes, a constraint, the shape. No constraint is read
-/// yet: one that is not null is NotInProfile at `attributes.system.constraints`. What is asked for is proper for the graph.
+/// the version, the request vertices, the form, the tasks, the attributes, the constraint, the shape. What is asked for is
+/// proper for the graph.
 pub fn read_v1(alloc: Global, graph: &Graph, bytes: &[u8]) -> Result<Ask, SpecFault>
-    ensures ask { IfOk result (λ ask. v1_of graph.now.resources bytes.now ≡ Ok ask) }
+    ensures ask { IfOk result (λ ask. v1_of graph.now bytes.now ≡ Ok ask) }
     ensures proper { IfOk result (IsProperAsk graph.now.resources.vertices) }
-    ensures told { IfErr result (Tells (v1_of graph.now.resources bytes.now)) }
+    ensures told { IfErr result (Tells (v1_of graph.now bytes.now)) }
 {
     match read_value(alloc, bytes) {
         Ok(value) => v1_in(alloc, graph, &value),

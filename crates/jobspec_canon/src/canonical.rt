@@ -1,0 +1,63 @@
+//! A jobspec in the canonical form from its bytes.
+ghost use Rattle.std.specs.Prelude.{◌≡◌, Ok, true, IsOk, IfOk, IfErr};
+ghost use Rattle.serde_json.specs.View.{view};
+ghost use Rattle.flux_defs.specs.Needs.{IsProperAsk};
+ghost use Rattle.jobspec_v1.specs.Faults.{Tells};
+ghost use Rattle.jobspec_v1.specs.Jobspecs.{v1_of};
+ghost use Rattle.jobspec_canon.specs.Canonical.{tasks_in, canon_in, canon_of};
+
+use flux_defs::Ask;
+use jobspec_v1::SpecFault;
+use jobspec_v1::faults::field_at;
+use jobspec_v1::jobspecs::{ask_by, read_resources, read_version};
+use jobspec_v1::tasks::{check_tasks, task_list};
+use json_whole::{FieldFault, ValueFault, read_value};
+use resource_graph::Graph;
+use serde_json::Value;
+use std::alloc::Global;
+use text_table::TextTable;
+
+/// Refuses a jobspec that has no task, or has one that breaks a rule of tasks.
+fn check_tasks_in(alloc: Global, labels: &TextTable, value: &Value) -> Result<(), SpecFault>
+    ensures fine { IsOk result → tasks_in labels.now (view value.now) ≡ Ok true }
+    ensures told { IfErr result (Tells (tasks_in labels.now (view value.now))) }
+{
+    match task_list(alloc, value) {
+        Ok(values) => check_tasks(alloc, labels, values),
+        Err(fault) => Err(fault),
+    }
+}
+
+/// What a value asks for over a graph.
+fn canon_in(alloc: Global, graph: &Graph, value: &Value) -> Result<Ask, SpecFault>
+    ensures ask { IfOk result (λ ask. canon_in graph.now (view value.now) ≡ Ok ask) }
+    ensures proper { IfOk result (IsProperAsk graph.now.resources.vertices) }
+    ensures told { IfErr result (Tells (canon_in graph.now (view value.now))) }
+{
+    if !value.is_object() {
+        return Err(field_at(alloc, b".", FieldFault::Kind));
+    }
+    read_version(alloc, value)?;
+    let mut labels = TextTable::new(alloc);
+    let request = read_resources(alloc, value, &mut labels)?;
+    check_tasks_in(alloc, &labels, value)?;
+    ask_by(alloc, graph, value, &request)
+}
+
+/// What a jobspec in the canonical form (RFC 14) asks for over a graph, from its bytes: any version from 1 on, request
+/// vertices of any types in any nesting, with counts, and quantities of pools, and one task or more. The fault is the first
+/// one, in this order: no JSON, the version, the request vertices, the tasks, the attributes, the constraint, the shape. What
+/// is asked for is proper for the graph, and what `jobspec_v1::read_v1` accepts is read as the same ask.
+pub fn read_canon(alloc: Global, graph: &Graph, bytes: &[u8]) -> Result<Ask, SpecFault>
+    ensures ask { IfOk result (λ ask. canon_of graph.now bytes.now ≡ Ok ask) }
+    ensures proper { IfOk result (IsProperAsk graph.now.resources.vertices) }
+    ensures told { IfErr result (Tells (canon_of graph.now bytes.now)) }
+    ensures same { IfOk result (λ ask. (v1 : Ask) → v1_of graph.now bytes.now ≡ Ok v1 → ask ≡ v1) }
+    ensures accepts { IfErr result (λ fault. (v1 : Ask) → v1_of graph.now bytes.now ≡ Ok v1 → fault ≡ SpecFault.Memory) }
+{
+    match read_value(alloc, bytes) {
+        Ok(value) => canon_in(alloc, graph, &value),
+        Err(ValueFault::NotJson) => Err(SpecFault::NotJson),
+        Err(ValueFault::Memory) => Err(SpecFault::Memory),
+    }
+}

@@ -1,0 +1,9 @@
+//! Constraints on nodes (RFC 31): which nodes of a graph one bars.
+#![tactic(auto)]
+
+mod bars;
+mod faults;
+mod keys;
+
+pub use bars::barred;
+pub use faults::ConstraintFault;
