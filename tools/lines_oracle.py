@@ -773,7 +773,7 @@ def vertex(kind, count, *inside):
 
 
 def a_rare_request(mixed):
-    """Slots whose place in the request is told by an unknown type alone, and ones of great counts."""
+    """Slots whose place in the request is told by an unknown type alone, great counts, and types that contain each other."""
     slot, count = vertex("slot", mixed.choice([1, 2**46]), vertex("core", 2)), mixed.choice([1, 2**46])
     return mixed.choice([
         vertex("node", 1, vertex("fpga", 1, slot)),
@@ -781,6 +781,7 @@ def a_rare_request(mixed):
         vertex("slot", count, vertex("fpga", 2, vertex("node", 1))),
         vertex("fpga", 1, vertex("slot", count, vertex("fpga", 2, vertex("rack", 1))), vertex("node", 1)),
         vertex("slot", 2**46, vertex("core", 2**46)),
+        vertex("slot", 1, *mixed.sample([vertex("node", 1), vertex("bay", 1)], 2)),
     ])
 
 
@@ -801,7 +802,7 @@ def a_spec(mixed, graph, horizon):
     labels = []
     how = mixed.random()
     if how < 0.25:
-        resources = [a_form(mixed, graph) if how < 0.24 else a_rare_request(mixed)]
+        resources = [a_form(mixed, graph) if how < 0.235 else a_rare_request(mixed)]
     else:
         resources = a_list(mixed, graph, graph.all(), labels)
         resources = resources if labels else [vertex("slot", mixed.choice([1, 1, 2]), *resources)]
