@@ -1,0 +1,4 @@
+pub mod FilterLaws
+pub mod TextLaws
+pub mod StepLaws
+pub mod BarLaws
