@@ -1,3 +1,4 @@
+pub mod FaultLaws
 pub mod FilterLaws
 pub mod TextLaws
 pub mod StepLaws

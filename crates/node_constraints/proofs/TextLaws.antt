@@ -10,19 +10,22 @@ use Rattle.idset_text.specs.declared.idsets.Range.{Range}
 use Rattle.idset_text.specs.Hostlists.{hostlist_of, names_of}
 use Rattle.idset_text.specs.Idsets.{idset_of, ids_of}
 use Rattle.node_constraints.specs.Truth.{each_text, some_text, is_among, is_host_of, is_listed, is_id_of, is_ranked}
-use Rattle.node_constraints.specs.Faults.{is_ok, is_hostlist, is_idset}
+use Rattle.node_constraints.specs.declared.faults.ConstraintFault.{ConstraintFault}
+use Rattle.node_constraints.specs.Faults.{is_ok, unless}
+use Rattle.node_constraints.specs.Narrowing.{Means}
 use Rattle.node_constraints.specs.Reading.{ok_of, read_value, read_first, read_all}
+use Rattle.node_constraints.proofs.FaultLaws.{means_same}
 
 -- ---- one of a list
 
 module _ {X : Type 0} (test : X → Bool) (x : X) (sound : (y : X) → test y ≡ true → y ≡ x) (complete : test x ≡ true) where
   any_there : (xs : List X) → list_any test xs ≡ true → Contains xs x
   any_there [] found = absurd (cc)
-  any_there (y ∷ ys) found = go (test y) refl found
+  any_there (y ∷ ys) found = go (test y) refl (any_there ys) found
     where
-      go : (b : Bool) → test y ≡ b → (b || list_any test ys) ≡ true → Contains (y ∷ ys) x
-      go true is any = (0, omega arith, sound y is)
-      go false is any = let below = any_there ys any in (suc (below.0), omega (arith, below.1), below.2)
+      go : (b : Bool) → test y ≡ b → (list_any test ys ≡ true → Contains ys x) → (b || list_any test ys) ≡ true → Contains (y ∷ ys) x
+      go true is later any = (0, omega arith, sound y is)
+      go false is later any = let below = later any in (suc (below.0), omega (arith, below.1), below.2)
 
   there_any : (xs : List X) (k : ℕ) → k < length xs → slice_index_or xs k x ≡ x → list_any test xs ≡ true
   there_any [] k within at = absurd (omega (arith, within))
@@ -73,6 +76,14 @@ module _ {X : Type 0} (read : List ℕ → Result X ℕ) where
       first None = refl
       first (Some text) = by_read (read text) (read_all read ds)
 
+  -- where each is read, the list has no fault
+  pub read_fine : (path : List ℕ) (ds : Items) (xs : List X) → read_all read ds ≡ Some xs → unless path (each_text (λ text. is_ok (read text)) ds) ≡ None
+  read_fine path ds xs all = ap (unless path) (each_read ds ∙ ap is_some all)
+
+  -- where some can't be read, the list has one
+  pub unread_fault : (path : List ℕ) (ds : Items) → read_all read ds ≡ None → (fault : ConstraintFault) → Means (Some path) fault → Means (unless path (each_text (λ text. is_ok (read text)) ds)) fault
+  unread_fault path ds none fault means = means_same (Some path) (unless path (each_text (λ text. is_ok (read text)) ds)) fault (sym (ap (unless path) (each_read ds ∙ ap is_some none))) means
+
   -- some text has what is asked for where what some text is read as has it
   pub some_read : (test : X → Bool) (ds : Items) (xs : List X) → read_all read ds ≡ Some xs →
       some_text (λ text. option_map_or test (ok_of (read text)) false) ds ≡ list_any test xs
@@ -80,18 +91,18 @@ module _ {X : Type 0} (read : List ℕ → Result X ℕ) where
     where
       same_some : {A : Type 0} {a b : A} → Some a ≡ Some b → b ≡ a
       same_some e = cc
-  some_read test (item d ds) xs all = first (as_str d) (read_all read ds) refl all
+  some_read test (item d ds) xs all = first (as_str d) (some_read test ds) all
     where
-      first : (t : Option (List ℕ)) (others : Option (List X)) → read_all read ds ≡ others → read_first (option_and_then (λ text. ok_of (read text)) t) others ≡ Some xs →
+      by_read : (r : Result X ℕ) (others : Option (List X)) → ((ys : List X) → others ≡ Some ys → some_text (λ text. option_map_or test (ok_of (read text)) false) ds ≡ list_any test ys) → read_first (ok_of r) others ≡ Some xs →
+          (option_map_or test (ok_of r) false || some_text (λ text. option_map_or test (ok_of (read text)) false) ds) ≡ list_any test xs
+      by_read (Err at) others later e = absurd (cc)
+      by_read (Ok x) None later e = absurd (cc)
+      by_read (Ok x) (Some ys) later e = let same : x ∷ ys ≡ xs = cc in ap (λ b. test x || b) (later ys refl) ∙ ap (list_any test) same
+
+      first : (t : Option (List ℕ)) → ((ys : List X) → read_all read ds ≡ Some ys → some_text (λ text. option_map_or test (ok_of (read text)) false) ds ≡ list_any test ys) → read_first (option_and_then (λ text. ok_of (read text)) t) (read_all read ds) ≡ Some xs →
           (option_map_or (λ text. option_map_or test (ok_of (read text)) false) t false || some_text (λ text. option_map_or test (ok_of (read text)) false) ds) ≡ list_any test xs
-      first None others is e = absurd (cc)
-      first (Some text) others is e = by_read (read text) others is e
-        where
-          by_read : (r : Result X ℕ) (others : Option (List X)) → read_all read ds ≡ others → read_first (ok_of r) others ≡ Some xs →
-              (option_map_or test (ok_of r) false || some_text (λ text. option_map_or test (ok_of (read text)) false) ds) ≡ list_any test xs
-          by_read (Err at) others is e = absurd (cc)
-          by_read (Ok x) None is e = absurd (cc)
-          by_read (Ok x) (Some ys) is e = let same : x ∷ ys ≡ xs = cc in ap (λ b. test x || b) (some_read test ds ys is) ∙ ap (list_any test) same
+      first None later e = absurd (cc)
+      first (Some text) later e = by_read (read text) (read_all read ds) later e
 
 -- ---- hosts and ranks
 

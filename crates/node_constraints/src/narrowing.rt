@@ -1,16 +1,21 @@
 //! The nodes for which a constraint is true, found for all nodes at once: a list of nodes is narrowed key by key.
-ghost use Rattle.std.specs.Prelude.{◌≡◌, ◌++◌, ℕ, List, Some, not, IfOk, OnOk};
+ghost use Rattle.std.specs.Prelude.{◌≡◌, ◌++◌, ◌||◌, ◌==◌, Some, false, not, IfOk, OnOk};
+ghost use Rattle.std.specs.List.{list_any};
+ghost use Rattle.std.specs.Option.{option_map_or};
 ghost use Rattle.serde_json.specs.View.{view, items_view};
 ghost use Rattle.json_fields.specs.Paths.{index};
-ghost use Rattle.node_constraints.specs.Truth.{is_true, key_is_true, list_is_true, each_true, some_true, key_of};
-ghost use Rattle.node_constraints.specs.Faults.{fault_at, key_fault, list_fault, items_fault, list_path};
+ghost use Rattle.idset_text.specs.Hostlists.{names_of};
+ghost use Rattle.idset_text.specs.Idsets.{ids_of};
+ghost use Rattle.node_constraints.specs.Truth.{facts_of, is_among, has_property, is_listed, is_ranked, each_text, some_text, is_empty, is_true, key_is_true, list_is_true, each_true, some_true, key_of};
+ghost use Rattle.node_constraints.specs.Faults.{is_text, is_hostlist, is_idset, unless, fault_at, key_fault, list_fault, items_fault, list_path};
 ghost use Rattle.node_constraints.specs.Narrowing.{where_true, Means, Finds};
 
 use crate::faults::ConstraintFault;
 use crate::keys::{Key, key_of};
 use crate::nodes::{name_of, properties_of, rank_of, take_away};
 use crate::texts::{are_texts, has_properties, is_listed, is_ranked, read_hostlists, read_idsets};
-use flux_defs::Text;
+use flux_defs::{List, Text};
+use idset_text::{Hosts, Range};
 use json_fields::member_path;
 use resource_graph::Graph;
 use serde_json::Value;
@@ -50,6 +55,13 @@ fn copy_of(alloc: Global, nodes: &Vec<u32>) -> Result<Vec<u32>, AllocError>
     Vec::from_slice(alloc, nodes.as_slice())
 }
 
+/// Whether the texts at `properties` are true for a node.
+fn has_them(graph: &Graph, node: u32, values: &[Value]) -> bool
+    ensures { result ≡ each_text (has_property (facts_of graph.now node).properties) (items_view values.now) }
+{
+    has_properties(properties_of(graph, node), values)
+}
+
 /// Leaves the nodes for which the texts at `properties` are true.
 fn narrow_by_properties(
     alloc: Global,
@@ -58,14 +70,21 @@ fn narrow_by_properties(
     path: &[u8],
     nodes: &mut Vec<u32>,
 ) -> Result<(), ConstraintFault>
-    ensures kept { OnOk result (nodes.new.items ≡ where_true graph.now (λ n. list_is_true n Key.Properties (items_view values.now)) nodes.old.items) }
-    ensures found { (key : List ℕ) → Finds result (list_fault path.now key Key.Properties (items_view values.now)) }
+    ensures kept { OnOk result (nodes.new.items ≡ where_true graph.now (λ n. each_text (has_property n.properties) (items_view values.now)) nodes.old.items) }
+    ensures found { Finds result (unless path.now (each_text is_text (items_view values.now))) }
 {
     if !are_texts(values) {
         return Err(fault_of(alloc, path));
     }
-    nodes.retain(|node| has_properties(properties_of(graph, *node), values));
+    nodes.retain(|node| has_them(graph, *node, values));
     Ok(())
+}
+
+/// Whether the name of a node is one of the hosts of some list.
+fn is_among_hosts(graph: &Graph, node: u32, lists: &List<List<Hosts>>) -> bool
+    ensures { result ≡ list_any (λ hosts. is_among (names_of hosts) (facts_of graph.now node).name) lists.now }
+{
+    is_listed(lists.items(), name_of(graph, node))
 }
 
 /// Leaves the nodes for which the texts at `hostlist` are true.
@@ -76,14 +95,21 @@ fn narrow_by_hosts(
     path: &[u8],
     nodes: &mut Vec<u32>,
 ) -> Result<(), ConstraintFault>
-    ensures kept { OnOk result (nodes.new.items ≡ where_true graph.now (λ n. list_is_true n Key.Hostlist (items_view values.now)) nodes.old.items) }
-    ensures found { (key : List ℕ) → Finds result (list_fault path.now key Key.Hostlist (items_view values.now)) }
+    ensures kept { OnOk result (nodes.new.items ≡ where_true graph.now (λ n. some_text (is_listed n.name) (items_view values.now)) nodes.old.items) }
+    ensures found { Finds result (unless path.now (each_text is_hostlist (items_view values.now))) }
 {
     let Some(lists) = read_hostlists(alloc, values)? else {
         return Err(fault_of(alloc, path));
     };
-    nodes.retain(|node| is_listed(lists.items(), name_of(graph, *node)));
+    nodes.retain(|node| is_among_hosts(graph, *node, &lists));
     Ok(())
+}
+
+/// Whether the rank of a node is one of the ids of some set.
+fn is_among_ids(graph: &Graph, node: u32, sets: &List<List<Range>>) -> bool
+    ensures { result ≡ option_map_or (λ r. list_any (λ ranges. list_any (λ id. id == r) (ids_of ranges)) sets.now) (facts_of graph.now node).rank false }
+{
+    is_ranked(sets.items(), rank_of(graph, node))
 }
 
 /// Leaves the nodes for which the texts at `ranks` are true.
@@ -94,13 +120,13 @@ fn narrow_by_ranks(
     path: &[u8],
     nodes: &mut Vec<u32>,
 ) -> Result<(), ConstraintFault>
-    ensures kept { OnOk result (nodes.new.items ≡ where_true graph.now (λ n. list_is_true n Key.Ranks (items_view values.now)) nodes.old.items) }
-    ensures found { (key : List ℕ) → Finds result (list_fault path.now key Key.Ranks (items_view values.now)) }
+    ensures kept { OnOk result (nodes.new.items ≡ where_true graph.now (λ n. some_text (is_ranked n.rank) (items_view values.now)) nodes.old.items) }
+    ensures found { Finds result (unless path.now (each_text is_idset (items_view values.now))) }
 {
     let Some(sets) = read_idsets(alloc, values)? else {
         return Err(fault_of(alloc, path));
     };
-    nodes.retain(|node| is_ranked(sets.items(), rank_of(graph, *node)));
+    nodes.retain(|node| is_among_ids(graph, *node, &sets));
     Ok(())
 }
 
@@ -153,7 +179,7 @@ fn narrow_by_some(
     list: &[u8],
     nodes: &mut Vec<u32>,
 ) -> Result<(), ConstraintFault>
-    ensures kept { OnOk result (nodes.new.items ≡ where_true graph.now (λ n. list_is_true n Key.Or (items_view values.now)) nodes.old.items) }
+    ensures kept { OnOk result (nodes.new.items ≡ where_true graph.now (λ n. is_empty (items_view values.now) || some_true n (items_view values.now)) nodes.old.items) }
     ensures found { Finds result (items_fault list.now 0 (items_view values.now)) }
 {
     if values.is_empty() {
@@ -174,7 +200,7 @@ fn narrow_by_not(
     list: &[u8],
     nodes: &mut Vec<u32>,
 ) -> Result<(), ConstraintFault>
-    ensures kept { OnOk result (nodes.new.items ≡ where_true graph.now (λ n. list_is_true n Key.Not (items_view values.now)) nodes.old.items) }
+    ensures kept { OnOk result (nodes.new.items ≡ where_true graph.now (λ n. not (each_true n (items_view values.now))) nodes.old.items) }
     ensures found { Finds result (items_fault list.now 0 (items_view values.now)) }
 {
     let mut fitting = copy_of(alloc, nodes)?;
@@ -194,8 +220,8 @@ fn narrow_by_list(
     path: &[u8],
     nodes: &mut Vec<u32>,
 ) -> Result<(), ConstraintFault>
-    ensures kept { OnOk result (nodes.new.items ≡ where_true graph.now (λ n. list_is_true n known (items_view values.now)) nodes.old.items) }
-    ensures found { Finds result (list_fault path.now key.now known (items_view values.now)) }
+    ensures kept { OnOk result (nodes.new.items ≡ where_true graph.now (λ n. list_is_true n known (items_view values.now) (each_true n (items_view values.now)) (some_true n (items_view values.now))) nodes.old.items) }
+    ensures found { Finds result (list_fault path.now known (items_view values.now) (items_fault (list_path path.now key.now) 0 (items_view values.now))) }
 {
     let list = list_path(alloc, path, key)?;
     match known {

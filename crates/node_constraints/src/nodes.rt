@@ -1,5 +1,5 @@
 //! The nodes of a graph and what constraints ask of them.
-ghost use Rattle.std.specs.Prelude.{◌≡◌, ◌==◌, is_some, length, not, IfOk, OnOk};
+ghost use Rattle.std.specs.Prelude.{◌≡◌, ◌↔◌, IsTrue, Some, is_some, length, slice_get, IfOk, OnOk};
 ghost use Rattle.std.specs.List.{filter, range_with_len};
 ghost use Rattle.node_constraints.specs.Truth.{facts_of};
 ghost use Rattle.node_constraints.specs.Narrowing.{AreOthers};
@@ -49,6 +49,16 @@ pub(crate) fn nodes_of(alloc: Global, graph: &Graph) -> Result<Vec<u32>, AllocEr
     Ok(nodes)
 }
 
+/// Whether the number stands at the place.
+fn stands_at(numbers: &[u32], place: usize, number: u32) -> bool
+    ensures { IsTrue result ↔ (slice_get numbers.now place ≡ Some number) }
+{
+    match numbers.get(place) {
+        Some(found) => *found == number,
+        None => false,
+    }
+}
+
 /// The nodes that are not among those for which something is true. Both lists have one order.
 pub(crate) fn others_of(
     alloc: Global,
@@ -60,7 +70,7 @@ pub(crate) fn others_of(
     let mut others = Vec::new(alloc);
     let mut next = 0;
     'nodes: for node in nodes {
-        if next < some.len() && some[next] == *node {
+        if stands_at(some, next, *node) {
             next += 1;
         } else {
             others.push(*node)?;

@@ -140,12 +140,18 @@ fn is_id(ranges: &List<Range>, rank: u32) -> bool
     has_id(ranges, rank)
 }
 
+fn is_in_some(sets: &[List<Range>], rank: u32) -> bool
+    ensures { result ≡ list_any (λ ranges. list_any (λ id. id == rank) (ids_of ranges)) sets.now }
+{
+    sets.iter().any(|ranges| is_id(ranges, rank))
+}
+
 /// Whether there is a rank and it is one of the ids of some set.
 pub(crate) fn is_ranked(sets: &[List<Range>], rank: Option<u32>) -> bool
     ensures { result ≡ option_map_or (λ r. list_any (λ ranges. list_any (λ id. id == r) (ids_of ranges)) sets.now) rank false }
 {
     match rank {
-        Some(rank) => sets.iter().any(|ranges| is_id(ranges, rank)),
+        Some(rank) => is_in_some(sets, rank),
         None => false,
     }
 }
