@@ -44,15 +44,15 @@ is_barred_node g d v is = is_node g.resources.vertices v (both (is_some (facts_o
 
 -- ---- one vertex more
 
-more : (p : ℕ → Bool) (n from : ℕ) → filter p (range_with_len from (suc n)) ≡ filter p (range_with_len from n) ++ cond (p (from + n)) (from + n ∷ []) []
+more : (p : ℕ → Bool) (n from : ℕ) → filter p (range_with_len from (suc n)) ≡ filter p (range_with_len from n) ++ cond (p (from + n)) ((from + n) ∷ []) []
 more p zero from = ap (λ v. cond (p v) (v ∷ []) []) (sym (add-zero from))
 more p (suc n) from = ap (λ ys. cond (p from) (from ∷ ys) ys) (more p n (from + 1) ∙ ap (λ v. filter p (range_with_len (from + 1) n) ++ cond (p v) (v ∷ []) []) next) ∙ around (p from)
   where
     next : from + 1 + n ≡ from + suc n
     next = omega arith
 
-    around : (b : Bool) → cond b (from ∷ (filter p (range_with_len (from + 1) n) ++ cond (p (from + suc n)) (from + suc n ∷ []) [])) (filter p (range_with_len (from + 1) n) ++ cond (p (from + suc n)) (from + suc n ∷ []) [])
-        ≡ cond b (from ∷ filter p (range_with_len (from + 1) n)) (filter p (range_with_len (from + 1) n)) ++ cond (p (from + suc n)) (from + suc n ∷ []) []
+    around : (b : Bool) → cond b (from ∷ (filter p (range_with_len (from + 1) n) ++ cond (p (from + suc n)) ((from + suc n) ∷ []) [])) (filter p (range_with_len (from + 1) n) ++ cond (p (from + suc n)) ((from + suc n) ∷ []) [])
+        ≡ cond b (from ∷ filter p (range_with_len (from + 1) n)) (filter p (range_with_len (from + 1) n)) ++ cond (p (from + suc n)) ((from + suc n) ∷ []) []
     around true = refl
     around false = refl
 

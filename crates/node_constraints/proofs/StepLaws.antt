@@ -1,5 +1,5 @@
 -- A list of nodes narrowed step by step.
-use Rattle.std.proofs.Common.{◌≡◌, refl, sym, ◌∙◌, ap, ℕ, zero, suc, ◌+◌, ◌≤◌, ◌<◌, ◌==◌, true, false, not, Bool, ◌&&◌, ◌||◌, List, [], ◌∷◌, Some, length, get_or, arith}
+use Rattle.std.proofs.Common.{◌≡◌, refl, sym, ◌∙◌, ap, ℕ, zero, suc, ◌+◌, ◌≤◌, ◌<◌, ◌==◌, true, false, not, Bool, ◌&&◌, ◌||◌, List, [], ◌∷◌, Some, length, get_or, arith, eqb-true}
 use Rattle.std.proofs.lemmas.List.Elements.{filter_agree}
 use Rattle.serde_json.specs.declared.value.Value.{Value}
 use Rattle.serde_json.specs.View.{view, items_view}
@@ -41,7 +41,7 @@ module _ (g : NamedGraph) where
   -- of a list of constraints that is empty
   pub none_given : (vs : List Value) → (length vs == 0) ≡ true → (nodes : List ℕ) → nodes ≡ where_true g (λ n. is_empty (items_view vs) || some_true n (items_view vs)) nodes
   none_given [] empty nodes = sym (filter_all nodes)
-  none_given (v ∷ vs) empty nodes = absurd (cc)
+  none_given (v ∷ vs) empty nodes = absurd (omega (arith, eqb-true (length (v ∷ vs)) 0 empty))
 
   -- and of one that isn't
   pub some_given : (vs : List Value) → (length vs == 0) ≡ false → (nodes : List ℕ) → where_true g (λ n. some_true n (items_view vs)) nodes ≡ where_true g (λ n. is_empty (items_view vs) || some_true n (items_view vs)) nodes
