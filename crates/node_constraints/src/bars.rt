@@ -20,11 +20,7 @@ use std::alloc::Global;
 const ROOT: &[u8] = b"attributes.system.constraints";
 
 /// The nodes for which a constraint is false, or the fault in it.
-fn false_for(
-    alloc: Global,
-    graph: &Graph,
-    constraint: &Value,
-) -> Result<Vec<u32>, ConstraintFault>
+fn false_for(alloc: Global, graph: &Graph, constraint: &Value) -> Result<Vec<u32>, ConstraintFault>
     ensures bars { IfOk result (λ bars. bars.items ≡ barred_by graph.now (view constraint.now)) }
     ensures found { Finds result (fault_at root (view constraint.now)) }
 {

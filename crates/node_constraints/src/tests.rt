@@ -48,7 +48,12 @@ fn vertex(
 fn four_nodes(alloc: Global) -> Result<Graph, Fail> {
     let mut raw = Vec::new(alloc);
     raw.push(vertex(alloc, 0, "cluster0", None, "", None)?)?;
-    let nodes = [("node0", ""), ("node1", "bad"), ("node2", ""), ("node3", "")];
+    let nodes = [
+        ("node0", ""),
+        ("node1", "bad"),
+        ("node2", ""),
+        ("node3", ""),
+    ];
     let mut rank = 0u32;
     for (name, property) in nodes {
         let node = raw.len() as u32;
@@ -70,12 +75,18 @@ fn nodes_are_barred(rt: HostRuntime) -> Result<(), Fail> {
         ("{}", &[]),
         (r#"{"properties":["^bad"]}"#, &[3]),
         (r#"{"not":[{"ranks":["0-1"]}]}"#, &[1, 3]),
-        (r#"{"or":[{"hostlist":["node[0,3]"]},{"properties":["bad"]}]}"#, &[5]),
+        (
+            r#"{"or":[{"hostlist":["node[0,3]"]},{"properties":["bad"]}]}"#,
+            &[5],
+        ),
         (r#"{"or":[]}"#, &[]),
         (r#"{"not":[]}"#, &[1, 3, 5, 7]),
         (r#"{"properties":["^"]}"#, &[]),
         (r#"{"properties":[""]}"#, &[1, 3, 5, 7]),
-        (r#"{"not":[{"ranks":["1"]},{"hostlist":["node[1-2]"]}]}"#, &[3]),
+        (
+            r#"{"not":[{"ranks":["1"]},{"hostlist":["node[1-2]"]}]}"#,
+            &[3],
+        ),
     ];
     for (text, wanted) in cases {
         let constraint = Value::from_str(alloc, text)?;
