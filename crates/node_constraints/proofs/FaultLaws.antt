@@ -1,5 +1,5 @@
 -- The fault that is meant.
-use Rattle.std.proofs.Common.{◌≡◌, sym, ◌∙◌, ap, ℕ, List, Option, Some, None}
+use Rattle.std.proofs.Common.{◌≡◌, sym, ◌∙◌, ap, ℕ, List, Option, None}
 use Rattle.std.specs.Option.{option_or}
 use Rattle.node_constraints.specs.declared.faults.ConstraintFault.{ConstraintFault}
 use Rattle.node_constraints.specs.declared.faults.ConstraintFault.TheVariants.{Form, Memory}

@@ -1,5 +1,5 @@
 -- A list of nodes narrowed step by step.
-use Rattle.std.proofs.Common.{◌≡◌, refl, sym, ◌∙◌, ap, ℕ, zero, suc, ◌+◌, ◌≤◌, ◌<◌, ◌==◌, true, false, not, Bool, ◌&&◌, ◌||◌, List, [], ◌∷◌, Some, length, get_or, arith, eqb-true}
+use Rattle.std.proofs.Common.{◌≡◌, refl, sym, ◌∙◌, ap, ℕ, zero, suc, ◌≤◌, ◌<◌, ◌==◌, true, false, not, Bool, ◌&&◌, ◌||◌, List, [], ◌∷◌, Some, length, get_or, arith, eqb-true}
 use Rattle.std.proofs.lemmas.List.Elements.{filter_agree}
 use Rattle.serde_json.specs.declared.value.Value.{Value}
 use Rattle.serde_json.specs.View.{view, items_view}

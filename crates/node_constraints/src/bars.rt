@@ -20,11 +20,7 @@ use std::alloc::Global;
 const ROOT: &[u8] = b"attributes.system.constraints";
 
 /// The nodes for which a constraint is false, or the fault in it.
-fn false_for(
-    alloc: Global,
-    graph: &Graph,
-    constraint: &Value,
-) -> Result<Vec<u32>, ConstraintFault>
+fn false_for(alloc: Global, graph: &Graph, constraint: &Value) -> Result<Vec<u32>, ConstraintFault>
     ensures bars { IfOk result (λ bars. bars.items ≡ barred_by graph.now (view constraint.now)) }
     ensures found { Finds result (fault_at root (view constraint.now)) }
 {
@@ -35,11 +31,11 @@ fn false_for(
     Ok(bars)
 }
 
-/// The nodes of a graph for which the constraint of a jobspec is false, in the order of their numbers. A constraint (RFC 31)
-/// is an object, true for a node where each of its keys is, and each key has a list: `properties` (each is one of the node's,
-/// or behind `^` none), `hostlist` (some hostlist names the node), `ranks` (some idset has its rank), `and` (each constraint
-/// is true), `or` (some is, or there is none), `not` (some is false). The fault names the innermost constraint around the
-/// first fault, the keys of an object in the order of their bytes.
+/// The nodes of a graph for which the constraint of a jobspec is false, in the order of their numbers. A constraint (RFC
+/// 31) is an object, true for a node where each of its keys is, and each key has a list: `properties` (each is one of the
+/// node's, or behind `^` none), `hostlist` (some hostlist names the node), `ranks` (some idset has its rank), `and` (each
+/// constraint is true), `or` (some is, or there is none), `not` (some is false). The fault names the innermost constraint
+/// around the first fault, the keys of an object in the order of their bytes.
 pub fn barred(
     alloc: Global,
     graph: &Graph,

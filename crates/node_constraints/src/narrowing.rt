@@ -1,4 +1,6 @@
-//! The nodes for which a constraint is true, found for all nodes at once: a list of nodes is narrowed key by key.
+//! The nodes for which a constraint is true, found for all nodes at once: one walk over the constraint narrows a list of
+//! nodes key by key, and finds the faults on its way. Where some or none of a list's constraints has to be true, a copy of
+//! the nodes that are still in question is narrowed, and what is left of it is taken away.
 ghost use Rattle.std.specs.Prelude.{◌≡◌, ◌++◌, ◌||◌, ◌==◌, Some, false, not, IfOk, OnOk};
 ghost use Rattle.std.specs.List.{list_any};
 ghost use Rattle.std.specs.Option.{option_map_or};

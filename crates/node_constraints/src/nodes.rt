@@ -60,11 +60,7 @@ fn stands_at(numbers: &[u32], place: usize, number: u32) -> bool
 }
 
 /// The nodes that are not among those for which something is true. Both lists have one order.
-pub(crate) fn others_of(
-    alloc: Global,
-    nodes: &[u32],
-    some: &[u32],
-) -> Result<Vec<u32>, AllocError>
+pub(crate) fn others_of(alloc: Global, nodes: &[u32], some: &[u32]) -> Result<Vec<u32>, AllocError>
     ensures { IfOk result (λ others. AreOthers nodes.now some.now others.items) }
 {
     let mut others = Vec::new(alloc);
@@ -80,11 +76,7 @@ pub(crate) fn others_of(
 }
 
 /// Leaves of the nodes those that are not among those for which something is true.
-pub(crate) fn take_away(
-    alloc: Global,
-    nodes: &mut Vec<u32>,
-    some: &[u32],
-) -> Result<(), AllocError>
+pub(crate) fn take_away(alloc: Global, nodes: &mut Vec<u32>, some: &[u32]) -> Result<(), AllocError>
     ensures { OnOk result (AreOthers nodes.old.items some.now nodes.new.items) }
 {
     let others = others_of(alloc, nodes.as_slice(), some)?;

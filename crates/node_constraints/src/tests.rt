@@ -19,6 +19,7 @@ fn kinds(alloc: Global) -> Result<List<Text>, AllocError>
     Ok(List::of_vec(kinds))
 }
 
+/// A vertex of size 1, with the property where that isn't the empty text.
 fn vertex(
     alloc: Global,
     kind: u32,
@@ -48,13 +49,15 @@ fn vertex(
 fn four_nodes(alloc: Global) -> Result<Graph, Fail> {
     let mut raw = Vec::new(alloc);
     raw.push(vertex(alloc, 0, "cluster0", None, "", None)?)?;
-    let nodes = [("node0", ""), ("node1", "bad"), ("node2", ""), ("node3", "")];
-    let mut rank = 0u32;
-    for (name, property) in nodes {
-        let node = raw.len() as u32;
+    let nodes = [
+        (1, 0, "node0", ""),
+        (3, 1, "node1", "bad"),
+        (5, 2, "node2", ""),
+        (7, 3, "node3", ""),
+    ];
+    for (number, rank, name, property) in nodes {
         raw.push(vertex(alloc, 1, name, Some(rank), property, Some(0))?)?;
-        raw.push(vertex(alloc, 2, "core0", None, "", Some(node))?)?;
-        rank = rank.saturating_add(1);
+        raw.push(vertex(alloc, 2, "core0", None, "", Some(number))?)?;
     }
     match Graph::build(alloc, kinds(alloc)?, List::of_vec(raw)) {
         Ok(graph) => Ok(graph),
@@ -70,12 +73,18 @@ fn nodes_are_barred(rt: HostRuntime) -> Result<(), Fail> {
         ("{}", &[]),
         (r#"{"properties":["^bad"]}"#, &[3]),
         (r#"{"not":[{"ranks":["0-1"]}]}"#, &[1, 3]),
-        (r#"{"or":[{"hostlist":["node[0,3]"]},{"properties":["bad"]}]}"#, &[5]),
+        (
+            r#"{"or":[{"hostlist":["node[0,3]"]},{"properties":["bad"]}]}"#,
+            &[5],
+        ),
         (r#"{"or":[]}"#, &[]),
         (r#"{"not":[]}"#, &[1, 3, 5, 7]),
         (r#"{"properties":["^"]}"#, &[]),
         (r#"{"properties":[""]}"#, &[1, 3, 5, 7]),
-        (r#"{"not":[{"ranks":["1"]},{"hostlist":["node[1-2]"]}]}"#, &[3]),
+        (
+            r#"{"not":[{"ranks":["1"]},{"hostlist":["node[1-2]"]}]}"#,
+            &[3],
+        ),
     ];
     for (text, wanted) in cases {
         let constraint = Value::from_str(alloc, text)?;
@@ -83,6 +92,14 @@ fn nodes_are_barred(rt: HostRuntime) -> Result<(), Fail> {
         assert_eq!(rt; bars.items(), wanted, "{text}");
     }
     Ok(())
+}
+
+/// Whether the answer is a fault of the constraint at this path.
+fn is_form_at(found: &Result<List<u32>, ConstraintFault>, wanted: &[u8]) -> bool {
+    match found {
+        Err(ConstraintFault::Form { path }) => path.bytes() == wanted,
+        _ => false,
+    }
 }
 
 #[test]
@@ -100,11 +117,8 @@ fn other_values_are_faults(rt: HostRuntime) -> Result<(), Fail> {
     for (text, rest) in cases {
         let constraint = Value::from_str(alloc, text)?;
         let wanted = format!(in alloc; "attributes.system.constraints{rest}")?;
-        let found = match barred(alloc, &graph, &constraint) {
-            Err(ConstraintFault::Form { path }) => path.bytes() == wanted.as_bytes(),
-            _ => false,
-        };
-        assert!(rt; found, "{text}");
+        let found = barred(alloc, &graph, &constraint);
+        assert!(rt; is_form_at(&found, wanted.as_bytes()), "{text}");
     }
     Ok(())
 }

@@ -1,4 +1,4 @@
-//! The texts of a constraint.
+//! The texts of a constraint: each is read once, and then asked for each node.
 ghost use Rattle.std.specs.Prelude.{◌≡◌, ◌==◌, false, IfOk};
 ghost use Rattle.std.specs.List.{list_any};
 ghost use Rattle.std.specs.Option.{option_map_or};
@@ -16,6 +16,7 @@ use std::alloc::{AllocError, Global};
 
 // Properties
 
+/// Whether the text is one of these.
 fn is_among(texts: &[Text], wanted: &[u8]) -> bool
     ensures { result ≡ is_among texts.now wanted.now }
 {
@@ -59,6 +60,7 @@ pub(crate) fn has_properties(properties: &[Text], values: &[Value]) -> bool
 
 // Hostlists
 
+/// The hosts that a value names, where it is a hostlist.
 fn hostlist_value(alloc: Global, value: &Value) -> Result<Option<List<Hosts>>, AllocError>
     ensures { IfOk result (λ hosts. hosts ≡ read_value hostlist_of (view value.now)) }
 {
@@ -89,6 +91,7 @@ pub(crate) fn read_hostlists(
     Ok(Some(List::of_vec(lists)))
 }
 
+/// Whether the name is one of the hosts.
 fn is_host(hosts: &List<Hosts>, name: &[u8]) -> bool
     ensures { result ≡ is_among (names_of hosts.now) name.now }
 {
@@ -104,6 +107,7 @@ pub(crate) fn is_listed(lists: &[List<Hosts>], name: &[u8]) -> bool
 
 // Idsets
 
+/// The ranges of a value, where it is an idset.
 fn idset_value(alloc: Global, value: &Value) -> Result<Option<List<Range>>, AllocError>
     ensures { IfOk result (λ ranges. ranges ≡ read_value idset_of (view value.now)) }
 {
@@ -134,12 +138,14 @@ pub(crate) fn read_idsets(
     Ok(Some(List::of_vec(sets)))
 }
 
+/// Whether the rank is one of the ids.
 fn is_id(ranges: &List<Range>, rank: u32) -> bool
     ensures { result ≡ list_any (λ id. id == rank) (ids_of ranges.now) }
 {
     has_id(ranges, rank)
 }
 
+/// Whether the rank is one of the ids of some set.
 fn is_in_some(sets: &[List<Range>], rank: u32) -> bool
     ensures { result ≡ list_any (λ ranges. list_any (λ id. id == rank) (ids_of ranges)) sets.now }
 {

@@ -1,10 +1,8 @@
-use Rattle.std.proofs.Common.{◌≡◌, ◌∙◌, sym, ap, subst, length, Ok, arith, rules}
-use Rattle.std.specs.Prelude.{is_some}
+use Rattle.std.proofs.Common.{◌∙◌, sym, ap, subst, length, Ok, arith}
 use Rattle.std.specs.List.{AllByRecursion}
 use Rattle.serde_json.specs.View.{view}
 use Rattle.flux_defs.specs.Graph.{IsNode}
 use Rattle.flux_defs.specs.Needs.{AreRisingFrom}
-use Rattle.node_constraints.specs.Truth.{facts_of, is_true}
 use Rattle.node_constraints.specs.Bars.{is_barred, barred_by, unless_fault}
 use Rattle.node_constraints.proofs.BarLaws.{rising, each_passes, is_barred_node}
 use Rattle.node_constraints.proofs.bars.barred.Goals as goal

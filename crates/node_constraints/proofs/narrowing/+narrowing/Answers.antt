@@ -1,12 +1,11 @@
-use Rattle.std.proofs.Common.{rules, ◌≡◌, ◌∙◌, sym, ap, subst, ◌++◌, ◌∷◌, ◌+◌, ◌*◌, ◌<◌, ◌≤◌, ◌&&◌, ◌||◌, [], Some, max, not, drop, arith, string_bytes}
+use Rattle.std.proofs.Common.{rules, ◌≡◌, ◌∙◌, sym, ap, subst, ◌++◌, ◌∷◌, ◌+◌, ◌*◌, ◌<◌, ◌≤◌, ◌&&◌, [], max, not, drop, arith, string_bytes}
 use Rattle.std.proofs.lemmas.List.{drop_more, drop_all}
-use Rattle.std.specs.List.{filter}
 use Rattle.std.specs.Option.{option_or}
 use Rattle.serde_json.specs.Data.{depth, items_depth, members_depth}
 use Rattle.serde_json.specs.View.{view, items_view, members_view}
 use Rattle.serde_json.proofs.Views.{Entry}
 use Rattle.json_fields.specs.Paths.{index}
-use Rattle.node_constraints.specs.Truth.{facts_of, key_of, is_true, each_key, key_is_true, each_true, some_true, is_empty}
+use Rattle.node_constraints.specs.Truth.{facts_of, key_of, is_true, each_key, key_is_true, each_true, some_true}
 use Rattle.node_constraints.specs.Faults.{fault_at, keys_fault, key_fault, items_fault}
 use Rattle.node_constraints.specs.Narrowing.{where_true}
 use Rattle.node_constraints.proofs.FilterLaws.{filter_all, others_of_others}
@@ -33,8 +32,8 @@ narrow-members-preserved t c =
           ∙ (ap (λ k. option_or (key_fault path k (key_of k) (view e.1)) (keys_fault path (members_view left))) name
           ∙ (ap (λ es. keys_fault path (members_view es)) (sym steps) ∙ c.members.invariant.found));
       less =
-        let here : members_depth (members_view c.members.key-iterator) ≡ max (depth (view e.1)) (members_depth (members_view left)) = ap (λ es. members_depth (members_view es)) steps in
-        omega (arith, here, c.members.invariant.less);
+          let here : members_depth (members_view c.members.key-iterator) ≡ max (depth (view e.1)) (members_depth (members_view left)) = ap (λ es. members_depth (members_view es)) steps in
+          omega (arith, here, c.members.invariant.less);
     }
 
 pub narrow-returns-clause-kept : goal.narrow-returns-clause-kept
