@@ -27,8 +27,12 @@ returns-in-Err-with_bars-clause-over c =
     let own : bars_of_command c.in-Ok.line.command ≡ bars_in g c.args.form raw = ap (λ (l : NumberedLine). bars_of_command l.command) c.in-Ok.ensures.line in
     let here : over_bars c.args.limits.now (c.len.result + 1) (c.lines.bars + bars_in g c.args.form raw) ≡ Some c.in-Err-with_bars.over =
     ap (λ n. over_bars c.args.limits.now (c.len.result + 1) (c.lines.bars + n)) (sym own) ∙ c.in-Err-with_bars.ensures.over in
-    inr (c.in-Err-with_bars.over, refl, sym c.lines.invariant.over ∙ (ap (λ n. over_from c.args.limits.now g c.args.form c.lines.table c.lines.bars (n + 1) (lines_of c.lines.rest.now)) (sym at)
-    ∙ over_bars_here c.args.limits.now g c.args.form c.lines.table c.lines.bars (c.len.result + 1) raw c.cut_line.result.1.now c.lines.rest.now split c.in-Err-with_bars.over c.in-Ok.ensures.within here))
+    inr (
+      c.in-Err-with_bars.over,
+      refl,
+      sym c.lines.invariant.over ∙ (ap (λ n. over_from c.args.limits.now g c.args.form c.lines.table c.lines.bars (n + 1) (lines_of c.lines.rest.now)) (sym at)
+          ∙ over_bars_here c.args.limits.now g c.args.form c.lines.table c.lines.bars (c.len.result + 1) raw c.cut_line.result.1.now c.lines.rest.now split c.in-Err-with_bars.over c.in-Ok.ensures.within here),
+    )
 
 pub lines-smaller : goal.lines-smaller
 lines-smaller c =
