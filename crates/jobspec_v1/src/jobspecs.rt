@@ -57,11 +57,7 @@ pub fn read_resources(
 }
 
 /// The nodes that a constraint bars: none where there is none.
-fn bars_in(
-    alloc: Global,
-    graph: &Graph,
-    constraint: Option<&Value>,
-) -> Result<List<u32>, SpecFault>
+fn bars_in(alloc: Global, graph: &Graph, constraint: Option<&Value>) -> Result<List<u32>, SpecFault>
     ensures bars { IfOk result (λ bars. bars_in graph.now (option_map (λ v. view v.now) constraint.entry) ≡ Ok bars) }
     ensures rising { IfOk result (λ bars. AreRisingFrom 0 bars) }
     ensures nodes { IfOk result (λ bars. AllByRecursion (IsNode graph.now.resources.vertices) bars) }

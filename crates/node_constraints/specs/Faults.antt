@@ -34,6 +34,15 @@ unless path fine = if fine then None else Some path
 abbrev pub list_path : List ℕ → List ℕ → List ℕ
 list_path path k = path ++ (codes "." ++ k)
 
+-- the fault of the list at a key of the constraint at a path; of constraints, the first one of them
+abbrev pub list_fault : List ℕ → Key → Items → Option (List ℕ) → Option (List ℕ)
+list_fault path Properties ds inner = unless path (each_text is_text ds)
+list_fault path Hostlist ds inner = unless path (each_text is_hostlist ds)
+list_fault path Ranks ds inner = unless path (each_text is_idset ds)
+list_fault path And ds inner = inner
+list_fault path Or ds inner = inner
+list_fault path Not ds inner = inner
+
 -- The path of the innermost constraint in which the first fault of the constraint at a path stands: objects and lists are
 -- looked at from their beginnings, the keys of an object in the order of their bytes.
 abbrev mutual
@@ -56,16 +65,8 @@ abbrev mutual
   key_fault path k (Some key) (boolean b) = Some path
   key_fault path k (Some key) (number x) = Some path
   key_fault path k (Some key) (string s) = Some path
-  key_fault path k (Some key) (array ds) = list_fault path k key ds
+  key_fault path k (Some key) (array ds) = list_fault path key ds (items_fault (list_path path k) 0 ds)
   key_fault path k (Some key) (object ms) = Some path
-
-  pub list_fault : List ℕ → List ℕ → Key → Items → Option (List ℕ)
-  list_fault path k Properties ds = unless path (each_text is_text ds)
-  list_fault path k Hostlist ds = unless path (each_text is_hostlist ds)
-  list_fault path k Ranks ds = unless path (each_text is_idset ds)
-  list_fault path k And ds = items_fault (list_path path k) 0 ds
-  list_fault path k Or ds = items_fault (list_path path k) 0 ds
-  list_fault path k Not ds = items_fault (list_path path k) 0 ds
 
   -- of the constraints of a list from an index on
   pub items_fault : List ℕ → ℕ → Items → Option (List ℕ)

@@ -83,6 +83,15 @@ abbrev pub is_empty : Items → Bool
 is_empty no_items = true
 is_empty (item d ds) = false
 
+-- a key is true for a node, by the list at it; of constraints, by whether each is true and whether some is
+abbrev pub list_is_true : NodeFacts → Key → Items → Bool → Bool → Bool
+list_is_true n Properties ds each some = each_text (has_property n.properties) ds
+list_is_true n Hostlist ds each some = some_text (is_listed n.name) ds
+list_is_true n Ranks ds each some = some_text (is_ranked n.rank) ds
+list_is_true n And ds each some = each
+list_is_true n Or ds each some = is_empty ds || some
+list_is_true n Not ds each some = not each
+
 abbrev mutual
   -- a constraint is true for a node: each of its keys is
   pub is_true : NodeFacts → Data → Bool
@@ -97,23 +106,14 @@ abbrev mutual
   each_key n no_members = true
   each_key n (member k d ms) = key_is_true n (key_of k) d && each_key n ms
 
-  -- a key is true for a node, by the list at it
   pub key_is_true : NodeFacts → Option Key → Data → Bool
   key_is_true n None d = false
   key_is_true n (Some key) null = false
   key_is_true n (Some key) (boolean b) = false
   key_is_true n (Some key) (number x) = false
   key_is_true n (Some key) (string s) = false
-  key_is_true n (Some key) (array ds) = list_is_true n key ds
+  key_is_true n (Some key) (array ds) = list_is_true n key ds (each_true n ds) (some_true n ds)
   key_is_true n (Some key) (object ms) = false
-
-  pub list_is_true : NodeFacts → Key → Items → Bool
-  list_is_true n Properties ds = each_text (has_property n.properties) ds
-  list_is_true n Hostlist ds = some_text (is_listed n.name) ds
-  list_is_true n Ranks ds = some_text (is_ranked n.rank) ds
-  list_is_true n And ds = each_true n ds
-  list_is_true n Or ds = is_empty ds || some_true n ds
-  list_is_true n Not ds = not (each_true n ds)
 
   pub each_true : NodeFacts → Items → Bool
   each_true n no_items = true
