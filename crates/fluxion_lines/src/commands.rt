@@ -1,12 +1,13 @@
 //! What a line commands.
-ghost use Rattle.std.specs.Prelude.{◌≡◌, ◌||◌, List, Err, IfOk, codes};
+ghost use Rattle.std.specs.Prelude.{◌≡◌, ◌||◌, List, Ok, Err, IfOk, IfErr, codes};
 ghost use Rattle.std.specs.List.{list_all};
 ghost use Rattle.std.specs.Char.{is_ascii_digit, is_ascii_lowercase};
 ghost use Rattle.flux_defs.specs.declared.vertices.Vertex.{Vertex};
 ghost use Rattle.flux_defs.specs.declared.journal.Command.TheVariants as command;
 ghost use Rattle.flux_defs.specs.Needs.{IsProperAsk};
 ghost use Rattle.flux_defs.specs.Scheduler.{IsProper};
-ghost use Rattle.fluxion_lines.specs.Commands.{is_client, client_of, verb_of, invalid, asked, job_and_ask, ask_alone, number_alone, made, command_by, command_of, bars_of_command};
+ghost use Rattle.jobspec_v1.specs.Faults.{Tells};
+ghost use Rattle.fluxion_lines.specs.Commands.{is_client, client_of, verb_of, invalid, spec_of, asked, job_and_ask, ask_alone, number_alone, made, command_by, command_of, bars_of_command};
 
 use crate::numbers::number_in;
 use crate::reasons::spec_reason;
@@ -101,6 +102,18 @@ fn invalid(alloc: Global, why: &[u8]) -> Result<Command, AllocError>
     })
 }
 
+/// The ask of a jobspec in its form, or its first fault.
+fn read_spec(alloc: Global, graph: &Graph, form: Form, spec: &[u8]) -> Result<Ask, SpecFault>
+    ensures ask { IfOk result (λ ask. spec_of graph.now form spec.now ≡ Ok ask) }
+    ensures proper { IfOk result (IsProperAsk graph.now.resources.vertices) }
+    ensures told { IfErr result (Tells (spec_of graph.now form spec.now)) }
+{
+    match form {
+        Form::V1 => read_v1(alloc, graph, spec),
+        Form::Rfc14 => read_canon(alloc, graph, spec),
+    }
+}
+
 /// The ask of a jobspec, or why it has none.
 fn asked(
     alloc: Global,
@@ -111,11 +124,7 @@ fn asked(
     ensures read { IfOk result (λ read. read ≡ asked graph.now form spec.now) }
     ensures proper { IfOk result (λ read. IfOk read (IsProperAsk graph.now.resources.vertices)) }
 {
-    let read = match form {
-        Form::V1 => read_v1(alloc, graph, spec),
-        Form::Rfc14 => read_canon(alloc, graph, spec),
-    };
-    match read {
+    match read_spec(alloc, graph, form, spec) {
         Ok(ask) => Ok(Ok(ask)),
         Err(SpecFault::Memory) => Err(AllocError),
         Err(fault) => Ok(Err(spec_reason(alloc, &fault)?)),
