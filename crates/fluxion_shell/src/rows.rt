@@ -768,12 +768,7 @@ fn answers_of(alloc: Global, rows: &[(&str, &str)]) -> Result<Vec<u8>, AllocErro
 }
 
 /// The run over the graph ends well, and its output is the answers.
-fn is_answered(
-    rt: &impl Abort,
-    alloc: Global,
-    file: &GraphFile,
-    row: &Run,
-) -> Result<(), Fail> {
+fn is_answered(rt: &impl Abort, alloc: Global, file: &GraphFile, row: &Run) -> Result<(), Fail> {
     let answers = answers_of(alloc, row.rows)?;
     let lines = Text::of_vec(lines_of(alloc, row.rows)?);
     let words = words_of(alloc, row.options)?;
