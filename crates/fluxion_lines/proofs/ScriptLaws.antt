@@ -11,7 +11,8 @@ use Rattle.std.proofs.lemmas.List.Elements.{filter-append}
 use Rattle.sound_laws.proofs.Members.{all_filter}
 use Rattle.flux_defs.specs.declared.journal.Command.{Command}
 use Rattle.flux_defs.specs.declared.journal.Line.{Line}
-use Rattle.flux_defs.specs.Graph.{ResourceGraph}
+use Rattle.resource_graph.specs.NamedGraph.{NamedGraph}
+use Rattle.fluxion_lines.specs.declared.commands.Form.{Form}
 use Rattle.flux_defs.specs.Scripts.{HasLines, has_number, Interleaves}
 use Rattle.text_table.specs.Tables.{with_text, with_texts}
 use Rattle.fluxion_lines.specs.Lines.{lines_of}
@@ -57,9 +58,9 @@ abbrev RiseFrom : ℕ → List NumberedLine → Type 0
 RiseFrom at [] = Unit {0}
 RiseFrom at (l ∷ ls) = (at ≤ l.line) × RiseFrom (l.line + 1) ls
 
-rises : (g : ResourceGraph) (clients : List (List ℕ)) (at : ℕ) (raws : List (List ℕ)) → RiseFrom at (lines_from g clients at raws)
-rises g clients at [] = tt
-rises g clients at (raw ∷ raws) = (omega arith, rises g (with_text clients (client_in raw)) (at + 1) raws)
+rises : (g : NamedGraph) (form : Form) (clients : List (List ℕ)) (at : ℕ) (raws : List (List ℕ)) → RiseFrom at (lines_from g form clients at raws)
+rises g form clients at [] = tt
+rises g form clients at (raw ∷ raws) = (omega arith, rises g form (with_text clients (client_in raw)) (at + 1) raws)
 
 -- no line of a client has a lesser number
 none_by : (c : ℕ) (b : Bool) (n : ℕ) (l : NumberedLine) (held : List Line) → n < l.line → has_number held n ≡ false → has_number (cond b (line_held l ∷ held) held) n ≡ false
@@ -142,12 +143,12 @@ grows : (texts more : List (List ℕ)) → length texts ≤ length (with_texts t
 grows texts [] = omega arith
 grows texts (t ∷ more) = let one = one_text (list_any (bytes_eq t) texts) texts t in let rest = grows (with_text texts t) more in omega (arith, one, rest)
 
-few : (g : ResourceGraph) (clients : List (List ℕ)) (at : ℕ) (raws : List (List ℕ)) → AllByRecursion (λ l. l.client < length (with_texts clients (map client_in raws))) (lines_from g clients at raws)
-few g clients at [] = tt
-few g clients at (raw ∷ raws) =
+few : (g : NamedGraph) (form : Form) (clients : List (List ℕ)) (at : ℕ) (raws : List (List ℕ)) → AllByRecursion (λ l. l.client < length (with_texts clients (map client_in raws))) (lines_from g form clients at raws)
+few g form clients at [] = tt
+few g form clients at (raw ∷ raws) =
     let place = place_within clients (client_in raw) in
     let rest = grows (with_text clients (client_in raw)) (map client_in raws) in
-    (omega (arith, place, rest), few g (with_text clients (client_in raw)) (at + 1) raws)
+    (omega (arith, place, rest), few g form (with_text clients (client_in raw)) (at + 1) raws)
 
 -- ---- lists by client, one line more
 
@@ -187,46 +188,46 @@ in_range n c lt = elim (slice_get_cases (range_with_len 0 n) c).1 [
 some_is : {X : Type 0} (x y : X) → Some x ≡ Some y → x ≡ y
 some_is x y e = cc
 
-module _ (g : ResourceGraph) (bytes : List ℕ) where
+module _ (g : NamedGraph) (form : Form) (bytes : List ℕ) where
   abbrev lines : List NumberedLine
-  lines = numbered_lines g bytes
+  lines = numbered_lines g form bytes
 
   abbrev count : ℕ
   count = length (clients_of bytes)
 
-  has_lines : (c : ℕ) → c < count → HasLines (script_of g bytes) c (lines_by c lines)
+  has_lines : (c : ℕ) → c < count → HasLines (script_of g form bytes) c (lines_by c lines)
   has_lines c lt = slice_get-map (λ client. lines_by client lines) (range_with_len 0 count) c ∙ ap (option_map (λ client. lines_by client lines)) (in_range count c lt)
 
-  lines_are : (c : ℕ) (ls : List Line) → HasLines (script_of g bytes) c ls → lines_by c lines ≡ ls
+  lines_are : (c : ℕ) (ls : List Line) → HasLines (script_of g form bytes) c ls → lines_by c lines ≡ ls
   lines_are c ls had =
       let within = slice_get_within (map (λ client. lines_by client lines) (range_with_len 0 count)) c ls had in
       let long = length-map-range_with_len (λ client. lines_by client lines) 0 count in
       some_is (lines_by c lines) ls (sym (has_lines c (omega (arith, within, long))) ∙ had)
 
   -- each line is one of its client's
-  pub held : AllByRecursion (λ l. HasLines (script_of g bytes) l.client (lines_by l.client lines) × Contains (lines_by l.client lines) (line_held l)) lines
-  held = all_and lines (λ l lt has. (has_lines l.client lt, has)) (few g [] 1 (lines_of bytes)) (among lines)
+  pub held : AllByRecursion (λ l. HasLines (script_of g form bytes) l.client (lines_by l.client lines) × Contains (lines_by l.client lines) (line_held l)) lines
+  held = all_and lines (λ l lt has. (has_lines l.client lt, has)) (few g form [] 1 (lines_of bytes)) (among lines)
 
   -- the number is that of a line of some client
   abbrev IsKnown : ℕ → Type 0
-  IsKnown n = (c : ℕ) × (ls : List Line) × HasLines (script_of g bytes) c ls × Contains (map (λ l. l.line) ls) n
+  IsKnown n = (c : ℕ) × (ls : List Line) × HasLines (script_of g form bytes) c ls × Contains (map (λ l. l.line) ls) n
 
   abbrev IsHeld : NumberedLine → Type 0
-  IsHeld l = HasLines (script_of g bytes) l.client (lines_by l.client lines) × Contains (lines_by l.client lines) (line_held l)
+  IsHeld l = HasLines (script_of g form bytes) l.client (lines_by l.client lines) × Contains (lines_by l.client lines) (line_held l)
 
   known_line : (l : NumberedLine) → IsHeld l → IsHeld l → IsKnown l.line
   known_line l h also = (l.client, lines_by l.client lines, h.0, in_mapped (λ x. x.line) (lines_by l.client lines) (line_held l) h.1.0 h.1.1 h.1.2)
 
   -- the order of the input interleaves the script
-  pub interleaves : Interleaves (script_of g bytes) (input_order g bytes)
+  pub interleaves : Interleaves (script_of g form bytes) (input_order g form bytes)
   interleaves = record {
-    known = at_each IsKnown (input_order g bytes) (all_mapped IsKnown (λ l. l.line) lines (all_and lines known_line held held));
-    each = λ c ls had. subst (λ (x : List Line). filter (has_number x) (input_order g bytes) ≡ map (λ l. l.line) x) (lines_are c ls had)
-        (told_apart c (has_number (lines_by c lines)) lines (own_numbers c 1 lines (rises g [] 1 (lines_of bytes))));
+    known = at_each IsKnown (input_order g form bytes) (all_mapped IsKnown (λ l. l.line) lines (all_and lines known_line held held));
+    each = λ c ls had. subst (λ (x : List Line). filter (has_number x) (input_order g form bytes) ≡ map (λ l. l.line) x) (lines_are c ls had)
+        (told_apart c (has_number (lines_by c lines)) lines (own_numbers c 1 lines (rises g form [] 1 (lines_of bytes))));
   }
 
   -- each line is one of some client's lines
-  pub told : AllByRecursion (λ l. (ls : List Line) × HasLines (script_of g bytes) l.client ls × Contains ls (line_held l)) lines
+  pub told : AllByRecursion (λ l. (ls : List Line) × HasLines (script_of g form bytes) l.client ls × Contains ls (line_held l)) lines
   told = all_and lines (λ l h also. (lines_by l.client lines, h.0, h.1)) held held
 
 -- ---- made line by line
@@ -248,8 +249,8 @@ line_added count done l lists lt are =
 pub no_more : (count k : ℕ) → k < count → map (λ client. lines_by client []) (range_with_len k (count - k)) ≡ [] ∷ map (λ client. lines_by client []) (range_with_len (k + 1) (count - (k + 1)))
 no_more count k lt = ap (λ n. map (λ client. lines_by client []) (range_with_len k n)) (let one : count - k ≡ suc (count - (k + 1)) = omega (arith, lt) in one)
 
-pub few_clients : (g : ResourceGraph) (bytes : List ℕ) → AllByRecursion (λ l. l.client < length (clients_of bytes)) (numbered_lines g bytes)
-few_clients g bytes = few g [] 1 (lines_of bytes)
+pub few_clients : (g : NamedGraph) (form : Form) (bytes : List ℕ) → AllByRecursion (λ l. l.client < length (clients_of bytes)) (numbered_lines g form bytes)
+few_clients g form bytes = few g form [] 1 (lines_of bytes)
 
 -- ---- each client's commands are proper
 

@@ -3,7 +3,8 @@ use Rattle.std.specs.Prelude.{ℕ, ◌==◌, List, map, filter, length}
 use Rattle.std.specs.List.{range_with_len}
 use Rattle.flux_defs.specs.declared.journal.Line.{Line}
 use Rattle.flux_defs.specs.declared.journal.Script.{Script}
-use Rattle.flux_defs.specs.Graph.{ResourceGraph}
+use Rattle.resource_graph.specs.NamedGraph.{NamedGraph}
+use Rattle.fluxion_lines.specs.declared.commands.Form.{Form}
 use Rattle.fluxion_lines.specs.declared.input.NumberedLine.{NumberedLine}
 use Rattle.fluxion_lines.specs.Inputs.{clients_of, numbered_lines}
 
@@ -16,12 +17,12 @@ abbrev pub lines_by : ℕ → List NumberedLine → List Line
 lines_by client lines = map line_held (filter (λ l. l.client == client) lines)
 
 -- by client, its lines
-abbrev pub script_of : ResourceGraph → List ℕ → Script
-script_of g bytes = record {
+abbrev pub script_of : NamedGraph → Form → List ℕ → Script
+script_of g form bytes = record {
   clients = clients_of bytes;
-  lines = map (λ client. lines_by client (numbered_lines g bytes)) (range_with_len 0 (length (clients_of bytes)));
+  lines = map (λ client. lines_by client (numbered_lines g form bytes)) (range_with_len 0 (length (clients_of bytes)));
 }
 
 -- the numbers of all lines, in the order of the input
-abbrev pub input_order : ResourceGraph → List ℕ → List ℕ
-input_order g bytes = map (λ l. l.line) (numbered_lines g bytes)
+abbrev pub input_order : NamedGraph → Form → List ℕ → List ℕ
+input_order g form bytes = map (λ l. l.line) (numbered_lines g form bytes)

@@ -1,23 +1,24 @@
 //! What a line commands.
-ghost use Rattle.std.specs.Prelude.{◌≡◌, ◌||◌, List, Err, IfOk, codes};
+ghost use Rattle.std.specs.Prelude.{◌≡◌, ◌||◌, List, Ok, Err, IfOk, IfErr, codes};
 ghost use Rattle.std.specs.List.{list_all};
 ghost use Rattle.std.specs.Char.{is_ascii_digit, is_ascii_lowercase};
 ghost use Rattle.flux_defs.specs.declared.vertices.Vertex.{Vertex};
 ghost use Rattle.flux_defs.specs.declared.journal.Command.TheVariants as command;
 ghost use Rattle.flux_defs.specs.Needs.{IsProperAsk};
 ghost use Rattle.flux_defs.specs.Scheduler.{IsProper};
-ghost use Rattle.fluxion_lines.specs.Commands.{is_client, client_of, verb_of, invalid, asked, job_and_ask, ask_alone, number_alone, made, command_by, command_of};
+ghost use Rattle.jobspec_v1.specs.Faults.{Tells};
+ghost use Rattle.fluxion_lines.specs.Commands.{is_client, client_of, verb_of, invalid, spec_of, asked, job_and_ask, ask_alone, number_alone, made, command_by, command_of, bars_of_command};
 
 use crate::numbers::number_in;
 use crate::reasons::spec_reason;
 use crate::words::{first_word, skipped};
 use flux_defs::{Ask, Command, Text};
+use jobspec_canon::read_canon;
 use jobspec_v1::{SpecFault, read_v1};
 use resource_graph::Graph;
 use std::alloc::{AllocError, Global};
 
-/// How jobspecs are written: as RFC 25 says, or in the canonical form of RFC 14. The canonical form is read by the reader
-/// of RFC 25 until it has its own.
+/// How jobspecs are written: as RFC 25 says, or in the canonical form of RFC 14.
 #[derive(Clone, Copy, Debug, PartialEq, Eq)]
 pub enum Form {
     V1,
@@ -101,6 +102,18 @@ fn invalid(alloc: Global, why: &[u8]) -> Result<Command, AllocError>
     })
 }
 
+/// The ask of a jobspec in its form, or its first fault.
+fn read_spec(alloc: Global, graph: &Graph, form: Form, spec: &[u8]) -> Result<Ask, SpecFault>
+    ensures ask { IfOk result (λ ask. spec_of graph.now form spec.now ≡ Ok ask) }
+    ensures proper { IfOk result (IsProperAsk graph.now.resources.vertices) }
+    ensures told { IfErr result (Tells (spec_of graph.now form spec.now)) }
+{
+    match form {
+        Form::V1 => read_v1(alloc, graph, spec),
+        Form::Rfc14 => read_canon(alloc, graph, spec),
+    }
+}
+
 /// The ask of a jobspec, or why it has none.
 fn asked(
     alloc: Global,
@@ -108,14 +121,10 @@ fn asked(
     form: Form,
     spec: &[u8],
 ) -> Result<Result<Ask, Text>, AllocError>
-    ensures read { IfOk result (λ read. read ≡ asked graph.now.resources spec.now) }
+    ensures read { IfOk result (λ read. read ≡ asked graph.now form spec.now) }
     ensures proper { IfOk result (λ read. IfOk read (IsProperAsk graph.now.resources.vertices)) }
 {
-    let read = match form {
-        Form::V1 => read_v1(alloc, graph, spec),
-        Form::Rfc14 => read_v1(alloc, graph, spec),
-    };
-    match read {
+    match read_spec(alloc, graph, form, spec) {
         Ok(ask) => Ok(Ok(ask)),
         Err(SpecFault::Memory) => Err(AllocError),
         Err(fault) => Ok(Err(spec_reason(alloc, &fault)?)),
@@ -136,7 +145,7 @@ fn job_and_ask(
     form: Form,
     words: &[u8],
 ) -> Result<Result<(u64, Ask), Text>, AllocError>
-    ensures read { IfOk result (λ read. read ≡ job_and_ask graph.now.resources words.now) }
+    ensures read { IfOk result (λ read. read ≡ job_and_ask graph.now form words.now) }
     ensures proper { IfOk result (λ read. IfOk read (λ p. IsProperAsk graph.now.resources.vertices p.1)) }
 {
     let (word, rest) = first_word(words);
@@ -160,7 +169,7 @@ fn ask_alone(
     form: Form,
     words: &[u8],
 ) -> Result<Result<Ask, Text>, AllocError>
-    ensures read { IfOk result (λ read. read ≡ ask_alone graph.now.resources words.now) }
+    ensures read { IfOk result (λ read. read ≡ ask_alone graph.now form words.now) }
     ensures proper { IfOk result (λ read. IfOk read (IsProperAsk graph.now.resources.vertices)) }
 {
     let spec = skipped(words);
@@ -185,7 +194,7 @@ fn number_alone(alloc: Global, fault: &[u8], words: &[u8]) -> Result<Result<u64,
 }
 
 fn allocate(alloc: Global, graph: &Graph, form: Form, words: &[u8]) -> Result<Command, AllocError>
-    ensures command { IfOk result (λ c. c ≡ command_by graph.now.resources Verb.Allocate words.now) }
+    ensures command { IfOk result (λ c. c ≡ command_by graph.now form Verb.Allocate words.now) }
     ensures proper { IfOk result (IsProper graph.now.resources.vertices) }
 {
     match job_and_ask(alloc, graph, form, words)? {
@@ -195,7 +204,7 @@ fn allocate(alloc: Global, graph: &Graph, form: Form, words: &[u8]) -> Result<Co
 }
 
 fn reserve(alloc: Global, graph: &Graph, form: Form, words: &[u8]) -> Result<Command, AllocError>
-    ensures command { IfOk result (λ c. c ≡ command_by graph.now.resources Verb.Reserve words.now) }
+    ensures command { IfOk result (λ c. c ≡ command_by graph.now form Verb.Reserve words.now) }
     ensures proper { IfOk result (IsProper graph.now.resources.vertices) }
 {
     match job_and_ask(alloc, graph, form, words)? {
@@ -205,7 +214,7 @@ fn reserve(alloc: Global, graph: &Graph, form: Form, words: &[u8]) -> Result<Com
 }
 
 fn satisfy(alloc: Global, graph: &Graph, form: Form, words: &[u8]) -> Result<Command, AllocError>
-    ensures command { IfOk result (λ c. c ≡ command_by graph.now.resources Verb.Satisfy words.now) }
+    ensures command { IfOk result (λ c. c ≡ command_by graph.now form Verb.Satisfy words.now) }
     ensures proper { IfOk result (IsProper graph.now.resources.vertices) }
 {
     match ask_alone(alloc, graph, form, words)? {
@@ -252,7 +261,7 @@ fn command_by(
     verb: Verb,
     words: &[u8],
 ) -> Result<Command, AllocError>
-    ensures command { IfOk result (λ c. c ≡ command_by graph.now.resources verb words.now) }
+    ensures command { IfOk result (λ c. c ≡ command_by graph.now form verb words.now) }
     ensures proper { IfOk result (IsProper graph.now.resources.vertices) }
 {
     match verb {
@@ -272,7 +281,7 @@ pub(crate) fn command_of(
     form: Form,
     line: &[u8],
 ) -> Result<Command, AllocError>
-    ensures command { IfOk result (λ c. c ≡ command_of graph.now.resources line.now) }
+    ensures command { IfOk result (λ c. c ≡ command_of graph.now form line.now) }
     ensures proper { IfOk result (IsProper graph.now.resources.vertices) }
 {
     let (client, rest) = first_word(line);
@@ -283,5 +292,16 @@ pub(crate) fn command_of(
     match verb_of(word) {
         Some(verb) => command_by(alloc, graph, form, verb, words),
         None => invalid(alloc, b"command"),
+    }
+}
+
+/// How many nodes the ask of a command bars; a command without an ask bars none.
+pub(crate) fn bars_of_command(command: &Command) -> usize
+    ensures { result ≡ bars_of_command command.now }
+{
+    match command {
+        Command::Allocate { ask, .. } | Command::Reserve { ask, .. } => ask.barred.len(),
+        Command::Satisfy { ask } => ask.barred.len(),
+        _ => 0,
     }
 }

@@ -1,12 +1,13 @@
 //! All lines of an input.
-ghost use Rattle.std.specs.Prelude.{◌≡◌, ◌⊎◌, ◌^◌, ◌<◌, ◌++◌, ◌∷◌, [], Some, None, IsOk, length, IfOk, IfErr, OnOk};
+ghost use Rattle.std.specs.Prelude.{◌≡◌, ◌⊎◌, ◌^◌, ◌+◌, ◌<◌, ◌≤◌, ◌++◌, ◌∷◌, [], Some, None, IsOk, length, IfOk, IfErr, OnOk};
 ghost use Rattle.std.specs.List.{AllByRecursion};
 ghost use Rattle.flux_defs.specs.Scheduler.{IsProper};
 ghost use Rattle.text_table.specs.Tables.{with_text};
 ghost use Rattle.fluxion_lines.specs.declared.input.Over.{Over};
-ghost use Rattle.fluxion_lines.specs.Inputs.{client_in, line_at, clients_of, numbered_lines, over_at, over_in};
+ghost use Rattle.fluxion_lines.specs.Commands.{bars_of_command};
+ghost use Rattle.fluxion_lines.specs.Inputs.{client_in, line_at, clients_of, numbered_lines, over_size, line_over_size, over_bars, over_in};
 
-use crate::commands::{Form, client_of, command_of};
+use crate::commands::{Form, bars_of_command, client_of, command_of};
 use crate::lines::{cut_line, without_return};
 use flux_defs::{Command, Limits, List, Text};
 use resource_graph::Graph;
@@ -37,6 +38,8 @@ pub enum Over {
     LineBytes { line: u64 },
     /// It is the first line of one client too many.
     Clients { line: u64 },
+    /// With the nodes that its ask bars, the lines up to it bar too many.
+    Barred { line: u64 },
 }
 
 /// Why an input isn't read.
@@ -81,9 +84,9 @@ fn names_of(alloc: Global, table: &TextTable) -> Result<List<Text>, AllocError>
     Ok(List::of_vec(names))
 }
 
-/// Which limit a line passes, where it is the line of this number, and the clients are then so many.
-fn over_at(limits: &Limits, at: u64, bytes: usize, clients: usize) -> Option<Over>
-    ensures { result ≡ over_at limits.now at bytes clients }
+/// Which limit a line passes by its text, where it is the line of this number, and the clients are then so many.
+fn over_size(limits: &Limits, at: u64, bytes: usize, clients: usize) -> Option<Over>
+    ensures { result ≡ over_size limits.now at bytes clients }
 {
     if at > limits.lines {
         return Some(Over::Lines { line: at });
@@ -97,7 +100,8 @@ fn over_at(limits: &Limits, at: u64, bytes: usize, clients: usize) -> Option<Ove
     None
 }
 
-/// The line of a number, from its bytes; the table of clients gains its client.
+/// The line of a number, from its bytes; the table of clients gains its client. A jobspec is read only where the line is
+/// past no limit that its text tells.
 fn read_line(
     alloc: Global,
     graph: &Graph,
@@ -109,16 +113,16 @@ fn read_line(
 ) -> Result<NumberedLine, InputFault>
     requires lines { limits.now.lines < 2 ^ 32 }
     requires clients { limits.now.clients < 2 ^ 32 }
-    ensures line { IfOk result (λ line. line ≡ line_at graph.now.resources table.old at raw.now) }
+    ensures line { IfOk result (λ line. line ≡ line_at graph.now form table.old at raw.now) }
     ensures table { OnOk result (table.new ≡ with_text table.old (client_in raw.now)) }
-    ensures within { OnOk result (over_at limits.now at (length raw.now) (length (with_text table.old (client_in raw.now))) ≡ None) }
+    ensures within { OnOk result (line_over_size limits.now table.old at raw.now ≡ None) }
     ensures proper { IfOk result (λ line. IsProper graph.now.resources.vertices line.command) }
     ensures over { IfErr result (λ fault. (fault ≡ InputFault.Memory) ⊎ ((over : Over) × (fault ≡ InputFault.Over over)
-        × (over_at limits.now at (length raw.now) (length (with_text table.old (client_in raw.now))) ≡ Some over))) }
+        × (line_over_size limits.now table.old at raw.now ≡ Some over))) }
 {
     let text = without_return(raw);
     let client = table.add(alloc, client_of(text))?;
-    if let Some(over) = over_at(limits, at, raw.len(), table.len()) {
+    if let Some(over) = over_size(limits, at, raw.len(), table.len()) {
         return Err(InputFault::Over(over));
     }
     let command = command_of(alloc, graph, form, text)?;
@@ -127,6 +131,20 @@ fn read_line(
         line: at as u32,
         command,
     })
+}
+
+/// How many nodes are barred with those of one more command, behind so many; or these are too many.
+fn with_bars(limits: &Limits, at: u64, bars: u64, command: &Command) -> Result<u64, Over>
+    requires { bars ≤ limits.now.barred }
+    ensures sum { IfOk result (λ sum. sum ≡ bars + bars_of_command command.now) }
+    ensures most { IfOk result (λ sum. sum ≤ limits.now.barred) }
+    ensures over { IfErr result (λ over. over_bars limits.now at (bars + bars_of_command command.now) ≡ Some over) }
+{
+    let own = bars_of_command(command) as u64;
+    if own > limits.barred - bars {
+        return Err(Over::Barred { line: at });
+    }
+    Ok(bars + own)
 }
 
 fn push_line(lines: &mut Vec<NumberedLine>, line: NumberedLine) -> Result<(), AllocError>
@@ -138,7 +156,8 @@ fn push_line(lines: &mut Vec<NumberedLine>, line: NumberedLine) -> Result<(), Al
 
 /// The lines of an input, over a graph: each of what a client commands, or why it can't be read. Over comes exactly where
 /// a line is past a limit, and tells of the first such line: of more lines than the limit, of more bytes of a line (before
-/// its line feed), or of more clients, looked at in this order. Each command is proper for the graph.
+/// its line feed), of more clients, or of more nodes that the asks of the lines up to it bar, looked at in this order. Each
+/// command is proper for the graph.
 pub fn read_lines(
     alloc: Global,
     graph: &Graph,
@@ -149,21 +168,27 @@ pub fn read_lines(
     requires lines { limits.now.lines < 2 ^ 32 }
     requires clients { limits.now.clients < 2 ^ 32 }
     ensures clients { IfOk result (λ input. input.clients ≡ clients_of bytes.now) }
-    ensures lines { IfOk result (λ input. input.lines ≡ numbered_lines graph.now.resources bytes.now) }
+    ensures lines { IfOk result (λ input. input.lines ≡ numbered_lines graph.now form bytes.now) }
     ensures proper { IfOk result (λ input. AllByRecursion (λ l. IsProper graph.now.resources.vertices l.command) input.lines) }
-    ensures within { IsOk result → over_in limits.now bytes.now ≡ None }
-    ensures over { IfErr result (λ fault. (fault ≡ InputFault.Memory) ⊎ ((over : Over) × (fault ≡ InputFault.Over over) × (over_in limits.now bytes.now ≡ Some over))) }
+    ensures within { IsOk result → over_in limits.now graph.now form bytes.now ≡ None }
+    ensures over { IfErr result (λ fault. (fault ≡ InputFault.Memory) ⊎ ((over : Over) × (fault ≡ InputFault.Over over) × (over_in limits.now graph.now form bytes.now ≡ Some over))) }
 {
     let mut table = TextTable::new(alloc);
     let mut lines = Vec::new(alloc);
+    let mut bars = 0;
     let mut rest = bytes;
     'lines: while !rest.is_empty() {
         let (raw, more) = cut_line(rest);
         let at = lines.len() as u64 + 1;
-        match read_line(alloc, graph, form, limits, at, raw, &mut table) {
-            Ok(line) => push_line(&mut lines, line)?,
+        let line = match read_line(alloc, graph, form, limits, at, raw, &mut table) {
+            Ok(line) => line,
             Err(fault) => return Err(fault),
-        }
+        };
+        bars = match with_bars(limits, at, bars, &line.command) {
+            Ok(sum) => sum,
+            Err(over) => return Err(InputFault::Over(over)),
+        };
+        push_line(&mut lines, line)?;
         rest = more;
     }
     Ok(Input {

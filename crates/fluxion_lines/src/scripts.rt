@@ -83,10 +83,10 @@ pub fn read_input(
 ) -> Result<Script, InputFault>
     requires lines { limits.now.lines < 2 ^ 32 }
     requires clients { limits.now.clients < 2 ^ 32 }
-    ensures script { IfOk result (λ script. script ≡ script_of graph.now.resources bytes.now) }
+    ensures script { IfOk result (λ script. script ≡ script_of graph.now form bytes.now) }
     ensures proper { IfOk result (λ script. AllByRecursion (λ lines. AllByRecursion (λ l. IsProper graph.now.resources.vertices l.command) lines) script.lines) }
-    ensures within { IsOk result → over_in limits.now bytes.now ≡ None }
-    ensures over { IfErr result (λ fault. (fault ≡ InputFault.Memory) ⊎ ((over : Over) × (fault ≡ InputFault.Over over) × (over_in limits.now bytes.now ≡ Some over))) }
+    ensures within { IsOk result → over_in limits.now graph.now form bytes.now ≡ None }
+    ensures over { IfErr result (λ fault. (fault ≡ InputFault.Memory) ⊎ ((over : Over) × (fault ≡ InputFault.Over over) × (over_in limits.now graph.now form bytes.now ≡ Some over))) }
 {
     let Input { clients, lines } = match read_lines(alloc, graph, form, bytes, limits) {
         Ok(read) => read,

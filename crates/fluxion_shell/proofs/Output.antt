@@ -16,7 +16,7 @@ use Rattle.fluxion_lines.specs.declared.input.InputFault.TheVariants as fault
 use Rattle.fluxion_lines.specs.Inputs.{clients_of, numbered_lines}
 use Rattle.fluxion_lines.specs.Scripts.{script_of}
 use Rattle.fluxion_lines.proofs.ScriptLaws.{all_mapped, all_unmapped, at_each, interleaves, told}
-use Rattle.fluxion_shell.specs.Outputs.{IsSoundOutput}
+use Rattle.fluxion_shell.specs.Outputs.{served_form, IsSoundOutput}
 use Rattle.fluxion_shell.specs.PlayedText.{client_line, IsPlayedText}
 
 numbers_of : (history : List Entry) → map (λ (l : ClientLine). l.line) (map line_of history) ≡ map (λ e. e.line) history
@@ -31,16 +31,16 @@ numbers_in (l ∷ ls) = ap (λ ns. l.line ∷ ns) (numbers_in ls)
 pub proper_lines : (vertices : List Vertex) (lines : List NumberedLine) → AllByRecursion (λ l. IsProper vertices l.command) lines → AreProper vertices (map client_line lines)
 proper_lines vertices lines proper = all_mapped (λ (l : ClientLine). IsProper vertices l.command) client_line lines proper
 
-pub sound_output : (g : NamedGraph) (horizon : ℕ) (input text : List ℕ) → IsPlayedText g horizon (clients_of input) (map client_line (numbered_lines g.resources input)) text → IsSoundOutput g horizon input text
+pub sound_output : (g : NamedGraph) (horizon : ℕ) (input text : List ℕ) → IsPlayedText g horizon (clients_of input) (map client_line (numbered_lines g served_form input)) text → IsSoundOutput g horizon input text
 sound_output g horizon input text played =
-    let IsTold : ClientLine → Type 0 = λ x. (ls : List Line) × HasLines (script_of g.resources input) x.client ls × Contains ls (record { line = x.line; command = x.command }) in
-    let lines = numbered_lines g.resources input in
-    let answers : AllByRecursion IsTold (map line_of played.history) = subst (AllByRecursion IsTold) (sym played.lines-are) (all_mapped IsTold client_line lines (told g.resources input)) in
+    let IsTold : ClientLine → Type 0 = λ x. (ls : List Line) × HasLines (script_of g served_form input) x.client ls × Contains ls (record { line = x.line; command = x.command }) in
+    let lines = numbered_lines g served_form input in
+    let answers : AllByRecursion IsTold (map line_of played.history) = subst (AllByRecursion IsTold) (sym played.lines-are) (all_mapped IsTold client_line lines (told g served_form input)) in
     record {
       output = record {
         rules = played.rules;
         rules-are = played.rules-are;
-        interleaves = interleaves g.resources input;
+        interleaves = interleaves g served_form input;
         history = played.history;
         plays = record {
           lines = sym (numbers_of played.history) ∙ (ap (map (λ (l : ClientLine). l.line)) played.lines-are ∙ numbers_in lines);

@@ -1,20 +1,21 @@
 -- What a told graph file and a told input show.
-use Rattle.std.proofs.Common.{◌≡◌, ℕ, ◌+◌, ◌<◌, ◌≤◌, ◌⊎◌, List, [], ◌++◌, length, Option, Some, None, IfSome, MatchOption, inl, inr, refl, sym, ◌∙◌, ap, subst, arith}
+use Rattle.std.proofs.Common.{◌≡◌, ℕ, true, ◌+◌, ◌<◌, ◌≤◌, ◌⊎◌, List, [], ◌++◌, length, Option, Some, None, IfSome, MatchOption, inl, inr, refl, sym, ◌∙◌, ap, subst, arith}
 use Rattle.flux_io.specs.Counts.{Rose}
 use Rattle.flux_io.specs.Stores.{Stored, file_of}
 use Rattle.flux_io.specs.Streams.{TakesFront}
 use Rattle.resource_graph.specs.NamedGraph.{NamedGraph}
 use Rattle.graph_json.specs.GraphText.{IsGraphText}
 use Rattle.graph_json.specs.declared.faults.ReadFault.{ReadFault}
-use Rattle.graph_json.proofs.TextLaws.{no_fault_told}
+use Rattle.graph_json.proofs.TextLaws.{no_fault_told, one_graph_told}
 use Rattle.fluxion_lines.specs.declared.input.Over.{Over}
 use Rattle.fluxion_lines.specs.declared.input.Over.TheVariants as over_at
-use Rattle.fluxion_lines.specs.Inputs.{over_in}
-use Rattle.fluxion_shell.specs.Outputs.{shipped}
+use Rattle.fluxion_lines.specs.Inputs.{is_by_size, over_size_in, over_in}
+use Rattle.fluxion_lines.proofs.InputLaws.{size_told}
+use Rattle.fluxion_shell.specs.Outputs.{shipped, served_form}
 use Rattle.fluxion_shell.specs.declared.status.Status.{Status}
 use Rattle.fluxion_shell.specs.declared.status.Status.TheVariants as status
 use Rattle.fluxion_shell.specs.declared.status.Limited.{Limited}
-use Rattle.fluxion_shell.specs.declared.status.Which.TheVariants.{GraphBytes, InputBytes, Lines, LineBytes, Clients}
+use Rattle.fluxion_shell.specs.declared.status.Which.TheVariants.{GraphBytes, InputBytes, Lines, LineBytes, Clients, Barred}
 use Rattle.fluxion_shell.specs.Causes.{most_bytes, past_graph, long_graph, long_input, told_file, WhereTold, OrEarlier, HasFault, AppendsFrontOfSome, ShowsLines, ShowsInput, limit_of, ShowsFile, ShowsStore, Shows, ShowsPrint, Known, FailsWith, HasGraphFile, HasShortInput}
 
 pub known : (told : Option Stored) (name old new : List ℕ) → old ≡ [] →
@@ -34,12 +35,12 @@ pub earlier_lines : (past : Option Over) (result : Status) → (result ≡ statu
 earlier_lines None result early = earlier_answer result _ early
 earlier_lines (Some over) result early = earlier_answer result _ early
 
-pub earlier_input : (left : Option (List ℕ)) (result : Status) → (result ≡ status.Read) ⊎ (result ≡ status.Memory) → IfSome left (ShowsInput result)
-earlier_input None result early = tt
-earlier_input (Some input) result early = ((λ many. earlier_answer result _ early), (λ few. earlier_lines (over_in shipped input) result early))
+pub earlier_input : (g : NamedGraph) (left : Option (List ℕ)) (result : Status) → (result ≡ status.Read) ⊎ (result ≡ status.Memory) → IfSome left (ShowsInput result g)
+earlier_input g None result early = tt
+earlier_input g (Some input) result early = ((λ many. earlier_answer result _ early), (λ few. earlier_lines (over_in shipped g served_form input) result early))
 
 module _ (told : Option Stored) (name : List ℕ) (bytes : List ℕ) (told_bytes : Known told name bytes) where
-  shown : (result : Status) (Then : Type 0) → (length bytes ≤ 268435456 → ShowsFile result bytes Then) → ShowsStore result told name Then
+  shown : (result : Status) (Then : NamedGraph → Type 0) → (length bytes ≤ 268435456 → ShowsFile result bytes Then) → ShowsStore result told name Then
   shown result Then file = by told told_bytes
     where
       by : (files : Option Stored) → Known files name bytes → ShowsStore result files name Then
@@ -56,44 +57,44 @@ module _ (told : Option Stored) (name : List ℕ) (bytes : List ℕ) (told_bytes
 
   module _ (g : NamedGraph) (text : IsGraphText bytes g) where
     -- the file's graph was read, and this is shown after it
-    pub shows_then : (result : Status) (Then : Type 0) → Then → ShowsStore result told name Then
+    pub shows_then : (result : Status) (Then : NamedGraph → Type 0) → Then g → ShowsStore result told name Then
     shows_then result Then then_shown = shown result Then (λ few. record {
       long = λ many. absurd (omega arith);
       faulty = λ short fault has. absurd (has.1 (no_fault_told bytes g fault text has.0));
-      graph = λ short other same. then_shown;
+      graph = λ short other same. subst Then (one_graph_told bytes g other text same) then_shown;
     })
 
     -- the input is too long
     pub shows_long_input : (left : Option (List ℕ)) → IfSome left (λ input. 268435456 < length input) → Shows long_input told name left
-    shows_long_input left long = shows_then long_input (IfSome left (ShowsInput long_input)) (by left long)
+    shows_long_input left long = shows_then long_input (λ h. IfSome left (ShowsInput long_input h)) (by left long)
       where
-        by : (o : Option (List ℕ)) → IfSome o (λ input. 268435456 < length input) → IfSome o (ShowsInput long_input)
+        by : (o : Option (List ℕ)) → IfSome o (λ input. 268435456 < length input) → IfSome o (ShowsInput long_input g)
         by None h = tt
         by (Some input) h = ((λ many. inr (inr refl)), (λ few. absurd (omega arith)))
 
     -- the input was read, and this is shown of its lines
-    shows_lines : (left : Option (List ℕ)) (input : List ℕ) (result : Status) → length input ≤ 268435456 → IfSome left (λ bytes. input ≡ bytes) → ShowsLines result (over_in shipped input) → Shows result told name left
-    shows_lines left input result few is lines_shown = shows_then result (IfSome left (ShowsInput result)) (by left is)
+    shows_lines : (left : Option (List ℕ)) (input : List ℕ) (result : Status) → length input ≤ 268435456 → IfSome left (λ bytes. input ≡ bytes) → ShowsLines result (over_in shipped g served_form input) → Shows result told name left
+    shows_lines left input result few is lines_shown = shows_then result (λ h. IfSome left (ShowsInput result h)) (by left is)
       where
-        by : (o : Option (List ℕ)) → IfSome o (λ bytes. input ≡ bytes) → IfSome o (ShowsInput result)
+        by : (o : Option (List ℕ)) → IfSome o (λ bytes. input ≡ bytes) → IfSome o (ShowsInput result g)
         by None h = tt
         by (Some lines) h = (
           (λ many. absurd (let same : length input ≡ length lines = ap length h in omega arith)),
-          (λ few. subst (λ (i : List ℕ). ShowsLines result (over_in shipped i)) h lines_shown),
+          (λ few. subst (λ (i : List ℕ). ShowsLines result (over_in shipped g served_form i)) h lines_shown),
         )
 
     -- no line is past a limit
-    pub shows_read : (left : Option (List ℕ)) (input : List ℕ) (result : Status) → length input ≤ 268435456 → IfSome left (λ bytes. input ≡ bytes) → over_in shipped input ≡ None →
+    pub shows_read : (left : Option (List ℕ)) (input : List ℕ) (result : Status) → length input ≤ 268435456 → IfSome left (λ bytes. input ≡ bytes) → over_in shipped g served_form input ≡ None →
         (result ≡ status.Ok) ⊎ (result ≡ status.Write) → Shows result told name left
     shows_read left input result few is within ends = shows_lines left input result few is (subst (ShowsLines result) (sym within) (inr (inr ends)))
 
     -- this line is
-    pub shows_over : (left : Option (List ℕ)) (input : List ℕ) (over : Over) → length input ≤ 268435456 → IfSome left (λ bytes. input ≡ bytes) → over_in shipped input ≡ Some over → Shows (limit_of over) told name left
+    pub shows_over : (left : Option (List ℕ)) (input : List ℕ) (over : Over) → length input ≤ 268435456 → IfSome left (λ bytes. input ≡ bytes) → over_in shipped g served_form input ≡ Some over → Shows (limit_of over) told name left
     shows_over left input over few is past = shows_lines left input (limit_of over) few is (subst (ShowsLines (limit_of over)) (sym past) (inr (inr refl)))
 
     -- reading the input failed, or memory was wanting
     pub shows_earlier : (left : Option (List ℕ)) (result : Status) → (result ≡ status.Read) ⊎ (result ≡ status.Memory) → Shows result told name left
-    shows_earlier left result early = shows_then result (IfSome left (ShowsInput result)) (earlier_input left result early)
+    shows_earlier left result early = shows_then result (λ h. IfSome left (ShowsInput result h)) (earlier_input g left result early)
 
   -- what holds of the bytes that were read holds of the told ones
   pub where_told : (left : Option (List ℕ)) (input : List ℕ) (P : List ℕ → List ℕ → Type 0) → IfSome left (λ bytes. input ≡ bytes) → P bytes input → WhereTold (told_file told name) left P
@@ -134,6 +135,7 @@ pub over_is_no_graph : (over : Over) → limit_of over ≡ long_graph → ⊥
 over_is_no_graph (over_at.Lines line) same = apart (record { which = Lines; found = line }) past_graph (λ (which : Lines ≡ GraphBytes). cc) same
 over_is_no_graph (over_at.LineBytes line) same = apart (record { which = LineBytes; found = line }) past_graph (λ (which : LineBytes ≡ GraphBytes). cc) same
 over_is_no_graph (over_at.Clients line) same = apart (record { which = Clients; found = line }) past_graph (λ (which : Clients ≡ GraphBytes). cc) same
+over_is_no_graph (over_at.Barred line) same = apart (record { which = Barred; found = line }) past_graph (λ (which : Barred ≡ GraphBytes). cc) same
 
 abbrev past_input : Limited
 past_input = record { which = InputBytes; found = most_bytes + 1 }
@@ -142,6 +144,7 @@ pub over_is_no_input : (over : Over) → limit_of over ≡ long_input → ⊥
 over_is_no_input (over_at.Lines line) same = apart (record { which = Lines; found = line }) past_input (λ (which : Lines ≡ InputBytes). cc) same
 over_is_no_input (over_at.LineBytes line) same = apart (record { which = LineBytes; found = line }) past_input (λ (which : LineBytes ≡ InputBytes). cc) same
 over_is_no_input (over_at.Clients line) same = apart (record { which = Clients; found = line }) past_input (λ (which : Clients ≡ InputBytes). cc) same
+over_is_no_input (over_at.Barred line) same = apart (record { which = Barred; found = line }) past_input (λ (which : Barred ≡ InputBytes). cc) same
 
 found_is : (a b : Limited) → status.Limit a ≡ status.Limit b → a.found ≡ b.found
 found_is a b same = ap (λ (l : Limited). l.found) (limited_is a b same)
@@ -150,18 +153,32 @@ pub over_is_one : (a b : Over) → limit_of a ≡ limit_of b → a ≡ b
 over_is_one (over_at.Lines m) (over_at.Lines n) same = ap over_at.Lines (found_is (record { which = Lines; found = m }) (record { which = Lines; found = n }) same)
 over_is_one (over_at.Lines m) (over_at.LineBytes n) same = absurd (apart (record { which = Lines; found = m }) (record { which = LineBytes; found = n }) (λ (which : Lines ≡ LineBytes). cc) same)
 over_is_one (over_at.Lines m) (over_at.Clients n) same = absurd (apart (record { which = Lines; found = m }) (record { which = Clients; found = n }) (λ (which : Lines ≡ Clients). cc) same)
+over_is_one (over_at.Lines m) (over_at.Barred n) same = absurd (apart (record { which = Lines; found = m }) (record { which = Barred; found = n }) (λ (which : Lines ≡ Barred). cc) same)
 over_is_one (over_at.LineBytes m) (over_at.Lines n) same = absurd (apart (record { which = LineBytes; found = m }) (record { which = Lines; found = n }) (λ (which : LineBytes ≡ Lines). cc) same)
 over_is_one (over_at.LineBytes m) (over_at.LineBytes n) same = ap over_at.LineBytes (found_is (record { which = LineBytes; found = m }) (record { which = LineBytes; found = n }) same)
 over_is_one (over_at.LineBytes m) (over_at.Clients n) same = absurd (apart (record { which = LineBytes; found = m }) (record { which = Clients; found = n }) (λ (which : LineBytes ≡ Clients). cc) same)
+over_is_one (over_at.LineBytes m) (over_at.Barred n) same = absurd (apart (record { which = LineBytes; found = m }) (record { which = Barred; found = n }) (λ (which : LineBytes ≡ Barred). cc) same)
 over_is_one (over_at.Clients m) (over_at.Lines n) same = absurd (apart (record { which = Clients; found = m }) (record { which = Lines; found = n }) (λ (which : Clients ≡ Lines). cc) same)
 over_is_one (over_at.Clients m) (over_at.LineBytes n) same = absurd (apart (record { which = Clients; found = m }) (record { which = LineBytes; found = n }) (λ (which : Clients ≡ LineBytes). cc) same)
 over_is_one (over_at.Clients m) (over_at.Clients n) same = ap over_at.Clients (found_is (record { which = Clients; found = m }) (record { which = Clients; found = n }) same)
+over_is_one (over_at.Clients m) (over_at.Barred n) same = absurd (apart (record { which = Clients; found = m }) (record { which = Barred; found = n }) (λ (which : Clients ≡ Barred). cc) same)
+over_is_one (over_at.Barred m) (over_at.Lines n) same = absurd (apart (record { which = Barred; found = m }) (record { which = Lines; found = n }) (λ (which : Barred ≡ Lines). cc) same)
+over_is_one (over_at.Barred m) (over_at.LineBytes n) same = absurd (apart (record { which = Barred; found = m }) (record { which = LineBytes; found = n }) (λ (which : Barred ≡ LineBytes). cc) same)
+over_is_one (over_at.Barred m) (over_at.Clients n) same = absurd (apart (record { which = Barred; found = m }) (record { which = Clients; found = n }) (λ (which : Barred ≡ Clients). cc) same)
+over_is_one (over_at.Barred m) (over_at.Barred n) same = ap over_at.Barred (found_is (record { which = Barred; found = m }) (record { which = Barred; found = n }) same)
+
+-- of the limits that the input alone tells, the line is the first past one
+pub size_limit : (left : Option (List ℕ)) (input : List ℕ) (g : NamedGraph) (over : Over) → IfSome left (λ bytes. input ≡ bytes) → is_by_size over ≡ true → over_in shipped g served_form input ≡ Some over →
+    IfSome left (λ lines. over_size_in shipped lines ≡ Some over)
+size_limit None input g over is by_size past = tt
+size_limit (Some lines) input g over is by_size past = subst (λ (i : List ℕ). over_size_in shipped i ≡ Some over) is (size_told shipped g served_form input over by_size past)
 
 -- it is a limit, and no other answer
 pub over_is_limit : (over : Over) → (limited : Limited) × (limit_of over ≡ status.Limit limited)
 over_is_limit (over_at.Lines line) = (record { which = Lines; found = line }, refl)
 over_is_limit (over_at.LineBytes line) = (record { which = LineBytes; found = line }, refl)
 over_is_limit (over_at.Clients line) = (record { which = Clients; found = line }, refl)
+over_is_limit (over_at.Barred line) = (record { which = Barred; found = line }, refl)
 
 -- why no graph was read
 module _ (told : Option Stored) (name : List ℕ) (faults faults_now refused refused_now : ℕ) where
@@ -182,24 +199,24 @@ module _ (told : Option Stored) (name : List ℕ) (faults faults_now refused ref
   pub fails_limits : (limited : Limited) → Fails (status.Limit limited) → status.Limit limited ≡ long_graph
   fails_limits limited h = ap status.Limit h.0
 
-  earlier_store : (s : Status) (Then : Type 0) → ((A : Type 0) → OrEarlier s A) → Then → ShowsStore s told name Then
+  earlier_store : (s : Status) (Then : NamedGraph → Type 0) → ((A : Type 0) → OrEarlier s A) → ((g : NamedGraph) → Then g) → ShowsStore s told name Then
   earlier_store s Then early then_shown = by told
     where
       of_file : (o : Option (List ℕ)) → MatchOption o (OrEarlier s (s ≡ status.NoGraphFile)) (λ file. ShowsFile s file Then)
       of_file None = early (s ≡ status.NoGraphFile)
-      of_file (Some file) = record { long = λ many. early _; faulty = λ short fault has. early _; graph = λ short g text. then_shown }
+      of_file (Some file) = record { long = λ many. early _; faulty = λ short fault has. early _; graph = λ short g text. then_shown g }
 
       by : (files : Option Stored) → ShowsStore s files name Then
       by None = tt
       by (Some files) = of_file (file_of files name)
 
   -- what is shown where no graph was read
-  pub fails_shows : (s : Status) (Then : Type 0) → Fails s → ((s ≡ status.Read) ⊎ (s ≡ status.Memory) → Then) → ShowsStore s told name Then
+  pub fails_shows : (s : Status) (Then : NamedGraph → Type 0) → Fails s → ((g : NamedGraph) → (s ≡ status.Read) ⊎ (s ≡ status.Memory) → Then g) → ShowsStore s told name Then
   fails_shows status.Ok Then h early = absurd h
   fails_shows status.Usage Then h early = absurd h
   fails_shows status.Write Then h early = absurd h
-  fails_shows status.Read Then h early = earlier_store status.Read Then (λ A. inl refl) (early (inl refl))
-  fails_shows status.Memory Then h early = earlier_store status.Memory Then (λ A. inr (inl refl)) (early (inr refl))
+  fails_shows status.Read Then h early = earlier_store status.Read Then (λ A. inl refl) (λ g. early g (inl refl))
+  fails_shows status.Memory Then h early = earlier_store status.Memory Then (λ A. inr (inl refl)) (λ g. early g (inr refl))
   fails_shows (status.Graph fault) Then h early = by told h.1
     where
       by : (files : Option Stored) → IfSome files (λ files. (bytes : List ℕ) × (file_of files name ≡ Some bytes) × (length bytes ≤ most_bytes) × HasFault bytes fault) → ShowsStore (status.Graph fault) files name Then
@@ -245,7 +262,7 @@ left_over no_a no_d (inr (inr (inl c))) = inl c
 left_over no_a no_d (inr (inr (inr d))) = absurd (no_d d)
 
 -- what is shown after a graph that is there
-after_graph : (result : Status) (told : Option Stored) (name : List ℕ) (Then : Type 0) → ShowsStore result told name Then → HasGraphFile told name → Then
+after_graph : (result : Status) (told : Option Stored) (name : List ℕ) (Then : NamedGraph → Type 0) → ShowsStore result told name Then → (order : HasGraphFile told name) → Then order.graph
 after_graph result None name Then shows order = absurd (let none : None ≡ Some order.file = order.file-is in cc)
 after_graph result (Some files) name Then shows order =
     let file : ShowsFile result order.file Then =
@@ -254,13 +271,14 @@ after_graph result (Some files) name Then shows order =
 
 -- where all is in order and nothing failed, all was answered, or memory was wanting
 pub completes : (result : Status) (told : Option Stored) (name : List ℕ) (left : Option (List ℕ)) → Shows result told name left →
-    (result ≡ status.Read → ⊥) → (result ≡ status.Write → ⊥) → HasGraphFile told name → HasShortInput left → (result ≡ status.Ok) ⊎ (result ≡ status.Memory)
+    (result ≡ status.Read → ⊥) → (result ≡ status.Write → ⊥) → (order : HasGraphFile told name) → HasShortInput order.graph left → (result ≡ status.Ok) ⊎ (result ≡ status.Memory)
 completes result told name left shows read write order lines =
-    let input : ShowsInput result lines.input = subst (λ (o : Option (List ℕ)). IfSome o (ShowsInput result)) lines.input-is (after_graph result told name (IfSome left (ShowsInput result)) shows order) in
+    let input : ShowsInput result order.graph lines.input =
+    subst (λ (o : Option (List ℕ)). IfSome o (ShowsInput result order.graph)) lines.input-is (after_graph result told name (λ g. IfSome left (ShowsInput result g)) shows order) in
     left_over read write (subst (ShowsLines result) lines.within (input.1 lines.short))
 
 -- the same of a run that writes the graph
 pub completes_print : (result : Status) (told : Option Stored) (name : List ℕ) → ShowsPrint result told name →
     (result ≡ status.Read → ⊥) → (result ≡ status.Write → ⊥) → HasGraphFile told name → (result ≡ status.Ok) ⊎ (result ≡ status.Memory)
 completes_print result told name shows read write order =
-    left_over read write (after_graph result told name (OrEarlier result ((result ≡ status.Ok) ⊎ (result ≡ status.Write))) shows order)
+    left_over read write (after_graph result told name (λ g. OrEarlier result ((result ≡ status.Ok) ⊎ (result ≡ status.Write))) shows order)

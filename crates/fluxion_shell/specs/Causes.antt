@@ -10,11 +10,11 @@ use Rattle.graph_json.specs.declared.faults.ReadFault.TheVariants as read_fault
 use Rattle.fluxion_shell.specs.declared.status.Status.{Status}
 use Rattle.fluxion_shell.specs.declared.status.Status.TheVariants as status
 use Rattle.fluxion_shell.specs.declared.status.Limited.{Limited}
-use Rattle.fluxion_shell.specs.declared.status.Which.TheVariants.{GraphBytes, InputBytes, Lines, LineBytes, Clients}
+use Rattle.fluxion_shell.specs.declared.status.Which.TheVariants.{GraphBytes, InputBytes, Lines, LineBytes, Clients, Barred}
 use Rattle.fluxion_lines.specs.declared.input.Over.{Over}
 use Rattle.fluxion_lines.specs.declared.input.Over.TheVariants as over
 use Rattle.fluxion_lines.specs.Inputs.{over_in}
-use Rattle.fluxion_shell.specs.Outputs.{shipped}
+use Rattle.fluxion_shell.specs.Outputs.{shipped, served_form}
 
 -- how many bytes the graph file and the input may have
 abbrev pub most_bytes : ℕ
@@ -58,35 +58,40 @@ abbrev pub limit_of : Over → Status
 limit_of (over.Lines line) = status.Limit (record { which = Lines; found = line })
 limit_of (over.LineBytes line) = status.Limit (record { which = LineBytes; found = line })
 limit_of (over.Clients line) = status.Limit (record { which = Clients; found = line })
+limit_of (over.Barred line) = status.Limit (record { which = Barred; found = line })
+
+-- this line of the input is the first past a limit, over the graph of the file
+abbrev pub IsPastLimit : List ℕ → List ℕ → Over → Type 0
+IsPastLimit file input over = (g : NamedGraph) × IsGraphText file g × (over_in shipped g served_form input ≡ Some over)
 
 -- the answer that the input's lines show
 abbrev pub ShowsLines : Status → Option Over → Type 0
 ShowsLines result past = MatchOption past (OrEarlier result ((result ≡ status.Ok) ⊎ (result ≡ status.Write))) (λ over. OrEarlier result (result ≡ limit_of over))
 
--- the answer that the input's told bytes show
-abbrev pub ShowsInput : Status → List ℕ → Type 0
-ShowsInput result input =
+-- the answer that the input's told bytes show, over a graph
+abbrev pub ShowsInput : Status → NamedGraph → List ℕ → Type 0
+ShowsInput result g input =
     (most_bytes < length input → OrEarlier result (result ≡ long_input))
-    × (length input ≤ most_bytes → ShowsLines result (over_in shipped input))
+    × (length input ≤ most_bytes → ShowsLines result (over_in shipped g served_form input))
 
 -- the answer that the graph file's told bytes show, and what its graph then shows
-pub record ShowsFile (result : Status) (file : List ℕ) (Then : Type 0) : Type 0 where
+pub record ShowsFile (result : Status) (file : List ℕ) (Then : NamedGraph → Type 0) : Type 0 where
   pub long : most_bytes < length file → OrEarlier result (result ≡ long_graph)
   pub faulty : length file ≤ most_bytes → (fault : ReadFault) → HasFault file fault → OrEarlier result ((told : ReadFault) × HasFault file told × (result ≡ status.Graph told))
-  pub graph : length file ≤ most_bytes → (g : NamedGraph) → IsGraphText file g → Then
+  pub graph : length file ≤ most_bytes → (g : NamedGraph) → IsGraphText file g → Then g
 
 -- the answer that a store's files show, and what the graph of the file of this name then shows
-abbrev pub ShowsStore : Status → Option Stored → List ℕ → Type 0 → Type 0
+abbrev pub ShowsStore : Status → Option Stored → List ℕ → (NamedGraph → Type 0) → Type 0
 ShowsStore result told name Then =
     IfSome told (λ files. MatchOption (file_of files name) (OrEarlier result (result ≡ status.NoGraphFile)) (λ file. ShowsFile result file Then))
 
--- of a run that answers an input: then what the input shows
+-- of a run that answers an input: then what the input shows over that graph
 abbrev pub Shows : Status → Option Stored → List ℕ → Option (List ℕ) → Type 0
-Shows result told name left = ShowsStore result told name (IfSome left (ShowsInput result))
+Shows result told name left = ShowsStore result told name (λ g. IfSome left (ShowsInput result g))
 
 -- of a run that writes the graph: then that it was written, or the output failed
 abbrev pub ShowsPrint : Status → Option Stored → List ℕ → Type 0
-ShowsPrint result told name = ShowsStore result told name (OrEarlier result ((result ≡ status.Ok) ⊎ (result ≡ status.Write)))
+ShowsPrint result told name = ShowsStore result told name (λ g. OrEarlier result ((result ≡ status.Ok) ⊎ (result ≡ status.Write)))
 
 -- The store tells a graph's file that is not too long.
 pub record HasGraphFile (told : Option Stored) (name : List ℕ) : Type 0 where
@@ -96,12 +101,12 @@ pub record HasGraphFile (told : Option Stored) (name : List ℕ) : Type 0 where
   pub graph : NamedGraph
   pub graph-is : IsGraphText file graph
 
--- The input tells its bytes, they are not too many, and no line is past a limit.
-pub record HasShortInput (left : Option (List ℕ)) : Type 0 where
+-- The input tells its bytes, they are not too many, and no line is past a limit, over this graph.
+pub record HasShortInput (g : NamedGraph) (left : Option (List ℕ)) : Type 0 where
   pub input : List ℕ
   pub input-is : left ≡ Some input
   pub short : length input ≤ most_bytes
-  pub within : over_in shipped input ≡ None
+  pub within : over_in shipped g served_form input ≡ None
 
 -- The graph of the file of this name was read: where the store tells its files, it has such a file, not too long.
 abbrev pub Known : Option Stored → List ℕ → List ℕ → Type 0

@@ -8,7 +8,7 @@ use Rattle.graph_json.specs.declared.faults.ReadFault.TheVariants as fault
 use Rattle.fluxion_shell.specs.declared.status.Status.{Status}
 use Rattle.fluxion_shell.specs.declared.status.Status.TheVariants as status
 use Rattle.fluxion_shell.specs.declared.status.Which.{Which}
-use Rattle.fluxion_shell.specs.declared.status.Which.TheVariants.{GraphBytes, InputBytes, Lines, LineBytes, Clients}
+use Rattle.fluxion_shell.specs.declared.status.Which.TheVariants.{GraphBytes, InputBytes, Lines, LineBytes, Clients, Barred}
 
 abbrev pub code_of : Status → ℕ
 code_of status.Ok = 0
@@ -26,6 +26,7 @@ word_of InputBytes = codes "input-bytes "
 word_of Lines = codes "lines "
 word_of LineBytes = codes "line-bytes "
 word_of Clients = codes "clients "
+word_of Barred = codes "barred "
 
 -- what is wrong with a list of vertices; want of memory is never told so
 abbrev pub graph_words : GraphFault → List ℕ

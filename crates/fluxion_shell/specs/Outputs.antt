@@ -11,6 +11,8 @@ use Rattle.graph_json.specs.WrittenGraph.{graph_text}
 use Rattle.prune_filters.specs.declared.rules.Rule.{Rule}
 use Rattle.prune_filters.specs.Filters.{AreRulesOf}
 use Rattle.sched_core.specs.Courses.{setting_of}
+use Rattle.fluxion_lines.specs.declared.commands.Form.{Form}
+use Rattle.fluxion_lines.specs.declared.commands.Form.TheVariants as form
 use Rattle.fluxion_lines.specs.Inputs.{clients_of}
 use Rattle.fluxion_lines.specs.Scripts.{script_of, input_order}
 use Rattle.fluxion_lines.specs.Texts.{history_text}
@@ -18,6 +20,10 @@ use Rattle.fluxion_lines.specs.Texts.{history_text}
 -- how much the program takes
 abbrev pub shipped : Limits
 shipped = record { lines = 262144; line_bytes = 1048576; clients = 64; barred = 67108864; claims = 2097152 }
+
+-- how the jobspecs of the input are written: in the canonical form
+abbrev pub served_form : Form
+served_form = form.Rfc14
 
 -- the setting over a graph, with filter rules and a horizon
 abbrev pub served_setting : NamedGraph → List Rule → ℕ → Setting
@@ -28,9 +34,9 @@ served_setting graph rules horizon = setting_of graph.resources rules horizon sh
 pub record IsOutput (graph : NamedGraph) (horizon : ℕ) (input text : List ℕ) : Type 0 where
   pub rules : List Rule
   pub rules-are : AreRulesOf (codes "ALL:core") rules
-  pub interleaves : Interleaves (script_of graph.resources input) (input_order graph.resources input)
+  pub interleaves : Interleaves (script_of graph served_form input) (input_order graph served_form input)
   pub history : List Entry
-  pub plays : Plays (served_setting graph rules horizon) (script_of graph.resources input) (input_order graph.resources input) history
+  pub plays : Plays (served_setting graph rules horizon) (script_of graph served_form input) (input_order graph served_form input) history
   pub text-is : text ≡ history_text graph (clients_of input) history
 
 -- and after each entry of that history no vertex is oversubscribed

@@ -4,7 +4,7 @@ ghost use Rattle.resource_graph.specs.NamedGraph.{IsWhole};
 ghost use Rattle.fluxion_lines.specs.declared.input.Over.{Over};
 ghost use Rattle.fluxion_lines.specs.Inputs.{over_in};
 ghost use Rattle.sched_core.specs.Played.{AreProper};
-ghost use Rattle.fluxion_shell.specs.Outputs.{shipped, IsSoundOutput};
+ghost use Rattle.fluxion_shell.specs.Outputs.{shipped, served_form, IsSoundOutput};
 ghost use Rattle.fluxion_shell.specs.PlayedText.{client_line, IsPlayedText};
 
 use flux_defs::{Limits, List, Text};
@@ -78,8 +78,8 @@ fn played(
 /// that is past a limit.
 pub fn answer(alloc: Global, graph: Graph, horizon: u64, input: &[u8]) -> Result<Text, InputFault>
     ensures output { IfOk result (IsSoundOutput graph horizon input.now) }
-    ensures within { IsOk result → over_in shipped input.now ≡ None }
-    ensures over { (over : Over) → IsErrOf result (InputFault.Over over) → over_in shipped input.now ≡ Some over }
+    ensures within { IsOk result → over_in shipped graph served_form input.now ≡ None }
+    ensures over { (over : Over) → IsErrOf result (InputFault.Over over) → over_in shipped graph served_form input.now ≡ Some over }
 {
     graph_is_valid(&graph);
     let limits = Limits::shipped();

@@ -1,5 +1,5 @@
-//! Worked runs over two nodes of four cores each: the words after the graph file's name, and each line of the input beside
-//! the line that answers it. The last line has no line feed.
+//! Worked runs over small graphs: the words after the graph file's name, and each line of the input beside the line that
+//! answers it. The last line has no line feed.
 use crate::{code, run};
 use flux_defs::{List, Text};
 use flux_io::{SureFiles, SureSink, SureSource};
@@ -75,6 +75,61 @@ macro_rules! whole_nodes {
     };
 }
 
+/// A line that ends in a jobspec of one slot over cores and memory: its front, the cores, the units, and the seconds.
+macro_rules! memory {
+    ($front:literal, $cores:literal, $units:literal, $seconds:literal) => {
+        concat!(
+            $front,
+            " {\"version\":1,\"resources\":[{\"type\":\"slot\",\"count\":1,\"label\":\"task\",\"with\":[{\"type\":\"core\",\"count\":",
+            $cores,
+            "},{\"type\":\"memory\",\"count\":",
+            $units,
+            "}]}],\"tasks\":[{\"command\":[\"app\"],\"slot\":\"task\",\"count\":{\"per_slot\":1}}],\"attributes\":{\"system\":{\"duration\":",
+            $seconds,
+            "}}}"
+        )
+    };
+}
+
+/// A line that ends in a jobspec of a slot: its front, and the members of the list in the slot.
+macro_rules! slot_over {
+    ($front:literal, $members:literal) => {
+        concat!(
+            $front,
+            " {\"version\":1,\"resources\":[{\"type\":\"slot\",\"count\":1,\"label\":\"task\",\"with\":[",
+            $members,
+            "]}],\"tasks\":[{\"command\":[\"app\"],\"slot\":\"task\",\"count\":{\"per_slot\":1}}]}"
+        )
+    };
+}
+
+/// A line that ends in a jobspec of nodes, each with a slot of one core, for a minute: its front, how many nodes, and the
+/// constraint.
+macro_rules! constrained {
+    ($front:literal, $nodes:literal, $constraint:literal) => {
+        concat!(
+            $front,
+            " {\"version\":1,\"resources\":[{\"type\":\"node\",\"count\":",
+            $nodes,
+            ",\"with\":[{\"type\":\"slot\",\"count\":1,\"label\":\"task\",\"with\":[{\"type\":\"core\",\"count\":1}]}]}],\"tasks\":[{\"command\":[\"app\"],\"slot\":\"task\",\"count\":{\"per_slot\":1}}],\"attributes\":{\"system\":{\"duration\":60,\"constraints\":",
+            $constraint,
+            "}}}"
+        )
+    };
+}
+
+/// The same of three nodes in a cluster that is held whole.
+macro_rules! constrained_cluster {
+    ($front:literal, $constraint:literal) => {
+        concat!(
+            $front,
+            " {\"version\":1,\"resources\":[{\"type\":\"cluster\",\"count\":1,\"exclusive\":true,\"with\":[{\"type\":\"node\",\"count\":3,\"with\":[{\"type\":\"slot\",\"count\":1,\"label\":\"task\",\"with\":[{\"type\":\"core\",\"count\":1}]}]}]}],\"tasks\":[{\"command\":[\"app\"],\"slot\":\"task\",\"count\":{\"per_slot\":1}}],\"attributes\":{\"system\":{\"duration\":60,\"constraints\":",
+            $constraint,
+            "}}}"
+        )
+    };
+}
+
 /// A line that tells a job's resources: its front, the ranks, the cores of each, the end, the hosts, and the start.
 macro_rules! given {
     ($front:literal, $ranks:literal, $cores:literal, $end:literal, $hosts:literal, $start:literal) => {
@@ -95,6 +150,21 @@ macro_rules! given {
     };
 }
 
+/// A line that tells a job's cores and memory on the node of rank 0, for a minute from second 0: its front, the cores, and
+/// the claims on memory.
+macro_rules! given_memory {
+    ($front:literal, $cores:literal, $claims:literal) => {
+        concat!(
+            $front,
+            " {\"execution\":{\"R_lite\":[{\"children\":{\"core\":\"",
+            $cores,
+            "\"},\"rank\":\"0\"}],\"expiration\":60,\"nodelist\":[\"node0\"],\"starttime\":0},\"scheduling\":{\"claims\":[",
+            $claims,
+            "]},\"version\":1}"
+        )
+    };
+}
+
 /// A member of the graph file's list of vertices: its id there, its type, and its number among those of its type.
 macro_rules! vertex {
     ($id:literal, $kind:literal, $number:literal) => {
@@ -105,6 +175,25 @@ macro_rules! vertex {
             $kind,
             "\",\"id\":",
             $number,
+            "}}"
+        )
+    };
+}
+
+/// The same with one more key: its id, its type, its number, the key, and the value.
+macro_rules! vertex_with {
+    ($id:literal, $kind:literal, $number:literal, $key:literal, $value:literal) => {
+        concat!(
+            "{\"id\":\"",
+            $id,
+            "\",\"metadata\":{\"type\":\"",
+            $kind,
+            "\",\"id\":",
+            $number,
+            ",\"",
+            $key,
+            "\":",
+            $value,
             "}}"
         )
     };
@@ -123,32 +212,104 @@ macro_rules! edge {
     };
 }
 
-const VERTICES: [&str; 11] = [
-    vertex!("cluster", "cluster", 0),
-    vertex!("left", "node", 0),
-    vertex!("left0", "core", 0),
-    vertex!("left1", "core", 1),
-    vertex!("left2", "core", 2),
-    vertex!("left3", "core", 3),
-    vertex!("right", "node", 1),
-    vertex!("right0", "core", 0),
-    vertex!("right1", "core", 1),
-    vertex!("right2", "core", 2),
-    vertex!("right3", "core", 3),
-];
+/// A graph file: its vertices and its edges.
+#[derive(Clone, Copy)]
+struct GraphFile {
+    vertices: &'static [&'static str],
+    edges: &'static [&'static str],
+}
 
-const EDGES: [&str; 10] = [
-    edge!("cluster", "left"),
-    edge!("left", "left0"),
-    edge!("left", "left1"),
-    edge!("left", "left2"),
-    edge!("left", "left3"),
-    edge!("cluster", "right"),
-    edge!("right", "right0"),
-    edge!("right", "right1"),
-    edge!("right", "right2"),
-    edge!("right", "right3"),
-];
+/// Two nodes of four cores each.
+const TWO_NODES: GraphFile = GraphFile {
+    vertices: &[
+        vertex!("cluster", "cluster", 0),
+        vertex!("left", "node", 0),
+        vertex!("left0", "core", 0),
+        vertex!("left1", "core", 1),
+        vertex!("left2", "core", 2),
+        vertex!("left3", "core", 3),
+        vertex!("right", "node", 1),
+        vertex!("right0", "core", 0),
+        vertex!("right1", "core", 1),
+        vertex!("right2", "core", 2),
+        vertex!("right3", "core", 3),
+    ],
+    edges: &[
+        edge!("cluster", "left"),
+        edge!("left", "left0"),
+        edge!("left", "left1"),
+        edge!("left", "left2"),
+        edge!("left", "left3"),
+        edge!("cluster", "right"),
+        edge!("right", "right0"),
+        edge!("right", "right1"),
+        edge!("right", "right2"),
+        edge!("right", "right3"),
+    ],
+};
+
+/// One node of four cores and two memories of eight units each.
+const TWO_MEMORIES: GraphFile = GraphFile {
+    vertices: &[
+        vertex!("cluster", "cluster", 0),
+        vertex!("node", "node", 0),
+        vertex!("core0", "core", 0),
+        vertex!("core1", "core", 1),
+        vertex!("core2", "core", 2),
+        vertex!("core3", "core", 3),
+        vertex_with!("memory0", "memory", 0, "size", 8),
+        vertex_with!("memory1", "memory", 1, "size", 8),
+    ],
+    edges: &[
+        edge!("cluster", "node"),
+        edge!("node", "core0"),
+        edge!("node", "core1"),
+        edge!("node", "core2"),
+        edge!("node", "core3"),
+        edge!("node", "memory0"),
+        edge!("node", "memory1"),
+    ],
+};
+
+/// One node with a socket of one core.
+const ONE_SOCKET: GraphFile = GraphFile {
+    vertices: &[
+        vertex!("cluster", "cluster", 0),
+        vertex!("node", "node", 0),
+        vertex!("socket", "socket", 0),
+        vertex!("core", "core", 0),
+    ],
+    edges: &[
+        edge!("cluster", "node"),
+        edge!("node", "socket"),
+        edge!("socket", "core"),
+    ],
+};
+
+/// Four nodes of one core each, of which the second has the property `bad`.
+const ONE_BAD: GraphFile = GraphFile {
+    vertices: &[
+        vertex!("cluster", "cluster", 0),
+        vertex!("node0", "node", 0),
+        vertex!("core0", "core", 0),
+        vertex_with!("node1", "node", 1, "properties", "[\"bad\"]"),
+        vertex!("core1", "core", 0),
+        vertex!("node2", "node", 2),
+        vertex!("core2", "core", 0),
+        vertex!("node3", "node", 3),
+        vertex!("core3", "core", 0),
+    ],
+    edges: &[
+        edge!("cluster", "node0"),
+        edge!("node0", "core0"),
+        edge!("cluster", "node1"),
+        edge!("node1", "core1"),
+        edge!("cluster", "node2"),
+        edge!("node2", "core2"),
+        edge!("cluster", "node3"),
+        edge!("node3", "core3"),
+    ],
+};
 
 /// A run: the words behind the name of the graph file, and each line beside its answer.
 #[derive(Clone, Copy)]
@@ -387,7 +548,10 @@ const UNREADABLE: [Run; 2] = [
             ),
             ("a satisfy []", "3 4 a invalid field . kind"),
             ("a satisfy {}", "4 5 a invalid field version missing"),
-            ("a satisfy {\"version\":2}", "5 6 a invalid version"),
+            (
+                "a satisfy {\"version\":2}",
+                "5 6 a invalid field resources missing",
+            ),
             (
                 spec!(
                     "a satisfy",
@@ -424,13 +588,129 @@ const UNREADABLE: [Run; 2] = [
     },
 ];
 
-/// The graph file.
-fn graph(alloc: Global) -> Result<Vec<u8>, AllocError> {
+/// Runs over a node with memory.
+const POOLED: [Run; 2] = [
+    // Units are taken from the first memory that has some left, and from the next.
+    Run {
+        options: &[],
+        rows: &[
+            (
+                memory!("a allocate 1", 1, 10, 60),
+                given_memory!(
+                    "0 1 a allocated 1 0",
+                    "0",
+                    "{\"mode\":\"take\",\"path\":\"/cluster0/node0/memory0\",\"quantity\":8},{\"mode\":\"take\",\"path\":\"/cluster0/node0/memory1\",\"quantity\":2}"
+                ),
+            ),
+            (memory!("a allocate 2", 1, 7, 60), "1 2 a busy"),
+            (
+                memory!("a allocate 3", 1, 6, 60),
+                given_memory!(
+                    "2 3 a allocated 3 0",
+                    "1",
+                    "{\"mode\":\"take\",\"path\":\"/cluster0/node0/memory1\",\"quantity\":6}"
+                ),
+            ),
+            (memory!("a satisfy", 1, 17, 60), "3 4 a unsatisfiable"),
+        ],
+    },
+    // Memory is asked for in units alone.
+    Run {
+        options: &[],
+        rows: &[
+            (
+                slot_over!(
+                    "a satisfy",
+                    "{\"type\":\"core\",\"count\":1},{\"type\":\"memory\",\"count\":1,\"exclusive\":true}"
+                ),
+                "0 1 a invalid shape held memory",
+            ),
+            (
+                slot_over!(
+                    "a satisfy",
+                    "{\"type\":\"memory\",\"count\":1,\"with\":[{\"type\":\"core\",\"count\":1}]}"
+                ),
+                "1 2 a invalid shape with memory",
+            ),
+        ],
+    },
+];
+
+/// Runs over a node with a socket.
+const NESTED: [Run; 1] = [
+    // Siblings have types of which none contains another.
+    Run {
+        options: &[],
+        rows: &[
+            (
+                slot_over!(
+                    "a satisfy",
+                    "{\"type\":\"core\",\"count\":1},{\"type\":\"socket\",\"count\":1,\"with\":[{\"type\":\"core\",\"count\":1}]}"
+                ),
+                "0 1 a invalid shape nested socket core",
+            ),
+            (
+                slot_over!(
+                    "a satisfy",
+                    "{\"type\":\"core\",\"count\":1},{\"type\":\"core\",\"count\":1}"
+                ),
+                "1 2 a invalid shape same core",
+            ),
+            (
+                slot_over!(
+                    "a satisfy",
+                    "{\"type\":\"socket\",\"count\":1,\"with\":[{\"type\":\"core\",\"count\":1}]}"
+                ),
+                "2 3 a satisfiable",
+            ),
+        ],
+    },
+];
+
+/// Runs with constraints on nodes.
+const CONSTRAINED: [Run; 1] = [
+    // A node for which the constraint is false is never given, nor held from above.
+    Run {
+        options: &[],
+        rows: &[
+            (
+                constrained!("a allocate 1", 3, "{\"properties\":[\"^bad\"]}"),
+                given!(
+                    "0 1 a allocated 1 0",
+                    "0,2-3",
+                    "0",
+                    60,
+                    "node0\",\"node[2-3]",
+                    0
+                ),
+            ),
+            (
+                constrained!("a allocate 2", 4, "{\"properties\":[\"^bad\"]}"),
+                "1 2 a unsatisfiable",
+            ),
+            (
+                constrained!("a allocate 2", 3, "{\"xor\":[]}"),
+                "2 3 a invalid constraint attributes.system.constraints",
+            ),
+            (
+                constrained_cluster!("a satisfy", "{\"properties\":[\"^bad\"]}"),
+                "3 4 a unsatisfiable",
+            ),
+            (
+                constrained_cluster!("a satisfy", "null"),
+                "4 5 a satisfiable",
+            ),
+        ],
+    },
+];
+
+/// The graph file's bytes.
+fn graph(alloc: Global, file: &GraphFile) -> Result<Vec<u8>, AllocError> {
     let mut text = Vec::new(alloc);
     text.extend_from_slice(b"{\"graph\":{\"nodes\":[")?;
-    add_all(&mut text, &VERTICES)?;
+    add_all(&mut text, file.vertices)?;
     text.extend_from_slice(b"],\"edges\":[")?;
-    add_all(&mut text, &EDGES)?;
+    add_all(&mut text, file.edges)?;
     text.extend_from_slice(b"]}}")?;
     Ok(text)
 }
@@ -447,8 +727,8 @@ fn add_all(text: &mut Vec<u8>, members: &[&str]) -> Result<(), AllocError> {
 }
 
 /// A store with the one file `g`.
-fn store(alloc: Global) -> Result<List<(Text, Text)>, AllocError> {
-    let graph = Text::of_vec(graph(alloc)?);
+fn store(alloc: Global, file: &GraphFile) -> Result<List<(Text, Text)>, AllocError> {
+    let graph = Text::of_vec(graph(alloc, file)?);
     let mut files = Vec::new(alloc);
     files.push((Text::of(alloc, b"g")?, graph))?;
     Ok(List::of_vec(files))
@@ -487,12 +767,12 @@ fn answers_of(alloc: Global, rows: &[(&str, &str)]) -> Result<Vec<u8>, AllocErro
     Ok(answers)
 }
 
-/// The run ends well, and its output is the answers.
-fn is_answered(rt: &impl Abort, alloc: Global, row: &Run) -> Result<(), Fail> {
+/// The run over the graph ends well, and its output is the answers.
+fn is_answered(rt: &impl Abort, alloc: Global, file: &GraphFile, row: &Run) -> Result<(), Fail> {
     let answers = answers_of(alloc, row.rows)?;
     let lines = Text::of_vec(lines_of(alloc, row.rows)?);
     let words = words_of(alloc, row.options)?;
-    let mut files = SureFiles::new(store(alloc)?);
+    let mut files = SureFiles::new(store(alloc, file)?);
     let mut input = SureSource::new(lines, 100);
     let mut out = SureSink::new(alloc, 64);
     out.reserve(answers.len())?;
@@ -502,13 +782,26 @@ fn is_answered(rt: &impl Abort, alloc: Global, row: &Run) -> Result<(), Fail> {
     Ok(())
 }
 
+/// Each of the runs over the graph is answered.
+fn are_answered(
+    rt: &impl Abort,
+    alloc: Global,
+    file: &GraphFile,
+    runs: &[Run],
+) -> Result<(), Fail> {
+    for row in runs {
+        is_answered(rt, alloc, file, row)?;
+    }
+    Ok(())
+}
+
 #[test]
 fn each_run_is_answered(rt: HostRuntime) -> Result<(), Fail> {
     let alloc = rt.alloc();
     for runs in [&GIVING[..], &KEEPING[..], &UNREADABLE[..]] {
-        for row in runs {
-            is_answered(&rt, alloc, row)?;
-        }
+        are_answered(&rt, alloc, &TWO_NODES, runs)?;
     }
-    Ok(())
+    are_answered(&rt, alloc, &TWO_MEMORIES, &POOLED)?;
+    are_answered(&rt, alloc, &ONE_SOCKET, &NESTED)?;
+    are_answered(&rt, alloc, &ONE_BAD, &CONSTRAINED)
 }

@@ -1,15 +1,15 @@
 //! The top call.
-ghost use Rattle.std.specs.Prelude.{◌≡◌, ◌⊎◌, ◌↔◌, ◌++◌, ◌<◌, ◌≤◌, ℕ, List, length, map, string_bytes, codes, IfOk, IfSome, None, Some};
+ghost use Rattle.std.specs.Prelude.{◌≡◌, true, ◌⊎◌, ◌↔◌, ◌++◌, ◌<◌, ◌≤◌, ℕ, List, length, map, string_bytes, codes, IfOk, IfSome, None, Some};
 ghost use Rattle.std.specs.Io.KnownBytes.{Keeps, IsAtEnd};
 ghost use Rattle.flux_io.specs.Counts.{Rose};
 ghost use Rattle.flux_io.specs.Stores.{file_of};
 ghost use Rattle.graph_json.specs.WrittenGraph.{graph_text};
 ghost use Rattle.graph_json.specs.declared.faults.ReadFault.{ReadFault};
 ghost use Rattle.fluxion_lines.specs.declared.input.Over.{Over};
-ghost use Rattle.fluxion_lines.specs.Inputs.{over_in};
+ghost use Rattle.fluxion_lines.specs.Inputs.{is_by_size, over_size_in};
 ghost use Rattle.fluxion_shell.specs.Forms.{Served, IsServe, IsPrint, NamesFile};
 ghost use Rattle.fluxion_shell.specs.Outputs.{shipped, Answers, AnswersSoundly, Prints};
-ghost use Rattle.fluxion_shell.specs.Causes.{most_bytes, long_graph, long_input, limit_of, told_file, WhereTold, AppendsSome, AppendsFrontOfSome, HasFault, Shows, ShowsPrint, HasGraphFile, HasShortInput};
+ghost use Rattle.fluxion_shell.specs.Causes.{most_bytes, long_graph, long_input, limit_of, IsPastLimit, told_file, WhereTold, AppendsSome, AppendsFrontOfSome, HasFault, Shows, ShowsPrint, HasGraphFile, HasShortInput};
 
 use crate::answering::answer;
 use crate::loading::{MOST_BYTES, load, too_long};
@@ -30,6 +30,7 @@ fn limit_of(over: Over) -> Status
         Over::Lines { line } => (Which::Lines, line),
         Over::LineBytes { line } => (Which::LineBytes, line),
         Over::Clients { line } => (Which::Clients, line),
+        Over::Barred { line } => (Which::Barred, line),
     };
     Status::Limit(Limited { which, found })
 }
@@ -59,7 +60,8 @@ fn serve<F: Files, S: Source, O: Sink>(
     ensures graph_limit { result ≡ long_graph → Rose (F.refused files.old) (F.refused files.new)
         × IfSome (told_file (F.told files.old) name.now) (λ file. most_bytes < length file) }
     ensures input_limit { result ≡ long_input → IfSome (S.left input.old) (λ lines. most_bytes < length lines) }
-    ensures line_limit { (over : Over) → result ≡ limit_of over → IfSome (S.left input.old) (λ lines. over_in shipped lines ≡ Some over) }
+    ensures line_limit { (over : Over) → is_by_size over ≡ true → result ≡ limit_of over → IfSome (S.left input.old) (λ lines. over_size_in shipped lines ≡ Some over) }
+    ensures past_limit { (over : Over) → result ≡ limit_of over → WhereTold (told_file (F.told files.old) name.now) (S.left input.old) (λ file lines. IsPastLimit file lines over) }
     ensures limits { (limited : Limited) → result ≡ Status.Limit limited → (result ≡ long_graph) ⊎ (result ≡ long_input) ⊎ ((over : Over) × (result ≡ limit_of over)) }
     ensures graph { (fault : ReadFault) → result ≡ Status.Graph fault →
         IfSome (told_file (F.told files.old) name.now) (λ file. HasFault file fault) }
@@ -173,10 +175,13 @@ pub fn run<F: Files, S: Source, O: Sink>(
     ensures read { result ≡ Status.Read → Rose (F.faults files.old) (F.faults files.new) ⊎ Rose (S.faults input.old) (S.faults input.new) }
     ensures write { result ≡ Status.Write → Rose (O.faults out.old) (O.faults out.new) }
     ensures input_limit { result ≡ long_input → IfSome (S.left input.old) (λ lines. most_bytes < length lines) }
-    ensures line_limit { (over : Over) → result ≡ limit_of over → IfSome (S.left input.old) (λ lines. over_in shipped lines ≡ Some over) }
+    ensures line_limit { (over : Over) → is_by_size over ≡ true → result ≡ limit_of over → IfSome (S.left input.old) (λ lines. over_size_in shipped lines ≡ Some over) }
+    ensures past_limit { (served : Served) → IsServe (map string_bytes words.now) served → (over : Over) → result ≡ limit_of over → WhereTold (told_file (F.told files.old) served.name) (S.left input.old)
+        (λ file lines. IsPastLimit file lines over) }
+    ensures print_limit { (name : List ℕ) → IsPrint (map string_bytes words.now) name → (over : Over) → result ≡ limit_of over → ⊥ }
     ensures limits { (limited : Limited) → result ≡ Status.Limit limited → (result ≡ long_graph) ⊎ (result ≡ long_input) ⊎ ((over : Over) × (result ≡ limit_of over)) }
     ensures graph_memory { result ≡ Status.Graph ReadFault.Memory → ⊥ }
-    ensures complete { (served : Served) → IsServe (map string_bytes words.now) served → HasGraphFile (F.told files.old) served.name → HasShortInput (S.left input.old) →
+    ensures complete { (served : Served) → IsServe (map string_bytes words.now) served → (order : HasGraphFile (F.told files.old) served.name) → HasShortInput order.graph (S.left input.old) →
         ¬ Rose (F.faults files.old) (F.faults files.new) → ¬ Rose (S.faults input.old) (S.faults input.new) → ¬ Rose (O.faults out.old) (O.faults out.new) →
         (result ≡ Status.Ok) ⊎ (result ≡ Status.Memory) }
     ensures print_complete { (name : List ℕ) → IsPrint (map string_bytes words.now) name → HasGraphFile (F.told files.old) name →

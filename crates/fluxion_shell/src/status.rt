@@ -50,6 +50,8 @@ pub enum Which {
     LineBytes,
     /// Its clients.
     Clients,
+    /// The nodes that the asks of its lines bar.
+    Barred,
 }
 
 /// The number that the program ends with.
@@ -107,6 +109,7 @@ fn limit_line(alloc: Global, limited: &Limited) -> Result<Text, AllocError>
         Which::Lines => b"lines ",
         Which::LineBytes => b"line-bytes ",
         Which::Clients => b"clients ",
+        Which::Barred => b"barred ",
     };
     add(&mut line, word)?;
     add_number(&mut line, limited.found)?;

@@ -260,6 +260,14 @@ fn each_status_has_its_number(rt: HostRuntime) -> Result<(), Fail> {
         fault_line(alloc, &clients)?.bytes(),
         b"fluxion: limit: clients 65\n".as_slice()
     );
+    let barred = Status::Limit(Limited {
+        which: Which::Barred,
+        found: 2,
+    });
+    assert_eq!(rt;
+        fault_line(alloc, &barred)?.bytes(),
+        b"fluxion: limit: barred 2\n".as_slice()
+    );
     assert_eq!(rt; fault_line(alloc, &Status::Ok)?.bytes().len(), 0);
     assert_eq!(rt; code(&Status::Ok), 0);
     assert_eq!(rt; code(&Status::Usage), 2);

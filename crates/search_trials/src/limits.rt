@@ -1,9 +1,11 @@
 //! Worked rows of the limits on an input.
+ghost use Rattle.std.specs.Prelude.{◌<◌, ◌^◌};
+
 use crate::graphs::two_nodes;
 use flux_defs::Limits;
 use fluxion_lines::{Form, InputFault, Over, read_lines};
 use resource_graph::Graph;
-use std::alloc::Global;
+use std::alloc::{AllocError, Global};
 use std::test::Fail;
 
 /// The most lines, an input, and the limit that it passes.
@@ -53,16 +55,31 @@ const ROWS: [Row; 9] = [
     ),
 ];
 
-/// The limit that the lines pass, where there may be so many of them, of 20 bytes each, from two clients.
-fn passed(alloc: Global, graph: &Graph, most: u32, bytes: &[u8]) -> Result<Option<Over>, Fail> {
-    let limits = Limits {
-        lines: u64::from(most),
-        line_bytes: 20,
+/// So many lines, of so many bytes each, from two clients, and one barred node.
+fn limits(lines: u32, line_bytes: u64) -> Limits
+    ensures lines { result.lines < 2 ^ 32 }
+    ensures clients { result.clients < 2 ^ 32 }
+{
+    Limits {
+        lines: u64::from(lines),
+        line_bytes,
         clients: 2,
         barred: 1,
         claims: 5,
-    };
-    match read_lines(alloc, graph, Form::Rfc14, bytes, &limits) {
+    }
+}
+
+/// The limit that the lines pass.
+fn passed(
+    alloc: Global,
+    graph: &Graph,
+    limits: &Limits,
+    bytes: &[u8],
+) -> Result<Option<Over>, Fail>
+    requires lines { limits.now.lines < 2 ^ 32 }
+    requires clients { limits.now.clients < 2 ^ 32 }
+{
+    match read_lines(alloc, graph, Form::Rfc14, bytes, limits) {
         Ok(_) => Ok(None),
         Err(InputFault::Over(over)) => Ok(Some(over)),
         Err(InputFault::Memory) => Err(Fail::from("no memory")),
@@ -74,7 +91,92 @@ fn the_first_limit_passed_is_told(rt: HostRuntime) -> Result<(), Fail> {
     let alloc = rt.alloc();
     let graph = two_nodes(alloc)?;
     for Row(most, bytes, wanted) in &ROWS {
-        let told = passed(alloc, &graph, *most, bytes)?;
+        let told = passed(alloc, &graph, &limits(*most, 20), bytes)?;
+        assert_eq!(rt; told, *wanted, "{most} lines");
+    }
+    Ok(())
+}
+
+/// The words of a line, and a jobspec that bars one of two nodes.
+macro_rules! barring {
+    ($words:literal) => {
+        concat!(
+            $words,
+            " {\"version\":1,\"resources\":[{\"type\":\"slot\",\"count\":1,\"label\":\"task\",\"with\":[{\"type\":\"core\",\"count\":1}]}],\"tasks\":[{\"command\":[\"app\"],\"slot\":\"task\",\"count\":{\"per_slot\":1}}],\"attributes\":{\"system\":{\"constraints\":{\"ranks\":[\"0\"]}}}}"
+        )
+    };
+}
+
+/// The most lines, the lines of an input, and the limit that it passes.
+struct BarredRow(u32, &'static [&'static str], Option<Over>);
+
+const BARRED_ROWS: [BarredRow; 7] = [
+    // As many barred nodes as there may be.
+    BarredRow(2, &[barring!("a allocate 1")], None),
+    BarredRow(
+        2,
+        &[barring!("a allocate 1"), barring!("a allocate 2")],
+        Some(Over::Barred { line: 2 }),
+    ),
+    // Each command that has an ask counts.
+    BarredRow(
+        2,
+        &[barring!("a satisfy"), barring!("a reserve 1")],
+        Some(Over::Barred { line: 2 }),
+    ),
+    BarredRow(
+        2,
+        &[barring!("a reserve 1"), barring!("b satisfy")],
+        Some(Over::Barred { line: 2 }),
+    ),
+    // No other line does.
+    BarredRow(
+        3,
+        &[
+            barring!("a allocate x"),
+            "a info 1",
+            barring!("a allocate 1"),
+        ],
+        None,
+    ),
+    // Of one line the number and the client are looked at first.
+    BarredRow(
+        2,
+        &[
+            barring!("a allocate 1"),
+            "a info 1",
+            barring!("a allocate 2"),
+        ],
+        Some(Over::Lines { line: 3 }),
+    ),
+    BarredRow(
+        3,
+        &[
+            barring!("a allocate 1"),
+            "b info 1",
+            barring!("c allocate 2"),
+        ],
+        Some(Over::Clients { line: 3 }),
+    ),
+];
+
+/// The lines, each with its line feed.
+fn input_of(alloc: Global, lines: &[&str]) -> Result<Vec<u8>, AllocError> {
+    let mut bytes = Vec::new(alloc);
+    for line in lines {
+        bytes.extend_from_slice(line.as_bytes())?;
+        bytes.push(b'\n')?;
+    }
+    Ok(bytes)
+}
+
+#[test]
+fn barred_nodes_are_limited(rt: HostRuntime) -> Result<(), Fail> {
+    let alloc = rt.alloc();
+    let graph = two_nodes(alloc)?;
+    for BarredRow(most, lines, wanted) in &BARRED_ROWS {
+        let input = input_of(alloc, lines)?;
+        let told = passed(alloc, &graph, &limits(*most, 500), input.as_slice())?;
         assert_eq!(rt; told, *wanted, "{most} lines");
     }
     Ok(())

@@ -9,10 +9,10 @@ use Rattle.fluxion_lines.proofs.scripts.read_input.Goals as goal
 
 pub by_client-requires : goal.by_client-requires
 by_client-requires c =
-    let few = few_clients c.args.graph.now.resources c.args.bytes.now in
+    let few = few_clients c.args.graph.now c.args.form c.args.bytes.now in
     let count = sym (c.len.ensures ∙ ap length c.in-Ok.ensures.clients) in
     subst (λ (ls : List NumberedLine). AllByRecursion (λ (l : NumberedLine). l.client < c.len.result) ls) (sym c.in-Ok.ensures.lines)
-    (subst (λ n. AllByRecursion (λ (l : NumberedLine). l.client < n) (numbered_lines c.args.graph.now.resources c.args.bytes.now)) count few)
+    (subst (λ n. AllByRecursion (λ (l : NumberedLine). l.client < n) (numbered_lines c.args.graph.now c.args.form c.args.bytes.now)) count few)
 
 pub returns-clause-proper : goal.returns-clause-proper
 returns-clause-proper c =

@@ -57,14 +57,14 @@ returns-in-Err-clause-graph_memory g c = λ same.
 
 pub returns-in-Err-clause-first : goal.returns-in-Err-clause-first
 returns-in-Err-clause-first g c =
-    fails_shows (g.F.Files.told c.args.files.now) c.args.name.now (g.F.Files.faults c.args.files.now) (g.F.Files.faults c.load.new.files) (g.F.Files.refused c.args.files.now) (g.F.Files.refused c.load.new.files) c.in-Err.status (OrEarlier c.in-Err.status ((c.in-Err.status ≡ status.Ok) ⊎ (c.in-Err.status ≡ status.Write))) c.in-Err.ensures.failed (earlier_answer c.in-Err.status (((c.in-Err.status ≡ status.Ok) ⊎ (c.in-Err.status ≡ status.Write))))
+    fails_shows (g.F.Files.told c.args.files.now) c.args.name.now (g.F.Files.faults c.args.files.now) (g.F.Files.faults c.load.new.files) (g.F.Files.refused c.args.files.now) (g.F.Files.refused c.load.new.files) c.in-Err.status (λ h. OrEarlier c.in-Err.status ((c.in-Err.status ≡ status.Ok) ⊎ (c.in-Err.status ≡ status.Write))) c.in-Err.ensures.failed (λ h. earlier_answer c.in-Err.status (((c.in-Err.status ≡ status.Ok) ⊎ (c.in-Err.status ≡ status.Write))))
 
 pub returns-in-Err-printed-clause-first : goal.returns-in-Err-printed-clause-first
 returns-in-Err-printed-clause-first g c =
     let told = g.F.Files.told c.args.files.now in
     let name = c.args.name.now in
     let loaded = c.in-Ok.ensures.loaded in
-    shows_then told name loaded.0 loaded.1 c.in-Ok.graph loaded.2 status.Memory (OrEarlier status.Memory ((status.Memory ≡ status.Ok) ⊎ (status.Memory ≡ status.Write))) (inr (inl refl))
+    shows_then told name loaded.0 loaded.1 c.in-Ok.graph loaded.2 status.Memory (λ h. OrEarlier status.Memory ((status.Memory ≡ status.Ok) ⊎ (status.Memory ≡ status.Write))) (inr (inl refl))
 
 pub returns-in-Ok-write_all-clause-printed : goal.returns-in-Ok-write_all-clause-printed
 returns-in-Ok-write_all-clause-printed g c = λ _.
@@ -79,7 +79,7 @@ returns-in-Ok-write_all-clause-first g c =
     let told = g.F.Files.told c.args.files.now in
     let name = c.args.name.now in
     let loaded = c.in-Ok.ensures.loaded in
-    shows_then told name loaded.0 loaded.1 c.in-Ok.graph loaded.2 status.Ok (OrEarlier status.Ok ((status.Ok ≡ status.Ok) ⊎ (status.Ok ≡ status.Write))) (inr (inr (inl refl)))
+    shows_then told name loaded.0 loaded.1 c.in-Ok.graph loaded.2 status.Ok (λ h. OrEarlier status.Ok ((status.Ok ≡ status.Ok) ⊎ (status.Ok ≡ status.Write))) (inr (inr (inl refl)))
 
 pub returns-in-Ok-write_all-clause-room : goal.returns-in-Ok-write_all-clause-room
 returns-in-Ok-write_all-clause-room g c =
@@ -105,7 +105,7 @@ returns-clause-first g c =
     let told = g.F.Files.told c.args.files.now in
     let name = c.args.name.now in
     let loaded = c.in-Ok.ensures.loaded in
-    shows_then told name loaded.0 loaded.1 c.in-Ok.graph loaded.2 status.Write (OrEarlier status.Write ((status.Write ≡ status.Ok) ⊎ (status.Write ≡ status.Write))) (inr (inr (inr refl)))
+    shows_then told name loaded.0 loaded.1 c.in-Ok.graph loaded.2 status.Write (λ h. OrEarlier status.Write ((status.Write ≡ status.Ok) ⊎ (status.Write ≡ status.Write))) (inr (inr (inr refl)))
 
 pub returns-clause-room : goal.returns-clause-room
 returns-clause-room g c =

@@ -1,11 +1,11 @@
-use Rattle.std.proofs.Common.{◌≡◌, ◌⊎◌, inl, inr, ℕ, ◌<◌, ◌≤◌, List, length, IfSome, None, map, string_bytes, refl, subst}
+use Rattle.std.proofs.Common.{◌≡◌, ◌⊎◌, inl, inr, ℕ, ◌<◌, ◌≤◌, List, length, IfSome, None, map, string_bytes, refl, sym, ◌∙◌, subst}
 use Rattle.flux_io.specs.Counts.{Rose}
 use Rattle.flux_io.specs.Stores.{file_of}
 use Rattle.fluxion_shell.specs.Forms.{Served, served_held}
-use Rattle.fluxion_shell.specs.Causes.{most_bytes, told_file, WhereTold, AppendsSome, AppendsFrontOfSome, HasFault, Shows, ShowsPrint}
+use Rattle.fluxion_shell.specs.Causes.{most_bytes, told_file, WhereTold, AppendsSome, AppendsFrontOfSome, HasFault, IsPastLimit, Shows, ShowsPrint}
 use Rattle.fluxion_shell.specs.Outputs.{Answers, AnswersSoundly}
 use Rattle.fluxion_shell.proofs.TwoWords.{same_name, same_call, one_form, serve_name}
-use Rattle.fluxion_shell.proofs.Shown.{completes, completes_print}
+use Rattle.fluxion_shell.proofs.Shown.{over_is_limit, over_is_no_graph, completes, completes_print}
 use Rattle.fluxion_shell.proofs.running.run.Goals as goal
 
 neither : {A B : Type 0} → (A → ⊥) → (B → ⊥) → A ⊎ B → ⊥
@@ -53,6 +53,18 @@ returns-in-Some-clause-graph_limit g c = λ name is same.
 pub returns-in-Some-clause-graph : goal.returns-in-Some-clause-graph
 returns-in-Some-clause-graph g c = λ name is fault same.
     subst (λ (n : List ℕ). IfSome (told_file (g.F.Files.told c.args.files.now) n) (λ file. HasFault file fault)) (serve_name (map string_bytes c.args.words.now) (served_held c.in-Some.call) name c.in-Some.ensures is) (c.serve.ensures.graph fault same)
+
+pub returns-in-Some-clause-past_limit : goal.returns-in-Some-clause-past_limit
+returns-in-Some-clause-past_limit g c = λ served is over same.
+    subst (λ (n : Served). WhereTold (told_file (g.F.Files.told c.args.files.now) n.name) (g.S.Source.left c.args.input.now) (λ file lines. IsPastLimit file lines over)) (same_call (map string_bytes c.args.words.now) (served_held c.in-Some.call) served c.in-Some.ensures is) (c.serve.ensures.past_limit over same)
+
+pub returns-in-Some-clause-print_limit : goal.returns-in-Some-clause-print_limit
+returns-in-Some-clause-print_limit g c = λ name is over same. one_form (map string_bytes c.args.words.now) (served_held c.in-Some.call) name c.in-Some.ensures is
+
+pub returns-in-Some-graph_name-clause-print_limit : goal.returns-in-Some-graph_name-clause-print_limit
+returns-in-Some-graph_name-clause-print_limit g c = λ name is over same.
+    let limit = over_is_limit over in
+    over_is_no_graph over (sym same ∙ c.print_graph.ensures.limits limit.0 (same ∙ limit.1))
 
 pub returns-in-Some-clause-usage : goal.returns-in-Some-clause-usage
 returns-in-Some-clause-usage g c = ((λ same. absurd (c.serve.ensures.usage same)), (λ none. absurd (none c.in-Some.call.name.now (inl (c.in-Some.call.horizon, c.in-Some.ensures)))))

@@ -1,14 +1,21 @@
-use Rattle.std.proofs.Common.{◌≡◌, ℕ, ◌≤◌, List, length, Err, IfSome, inl, inr, refl, sym, ◌∙◌, ap, subst}
+use Rattle.std.proofs.Common.{◌≡◌, ℕ, ◌≤◌, List, length, Err, Some, IfSome, inl, inr, refl, sym, ◌∙◌, ap, subst}
 use Rattle.fluxion_shell.specs.declared.status.Status.{Status}
 use Rattle.fluxion_shell.specs.declared.status.Status.TheVariants as status
-use Rattle.fluxion_shell.specs.Causes.{AppendsSome, AppendsFrontOfSome, ShowsInput, Shows, FailsWith}
+use Rattle.fluxion_shell.specs.Causes.{AppendsSome, AppendsFrontOfSome, IsPastLimit, ShowsInput, Shows, FailsWith}
 use Rattle.fluxion_lines.specs.Inputs.{over_in}
-use Rattle.fluxion_shell.specs.Outputs.{shipped, IsSoundOutput, Answers, AnswersSoundly}
-use Rattle.fluxion_shell.proofs.Shown.{shows_earlier, shows_long_input, shows_read, earlier_input, where_told, fails_limit, fails_graph, fails_limits, fails_shows, input_is_no_graph, over_is_limit, over_is_no_graph, shows_over, front_of, no_fault}
+use Rattle.fluxion_shell.specs.Outputs.{shipped, served_form, IsSoundOutput, Answers, AnswersSoundly}
+use Rattle.fluxion_shell.proofs.Shown.{shows_earlier, shows_long_input, shows_read, earlier_input, where_told, fails_limit, fails_graph, fails_limits, fails_shows, input_is_no_graph, over_is_limit, over_is_no_graph, over_is_one, size_limit, shows_over, front_of, no_fault}
 use Rattle.fluxion_shell.proofs.running.serve.Goals as goal
 
 pub returns-in-Err-clause-line_limit : goal.returns-in-Err-clause-line_limit
-returns-in-Err-clause-line_limit g c = λ over same.
+returns-in-Err-clause-line_limit g c = λ over by_size same.
+    let limit = over_is_limit over in
+    let fails = FailsWith (g.F.Files.told c.args.files.now) c.args.name.now (g.F.Files.faults c.args.files.now) (g.F.Files.faults c.load.new.files) (g.F.Files.refused c.args.files.now) (g.F.Files.refused c.load.new.files) in
+    let graph = fails_limits (g.F.Files.told c.args.files.now) c.args.name.now (g.F.Files.faults c.args.files.now) (g.F.Files.faults c.load.new.files) (g.F.Files.refused c.args.files.now) (g.F.Files.refused c.load.new.files) limit.0 (subst fails (same ∙ limit.1) c.in-Err.ensures.failed) in
+    absurd (over_is_no_graph over (limit.1 ∙ graph))
+
+pub returns-in-Err-clause-past_limit : goal.returns-in-Err-clause-past_limit
+returns-in-Err-clause-past_limit g c = λ over same.
     let limit = over_is_limit over in
     let fails = FailsWith (g.F.Files.told c.args.files.now) c.args.name.now (g.F.Files.faults c.args.files.now) (g.F.Files.faults c.load.new.files) (g.F.Files.refused c.args.files.now) (g.F.Files.refused c.load.new.files) in
     let graph = fails_limits (g.F.Files.told c.args.files.now) c.args.name.now (g.F.Files.faults c.args.files.now) (g.F.Files.faults c.load.new.files) (g.F.Files.refused c.args.files.now) (g.F.Files.refused c.load.new.files) limit.0 (subst fails (same ∙ limit.1) c.in-Err.ensures.failed) in
@@ -82,7 +89,7 @@ returns-in-Err-clause-graph_memory g c = λ same.
 pub returns-in-Err-clause-first : goal.returns-in-Err-clause-first
 returns-in-Err-clause-first g c =
     let left = g.S.Source.left c.args.input.now in
-    fails_shows (g.F.Files.told c.args.files.now) c.args.name.now (g.F.Files.faults c.args.files.now) (g.F.Files.faults c.load.new.files) (g.F.Files.refused c.args.files.now) (g.F.Files.refused c.load.new.files) c.in-Err.status (IfSome left (ShowsInput c.in-Err.status)) c.in-Err.ensures.failed (earlier_input left c.in-Err.status)
+    fails_shows (g.F.Files.told c.args.files.now) c.args.name.now (g.F.Files.faults c.args.files.now) (g.F.Files.faults c.load.new.files) (g.F.Files.refused c.args.files.now) (g.F.Files.refused c.load.new.files) c.in-Err.status (λ h. IfSome left (ShowsInput c.in-Err.status h)) c.in-Err.ensures.failed (λ h. earlier_input h left c.in-Err.status)
 
 pub returns-in-Err-Failed-clause-first : goal.returns-in-Err-Failed-clause-first
 returns-in-Err-Failed-clause-first g c =
@@ -145,7 +152,7 @@ returns-in-Ok-write_all-clause-first g c =
     let name = c.args.name.now in
     let left = g.S.Source.left c.args.input.now in
     let loaded = c.in-Ok.ensures.loaded in
-    shows_read told name loaded.0 loaded.1 c.in-Ok.graph loaded.2 left c.in-Ok-read_all.lines status.Ok c.in-Ok-read_all.ensures.most c.in-Ok-read_all.ensures.whole (ap (over_in shipped) (sym c.bytes.ensures) ∙ c.in-Ok-answer.ensures.within refl) (inl refl)
+    shows_read told name loaded.0 loaded.1 c.in-Ok.graph loaded.2 left c.in-Ok-read_all.lines status.Ok c.in-Ok-read_all.ensures.most c.in-Ok-read_all.ensures.whole (ap (over_in shipped c.in-Ok.graph served_form) (sym c.bytes.ensures) ∙ c.in-Ok-answer.ensures.within refl) (inl refl)
 
 pub returns-in-Ok-write_all-clause-room : goal.returns-in-Ok-write_all-clause-room
 returns-in-Ok-write_all-clause-room g c =
@@ -178,7 +185,7 @@ returns-clause-first g c =
     let name = c.args.name.now in
     let left = g.S.Source.left c.args.input.now in
     let loaded = c.in-Ok.ensures.loaded in
-    shows_read told name loaded.0 loaded.1 c.in-Ok.graph loaded.2 left c.in-Ok-read_all.lines status.Write c.in-Ok-read_all.ensures.most c.in-Ok-read_all.ensures.whole (ap (over_in shipped) (sym c.bytes.ensures) ∙ c.in-Ok-answer.ensures.within refl) (inr refl)
+    shows_read told name loaded.0 loaded.1 c.in-Ok.graph loaded.2 left c.in-Ok-read_all.lines status.Write c.in-Ok-read_all.ensures.most c.in-Ok-read_all.ensures.whole (ap (over_in shipped c.in-Ok.graph served_form) (sym c.bytes.ensures) ∙ c.in-Ok-answer.ensures.within refl) (inr refl)
 
 pub returns-clause-room : goal.returns-clause-room
 returns-clause-room g c =
@@ -200,6 +207,20 @@ returns-in-Err-Over-clause-first g c =
     let name = c.args.name.now in
     let left = g.S.Source.left c.args.input.now in
     let loaded = c.in-Ok.ensures.loaded in
-    let past = ap (over_in shipped) (sym c.bytes.ensures) ∙ c.answer.ensures.over c.in-Err-Over.over (c.in-Err-Over.is ∙ ap Err c.in-Err-Over.field-0-is) in
+    let past = ap (over_in shipped c.in-Ok.graph served_form) (sym c.bytes.ensures) ∙ c.answer.ensures.over c.in-Err-Over.over (c.in-Err-Over.is ∙ ap Err c.in-Err-Over.field-0-is) in
     subst (λ (r : Status). Shows r told name left) (sym c.limit_of.ensures)
     (shows_over told name loaded.0 loaded.1 c.in-Ok.graph loaded.2 left c.in-Ok-read_all.lines c.in-Err-Over.over c.in-Ok-read_all.ensures.most c.in-Ok-read_all.ensures.whole past)
+
+pub returns-in-Err-Over-clause-line_limit : goal.returns-in-Err-Over-clause-line_limit
+returns-in-Err-Over-clause-line_limit g c = λ over by_size same.
+    let past = ap (over_in shipped c.in-Ok.graph served_form) (sym c.bytes.ensures) ∙ c.answer.ensures.over c.in-Err-Over.over (c.in-Err-Over.is ∙ ap Err c.in-Err-Over.field-0-is) in
+    size_limit (g.S.Source.left c.args.input.now) c.in-Ok-read_all.lines c.in-Ok.graph over c.in-Ok-read_all.ensures.whole by_size
+    (past ∙ ap Some (over_is_one c.in-Err-Over.over over (sym c.limit_of.ensures ∙ same)))
+
+pub returns-in-Err-Over-clause-past_limit : goal.returns-in-Err-Over-clause-past_limit
+returns-in-Err-Over-clause-past_limit g c = λ over same.
+    let told = g.F.Files.told c.args.files.now in
+    let loaded = c.in-Ok.ensures.loaded in
+    let past = ap (over_in shipped c.in-Ok.graph served_form) (sym c.bytes.ensures) ∙ c.answer.ensures.over c.in-Err-Over.over (c.in-Err-Over.is ∙ ap Err c.in-Err-Over.field-0-is) in
+    where_told told c.args.name.now loaded.0 loaded.1 (g.S.Source.left c.args.input.now) c.in-Ok-read_all.lines (λ file lines. IsPastLimit file lines over) c.in-Ok-read_all.ensures.whole
+    (c.in-Ok.graph, loaded.2, past ∙ ap Some (over_is_one c.in-Err-Over.over over (sym c.limit_of.ensures ∙ same)))
