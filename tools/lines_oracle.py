@@ -2,12 +2,16 @@
 """Answers the program's input on a graph file by the rules of docs/FORMATS.md, and makes such files.
 
 lines_oracle.py make SEED LINES GRAPH INPUT             writes a graph file and an input; prints the words behind GRAPH
-lines_oracle.py answer GRAPH INPUT [--horizon N]        prints what `fluxion serve GRAPH [--horizon N] < INPUT` has to print
+lines_oracle.py answer GRAPH INPUT [--horizon N] [--form v1|rfc14]
+                                                        prints what `fluxion serve GRAPH [--horizon N] < INPUT` has to print
 lines_oracle.py compare PROGRAM FIRST LAST              makes and answers for each seed, and compares with the program
+
+The form is that of the jobspecs: version 1 alone, or the canonical one (rfc14), which is what `compare` reads and where
+nothing is said. Jobspecs of both forms are made, with constraints, and graphs with pools.
 
 It shares no code with the program; id sets and host lists come from text_oracle.py. Claims are looked for by walking all
 vertices and all jobs, and the earliest start by trying every second of a horizon up to 100, else now and every end of a job.
-Graphs have to be valid ones, and the limits on lines, bytes and clients aren't looked at.
+Graphs have to be valid ones, and the limits on lines, bytes, clients and barred nodes aren't looked at.
 """
 import json
 import os
@@ -16,8 +20,11 @@ import re
 import subprocess
 import sys
 import tempfile
+from bisect import bisect_left
+from collections import namedtuple
+from itertools import chain, combinations, islice
 
-from text_oracle import hostlist_items, write_idset
+from text_oracle import has_host, has_id, hostlist_items, write_idset
 
 sys.set_int_max_str_digits(0)
 MOST_CLAIMS = 2_097_152
@@ -182,9 +189,9 @@ def is_form(listed):
     return slot_form(top) or (top.kind == "node" and len(top.below) == 1 and slot_form(top.below[0]))
 
 
-def check_task(task, labels):
+def is_task(task, labels):
     command, count = task.get("command"), task.get("count")
-    good = (
+    return bool(
         texts(command)
         and command
         and isinstance(task.get("slot"), str)
@@ -193,8 +200,6 @@ def check_task(task, labels):
         and count.keys() & {"per_slot", "total"}
         and all(is_whole(count[k]) and 1 <= count[k] <= MOST_WHOLE for k in ("per_slot", "total") if k in count)
     )
-    if not good:
-        raise Fault("task tasks[0]")
 
 
 def object_at(holder, key, path):
@@ -205,45 +210,124 @@ def object_at(holder, key, path):
 
 
 class Ask:
-    """What a jobspec asks for: `nodes` is None where a slot is spread, and `parts` are its kinds, counts and holds."""
+    """What a jobspec asks for: needs, a duration, and the nodes that it bars."""
 
-    def __init__(self, graph, data):
+    def __init__(self, graph, data, form):
         spec = read_json(data)
         if not isinstance(spec, dict):
             raise field(".", "kind")
-        if whole(needed(spec, "version", "version"), "version", 1) != 1:
+        version = whole(needed(spec, "version", "version"), "version", 1)
+        if form == "v1" and version != 1:
             raise Fault("version")
         resources = filled(needed(spec, "resources", "resources"), "resources")
         labels = set()
         listed = [Wanted(value, f"resources[{at}]", labels, False) for at, value in enumerate(resources)]
-        if not is_form(listed):
+        if form == "v1" and not is_form(listed):
             raise Fault("form")
         tasks = filled(needed(spec, "tasks", "tasks"), "tasks")
-        if len(tasks) > 1:
+        if form == "v1" and len(tasks) > 1:
             raise Fault("task tasks")
-        if not isinstance(tasks[0], dict):
-            raise field("tasks[0]", "kind")
-        check_task(tasks[0], labels)
+        for at, task in enumerate(tasks):
+            if not isinstance(task, dict):
+                raise field(f"tasks[{at}]", "kind")
+            if not is_task(task, labels):
+                raise Fault(f"task tasks[{at}]")
         system = object_at(object_at(spec, "attributes", "attributes"), "system", "attributes.system")
         self.duration = whole(system.get("duration", 0), "attributes.system.duration", 0)
-        if system.get("constraints") is not None:
-            raise Fault("profile attributes.system.constraints")
-        self.shape(graph, listed[0])
+        constraint = system.get("constraints")
+        self.barred = [] if constraint is None else barred(graph, constraint)
+        self.needs = shaped(graph, listed)
 
-    def shape(self, graph, top):
-        inner = top.kind == "node"
-        slot = top.below[0] if inner else top
-        times = slot.count if inner else 1
-        self.copies = top.count
-        self.node_held = None if not inner else top.exclusive is True
-        self.parts = [(part.kind, part.count * times, part.exclusive is not False) for part in slot.below]
-        if any(count > MOST_WHOLE for _, count, _ in self.parts):
-            raise Fault("shape count")
-        if len(self.parts) == 2:
-            first, second = (kind for kind, _, _ in self.parts)
-            for upper, lower in ((first, second), (second, first)):
-                if graph.contains(upper, lower):
-                    raise Fault(f"shape nested {upper} {lower}")
+
+# Constraints
+
+
+GRAMMARS = {
+    "properties": lambda text: True,
+    "hostlist": lambda text: has_host(text, "") is not None,
+    "ranks": lambda text: has_id(text, 0) is not None,
+}
+
+
+def check_constraint(value, path):
+    if not isinstance(value, dict):
+        raise Fault(f"constraint {path}")
+    for key in sorted(value):
+        if isinstance(value[key], list) and key in ("and", "or", "not"):
+            for at, member in enumerate(value[key]):
+                check_constraint(member, f"{path}.{key}[{at}]")
+        elif not (texts(value[key]) and key in GRAMMARS and all(map(GRAMMARS[key], value[key]))):
+            raise Fault(f"constraint {path}")
+
+
+def is_true(graph, node, constraint):
+    properties = graph.properties[node]
+    tests = {
+        "properties": lambda own: all(p[1:] not in properties if p[:1] == "^" else p in properties for p in own),
+        "hostlist": lambda own: any(has_host(text, graph.names[node]) for text in own),
+        "ranks": lambda own: any(has_id(text, graph.ranks[node]) for text in own),
+        "and": lambda own: all(is_true(graph, node, member) for member in own),
+        "or": lambda own: not own or any(is_true(graph, node, member) for member in own),
+        "not": lambda own: any(not is_true(graph, node, member) for member in own),
+    }
+    return all(tests[key](own) for key, own in constraint.items())
+
+
+def barred(graph, constraint):
+    check_constraint(constraint, "attributes.system.constraints")
+    return [node for node in graph.nodes if not is_true(graph, node, constraint)]
+
+
+# Needs: `count` is the quantity of a pool, and a spread slot has the kind of a node
+
+
+Vert = namedtuple("Vert", "kind count hold needs")
+Pool = namedtuple("Pool", "kind count")
+Spread = namedtuple("Spread", "kind count needs")
+
+
+def times(needs, copies):
+    return [need._replace(count=need.count * copies) for need in needs]
+
+
+def shaped(graph, listed, in_node=False, in_slot=False):
+    """The needs of request vertices that stand side by side, with the faults of pairs of them."""
+    needs = members(graph, listed, in_node, in_slot)
+    for first, second in combinations([need.kind for need in needs], 2):
+        if first == second:
+            raise Fault(f"shape same {first}")
+        for upper, lower in ((first, second), (second, first)):
+            if graph.contains(upper, lower):
+                raise Fault(f"shape nested {upper} {lower}")
+    return needs
+
+
+def members(graph, listed, in_node, in_slot):
+    return [need for wanted in listed for need in needs_of(graph, wanted, in_node, in_slot)]
+
+
+def needs_of(graph, wanted, in_node, in_slot):
+    if wanted.kind in graph.pools:
+        if wanted.exclusive:
+            raise Fault(f"shape held {wanted.kind}")
+        if wanted.below:
+            raise Fault(f"shape with {wanted.kind}")
+        return [Pool(wanted.kind, wanted.count)]
+    if wanted.kind != "slot":
+        hold = in_slot if wanted.exclusive is None else wanted.exclusive
+        inside = in_node or wanted.kind == "node" or graph.contains("node", wanted.kind)
+        return [Vert(wanted.kind, wanted.count, hold, shaped(graph, wanted.below, inside, in_slot))]
+    if not in_node and not names_node(graph, wanted):
+        return [Spread("node", wanted.count, shaped(graph, wanted.below, False, True))]
+    needs = times(members(graph, wanted.below, in_node, True), wanted.count)
+    if any(need.count > MOST_WHOLE for need in needs):
+        raise Fault("shape count")
+    return needs
+
+
+def names_node(graph, wanted):
+    """Whether what stands in the vertex names a node, or a type that contains nodes."""
+    return any(v.kind == "node" or graph.contains(v.kind, "node") or names_node(graph, v) for v in wanted.below)
 
 
 # Graphs
@@ -261,47 +345,134 @@ class Graph:
         for key in about:
             if key in parent:
                 below[parent[key]].append(key)
-        self.above, self.kinds, self.ids, self.names, self.ranks = [], [], [], [], {}
+        self.above, self.past, self.kinds, self.sizes = [], [], [], []
+        self.ids, self.names, self.properties, self.ranks = [], [], [], {}
 
         def walk(key, above):
             own = about[key]
             at, number = len(self.above), own.get("id")
             number = None if number in (None, -1) else number
             self.above.append(above)
+            self.past.append(None)
             self.kinds.append(own["type"])
+            self.sizes.append(1 if own.get("size") is None else own["size"])
             self.ids.append(number)
             default = (own.get("basename") or own["type"]) + ("" if number is None else str(number))
             self.names.append(own.get("name") or default)
+            self.properties.append(set(own.get("properties") or []))
             if own["type"] == "node" and own.get("rank") not in (None, -1):
                 self.ranks[at] = own["rank"]
             for child in below[key]:
                 walk(child, [*above, at])
+            self.past[at] = len(self.above)
 
         walk(next(key for key in about if key not in parent), [])
-        self.nodes = [at for at, kind in enumerate(self.kinds) if kind == "node"]
+        self.of_kind = {}
+        for at, kind in enumerate(self.kinds):
+            self.of_kind.setdefault(kind, []).append(at)
+        self.nodes = self.of_kind.get("node", [])
         if not self.ranks:
             self.ranks = {at: rank for rank, at in enumerate(self.nodes)}
-        self.members = {}
-        for at, kind in enumerate(self.kinds):
-            for node in self.above[at]:
-                self.members.setdefault((node, kind), []).append(at)
+        self.pools = {kind for kind, size in zip(self.kinds, self.sizes) if size != 1}
+        self.nested = {(self.kinds[u], kind) for kind, above in zip(self.kinds, self.above) for u in above}
 
     def contains(self, upper, lower):
-        return any(kind == lower and any(self.kinds[u] == upper for u in above)
-                   for kind, above in zip(self.kinds, self.above))
+        return (upper, lower) in self.nested
 
-    def below(self, node, kind):
-        return self.members.get((node, kind), [])
+    def all(self):
+        return range(len(self.kinds))
+
+    def below(self, v):
+        return range(v + 1, self.past[v])
+
+    def members(self, kind, place):
+        own = self.of_kind.get(kind, [])
+        return own[bisect_left(own, place.start) : bisect_left(own, place.stop)]
+
+    def path(self, v):
+        return "".join(f"/{self.names[u]}" for u in (*self.above[v], v))
 
 
 # The scheduler
 
 
 class Job:
+    """Claims are a mode (take, hold or pass), a vertex, and the quantity of a take, else None."""
+
     def __init__(self, graph, start, end, claims):
         self.start, self.end, self.claims = start, end, claims
-        self.held = {v for hold, v in claims if hold}
-        self.touched = {u for _, v in claims for u in (v, *graph.above[v])}
+        self.held = {v for mode, v, _ in claims if mode == "hold"}
+        self.takes = {v: quantity for mode, v, quantity in claims if mode == "take"}
+        self.touched = {u for _, v, _ in claims for u in (v, *graph.above[v])}
+
+
+class View:
+    """What is left to an ask over a window: `jobs` are those that overlap it."""
+
+    def __init__(self, graph, jobs, barred, start):
+        self.graph, self.jobs, self.start = graph, jobs, start
+        self.held = set(barred).union(*(job.held for job in jobs))
+        self.touched = {u for v in barred for u in (v, *graph.above[v])}.union(*(job.touched for job in jobs))
+
+    def is_closed(self, v):
+        return v in self.held or any(u in self.held for u in self.graph.above[v])
+
+    def free(self, pool):
+        if self.is_closed(pool):
+            return 0
+        jobs = [job for job in self.jobs if pool in job.takes]
+        moments = [max(self.start, job.start) for job in jobs]
+        taken = [sum(job.takes[pool] for job in jobs if job.start <= moment < job.end) for moment in moments]
+        return self.graph.sizes[pool] - max(taken, default=0)
+
+    def lowest(self, needs, place):
+        """The lowest-first claims of the needs in a place, which is a range of vertices; None where none fit."""
+        claims = []
+        for need in needs:
+            group = {Vert: self.verts, Pool: self.takes, Spread: self.spread}[type(need)](need, place)
+            if group is None:
+                return None
+            claims += group
+        return claims
+
+    def pieces(self, need, place):
+        """The claims of each vertex that qualifies, in preorder."""
+        for v in self.graph.members(need.kind, place):
+            if not (self.is_closed(v) or (need.hold and v in self.touched)):
+                inner = self.lowest(need.needs, self.graph.below(v))
+                if inner is not None:
+                    yield [("hold", v, None)] if need.hold else [("pass", v, None), *inner]
+
+    def verts(self, need, place):
+        pieces = list(islice(self.pieces(need, place), need.count))
+        return list(chain(*pieces)) if len(pieces) == need.count else None
+
+    def takes(self, need, place):
+        claims, missing = [], need.count
+        for pool in self.graph.members(need.kind, place):
+            quantity = min(missing, self.free(pool))
+            if quantity:
+                claims.append(("take", pool, quantity))
+            missing -= quantity
+        return None if missing else claims
+
+    def spread(self, need, place):
+        claims, missing = [], need.count
+        for node in self.graph.members("node", place):
+            own = self.graph.below(node)
+            copies = 0 if self.is_closed(node) else min(missing, *(self.copies(inner, own) for inner in need.needs))
+            if copies:
+                claims += [("pass", node, None), *self.lowest(times(need.needs, copies), own)]
+            missing -= copies
+            if not missing:
+                return claims
+        return None
+
+    def copies(self, need, place):
+        """How many times the need fits in the place."""
+        if isinstance(need, Pool):
+            return sum(self.free(pool) for pool in self.graph.members(need.kind, place)) // need.count
+        return sum(1 for _ in self.pieces(need, place)) // need.count
 
 
 class Scheduler:
@@ -309,37 +480,14 @@ class Scheduler:
         self.graph, self.horizon, self.now = graph, horizon, 0
         self.jobs, self.used, self.claims = {}, set(), 0
 
-    def found(self, ask, jobs):
-        """The lowest-first claims as pairs of held or not and vertex, None where none fit. `jobs` overlap the window."""
-        held = set().union(*(job.held for job in jobs))
-        touched = set().union(*(job.touched for job in jobs))
-
-        def free(v, hold):
-            closed = v in held or any(u in held for u in self.graph.above[v])
-            return not closed and not (hold and v in touched)
-
-        claims, missing = [], ask.copies
-        for node in self.graph.nodes:
-            if not free(node, ask.node_held or False):
-                continue
-            open_parts = [[v for v in self.graph.below(node, kind) if free(v, hold)] for kind, _, hold in ask.parts]
-            fitting = min(len(own) // count for own, (_, count, _) in zip(open_parts, ask.parts))
-            copies = min(fitting, missing if ask.node_held is None else 1)
-            if copies == 0:
-                continue
-            claims.append((ask.node_held or False, node))
-            if not ask.node_held:
-                for own, (_, count, hold) in zip(open_parts, ask.parts):
-                    claims += [(hold, v) for v in own[: copies * count]]
-            missing -= copies
-            if missing == 0:
-                return claims
-        return None
+    def found(self, ask, jobs, start=0):
+        """The lowest-first claims, None where none fit. `jobs` overlap the window, which begins at `start`."""
+        return View(self.graph, jobs, ask.barred, start).lowest(ask.needs, self.graph.all())
 
     def at(self, ask, start):
         end = start + ask.duration if ask.duration else self.horizon
         jobs = [job for job in self.jobs.values() if job.start < end and start < job.end]
-        return self.found(ask, jobs) if start < self.horizon and end <= self.horizon else None
+        return self.found(ask, jobs, start) if start < self.horizon and end <= self.horizon else None
 
     def starts(self):
         if self.horizon <= 100:
@@ -387,7 +535,7 @@ class Scheduler:
 
     def r_of(self, job):
         graph, rows = self.graph, []
-        given = {v for _, v in job.claims}
+        given = {v for _, v, _ in job.claims}
 
         def is_given(v):
             return v in given or any(u in job.held for u in graph.above[v])
@@ -397,7 +545,7 @@ class Scheduler:
                 continue
             children = {}
             for kind in ("core", "gpu"):
-                ids = sorted(graph.ids[v] for v in graph.below(node, kind) if is_given(v))
+                ids = sorted(graph.ids[v] for v in graph.members(kind, graph.below(node)) if is_given(v))
                 if ids:
                     children[kind] = write_idset(ids)
             if rows and rows[-1][0] == children:
@@ -407,7 +555,11 @@ class Scheduler:
         ranks = [{"children": children, "rank": write_idset([graph.ranks[n] for n in nodes])} for children, nodes in rows]
         names = hostlist_items([graph.names[node] for _, nodes in rows for node in nodes])
         execution = {"R_lite": ranks, "expiration": job.end, "nodelist": names, "starttime": job.start}
-        return json.dumps({"execution": execution, "version": 1}, separators=(",", ":"))
+        others = [claim for claim in job.claims if graph.kinds[claim[1]] not in ("node", "core", "gpu")]
+        told = [{"mode": mode, "path": graph.path(v), **({"quantity": quantity} if mode == "take" else {})}
+                for mode, v, quantity in others]
+        scheduling = {"scheduling": {"claims": told}} if told else {}
+        return json.dumps({"execution": execution, **scheduling, "version": 1}, separators=(",", ":"))
 
 
 # Lines
@@ -419,7 +571,7 @@ def number(word, why):
     return int(word)
 
 
-def reply_to(scheduler, line, client):
+def reply_to(scheduler, line, client, form):
     if client is None:
         raise Fault("client")
     words = [word for word in line.split(b" ") if word]
@@ -431,7 +583,8 @@ def reply_to(scheduler, line, client):
     if len(words) < least or (command in (b"cancel", b"info", b"advance") and len(words) > 3):
         raise Fault("words")
     if command == b"satisfy":
-        ask = Ask(scheduler.graph, line.strip(b" ").split(b" ", 1)[1].lstrip(b" ")[len("satisfy") :].lstrip(b" "))
+        spec = line.strip(b" ").split(b" ", 1)[1].lstrip(b" ")[len("satisfy") :].lstrip(b" ")
+        ask = Ask(scheduler.graph, spec, form)
         return "unsatisfiable" if scheduler.found(ask, []) is None else "satisfiable"
     value = number(words[2], "time" if command == b"advance" else "job")
     if not with_spec:
@@ -439,13 +592,13 @@ def reply_to(scheduler, line, client):
     rest = line.strip(b" ")
     for word in words[:3]:
         rest = rest[len(word) :].lstrip(b" ")
-    ask = Ask(scheduler.graph, rest)
+    ask = Ask(scheduler.graph, rest, form)
     if command == b"allocate":
         return scheduler.place(value, ask, lambda: [scheduler.now], "busy")
     return scheduler.place(value, ask, scheduler.starts, "nostart")
 
 
-def answers(graph, data, horizon):
+def answers(graph, data, horizon, form="rfc14"):
     scheduler = Scheduler(graph, horizon)
     lines = data.split(b"\n")
     if lines[-1] == b"":
@@ -455,7 +608,7 @@ def answers(graph, data, horizon):
         first = line.lstrip(b" ").split(b" ")[0]
         client = first.decode() if re.fullmatch(rb"[a-z0-9]{1,16}", first) else None
         try:
-            reply = reply_to(scheduler, line, client)
+            reply = reply_to(scheduler, line, client, form)
         except Fault as fault:
             reply = f"invalid {fault}"
         yield f"{at} {at + 1} {client or '-'} {reply}\n"
@@ -464,12 +617,19 @@ def answers(graph, data, horizon):
 # Graphs and inputs at random
 
 
+PROPERTIES = ["big", "fast", "x.1", "old-2"]
+NO_CONSTRAINTS = [{"xor": []}, {"properties": "big"}, {"hostlist": ["n1", "n[1-2]x"]}, {"ranks": ["0-1", "3,1"]}, [], "big",
+                  {"properties": ["big", 1]}, {"and": [{}, {"ranks": "0"}]}, {"or": [{"not": [1.5]}]}, {"not": {}, "And": 1},
+                  {"ranks": 0, "and": [{"x": []}]}, {"or": [{}], "and": [{"x": []}, 0], "b": []}]
+
+
 def a_graph(mixed):
-    """A cluster over racks or none, nodes, sockets or none, cores and gpus, some memory; mixed order and numbers."""
+    """A cluster over racks or none, nodes, sockets or none, cores, gpus, pools and others; mixed order and numbers."""
     listed, edges = [], []
     racks, nodes, sockets = mixed.choice([0, 0, 1, 2, 3]), mixed.choice([1, 2, 2, 3, 4, 6, 9]), mixed.choice([0, 0, 1, 2])
     cores, gpus = mixed.choice([0, 1, 2, 3, 4, 4, 4, 6, 8]), mixed.choice([0, 0, 0, 1, 2, 3])
-    under_core, memory = mixed.random() < 0.08, mixed.random() < 0.3
+    memories, sizes = mixed.choice([0, 0, 1, 1, 2, 3]), mixed.choice([[1], [8], [1, 2, 8], [4, 16], [0, 3], [2**46]])
+    under_core, twisted = mixed.random() < 0.08, mixed.random() < 0.12
     own_names, first = mixed.choice([0, 0, 0, 1, 2, 3]), mixed.choice([0, 0, 0, 7, 97])
     ranked, gaps, uneven = mixed.choice(["", "", "mixed", "gaps"]), mixed.random() < 0.3, mixed.random() < 0.3
 
@@ -478,8 +638,8 @@ def a_graph(mixed):
         key = mixed.choice([key, f"v{key}", f"{kind}-{key}"])
         listed.append({"id": key, "metadata": {"type": kind, **({} if number is None else {"id": number}), **more}})
         if above is not None:
-            forms = [None, {}, {"subsystem": "containment"}, {"name": {"containment": "contains"}}]
-            edges.append({"source": above, "target": key if mixed.random() < 0.7 else str(key), "metadata": mixed.choice(forms)})
+            about = mixed.choice([None, {}, {"subsystem": "containment"}, {"name": {"containment": "contains"}}])
+            edges.append({"source": above, "target": key if mixed.random() < 0.7 else str(key), "metadata": about})
         return key
 
     def numbers(count):
@@ -487,33 +647,113 @@ def a_graph(mixed):
 
     top = add(None, "cluster", mixed.choice([0, None]))
     holders = [top, *(add(top, "rack", n) for n in numbers(racks))][1 if racks and mixed.random() < 0.8 else 0 :]
+    bay = add(top, "bay", 0) if twisted else None
     ranks = mixed.sample(range(nodes * (3 if ranked == "gaps" else 1)), nodes)
     for at, n in enumerate(number + first for number in numbers(nodes)):
         names = [{}, {"name": f"n{n:02}"}, {"name": f"n{n:03}"}, {"basename": "host"}, {"name": f"x{n}-{n % 3}"}]
-        more = {**names[mixed.randrange(5) if mixed.random() < 0.2 else own_names], **({"rank": ranks[at]} if ranked else {})}
-        node = add(mixed.choice(holders), "node", n, **more)
-        places = [add(node, "socket", s) for s in range(sockets)] or [node]
+        own_name = names[mixed.randrange(5) if mixed.random() < 0.2 else own_names]
+        properties = mixed.sample(PROPERTIES, mixed.choice([0, 1, 1, 2, 4]))
+        more = {**own_name, "properties": mixed.choice([properties, dict.fromkeys(properties, ""), properties or None])}
+        if ranked:
+            more["rank"] = ranks[at]
+        in_bay = twisted and mixed.random() < 0.5
+        node = add(bay if in_bay else mixed.choice(holders), "node", n, **more)
+        inner = add(node, "bay", 0) if twisted and not in_bay else node
+        places = [add(inner, "socket", s) for s in range(sockets)] or [inner]
         own_cores = [add(mixed.choice(places), "core", c) for c in numbers(mixed.randint(0, cores) if uneven else cores)]
         for g in numbers(gpus):
             add(mixed.choice(own_cores) if under_core and own_cores else mixed.choice([*places, node]), "gpu", g)
-        if memory:
-            add(mixed.choice([node, *places]), "memory", 0, size=mixed.choice([1, 8, 2**46]), unit="GB")
+        for m in numbers(memories):
+            add(mixed.choice([node, *places]), "memory", m, size=mixed.choice(sizes), unit="GB")
+    for n in numbers(mixed.choice([0, 0, 1, 3])):
+        add(mixed.choice(holders), mixed.choice(["switch", "licence"]), n, size=mixed.choice([1, 1, 5]))
     mixed.shuffle(listed)
     mixed.shuffle(edges)
-    return json.dumps({"graph": {"nodes": listed, "edges": edges}}), nodes, cores, gpus
+    return json.dumps({"graph": {"nodes": listed, "edges": edges}})
 
 
-def a_spec(mixed, nodes, cores, gpus, horizon):
-    def size(most):
-        return mixed.choices([1, mixed.randint(1, most), most, max(1, most - 1), most + 1], [8, 8, 3, 3, 1])[0]
+def a_size(mixed, most):
+    some, fewer = mixed.randint(1, most), mixed.randint(1, (most + 1) // 2)
+    return mixed.choices([1, some, fewer, most, most + 1], [16, 8, 12, 4, 1])[0]
 
-    parts = [{"type": "core", "count": size(max(1, cores))}]
+
+def a_request(mixed, graph, kind, place, labels, in_slot):
+    """A request vertex of the kind, and what stands in it, about as large as what the place has."""
+    own = graph.members(kind, place)
+    if kind in graph.pools:
+        pool = {"type": kind, "count": a_size(mixed, max(1, sum(graph.sizes[v] for v in own)))}
+        cores = [{"type": "core", "count": 1}]
+        odd = [{"exclusive": True}, {"exclusive": True, "with": cores}, {"with": cores}, {"with": [], "exclusive": False}]
+        return {**pool, **(mixed.choice(odd) if mixed.random() < 0.08 else {})}
+    vertex = {"type": kind, "count": a_size(mixed, max(1, len(own)))}
+    if mixed.random() < 0.15:
+        vertex["exclusive"] = mixed.choice([True, False])
+    inner = graph.below(mixed.choice(own)) if own else place
+    if inner and mixed.random() < (0.4 if in_slot else 0.85):
+        vertex["with"] = a_list(mixed, graph, inner, labels, in_slot)
+    return vertex
+
+
+def a_slot(mixed, graph, place, labels):
+    labels.append(f"t{len(labels)}")
+    count = mixed.choices([1, 2, 3, len(graph.nodes), 2**45, 2**46], [50, 12, 4, 4, 1, 1])[0]
+    if mixed.random() < 0.7:
+        place = next((graph.below(node) for node in graph.members("node", place) if graph.below(node)), place)
+    slot = {"type": "slot", "count": count, "label": labels[-1], "with": a_list(mixed, graph, place, labels, True)}
+    return {**slot, **({"exclusive": True} if mixed.random() < 0.1 else {})}
+
+
+def a_list(mixed, graph, place, labels, in_slot=False):
+    """Request vertices that stand side by side, of kinds that the place has; seldom of kinds that contain each other."""
+    slots = [a_slot(mixed, graph, place, labels)] if not in_slot and mixed.random() < 0.35 else []
+    if slots and mixed.random() < 0.88:
+        return slots
+    kinds = [*sorted({graph.kinds[v] for v in place}), *(["fpga"] if mixed.random() < 0.02 else [])]
+    chosen = ["node"] if slots else mixed.choices(kinds, [2 if graph.contains(kind, "core") else 1 for kind in kinds])
+    for kind in mixed.choices(kinds, k=mixed.choice([0, 0, 1, 2, 3, 4])):
+        apart = not any(kind == other or graph.contains(kind, other) or graph.contains(other, kind) for other in chosen)
+        if apart or mixed.random() < 0.03:
+            chosen.append(kind)
+    beside = [a_request(mixed, graph, kind, place, labels, in_slot) for kind in chosen[len(slots) :]]
+    return mixed.sample(slots + beside, len(slots + beside))
+
+
+def copied(value):
+    return json.loads(json.dumps(value))
+
+
+def a_constraint(mixed, graph, deep=2):
+    if mixed.random() < 0.03:
+        return copied(mixed.choice(NO_CONSTRAINTS))
+    most = len(graph.nodes)
+    nodes = mixed.sample(graph.nodes, mixed.randint(mixed.choice([0, (most + 1) // 2]), most))
+    names, ranks = [graph.names[node] for node in nodes], sorted(graph.ranks[node] for node in nodes)
+    prefix, odd = re.sub("[0-9]*$", "", graph.names[graph.nodes[0]]), ["[0-3,5]", "[00-12]", "[1-03,007]", "[0-2]x", "[]"]
+    hosts = [names, hostlist_items(names), [",".join(hostlist_items(names))], [prefix + mixed.choice(odd)], ["", *names]]
+    idset = write_idset(ranks)
+    idsets = [[idset], [str(rank) for rank in ranks], [f"[{idset}]"], [f"0-{max(ranks, default=1)}"], ["01"]]
+    inner = lambda: [a_constraint(mixed, graph, deep - 1) for _ in range(mixed.choice([0, 1, 1, 2]))]
+    wanted = [*PROPERTIES, *(f"^{own}" for own in PROPERTIES), "^", "", "^^big"]
+    makers = {
+        "properties": lambda: mixed.choices(wanted, [4] * 8 + [1] * 3, k=mixed.choice([0, 1, 1, 2])),
+        "hostlist": lambda: mixed.choices(hosts, [6, 6, 6, 3, 3])[0],
+        "ranks": lambda: mixed.choices(idsets, [9, 6, 6, 3, 1])[0],
+        **{key: inner for key in ("and", "or", "not")},
+    }
+    keys = mixed.sample(list(makers)[: 6 if deep else 3], mixed.choice([0, 1, 1, 1, 1, 2]))
+    return {key: makers[key]() for key in keys}
+
+
+def a_form(mixed, graph):
+    """The request vertex of a jobspec of version 1, whose slot is called t0."""
+    cores, gpus = (max(len(graph.members(kind, graph.below(node))) for node in graph.nodes) for kind in ("core", "gpu"))
+    parts = [{"type": "core", "count": a_size(mixed, max(1, cores))}]
     if mixed.random() < (0.4 if gpus else 0.05):
-        parts.insert(mixed.randint(0, 1), {"type": "gpu", "count": size(max(1, gpus))})
-    slot = {"type": "slot", "count": mixed.choice([1, 1, 1, 1, 2, nodes]), "label": "task", "with": parts}
+        parts.insert(mixed.randint(0, 1), {"type": "gpu", "count": a_size(mixed, max(1, gpus))})
+    slot = {"type": "slot", "count": mixed.choice([1, 1, 1, 1, 2, len(graph.nodes)]), "label": "t0", "with": parts}
     top = slot
     if mixed.random() < 0.55:
-        top = {"type": "node", "count": size(nodes), "with": [slot]}
+        top = {"type": "node", "count": a_size(mixed, len(graph.nodes)), "with": [slot]}
         slot["count"] = mixed.choices([1, 2, 2**45, 2**46], [80, 20, 1, 2])[0]
         if mixed.random() < 0.5:
             top["exclusive"] = mixed.choice([True, True, False])
@@ -524,25 +764,63 @@ def a_spec(mixed, nodes, cores, gpus, horizon):
             part.update(mixed.choice([{"unit": "x"}, {"with": []}, {"label": 7}, {"with": [{"type": "gpu", "count": 1}]}]))
     if mixed.random() < 0.1:
         slot["exclusive"] = True
+    return top
+
+
+def vertex(kind, count, *inside):
+    more = {"label": "t0"} if kind == "slot" else {}
+    return {"type": kind, "count": count, **more, **({"with": [*inside]} if inside else {})}
+
+
+def a_rare_request(mixed):
+    """Slots whose place in the request is told by an unknown type alone, great counts, and types that contain each other."""
+    slot, count = vertex("slot", mixed.choice([1, 2**46]), vertex("core", 2)), mixed.choice([1, 2**46])
+    return mixed.choice([
+        vertex("node", 1, vertex("fpga", 1, slot)),
+        vertex("node", 1, vertex("fpga", 1, slot, vertex("gpu", 1))),
+        vertex("slot", count, vertex("fpga", 2, vertex("node", 1))),
+        vertex("fpga", 1, vertex("slot", count, vertex("fpga", 2, vertex("rack", 1))), vertex("node", 1)),
+        vertex("slot", 2**46, vertex("core", 2**46)),
+        vertex("slot", 1, *mixed.sample([vertex("node", 1), vertex("bay", 1)], 2)),
+    ])
+
+
+def a_system(mixed, graph, horizon):
     lasting = [0, 1, 2, 5, mixed.randint(1, 12), mixed.randint(1, max(1, min(horizon, 2**46) // 4)), horizon, horizon + 1]
     seconds = mixed.choices(lasting, [2, 3, 3, 4, 9, 12, 1, 1])[0]
     system = {"duration": float(seconds) if seconds < 10**9 and mixed.random() < 0.1 else seconds}
     if mixed.random() < 0.1:
         system.update({"cwd": "/home/u", "environment": {"HOME": "/\u00fc"}, "shell": {"options": {"rlimit": 1.25}}})
-    if mixed.random() < 0.02:
-        system["constraints"] = mixed.choice([None, {}, {"properties": ["^bad"]}])
+    if mixed.random() < 0.25:
+        system["constraints"] = a_constraint(mixed, graph) if mixed.random() < 0.97 else None
     if mixed.random() < 0.03:
         del system["duration"]
-    task = {"command": ["app", "-n"], "slot": "task", "count": {mixed.choice(["per_slot", "total"]): mixed.randint(1, 3)}}
-    attributes = mixed.choices([{"system": system}, {}, None], [60, 1, 1])[0]
-    return {"version": 1, "resources": [top], "tasks": [task], "attributes": attributes}
+    return system
 
 
-ODD = [None, True, False, 0, 1, 2, -1, -(2**63), 2**46, 2**46 + 1, 2**64, 1.5, 60.0, -0.0, 1e300, "", "x", "slot", "node", "core",
-       "gpu", "a b", "\u00e9", "x" * 64, "x" * 65, [], ["a"], [1], [[]], {}, {"min": 1}, {"per_slot": 1, "total": 0},
-       {"type": "core", "count": 1}, {"type": "slot", "count": 1, "label": "task", "with": [{"type": "core", "count": 1}]},
-       {"type": "gpu", "count": 2**46}, {"type": "socket", "count": 1, "with": [{"type": "core", "count": 1}]}]
-KEYS = ["type", "count", "unit", "exclusive", "label", "with", "id", "per_slot", "total", "constraints", "duration", "x"]
+def a_spec(mixed, graph, horizon):
+    labels = []
+    how = mixed.random()
+    if how < 0.25:
+        resources = [a_form(mixed, graph) if how < 0.235 else a_rare_request(mixed)]
+    else:
+        resources = a_list(mixed, graph, graph.all(), labels)
+        resources = resources if labels else [vertex("slot", mixed.choice([1, 1, 2]), *resources)]
+    slots = mixed.choices(labels or ["t0"], k=mixed.choices([1, 2], [9, 1])[0])
+    counts = [{"per_slot": 1}, {"total": 2**46}, {"per_slot": 2, "total": 3, "x": 0}]
+    tasks = [{"command": ["app", "-n"], "slot": slot, "count": mixed.choices(counts, [8, 4, 1])[0]} for slot in slots]
+    attributes = mixed.choices([{"system": a_system(mixed, graph, horizon)}, {}, None], [60, 1, 1])[0]
+    version = mixed.choices([1, 2, 2**46], [30, 2, 1])[0]
+    return {"version": version, "resources": resources, "tasks": tasks, "attributes": attributes}
+
+
+ODD = [None, True, False, 0, 1, 2, -1, -(2**63), 2**46, 2**46 + 1, 2**64, 1.5, 60.0, -0.0, 1e300, "", "x", "slot", "node",
+       "core", "gpu", "a b", "\u00e9", "x" * 64, "x" * 65, [], ["a"], [1], [[]], {}, {"min": 1}, {"per_slot": 1, "total": 0},
+       {"type": "core", "count": 1}, {"type": "slot", "count": 1, "label": "t0", "with": [{"type": "core", "count": 1}]},
+       {"type": "gpu", "count": 2**46}, {"type": "socket", "count": 1, "with": [{"type": "core", "count": 1}]},
+       {"type": "memory", "count": 1, "exclusive": True}, *NO_CONSTRAINTS]
+KEYS = ["type", "count", "unit", "exclusive", "label", "with", "id", "per_slot", "total", "constraints", "duration", "x",
+        "properties", "hostlist", "ranks", "and", "or", "not"]
 
 
 def spoil(mixed, spec):
@@ -555,9 +833,11 @@ def spoil(mixed, spec):
             for member in list(value.values() if isinstance(value, dict) else value):
                 walk(member)
 
-    walk(spec)
+    walk(mixed.choice([spec, spec.get("resources"), spec.get("attributes")]))
+    if not places:
+        walk(spec)
     holder, key = mixed.choice(places)
-    odd = json.loads(json.dumps(mixed.choice(ODD)))
+    odd = copied(mixed.choice(ODD))
     how = mixed.random()
     if how < 0.5:
         holder[key] = odd
@@ -574,7 +854,8 @@ def spoil(mixed, spec):
 def spec_text(mixed, spec):
     if isinstance(spec, dict):
         spec = dict(mixed.sample(list(spec.items()), len(spec)))
-    text = json.dumps(spec, separators=mixed.choice([(",", ":"), (", ", ": "), (",  ", " :\t")]), ensure_ascii=mixed.random() < 0.5)
+    separators = mixed.choice([(",", ":"), (", ", ": "), (",  ", " :\t")])
+    text = json.dumps(spec, separators=separators, ensure_ascii=mixed.random() < 0.5)
     how = mixed.random()
     if how < 0.04:
         at = mixed.randrange(len(text))
@@ -586,9 +867,9 @@ def spec_text(mixed, spec):
     return text.encode("utf-8", "surrogatepass")
 
 
-def a_line(mixed, sizes, ids, clock, horizon):
+def a_line(mixed, graph, ids, clock, horizon):
     client = mixed.choices(["a", "b", "c9", "load", "0123456789abcdef"], [8, 4, 2, 1, 1])[0]
-    command = mixed.choices(["allocate", "reserve", "satisfy", "cancel", "info", "advance"], [30, 30, 8, 14, 10, 6])[0]
+    command = mixed.choices(["allocate", "reserve", "satisfy", "cancel", "info", "advance"], [30, 30, 8, 12, 6, 6])[0]
     job = mixed.choice([0, *ids])
     if command in ("allocate", "reserve") and mixed.random() < 0.9:
         job = mixed.choices([mixed.randrange(1000), 2**64 - 1 - mixed.randrange(3)], [30, 1])[0]
@@ -614,7 +895,7 @@ def a_line(mixed, sizes, ids, clock, horizon):
         words[-1] = mixed.choice(["01", "-1", "+1", "1.0", str(2**64), "x", "0x1", "1\r", "00"])
     parts = [word.encode() for word in words]
     if command in ("allocate", "reserve", "satisfy") and mixed.random() < 0.99:
-        spec = a_spec(mixed, *sizes, horizon)
+        spec = a_spec(mixed, graph, horizon)
         for _ in range(mixed.choices([0, 1, 2], [70, 25, 5])[0]):
             spoil(mixed, spec) if isinstance(spec, dict) and spec else None
         if mixed.random() < 0.01:
@@ -627,11 +908,12 @@ def a_line(mixed, sizes, ids, clock, horizon):
 
 def make(seed, lines):
     mixed = random.Random(seed)
-    graph, *sizes = a_graph(mixed)
+    text = a_graph(mixed)
+    graph = Graph(text)
     horizon = mixed.choice([None, None, None, 1, 2, 7, 30, 60, 60, 100, 100, 300, 300, 5000, 2**40])
     ids, clock, most = [], [0], HORIZON if horizon is None else horizon
-    data = b"\n".join(a_line(mixed, sizes, ids, clock, most) for _ in range(lines)) + mixed.choice([b"", b"\n", b"\n\n"])
-    return graph.encode(), data, horizon
+    data = b"\n".join(a_line(mixed, graph, ids, clock, most) for _ in range(lines)) + mixed.choice([b"", b"\n", b"\n\n"])
+    return text.encode(), data, horizon
 
 
 def compare(program, first, last):
@@ -674,8 +956,9 @@ def main():
         compare(sys.argv[2], int(sys.argv[3]), int(sys.argv[4]))
     else:
         with open(sys.argv[2], "rb") as file, open(sys.argv[3], "rb") as lines:
-            horizon = int(sys.argv[5]) if sys.argv[4:5] == ["--horizon"] else HORIZON
-            sys.stdout.writelines(answers(Graph(file.read()), lines.read(), horizon))
+            options = {"--horizon": HORIZON, "--form": "rfc14", **dict(zip(sys.argv[4::2], sys.argv[5::2]))}
+            told = answers(Graph(file.read()), lines.read(), int(options["--horizon"]), options["--form"])
+            sys.stdout.writelines(told)
 
 
 if __name__ == "__main__":

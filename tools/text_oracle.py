@@ -4,6 +4,7 @@
 text_oracle.py CASES ANSWERS
 
 The cases are those of clustershell_cases.py: `i TEXT`, `h TEXT`, `x IDS`, `w NAMES`. It shares no code with the crate.
+lines_oracle.py takes its readers and writers from here.
 """
 import re
 import sys
@@ -77,6 +78,30 @@ def read_hostlist(text):
             return f"form {at}"
         hosts += own
     return "".join(["ok", *(f" {h}" for h in hosts)])
+
+
+def has_id(text, id):
+    """Whether the idset has the id, None where the text is no idset."""
+    said, *ranges = read_idset(text).split()
+    if said != "ok":
+        return None
+    return any(int(lo) <= id <= int(hi) for lo, hi in (ends.split("-") for ends in ranges))
+
+
+def names_host(host, name):
+    """Whether a host of `hosts_of`, a name or `PREFIX:LO:HI:WIDTH`, is the name or has it."""
+    prefix, *numbers = host.split(":")
+    if not numbers:
+        return host == name
+    lo, hi, width = map(int, numbers)
+    digits = name[len(prefix) :] if name.startswith(prefix) else ""
+    return re.fullmatch("[0-9]{1,9}", digits) and lo <= int(digits) <= hi and digits == str(int(digits)).zfill(width)
+
+
+def has_host(text, name):
+    """Whether the hostlist has the name, None where the text is no hostlist."""
+    said, *hosts = read_hostlist(text).split()
+    return any(names_host(host, name) for host in hosts) if said == "ok" else None
 
 
 def write_idset(ids):

@@ -1,5 +1,5 @@
 -- Which values are no constraints (RFC 31), and where the first fault of one stands.
-use Rattle.std.specs.Prelude.{ℕ, suc, List, ◌++◌, Bool, true, false, if◌then◌else◌, Option, Some, None, Result, Ok, Err, codes}
+use Rattle.std.specs.Prelude.{ℕ, ◌+◌, List, ◌++◌, Bool, true, false, if◌then◌else◌, Option, Some, None, Result, Ok, Err, codes}
 use Rattle.std.specs.Option.{option_or}
 use Rattle.serde_json.specs.Data.{Data, null, boolean, number, string, array, object, Items, no_items, item, Members, no_members, member}
 use Rattle.json_fields.specs.Paths.{index}
@@ -71,4 +71,4 @@ abbrev mutual
   -- of the constraints of a list from an index on
   pub items_fault : List ℕ → ℕ → Items → Option (List ℕ)
   items_fault list at no_items = None
-  items_fault list at (item d ds) = option_or (fault_at (list ++ index at) d) (items_fault list (suc at) ds)
+  items_fault list at (item d ds) = option_or (fault_at (list ++ index at) d) (items_fault list (at + 1) ds)

@@ -1,3 +1,5 @@
 pub mod Truth
 pub mod Faults
 pub mod Bars
+pub mod Narrowing
+pub mod Reading

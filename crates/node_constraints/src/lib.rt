@@ -4,6 +4,12 @@
 mod bars;
 mod faults;
 mod keys;
+mod narrowing;
+mod nodes;
+mod texts;
 
 pub use bars::barred;
 pub use faults::ConstraintFault;
+
+#[cfg(test)]
+mod tests;

@@ -1,0 +1,5 @@
+pub mod FaultLaws
+pub mod FilterLaws
+pub mod TextLaws
+pub mod StepLaws
+pub mod BarLaws

@@ -1,0 +1,128 @@
+use Rattle.std.proofs.Common.{rules, ◌≡◌, ◌∙◌, sym, ap, subst, ◌++◌, ◌∷◌, ◌+◌, ◌*◌, ◌<◌, ◌≤◌, ◌&&◌, [], max, not, drop, arith, string_bytes}
+use Rattle.std.proofs.lemmas.List.{drop_more, drop_all}
+use Rattle.std.specs.Option.{option_or}
+use Rattle.serde_json.specs.Data.{depth, items_depth, members_depth}
+use Rattle.serde_json.specs.View.{view, items_view, members_view}
+use Rattle.serde_json.proofs.Views.{Entry}
+use Rattle.json_fields.specs.Paths.{index}
+use Rattle.node_constraints.specs.Truth.{facts_of, key_of, is_true, each_key, key_is_true, each_true, some_true}
+use Rattle.node_constraints.specs.Faults.{fault_at, keys_fault, key_fault, items_fault}
+use Rattle.node_constraints.specs.Narrowing.{where_true}
+use Rattle.node_constraints.proofs.FilterLaws.{filter_all, others_of_others}
+use Rattle.node_constraints.proofs.FaultLaws.{later_is}
+use Rattle.node_constraints.proofs.StepLaws.{at_depth, is_object, narrowed_twice, neither_left, none_given, some_given}
+use Rattle.node_constraints.proofs.narrowing.+narrowing.Goals as goal
+
+pub narrow-members-preserved : goal.narrow-members-preserved
+narrow-members-preserved t c =
+    let g = c.args.graph.now in
+    let path = c.args.path.now in
+    let e : Entry = (c.in-Some-2.key.now, c.in-Some-2.value.now) in
+    let left = c.next.new.self in
+    let steps : c.members.key-iterator ≡ e ∷ left = c.in-Some-2.ensures.steps in
+    let name : c.as_str.result.now ≡ string_bytes e.0 = c.as_str.ensures.value in
+    let old = c.members.nodes.items in
+    let text = c.as_str.result.now in
+    record {
+      kept = ap (where_true g (λ n. each_key n (members_view left))) c.in_ok-narrow_by_key.ensures.kept
+          ∙ (narrowed_twice g (λ n. key_is_true n (key_of text) (view e.1)) (λ n. each_key n (members_view left)) old
+          ∙ (ap (λ k. where_true g (λ n. key_is_true n (key_of k) (view e.1) && each_key n (members_view left)) old) name
+          ∙ (ap (λ es. where_true g (λ n. each_key n (members_view es)) old) (sym steps) ∙ c.members.invariant.kept)));
+      found = sym (later_is (key_fault path text (key_of text) (view e.1)) (keys_fault path (members_view left)) c.in_ok-narrow_by_key.ensures.found)
+          ∙ (ap (λ k. option_or (key_fault path k (key_of k) (view e.1)) (keys_fault path (members_view left))) name
+          ∙ (ap (λ es. keys_fault path (members_view es)) (sym steps) ∙ c.members.invariant.found));
+      less =
+          let here : members_depth (members_view c.members.key-iterator) ≡ max (depth (view e.1)) (members_depth (members_view left)) = ap (λ es. members_depth (members_view es)) steps in
+          omega (arith, here, c.members.invariant.less);
+    }
+
+pub narrow-returns-clause-kept : goal.narrow-returns-clause-kept
+narrow-returns-clause-kept t c =
+    let g = c.args.graph.now in
+    let nodes = c.members.nodes.items in
+    let all : c.into_iter-key-iterator.result ≡ c.in-Some.members.now.entries = search rules in
+    let whole = is_object (view c.args.constraint.now) (members_view c.in-Some.members.now.entries) (sym c.in-Some.ensures) in
+    sym (filter_all nodes)
+    ∙ (ap (λ es. where_true g (λ n. each_key n (members_view es)) nodes) (sym c.in-None.ensures.steps.0)
+    ∙ (c.members.invariant.kept
+    ∙ (ap (λ es. where_true g (λ n. each_key n (members_view es)) c.args.nodes.now.items) all
+    ∙ ap (λ d. where_true g (λ n. is_true n d) c.args.nodes.now.items) (sym whole))))
+
+pub narrow_by_each-narrow-requires : goal.narrow_by_each-narrow-requires
+narrow_by_each-narrow-requires t c =
+    let x = c.index-values-at.result in
+    let low : depth (view x) ≤ items_depth (items_view c.args.values.now) = subst (λ y. depth (view y) ≤ items_depth (items_view c.args.values.now)) (sym c.index-values-at.is) (at_depth c.args.values.now c.values.at x (omega arith)) in
+    let smaller : 4 * depth (view x) < 4 * items_depth (items_view c.args.values.now) + 1 = omega (arith, low) in
+    search rules
+
+pub narrow_by_each-values-preserved : goal.narrow_by_each-values-preserved
+narrow_by_each-values-preserved t c =
+    let g = c.args.graph.now in
+    let vs = c.args.values.now in
+    let list = c.args.list.now in
+    let at = c.values.at in
+    let x = c.index-values-at.result in
+    let old = c.values.nodes.items in
+    let rest = items_view (drop (at + 1) vs) in
+    let here : drop at vs ≡ x ∷ drop (at + 1) vs = drop_more vs at x (omega arith) ∙ ap (λ y. y ∷ drop (at + 1) vs) (sym c.index-values-at.is) in
+    let path : c.bytes.result.now ≡ list ++ index at = c.bytes.ensures ∙ c.in_ok-path.ensures in
+    record {
+      kept = ap (where_true g (λ n. each_true n rest)) c.in_ok-narrow.ensures.kept
+          ∙ (narrowed_twice g (λ n. is_true n (view x)) (λ n. each_true n rest) old
+          ∙ (ap (λ ys. where_true g (λ n. each_true n (items_view ys)) old) (sym here) ∙ c.values.invariant.kept));
+      found = sym (later_is (fault_at c.bytes.result.now (view x)) (items_fault list (at + 1) rest) c.in_ok-narrow.ensures.found)
+          ∙ (ap (λ p. option_or (fault_at p (view x)) (items_fault list (at + 1) rest)) path
+          ∙ (ap (λ ys. items_fault list at (items_view ys)) (sym here) ∙ c.values.invariant.found));
+    }
+
+pub narrow_by_each-returns-clause-kept : goal.narrow_by_each-returns-clause-kept
+narrow_by_each-returns-clause-kept t c =
+    let none : drop c.values.at c.args.values.now ≡ [] = drop_all c.values.at c.args.values.now (omega arith) in
+    sym (filter_all c.values.nodes.items)
+    ∙ (ap (λ ys. where_true c.args.graph.now (λ n. each_true n (items_view ys)) c.values.nodes.items) (sym none) ∙ c.values.invariant.kept)
+
+pub narrow_by_none-narrow-requires : goal.narrow_by_none-narrow-requires
+narrow_by_none-narrow-requires t c =
+    let x = c.index-values-at.result in
+    let low : depth (view x) ≤ items_depth (items_view c.args.values.now) = subst (λ y. depth (view y) ≤ items_depth (items_view c.args.values.now)) (sym c.index-values-at.is) (at_depth c.args.values.now c.values.at x (omega arith)) in
+    let smaller : 4 * depth (view x) < 4 * items_depth (items_view c.args.values.now) + 1 = omega (arith, low) in
+    search rules
+
+pub narrow_by_none-values-preserved : goal.narrow_by_none-values-preserved
+narrow_by_none-values-preserved t c =
+    let g = c.args.graph.now in
+    let vs = c.args.values.now in
+    let list = c.args.list.now in
+    let at = c.values.at in
+    let x = c.index-values-at.result in
+    let old = c.values.nodes.items in
+    let rest = items_view (drop (at + 1) vs) in
+    let here : drop at vs ≡ x ∷ drop (at + 1) vs = drop_more vs at x (omega arith) ∙ ap (λ y. y ∷ drop (at + 1) vs) (sym c.index-values-at.is) in
+    let path : c.bytes.result.now ≡ list ++ index at = c.bytes.ensures ∙ c.in_ok-path.ensures in
+    let taken = c.in_ok-take_away.ensures (λ v. is_true (facts_of g v) (view x)) (c.as_slice.ensures.value ∙ (c.in_ok-narrow.ensures.kept ∙ ap (where_true g (λ n. is_true n (view x))) c.in_ok-some.ensures)) in
+    record {
+      kept = ap (where_true g (λ n. not (some_true n rest))) taken
+          ∙ (neither_left g (λ n. is_true n (view x)) (λ n. some_true n rest) old
+          ∙ (ap (λ ys. where_true g (λ n. not (some_true n (items_view ys))) old) (sym here) ∙ c.values.invariant.kept));
+      found = sym (later_is (fault_at c.bytes.result.now (view x)) (items_fault list (at + 1) rest) c.in_ok-narrow.ensures.found)
+          ∙ (ap (λ p. option_or (fault_at p (view x)) (items_fault list (at + 1) rest)) path
+          ∙ (ap (λ ys. items_fault list at (items_view ys)) (sym here) ∙ c.values.invariant.found));
+    }
+
+pub narrow_by_none-returns-clause-kept : goal.narrow_by_none-returns-clause-kept
+narrow_by_none-returns-clause-kept t c =
+    let none : drop c.values.at c.args.values.now ≡ [] = drop_all c.values.at c.args.values.now (omega arith) in
+    sym (filter_all c.values.nodes.items)
+    ∙ (ap (λ ys. where_true c.args.graph.now (λ n. not (some_true n (items_view ys))) c.values.nodes.items) (sym none) ∙ c.values.invariant.kept)
+
+pub narrow_by_some-returns-then-is_empty-clause-kept : goal.narrow_by_some-returns-then-is_empty-clause-kept
+narrow_by_some-returns-then-is_empty-clause-kept t c = none_given c.args.graph.now c.args.values.now (sym c.is_empty.ensures ∙ c.if-is_empty.true) c.args.nodes.now.items
+
+pub narrow_by_some-returns-clause-kept : goal.narrow_by_some-returns-clause-kept
+narrow_by_some-returns-clause-kept t c =
+    let g = c.args.graph.now in
+    let vs = c.args.values.now in
+    let nodes = c.args.nodes.now.items in
+    let others = c.as_slice.ensures.value ∙ (c.in_ok-narrow_by_none.ensures.kept ∙ ap (where_true g (λ n. not (some_true n (items_view vs)))) c.in_ok-others.ensures) in
+    others_of_others nodes c.as_slice.result.now c.take_away.new.nodes.items (λ v. some_true (facts_of g v) (items_view vs)) others c.in_ok-take_away.ensures
+    ∙ some_given g vs (sym c.is_empty.ensures ∙ c.if-is_empty.false) nodes
