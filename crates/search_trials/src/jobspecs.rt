@@ -72,8 +72,8 @@ const REFUSED: [Refused; 16] = [
         b"attributes.system.duration",
     ),
     Refused(
-        r#"{"version":1,"resources":[{"type":"slot","count":1,"label":"a","with":[{"type":"core","count":1}]}],"tasks":[{"command":["app"],"slot":"a","count":{"total":1}}],"attributes":{"system":{"constraints":{"properties":["bad"]}}}}"#,
-        "profile",
+        r#"{"version":1,"resources":[{"type":"slot","count":1,"label":"a","with":[{"type":"core","count":1}]}],"tasks":[{"command":["app"],"slot":"a","count":{"total":1}}],"attributes":{"system":{"constraints":{"xor":[]}}}}"#,
+        "constraint",
         b"attributes.system.constraints",
     ),
     Refused(

@@ -70,12 +70,7 @@ fn limits(lines: u32, line_bytes: u64) -> Limits
 }
 
 /// The limit that the lines pass.
-fn passed(
-    alloc: Global,
-    graph: &Graph,
-    limits: &Limits,
-    bytes: &[u8],
-) -> Result<Option<Over>, Fail>
+fn passed(alloc: Global, graph: &Graph, limits: &Limits, bytes: &[u8]) -> Result<Option<Over>, Fail>
     requires lines { limits.now.lines < 2 ^ 32 }
     requires clients { limits.now.clients < 2 ^ 32 }
 {
