@@ -13,7 +13,8 @@ use Rattle.resource_graph.specs.declared.raw.RawVertex.{RawVertex}
 use Rattle.resource_graph.proofs.ArrangeLaws.{place_at, place_in}
 use Rattle.resource_graph.proofs.LineLaws.{no_vertex}
 use Rattle.resource_graph.proofs.ValidLaws.{value_of}
-use Rattle.graph_json.specs.Fields.{is_name, is_unit}
+use Rattle.graph_json.specs.Fields.{is_unit}
+use Rattle.text_forms.specs.Names.{is_name}
 use Rattle.graph_json.specs.Nodes.{FileNode}
 use Rattle.graph_json.specs.Edges.{FileEdge, counted, is_among, parent_of}
 use Rattle.graph_json.specs.Ids.{ids_of}
@@ -118,7 +119,7 @@ module _ (nodes : List FileNode) (edges : List FileEdge) (fit : AllByRecursion I
   numbers_fit : (k : ℕ) (y : Vertex) → slice_get g.resources.vertices k ≡ Some y → HasFileNumbers y
   numbers_fit k y e =
       let from = comes k y e in
-      let own = shape_fit from.place from.shape from.here in
+      let own = shape_fit from.field from.shape from.here in
       (subst (λ o. IfSome o (λ n. n ≤ 2 ^ 32 - 2)) (sym from.renumbered.id) own.0, subst (λ o. IfSome o (λ n. n ≤ 2 ^ 32 - 2)) (sym from.rank) (rank_small k from.shape from.within own))
 
   type_fit : (k : ℕ) (t : List ℕ) → slice_get g.resources.kinds k ≡ Some t → is_name 64 t ≡ true

@@ -27,10 +27,11 @@ use Rattle.graph_json.specs.Edges.{FileEdge, counted, is_among, is_wrong, IsWron
 use Rattle.graph_json.specs.Ids.{ids_of, IsRepeated}
 use Rattle.graph_json.specs.RawLists.{with_text, kinds_of, vertex_of, vertices_of}
 use Rattle.graph_json.specs.GraphText.{IsGraphText, HasRightEdges, raw_of}
-use Rattle.graph_json.specs.Fields.{is_name, is_unit}
+use Rattle.graph_json.specs.Fields.{is_unit}
+use Rattle.text_forms.specs.Names.{is_name}
 use Rattle.graph_json.specs.FileGraph.{IsFileGraph, AreProperties, HasFileNumbers}
 use Rattle.graph_json.specs.WrittenGraph.{graph_data, graph_text, HasSmallNumbers}
-use Rattle.graph_json.proofs.EdgeLaws.{same_text, itself, placed, at_place}
+use Rattle.graph_json.proofs.EdgeLaws.{same_text, itself, placed, at_field}
 use Rattle.graph_json.proofs.IdLaws.{take_next}
 use Rattle.graph_json.proofs.RawLaws.{distinct_places, kinds-distinct}
 use Rattle.graph_json.proofs.Sets.{doubled_at}
@@ -61,7 +62,7 @@ place_at texts distinct k x e = by (place_of texts x) refl (placed texts x ∙ a
   where
     by : (o : Option ℕ) → place_of texts x ≡ o → is_some o ≡ true → o ≡ Some k
     by None f some = absurd (true≢false (sym some))
-    by (Some j) f some = ap Some (distinct_places texts distinct j k x (at_place texts x j f) e)
+    by (Some j) f some = ap Some (distinct_places texts distinct j k x (at_field texts x j f) e)
 
 -- ---- ids
 

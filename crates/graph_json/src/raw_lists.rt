@@ -3,7 +3,8 @@ ghost use Rattle.std.specs.Prelude.{◌≡◌, ◌<◌, ◌≤◌, ℕ, Some, sl
 ghost use Rattle.std.specs.Ordering.{nat_cmp};
 ghost use Rattle.std.specs.Cmp.Lexicographic.{slice_cmp};
 ghost use Rattle.std.specs.BTreeSet.{insert_key};
-ghost use Rattle.graph_json.specs.Nodes.{node_held, name_held, properties_held, keys_of, texts_in, in_order};
+ghost use Rattle.graph_json.specs.Nodes.{node_held, name_held, properties_held, texts_in, in_order};
+ghost use Rattle.json_fields.specs.Values.{keys_of};
 ghost use Rattle.graph_json.specs.Edges.{place_of, parents_of, counted};
 ghost use Rattle.graph_json.specs.Ids.{ids_of};
 ghost use Rattle.graph_json.specs.RawLists.{with_text, kinds_of, vertex_of, vertices_of, zip_with};
@@ -16,6 +17,7 @@ use resource_graph::RawVertex;
 use serde_json::{Map, Value};
 use std::alloc::{AllocError, Global};
 use std::collections::BTreeSet;
+use text_forms::push_decimal;
 use text_table::TextTable;
 
 /// The keys of an object, as texts.
@@ -158,8 +160,7 @@ fn name_text(alloc: Global, node: &NodeFields) -> Result<Text, AllocError>
     }
     let mut name = Vec::from_slice(alloc, node.base.as_bytes())?;
     if let Some(number) = node.number {
-        let mut buffer = itoa::Buffer::new();
-        name.extend_from_slice(buffer.format(number).as_bytes())?;
+        push_decimal(&mut name, u64::from(number))?;
     }
     Ok(Text::of_vec(name))
 }

@@ -16,8 +16,8 @@ use crate::faults::{SpecFault, field_at};
 use crate::forms::is_v1;
 use crate::requests::read_requests;
 use crate::tasks::{check_tasks, task_list};
-use flux_defs::{Ask, List, Text};
-use json_fields::{GREATEST, some_field};
+use flux_defs::{Ask, GREATEST_NUMBER, List, Text};
+use json_fields::some_field;
 use json_whole::{FieldFault, ValueFault, need_u64, read_value};
 use need_shape::{RawNeed, ShapeFault, shape};
 use node_constraints::{ConstraintFault, barred};
@@ -32,7 +32,7 @@ pub fn read_version(alloc: Global, value: &Value) -> Result<u64, SpecFault>
     ensures read { IfOk result (λ version. version_of (view value.now) ≡ Ok version) }
     ensures told { IfErr result (IsFirstFault (version_of (view value.now))) }
 {
-    match need_u64(value, "version", 1, GREATEST) {
+    match need_u64(value, "version", 1, GREATEST_NUMBER) {
         Ok(version) => Ok(version),
         Err(fault) => Err(field_at(alloc, b"version", fault)),
     }

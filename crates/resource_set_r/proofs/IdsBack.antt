@@ -12,11 +12,11 @@ use Rattle.std.proofs.lemmas.List.Elements.{All-from_recursion}
 use Rattle.std.proofs.lemmas.Str.{IsUtf8-append, IsUtf8-nil, IsUtf8-from_ascii, is_utf8-from_IsUtf8}
 use Rattle.std.proofs.lemmas.Fmt.{IsAscii-decimal}
 use Rattle.json.proofs.Printed.Utf8.{IsUtf8-are_ascii}
-use Rattle.graph_json.specs.WrittenGraph.{readable}
+use Rattle.json_written.specs.Texts.{readable}
 use Rattle.idset_text.specs.declared.idsets.Range.{Range}
 use Rattle.idset_text.specs.Idsets.{ids_from, ids_between, is_within, ids_of, runs_of, range_text, runs_text, idset_text, Rises}
 use Rattle.idset_text.proofs.IdsetTexts.{idset_of-runs_text, runs_rise, ids_rise, ids_of-runs_of}
-use Rattle.resource_set_r.specs.declared.faults.Place.{Place}
+use Rattle.resource_set_r.specs.declared.faults.FieldPath.{FieldPath}
 use Rattle.resource_set_r.specs.declared.rows.Children.{Children}
 use Rattle.resource_set_r.specs.declared.rows.Element.{Element}
 use Rattle.resource_set_r.specs.Rows.{rising, is_same, with_rank, element_of, elements_from, elements}
@@ -62,7 +62,7 @@ pub readable_utf8 : (text : List ℕ) → IsUtf8 text → readable text ≡ text
 readable_utf8 text u = ap (λ b. if b then text else []) (is_utf8-from_IsUtf8 text u)
 
 -- the text of ids is read as their runs
-pub text_back : (at : Place) (ids : List ℕ) → AreFine ids → idset_text_at at (readable (idset_text ids)) ≡ Ok (runs_of ids)
+pub text_back : (at : FieldPath) (ids : List ℕ) → AreFine ids → idset_text_at at (readable (idset_text ids)) ≡ Ok (runs_of ids)
 text_back at ids fine =
     ap (idset_text_at at) (readable_utf8 (idset_text ids) (utf8_idset ids fine)) ∙ ap (idset_read at) (idset_of-runs_text (runs_of ids) (runs_of_fine ids fine))
 

@@ -6,12 +6,12 @@ use Rattle.std.proofs.lemmas.List.Elements.{All-from_recursion}
 use Rattle.serde_json.specs.Data.{Data, Items, no_items, item}
 use Rattle.serde_json.specs.Find.{get}
 use Rattle.json_whole.specs.Field.{text_field}
-use Rattle.graph_json.specs.Fields.{result_and_then, object_value, object_field, list_field}
+use Rattle.json_fields.specs.Values.{result_and_then, object_value, object_field, list_field}
 use Rattle.idset_text.specs.declared.idsets.Range.{Range}
 use Rattle.idset_text.specs.Idsets.{idset_of, Rises}
 use Rattle.idset_text.proofs.IdsetTexts.{idset_was_read, idset_rises}
-use Rattle.resource_set_r.specs.declared.faults.Place.{Place}
-use Rattle.resource_set_r.specs.declared.faults.Place.TheVariants as place
+use Rattle.resource_set_r.specs.declared.faults.FieldPath.{FieldPath}
+use Rattle.resource_set_r.specs.declared.faults.FieldPath.TheVariants as field
 use Rattle.resource_set_r.specs.declared.faults.Misread.{Misread}
 use Rattle.resource_set_r.specs.declared.faults.Misread.TheVariants as misread
 use Rattle.resource_set_r.specs.declared.faults.ReadError.{ReadError}
@@ -43,11 +43,11 @@ ordered_when_rising : (least : ℕ) (ranges : List Range) → Rises least ranges
 ordered_when_rising least [] r = tt
 ordered_when_rising least (range ∷ ranges) r = (r.1.ordered, ordered_when_rising (range.hi + 1) ranges r.2)
 
-read_ordered : (at : Place) (o : Result (List Range) ℕ) (ranges : List Range) → idset_read at o ≡ Ok ranges → o ≡ Ok ranges
+read_ordered : (at : FieldPath) (o : Result (List Range) ℕ) (ranges : List Range) → idset_read at o ≡ Ok ranges → o ≡ Ok ranges
 read_ordered at (Ok xs) ranges e = let same : xs ≡ ranges = cc in ap Ok same
 read_ordered at (Err k) ranges e = absurd (cc)
 
-idset_ordered : (at : Place) (key : List ℕ) (d : Data) (ranges : List Range) → idset_field at key d ≡ Ok ranges → AllByRecursion Ordered ranges
+idset_ordered : (at : FieldPath) (key : List ℕ) (d : Data) (ranges : List Range) → idset_field at key d ≡ Ok ranges → AllByRecursion Ordered ranges
 idset_ordered at key d ranges e =
     let text = and_then_ok (at_field at (text_field key d)) (idset_text_at at) ranges e in
     ordered_when_rising 0 ranges (idset_rises text.0 ranges (idset_was_read text.0 ranges (read_ordered at (idset_of text.0) ranges text.2)))
@@ -61,13 +61,13 @@ ok_ranks ranks cores gpus row e = ap (λ (r : Result RRow Misread). ranks_or_non
 
 row_ordered : (at : ℕ) (d : Data) (row : RRow) → row_of at d ≡ Ok row → AllByRecursion Ordered row.ranks
 row_ordered at d row e =
-    let o = and_then_ok (at_field (place.Row at) (object_value d)) (row_in at) row e in
-    let ranks = and_then_ok (idset_field (place.Rank at) (codes "rank") o.0) (λ ranks. result_and_then (at_field (place.Children at) (object_field (codes "children") o.0)) (row_with at ranks)) row o.2 in
-    let children = and_then_ok (at_field (place.Children at) (object_field (codes "children") o.0)) (row_with at ranks.0) row ranks.2 in
-    let cores = and_then_ok (idset_or_none (place.Core at) (get (codes "core") children.0)) (λ cores. result_and_then (idset_or_none (place.Gpu at) (get (codes "gpu") children.0)) (λ gpus. Ok (record { ranks = ranks.0; cores = cores; gpus = gpus }))) row children.2 in
-    let gpus = and_then_ok (idset_or_none (place.Gpu at) (get (codes "gpu") children.0)) (λ gpus. Ok (record { ranks = ranks.0; cores = cores.0; gpus = gpus })) row cores.2 in
+    let o = and_then_ok (at_field (field.Row at) (object_value d)) (row_in at) row e in
+    let ranks = and_then_ok (idset_field (field.Rank at) (codes "rank") o.0) (λ ranks. result_and_then (at_field (field.Children at) (object_field (codes "children") o.0)) (row_with at ranks)) row o.2 in
+    let children = and_then_ok (at_field (field.Children at) (object_field (codes "children") o.0)) (row_with at ranks.0) row ranks.2 in
+    let cores = and_then_ok (idset_or_none (field.Core at) (get (codes "core") children.0)) (λ cores. result_and_then (idset_or_none (field.Gpu at) (get (codes "gpu") children.0)) (λ gpus. Ok (record { ranks = ranks.0; cores = cores; gpus = gpus }))) row children.2 in
+    let gpus = and_then_ok (idset_or_none (field.Gpu at) (get (codes "gpu") children.0)) (λ gpus. Ok (record { ranks = ranks.0; cores = cores.0; gpus = gpus })) row cores.2 in
     let same : ranks.0 ≡ row.ranks = ok_ranks ranks.0 cores.0 gpus.0 row gpus.2 in
-    subst (λ (rs : List Range). AllByRecursion Ordered rs) same (idset_ordered (place.Rank at) (codes "rank") o.0 ranks.0 ranks.1)
+    subst (λ (rs : List Range). AllByRecursion Ordered rs) same (idset_ordered (field.Rank at) (codes "rank") o.0 ranks.0 ranks.1)
 
 all_joined : (xs ys : List Range) → AllByRecursion Ordered xs → AllByRecursion Ordered ys → AllByRecursion Ordered (xs ++ ys)
 all_joined [] ys a b = b
@@ -84,7 +84,7 @@ rows_ordered at (item d ds) rows e =
 -- no range of a rank falls
 pub ranges_ordered : (e : Data) (rows : List RRow) → rows_in e ≡ Ok rows → All (λ range. range.lo ≤ range.hi) (ranges_in rows)
 ranges_ordered e rows is =
-    let ds = and_then_ok (at_field place.RLite (list_field (codes "R_lite") e)) (rows_from 0) rows is in
+    let ds = and_then_ok (at_field field.RLite (list_field (codes "R_lite") e)) (rows_from 0) rows is in
     All-from_recursion Ordered (ranges_in rows) (rows_ordered 0 ds.0 rows ds.2)
 
 -- ---- what is found of a value

@@ -2,9 +2,10 @@ use Rattle.std.proofs.Common.{subst, [], ◌∷◌, map, codes}
 use Rattle.json.specs.Token.{key, string}
 use Rattle.serde_json.specs.Data.{object}
 use Rattle.graph_json.specs.Nodes.{in_order}
-use Rattle.graph_json.specs.WrittenGraph.{readable, keys_object}
-use Rattle.graph_json.specs.WrittenTokens.{Adds, value_tokens}
-use Rattle.graph_json.proofs.WriterLaws.{wrote, and_then}
+use Rattle.graph_json.specs.WrittenGraph.{keys_object}
+use Rattle.json_written.specs.Texts.{readable}
+use Rattle.json_written.specs.Tokens.{Adds, value_tokens}
+use Rattle.json_written.proofs.WriterLaws.{wrote, and_then}
 use Rattle.graph_json.proofs.writing.put_metadata.Goals as goal
 
 pub returns : goal.returns

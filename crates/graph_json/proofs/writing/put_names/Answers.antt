@@ -1,11 +1,10 @@
 use Rattle.std.proofs.Common.{◌≡◌, ap, subst, ◌∙◌, [], ◌∷◌, codes}
 use Rattle.json.specs.Token.{key, string}
 use Rattle.resource_graph.specs.NamedGraph.{path_text}
-use Rattle.serde_json.specs.Data.{object, member, no_members}
-use Rattle.serde_json.specs.Data.{string as string_data}
-use Rattle.graph_json.specs.WrittenGraph.{readable}
-use Rattle.graph_json.specs.WrittenTokens.{Adds, value_tokens}
-use Rattle.graph_json.proofs.WriterLaws.{and_then}
+use Rattle.serde_json.specs.Data.{object, member, no_members, string as string_data}
+use Rattle.json_written.specs.Texts.{readable}
+use Rattle.json_written.specs.Tokens.{Adds, value_tokens}
+use Rattle.json_written.proofs.WriterLaws.{and_then}
 use Rattle.graph_json.proofs.writing.put_names.Goals as goal
 
 pub returns : goal.returns

@@ -3,7 +3,8 @@ use Rattle.std.specs.Option.{option_map_or}
 use Rattle.flux_defs.specs.declared.vertices.Vertex.{Vertex}
 use Rattle.resource_graph.specs.NamedGraph.{NamedGraph}
 use Rattle.graph_json.specs.WrittenGraph.{node_data, nodes_data}
-use Rattle.graph_json.specs.WrittenTokens.{value_tokens, rest_tokens, node_tokens}
+use Rattle.graph_json.specs.WrittenTokens.{node_tokens}
+use Rattle.json_written.specs.Tokens.{value_tokens, rest_tokens}
 use Rattle.graph_json.proofs.writing.put_nodes.Goals as goal
 
 past : {A : Type 0} (xs : List A) (k : ℕ) → k < length xs → slice_get xs k ≡ None → ⊥

@@ -1,6 +1,6 @@
 use Rattle.std.proofs.Common.{subst, ℕ, List}
-use Rattle.graph_json.specs.WrittenTokens.{Adds, rest_tokens}
-use Rattle.graph_json.proofs.WriterLaws.{wrote, and_then}
+use Rattle.json_written.specs.Tokens.{Adds, rest_tokens}
+use Rattle.json_written.proofs.WriterLaws.{wrote, and_then}
 use Rattle.resource_set_r.specs.declared.rows.Element.{Element}
 use Rattle.resource_set_r.specs.WrittenR.{elements_data, texts_data}
 use Rattle.resource_set_r.proofs.writing.put_execution.Goals as goal

@@ -6,8 +6,8 @@ use Rattle.serde_json.specs.Data.{member, no_members, number, unsigned}
 use Rattle.serde_json.proofs.Texts.{print-outline}
 use Rattle.flux_defs.specs.declared.claims.Claim.{Claim}
 use Rattle.flux_defs.specs.Jobs.{vertex_of}
-use Rattle.graph_json.specs.WrittenTokens.{Adds, value_tokens, member_tokens}
-use Rattle.graph_json.proofs.WriterLaws.{wrote, and_then}
+use Rattle.json_written.specs.Tokens.{Adds, value_tokens, member_tokens}
+use Rattle.json_written.proofs.WriterLaws.{wrote, and_then}
 use Rattle.resource_set_r.specs.Rows.{is_other_than, is_other, elements_of, type_called}
 use Rattle.resource_set_r.specs.WrittenR.{execution_of, execution_data, nodelist, r_data, r_text}
 use Rattle.resource_set_r.specs.WrittenRTokens.{scheduling_tokens}
