@@ -8,7 +8,7 @@ use Rattle.std.proofs.lemmas.Option.{slice_get-map, slice_get_within, slice_get_
 use Rattle.std.specs.Str.{bytes_eq}
 use Rattle.std.proofs.lemmas.List.{map-append}
 use Rattle.std.proofs.lemmas.List.Elements.{filter-append}
-use Rattle.sound_laws.proofs.Members.{all_filter}
+use Rattle.list_laws.proofs.Lists.{all_filter}
 use Rattle.flux_defs.specs.declared.journal.Command.{Command}
 use Rattle.flux_defs.specs.declared.journal.Line.{Line}
 use Rattle.resource_graph.specs.NamedGraph.{NamedGraph}

@@ -18,7 +18,8 @@ use Rattle.text_forms.specs.Names.{is_name}
 use Rattle.graph_json.specs.Nodes.{FileNode}
 use Rattle.graph_json.specs.Edges.{FileEdge, counted, is_among, parent_of}
 use Rattle.graph_json.specs.Ids.{ids_of}
-use Rattle.graph_json.specs.RawLists.{with_text, kinds_of, vertex_of, vertices_of}
+use Rattle.graph_json.specs.RawLists.{kinds_of, vertex_of, vertices_of}
+use Rattle.text_table.specs.Tables.{with_text}
 use Rattle.graph_json.specs.GraphText.{IsGraphText}
 use Rattle.graph_json.specs.FileGraph.{IsFileGraph, AreProperties, HasFileNumbers}
 use Rattle.graph_json.proofs.FittingGraph.{IsFitNode, list_all_append, nodes_fit}
@@ -119,7 +120,7 @@ module _ (nodes : List FileNode) (edges : List FileEdge) (fit : AllByRecursion I
   numbers_fit : (k : ℕ) (y : Vertex) → slice_get g.resources.vertices k ≡ Some y → HasFileNumbers y
   numbers_fit k y e =
       let from = comes k y e in
-      let own = shape_fit from.field from.shape from.here in
+      let own = shape_fit from.place from.shape from.here in
       (subst (λ o. IfSome o (λ n. n ≤ 2 ^ 32 - 2)) (sym from.renumbered.id) own.0, subst (λ o. IfSome o (λ n. n ≤ 2 ^ 32 - 2)) (sym from.rank) (rank_small k from.shape from.within own))
 
   type_fit : (k : ℕ) (t : List ℕ) → slice_get g.resources.kinds k ≡ Some t → is_name 64 t ≡ true

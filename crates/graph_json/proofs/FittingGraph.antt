@@ -32,19 +32,12 @@ use Rattle.graph_json.specs.declared.field_paths.FieldPath.{FieldPath}
 use Rattle.graph_json.specs.declared.field_paths.FieldPath.TheVariants.{Whole, Graph, Nodes, Edges, Node, NodeField, Property, PropertyKey}
 use Rattle.graph_json.specs.declared.field_paths.NodeKey.TheVariants.{Id, Metadata, TypeName, Basename, Number, Name, Rank, Size, Unit}
 use Rattle.graph_json.proofs.OrderedData.{IsOrdered, AreOrdered, get_ordered, in_order-ordered, ordered-in_order, value_of-ordered}
+use Rattle.json_fields.proofs.Results.{then_ok, both_ok}
 
 -- ---- what an answer that is no fault was made of
 
 err_ok : {A E P : Type 0} (e : E) (x : A) → Err e ≡ Ok x → P
 err_ok e x h = absurd (cc)
-
-and_then_ok : {A B E : Type 0} (r : Result A E) (f : A → Result B E) (y : B) → result_and_then r f ≡ Ok y → (x : A) × (r ≡ Ok x) × (f x ≡ Ok y)
-and_then_ok (Ok x) f y h = (x, refl, h)
-and_then_ok (Err e) f y h = err_ok e y h
-
-map_ok : {A B E F : Type 0} (f : A → B) (g : E → F) (r : Result A E) (y : B) → result_map_both f g r ≡ Ok y → (x : A) × (r ≡ Ok x) × (f x ≡ y)
-map_ok f g (Ok x) y h = (x, refl, (let same : f x ≡ y = cc in same))
-map_ok f g (Err e) y h = err_ok (g e) y h
 
 at_ok : {A : Type 0} (place : FieldPath) (r : Result A FieldFault) (x : A) → at_field place r ≡ Ok x → r ≡ Ok x
 at_ok place (Ok y) x h = let same : y ≡ x = cc in ap Ok same
@@ -79,7 +72,7 @@ module _ (rule : List ℕ → Bool) where
       by (Some t) f = let p = if_ok (rule t) t x FieldFault.Text f in (ap Some p.1, ap rule (sym p.1) ∙ p.0)
 
   ruled_field_ok : (key : List ℕ) (d : Data) (x : List ℕ) → ruled_field rule key d ≡ Ok x → rule x ≡ true
-  ruled_field_ok key d x h = let t = and_then_ok (text_field key d) (ruled rule) x h in ruled_ok t.0 x t.2
+  ruled_field_ok key d x h = let t = then_ok (text_field key d) (ruled rule) x h in ruled_ok t.0 x t.2
 
   ruled_given_ok : (otherwise key : List ℕ) (d : Data) (x : List ℕ) → rule otherwise ≡ true → ruled_given rule otherwise key d ≡ Ok x → rule x ≡ true
   ruled_given_ok otherwise key d x own h = by (given key d) h
@@ -245,7 +238,7 @@ node_with_ok at id d x up h =
     then_fits (at_key at Rank (small_given (codes "rank") d)) _ x h4 (λ rank rank_is h5.
     then_fits (at_key at Size (size_given (codes "size") d)) _ x h5 (λ size size_is h6.
     then_fits (at_key at Unit (ruled_given is_unit [] (codes "unit") d)) _ x h6 (λ unit unit_is h7.
-    let made = map_ok (λ properties. record { id = id; kind = kind; base = base; number = n; name = name; rank = rank; size = size; unit = unit; properties = properties }) (λ m. m) (properties_given at d) x h7 in
+    let made = both_ok (λ properties. record { id = id; kind = kind; base = base; number = n; name = name; rank = rank; size = size; unit = unit; properties = properties }) (λ m. m) (properties_given at d) x h7 in
     let kind_fits : is_name 64 kind ≡ true = ruled_field_ok (is_name 64) (codes "type") d kind (at_ok (NodeField at TypeName) _ kind kind_is) in
     let base_fits : is_name 255 base ≡ true = ruled_given_ok (is_name 255) kind (codes "basename") d base (longer_name kind kind_fits) (at_ok (NodeField at Basename) _ base base_is) in
     let n_fits : IsSmall n = small_given_ok (codes "id") d n (at_ok (NodeField at Number) _ n n_is) in
@@ -281,8 +274,8 @@ node_ok at d x up h =
 nodes_ok : (at : ℕ) (ds : Items) (xs : List FileNode) → AreOrdered ds → nodes_of at ds ≡ Ok xs → AllByRecursion IsFitNode xs
 nodes_ok at no_items xs up h = let same : [] ≡ xs = cc in subst (AllByRecursion IsFitNode) same tt
 nodes_ok at (item d ds) xs up h =
-    let x = and_then_ok (node_of at d) (λ x. result_map_both (λ xs. x ∷ xs) (λ m. m) (nodes_of (suc at) ds)) xs h in
-    let rest = map_ok (λ xs. x.0 ∷ xs) (λ m. m) (nodes_of (suc at) ds) xs x.2 in
+    let x = then_ok (node_of at d) (λ x. result_map_both (λ xs. x ∷ xs) (λ m. m) (nodes_of (suc at) ds)) xs h in
+    let rest = both_ok (λ xs. x.0 ∷ xs) (λ m. m) (nodes_of (suc at) ds) xs x.2 in
     subst (AllByRecursion IsFitNode) rest.2 (node_ok at d x.0 up.0 x.1, nodes_ok (suc at) ds rest.0 up.1 rest.1)
 
 -- ---- the file
@@ -305,7 +298,7 @@ list_field_ordered key d ds up h = by (get key d) refl h
 lists_in_ordered : (d : Data) (lists : FileLists) → IsOrdered d → lists_in d ≡ Ok lists → AreOrdered lists.nodes
 lists_in_ordered d lists up h =
     then_fits (at_field Nodes (list_field (codes "nodes") d)) _ lists h (λ nodes nodes_is h1.
-    let made = map_ok (λ edges. record { nodes = nodes; edges = edges }) (λ m. m) (at_field Edges (list_field (codes "edges") d)) lists h1 in
+    let made = both_ok (λ edges. record { nodes = nodes; edges = edges }) (λ m. m) (at_field Edges (list_field (codes "edges") d)) lists h1 in
     subst (λ (l : FileLists). AreOrdered l.nodes) made.2 (list_field_ordered (codes "nodes") d nodes up (at_ok Nodes _ nodes nodes_is)))
 
 lists_ordered : (d : Data) (lists : FileLists) → IsOrdered d → lists_of d ≡ Ok lists → AreOrdered lists.nodes
@@ -319,7 +312,7 @@ lists_ordered d lists up h =
 file_ok : (d : Data) (file : GraphFile) → IsOrdered d → file_of d ≡ Ok file → AllByRecursion IsFitNode file.nodes
 file_ok d file up h =
     then_fits (lists_of d) _ file h (λ lists lists_is h1.
-    let made = map_ok (λ nodes. record { nodes = nodes; edges = edges_of 0 lists.edges }) (λ m. m) (nodes_of 0 lists.nodes) file h1 in
+    let made = both_ok (λ nodes. record { nodes = nodes; edges = edges_of 0 lists.edges }) (λ m. m) (nodes_of 0 lists.nodes) file h1 in
     subst (λ (f : GraphFile). AllByRecursion IsFitNode f.nodes) made.2 (nodes_ok 0 lists.nodes made.0 (lists_ordered d lists up lists_is) made.1))
 
 -- the nodes of a file keep their rules

@@ -11,7 +11,8 @@ use Rattle.resource_graph.specs.Raw.{KindsApart}
 use Rattle.graph_json.specs.Nodes.{FileNode}
 use Rattle.graph_json.specs.Edges.{FileEdge, is_among, parent_of, parents_of, place_of}
 use Rattle.graph_json.specs.Ids.{ids_of}
-use Rattle.graph_json.specs.RawLists.{with_text, kinds_of, zip_with}
+use Rattle.graph_json.specs.RawLists.{kinds_of, zip_with}
+use Rattle.text_table.specs.Tables.{with_text}
 use Rattle.graph_json.proofs.Sets.{distinct-nil}
 use Rattle.graph_json.proofs.EdgeLaws.{itself, at_field}
 

@@ -14,7 +14,7 @@ use Rattle.serde_json.specs.View.{members_view}
 use Rattle.serde_json.proofs.Views.{Entry}
 use Rattle.json_fields.specs.Values.{keys_of}
 use Rattle.graph_json.specs.Edges.{is_among, place_of}
-use Rattle.graph_json.specs.RawLists.{with_text}
+use Rattle.text_table.specs.Tables.{with_text}
 
 all_at_middle : {X : Type 0} (P : X → Type 0) (xs : List X) (x : X) (rest : List X) → AllByRecursion P (xs ++ x ∷ rest) → P x
 all_at_middle P [] x rest h = h.0
@@ -81,11 +81,6 @@ insert_key-now (x ∷ xs) k = ordered (slice_cmp nat_cmp k.now x.now) k.now x.no
 pub keys_of-entries : (es : List Entry) → map (λ k. string_bytes k) (map (λ e. e.0) es) ≡ keys_of (members_view es)
 keys_of-entries [] = refl
 keys_of-entries (e ∷ es) = ap (λ ks. string_bytes e.0 ∷ ks) (keys_of-entries es)
-
--- ---- one text more, unless it is there
-
-pub with_text-there : (texts : List (List ℕ)) (text : List ℕ) → is_among texts text ≡ true → texts ≡ with_text texts text
-with_text-there texts text there = rw there refl
 
 -- ---- the place past the last
 

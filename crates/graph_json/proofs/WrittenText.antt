@@ -22,6 +22,7 @@ use Rattle.graph_json.specs.WrittenGraph.{keys_object, paths_data, metadata_data
 use Rattle.json_written.specs.Texts.{readable}
 use Rattle.json_written.proofs.PlainLaws.{IsWhole, IsPlain, ArePlain, HasPlain}
 use Rattle.json_written.proofs.PlainText.{plain-compact_text}
+use Rattle.json_written.proofs.ClearText.{IsClear, AreClear, HasClear, utf8_value, clear_readable}
 use Rattle.graph_json.proofs.WrittenLaws.{plain_graph, read-graph_text}
 
 -- ---- a graph's value

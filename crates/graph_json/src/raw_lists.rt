@@ -7,7 +7,8 @@ ghost use Rattle.graph_json.specs.Nodes.{node_held, name_held, properties_held, 
 ghost use Rattle.json_fields.specs.Values.{keys_of};
 ghost use Rattle.graph_json.specs.Edges.{place_of, parents_of, counted};
 ghost use Rattle.graph_json.specs.Ids.{ids_of};
-ghost use Rattle.graph_json.specs.RawLists.{with_text, kinds_of, vertex_of, vertices_of, zip_with};
+ghost use Rattle.graph_json.specs.RawLists.{kinds_of, vertex_of, vertices_of, zip_with};
+ghost use Rattle.text_table.specs.Tables.{with_text};
 ghost use Rattle.serde_json.specs.View.{items_view, members_view};
 
 use crate::edges::place_of_text;
@@ -73,20 +74,9 @@ pub(crate) fn kind_table(alloc: Global, nodes: &[NodeFields]) -> Result<TextTabl
 {
     let mut table = TextTable::new(alloc);
     'nodes: for node in nodes {
-        add_kind(alloc, &mut table, node.kind)?;
+        table.add(alloc, node.kind.as_bytes())?;
     }
     Ok(table)
-}
-
-/// Adds a type to the table, unless it is there.
-fn add_kind(alloc: Global, table: &mut TextTable, kind: &str) -> Result<(), AllocError>
-    ensures { OnOk result (table.new ≡ with_text table.old kind.now) }
-{
-    if place_of_text(table, kind.as_bytes()).is_some() {
-        return Ok(());
-    }
-    table.add(alloc, kind.as_bytes())?;
-    Ok(())
 }
 
 /// The texts of a table, in its order.

@@ -15,7 +15,7 @@ use Rattle.jobspec_v1.specs.declared.headers.KeyFault.{KeyFault}
 use Rattle.jobspec_v1.specs.declared.headers.KeyFault.TheVariants as of_key
 use Rattle.jobspec_v1.specs.Requests.{Said, said_by, keys_given, type_given, count_given, is_other_count, of_field, unit_given, exclusive_given, label_given, with_or, with_given, listed, inner_of, inner_in, requests_of, nothing}
 use Rattle.flux_defs.specs.declared.limits.TheConstants.{GREATEST_NUMBER, MOST_TYPE_BYTES}
-use Rattle.jobspec_v1.proofs.Results.{ok_is, no_ok, then_ok, same_ok, else_ok}
+use Rattle.json_fields.proofs.Results.{ok_is, no_ok, then_ok, same_ok, else_ok}
 
 -- ---- each key by itself
 

@@ -15,6 +15,15 @@ fn push_index(path: &mut Vec<u8>, at: u64) -> Result<(), AllocError>
     push_bytes(path, b"]")
 }
 
+/// The index of a member of a list, as `[2]`.
+pub fn index_path(alloc: Global, at: u64) -> Result<Text, AllocError>
+    ensures { IfOk result (λ path. path ≡ index at) }
+{
+    let mut path = Vec::new(alloc);
+    push_index(&mut path, at)?;
+    Ok(Text::of_vec(path))
+}
+
 /// The path of a member of the list at a path, with what stands behind it, as `resources[2].type`.
 pub fn member_path(alloc: Global, list: &[u8], at: u64, rest: &str) -> Result<Text, AllocError>
     ensures { IfOk result (λ path. path ≡ list.now ++ index at ++ rest.now) }

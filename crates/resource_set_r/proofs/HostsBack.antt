@@ -17,6 +17,7 @@ use Rattle.resource_set_r.specs.Rows.{rank_of, node_above, rank_above, node_with
 use Rattle.resource_set_r.specs.ReadBack.{HasIdNumbers}
 use Rattle.resource_set_r.proofs.Filtered.{find_some}
 use Rattle.resource_set_r.proofs.IdsBack.{Small}
+use Rattle.list_laws.proofs.Lists.{all_at}
 
 -- ---- ASCII
 
@@ -83,11 +84,6 @@ utf8_hostlists [] all = tt
 utf8_hostlists (name ∷ names) all = let first = ascii_name name all.0 in utf8_from false name name names first first (ascii_names names all.1)
 
 -- ---- what stands at a place
-
-all_at : {X : Type 0} (P : X → Type 0) (xs : List X) (k : ℕ) (x : X) → AllByRecursion P xs → slice_get xs k ≡ Some x → P x
-all_at P [] k x all e = absurd (cc)
-all_at P (y ∷ ys) zero x all e = let same : y ≡ x = cc in subst P same all.0
-all_at P (y ∷ ys) (suc k) x all e = all_at P ys k x all.1 e
 
 -- what passes is found
 found_some : (p : ℕ → Bool) (count start n : ℕ) → start ≤ n → n < start + count → p n ≡ true → find p (ids_from count start) ≡ None → ⊥

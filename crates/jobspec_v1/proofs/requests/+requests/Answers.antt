@@ -11,7 +11,8 @@ use Rattle.jobspec_v1.specs.declared.headers.VertexKey.TheVariants as key
 use Rattle.jobspec_v1.specs.Faults.{IsFirstFault, vertex_path}
 use Rattle.jobspec_v1.specs.Requests.{requests_of, labels_with, said_held, behind, Requested}
 use Rattle.jobspec_v1.proofs.SaidLaws.{said_is}
-use Rattle.jobspec_v1.proofs.RequestLaws.{at_depth, is_request, pushed, next_read, one_read, one_told}
+use Rattle.jobspec_v1.proofs.RequestLaws.{is_request, pushed, next_read, one_read, one_told}
+use Rattle.json_fields.proofs.Depths.{at_depth}
 use Rattle.jobspec_v1.proofs.requests.+requests.Goals as goal
 
 pub read_request-read_requests-requires : goal.read_request-read_requests-requires
