@@ -23,6 +23,7 @@ use Rattle.graph_json.specs.WrittenGraph.{or_none, keys_object, properties_at, m
 use Rattle.json_written.specs.Texts.{readable}
 use Rattle.graph_json.specs.declared.field_paths.FieldPath.TheVariants.{PropertyKey}
 use Rattle.graph_json.specs.declared.edges.Role.TheVariants.{Counted}
+use Rattle.text_forms.proofs.Ascii.{name_byte_small}
 
 -- ---- the file of a graph
 
@@ -75,9 +76,6 @@ ascii_text : (p : ℕ → Bool) → ((b : ℕ) → p b ≡ true → b < 128) →
 ascii_text p small t all =
     let utf8 : IsUtf8 t = IsUtf8-from_ascii t (IsAscii-from_all t (λ k d h. small (get_or t k d) (AllPass-from_list_all p t all k d h))) in
     ap (λ b. if b then t else []) (is_utf8-from_IsUtf8 t utf8)
-
-name_byte_small : (b : ℕ) → is_name_byte b ≡ true → b < 128
-name_byte_small b e = grind arith
 
 graphic_small : (b : ℕ) → is_ascii_graphic b ≡ true → b < 128
 graphic_small b e = grind arith

@@ -24,6 +24,7 @@ use Rattle.json_written.proofs.PlainLaws.{IsWhole, IsPlain, ArePlain, HasPlain}
 use Rattle.json_written.proofs.PlainText.{plain-compact_text}
 use Rattle.json_written.proofs.ClearText.{IsClear, AreClear, HasClear, utf8_value, clear_readable}
 use Rattle.graph_json.proofs.WrittenLaws.{plain_graph, read-graph_text}
+use Rattle.text_forms.proofs.Ascii.{utf8_decimal}
 
 -- ---- a graph's value
 
@@ -47,9 +48,6 @@ clear_fold ks (k ∷ more) all rest = clear_fold (insert_key (slice_cmp nat_cmp)
 clear_keys : (ks : List (List ℕ)) → AllByRecursion IsUtf8 ks → HasClear (keys_object ks)
 clear_keys [] all = tt
 clear_keys (k ∷ ks) all = (all.0, IsUtf8-nil, clear_keys ks all.1)
-
-clear_decimal : (n : ℕ) → n < 2 ^ 64 → IsUtf8 (decimal n)
-clear_decimal n h = IsUtf8-from_ascii (decimal n) (IsAscii-decimal n h)
 
 clear_properties : (texts : List (List ℕ)) → HasClear (keys_object (in_order (map readable texts)))
 clear_properties texts = clear_keys (in_order (map readable texts)) (clear_fold [] (map readable texts) tt (clear_all texts))
@@ -93,7 +91,7 @@ clear_metadata g v x = (
 )
 
 clear_node : (g : NamedGraph) (v : ℕ) (x : Vertex) → v < 2 ^ 64 → IsClear (node_data g v x)
-clear_node g v x small = (IsUtf8-are_ascii (codes "id") refl, clear_decimal v small, (IsUtf8-are_ascii (codes "metadata") refl, clear_metadata g v x, tt))
+clear_node g v x small = (IsUtf8-are_ascii (codes "id") refl, utf8_decimal v small, (IsUtf8-are_ascii (codes "metadata") refl, clear_metadata g v x, tt))
 
 clear_nodes : (g : NamedGraph) (v : ℕ) (xs : List Vertex) → v + length xs ≤ 2 ^ 64 → AreClear (nodes_data g v xs)
 clear_nodes g v [] few = tt
@@ -103,7 +101,7 @@ clear_contains : IsClear contains_data
 clear_contains = (IsUtf8-are_ascii (codes "name") refl, (IsUtf8-are_ascii (codes "containment") refl, IsUtf8-are_ascii (codes "contains") refl, tt), tt)
 
 clear_edge : (p v : ℕ) → p < 2 ^ 64 → v < 2 ^ 64 → IsClear (edge_data p v)
-clear_edge p v p_small v_small = (IsUtf8-are_ascii (codes "metadata") refl, clear_contains, (IsUtf8-are_ascii (codes "source") refl, clear_decimal p p_small, (IsUtf8-are_ascii (codes "target") refl, clear_decimal v v_small, tt)))
+clear_edge p v p_small v_small = (IsUtf8-are_ascii (codes "metadata") refl, clear_contains, (IsUtf8-are_ascii (codes "source") refl, utf8_decimal p p_small, (IsUtf8-are_ascii (codes "target") refl, utf8_decimal v v_small, tt)))
 
 -- each parent is less than this
 abbrev pub HasParentsBelow : ℕ → List Vertex → Type 0

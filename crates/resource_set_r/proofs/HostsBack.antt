@@ -18,6 +18,7 @@ use Rattle.resource_set_r.specs.ReadBack.{HasIdNumbers}
 use Rattle.resource_set_r.proofs.Filtered.{find_some}
 use Rattle.resource_set_r.proofs.IdsBack.{Small}
 use Rattle.list_laws.proofs.Lists.{all_at}
+use Rattle.text_forms.proofs.Ascii.{name_byte_small}
 
 -- ---- ASCII
 
@@ -46,12 +47,9 @@ ascii_append : (a b : List ℕ) → AreAscii a → AreAscii b → AreAscii (a ++
 ascii_append [] b all more = more
 ascii_append (x ∷ a) b all more = (all.0, ascii_append a b all.1 more)
 
-ascii_byte : (b : ℕ) → is_name_byte b ≡ true → b < 128
-ascii_byte b h = grind (arith, nat_tests)
-
 ascii_bytes : (bytes : List ℕ) → list_all is_name_byte bytes ≡ true → AreAscii bytes
 ascii_bytes [] h = tt
-ascii_bytes (b ∷ bytes) h = let both = and_parts (is_name_byte b) (list_all is_name_byte bytes) h in (ascii_byte b both.0, ascii_bytes bytes both.1)
+ascii_bytes (b ∷ bytes) h = let both = and_parts (is_name_byte b) (list_all is_name_byte bytes) h in (name_byte_small b both.0, ascii_bytes bytes both.1)
 
 ascii_name : (name : List ℕ) → IsTrue (is_host_name name) → AreAscii name
 ascii_name name h = ascii_bytes name (and_parts _ _ h).1

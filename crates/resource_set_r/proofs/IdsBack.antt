@@ -24,6 +24,7 @@ use Rattle.resource_set_r.specs.ReadRows.{idset_read, idset_text_at, covers, IsR
 use Rattle.std.proofs.lemmas.Map.Keys.{IsStrictlyIncreasing-from_sorted, sorted_from_strictly_increasing}
 use Rattle.std.proofs.lemmas.List.Sums.{sum_by-cons, sum_by-append}
 use Rattle.resource_set_r.proofs.Rising.{sorted_front, sorted_rest}
+use Rattle.text_forms.proofs.Ascii.{utf8_decimal}
 
 abbrev pub Small : ℕ → Type 0
 Small n = n < 4294967295
@@ -34,9 +35,6 @@ pub record AreFine (ids : List ℕ) : Type 0 where
   pub small : AllByRecursion Small ids
 
 -- ---- one idset
-
-utf8_decimal : (n : ℕ) → n < 2 ^ 64 → IsUtf8 (decimal n)
-utf8_decimal n h = IsUtf8-from_ascii (decimal n) (IsAscii-decimal n h)
 
 utf8_range : (range : Range) → range.lo ≤ range.hi → range.hi < 4294967295 → IsUtf8 (range_text range)
 utf8_range range le small = by (range.lo == range.hi)
