@@ -12,7 +12,8 @@ use Rattle.need_shape.specs.Requests.{is_slot, IsSomeRow, IsRequest, AreRequests
 use Rattle.jobspec_v1.specs.declared.faults.SpecFault.{SpecFault}
 use Rattle.jobspec_v1.specs.declared.headers.VertexKey.TheVariants as key
 use Rattle.jobspec_v1.specs.Faults.{IsFirstFault, at_vertex, vertex_path}
-use Rattle.jobspec_v1.specs.Requests.{Said, Requested, Reading, said_by, need_of, labels_with, around, behind, inner_of, requests_of, request_of}
+use Rattle.jobspec_v1.specs.Requests.{Said, Reading, said_by, need_of, labels_with, around, behind, inner_of, requests_of, request_of}
+use Rattle.jobspec_v1.specs.declared.requests.Requested.{Requested}
 use Rattle.jobspec_v1.proofs.SaidLaws.{said_is}
 use Rattle.json_fields.proofs.Results.{then_ok, both_ok}
 use Rattle.json_fields.proofs.Depths.{at_depth}

@@ -17,7 +17,8 @@ use Rattle.node_constraints.specs.Bars.{bars_of}
 use Rattle.jobspec_v1.specs.declared.faults.SpecFault.{SpecFault}
 use Rattle.jobspec_v1.specs.declared.faults.SpecFault.TheVariants.{NotJson, Version, Form, Task, Shape, Constraint}
 use Rattle.jobspec_v1.specs.Faults.{at_path}
-use Rattle.jobspec_v1.specs.Requests.{Requested, requests_of}
+use Rattle.jobspec_v1.specs.Requests.{requests_of}
+use Rattle.jobspec_v1.specs.declared.requests.Requested.{Requested}
 use Rattle.flux_defs.specs.declared.limits.TheConstants.{GREATEST_NUMBER}
 use Rattle.jobspec_v1.specs.Tasks.{task_list, tasks_fault}
 use Rattle.jobspec_v1.specs.Attributes.{terms_of}

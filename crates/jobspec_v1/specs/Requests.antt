@@ -18,6 +18,7 @@ use Rattle.text_forms.specs.Names.{is_name}
 use Rattle.text_table.specs.Tables.{with_text}
 use Rattle.need_shape.specs.declared.raw.RawNeed.{RawNeed, roll-RawNeed}
 use Rattle.need_shape.specs.Requests.{is_slot}
+use Rattle.jobspec_v1.specs.declared.requests.Requested.{Requested}
 use Rattle.jobspec_v1.specs.declared.faults.SpecFault.{SpecFault}
 use Rattle.jobspec_v1.specs.declared.headers.VertexKey.{VertexKey}
 use Rattle.jobspec_v1.specs.declared.headers.VertexKey.TheVariants as key
@@ -35,11 +36,6 @@ pub record Said : Type 0 where
   pub exclusive : Option Bool
   pub label : Option (List ℕ)
   pub with : Items
-
--- request vertices, and the labels of the slots up to their end
-pub record Requested : Type 0 where
-  pub needs : List RawNeed
-  pub labels : List (List ℕ)
 
 -- ---- the keys of one
 
