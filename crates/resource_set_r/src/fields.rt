@@ -61,7 +61,8 @@ pub(crate) fn object_of(value: &Value, field: FieldPath) -> Result<&Value, Misre
 
 /// The object at a key.
 pub(crate) fn object_at<'a>(value: &'a Value, key: &str, field: FieldPath) -> Result<&'a Value, Misread>
-    ensures { result_map_both (λ v. view v.now) (λ e. e) result ≡ at_field field (object_field key.now (view value.now)) }
+    ensures { result_map_both (λ v. view v.now) (λ e. e) result ≡ at_field field
+        (object_field key.now (view value.now)) }
 {
     at_field(field, object_field(value, key))
 }
@@ -72,14 +73,16 @@ pub(crate) fn list_at<'a>(
     key: &str,
     field: FieldPath,
 ) -> Result<&'a Vec<Value>, Misread>
-    ensures { result_map_both (λ v. items_view v.now.items) (λ e. e) result ≡ at_field field (list_field key.now (view value.now)) }
+    ensures { result_map_both (λ v. items_view v.now.items) (λ e. e) result ≡ at_field field
+        (list_field key.now (view value.now)) }
 {
     at_field(field, list_field(value, key))
 }
 
 /// A value that is a list.
 pub(crate) fn list_of(value: &Value, field: FieldPath) -> Result<&Vec<Value>, Misread>
-    ensures { result_map_both (λ v. items_view v.now.items) (λ e. e) result ≡ at_field field (list_value (view value.now)) }
+    ensures { result_map_both (λ v. items_view v.now.items) (λ e. e) result ≡ at_field field
+        (list_value (view value.now)) }
 {
     at_field(field, list_value(value))
 }
