@@ -210,7 +210,8 @@ impl<T: Drop> From<AllocFailed<T>> for NodesFault {
 /// What a file says of its nodes.
 pub(crate) fn nodes_of(alloc: Global, items: &[Value]) -> Result<Vec<NodeFields<'_>>, NodesFault>
     ensures read { IfOk result (λ nodes. Ok (map node_held nodes.items) ≡ nodes_of 0 (items_view items.now)) }
-    ensures misfit { (m : FileMisfit) → IsErrOf result (NodesFault.Misfit m) → nodes_of 0 (items_view items.now) ≡ Err m }
+    ensures misfit { (m : FileMisfit) → IsErrOf result (NodesFault.Misfit m) →
+        nodes_of 0 (items_view items.now) ≡ Err m }
 {
     let mut nodes = Vec::with_capacity(alloc, items.len())?;
     'nodes: for (at, item) in items.iter().enumerate() {

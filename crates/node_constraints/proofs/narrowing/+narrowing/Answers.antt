@@ -28,7 +28,8 @@ narrow-members-preserved t c =
           ∙ (narrowed_twice g (λ n. key_is_true n (key_of text) (view e.1)) (λ n. each_key n (members_view left)) old
           ∙ (ap (λ k. where_true g (λ n. key_is_true n (key_of k) (view e.1) && each_key n (members_view left)) old) name
           ∙ (ap (λ es. where_true g (λ n. each_key n (members_view es)) old) (sym steps) ∙ c.members.invariant.kept)));
-      found = λ path. sym (later_is (key_fault path text (key_of text) (view e.1)) (keys_fault path (members_view left)) (c.in_ok-narrow_by_key.ensures.found path))
+      found = λ path. sym (later_is (key_fault path text (key_of text) (view e.1)) (keys_fault path (members_view left))
+          (c.in_ok-narrow_by_key.ensures.found path))
           ∙ (ap (λ k. option_or (key_fault path k (key_of k) (view e.1)) (keys_fault path (members_view left))) name
           ∙ (ap (λ es. keys_fault path (members_view es)) (sym steps) ∙ c.members.invariant.found path));
       less =
@@ -68,7 +69,8 @@ narrow_by_each-values-preserved t c =
       kept = ap (where_true g (λ n. each_true n rest)) c.in-Ok.ensures.kept
           ∙ (narrowed_twice g (λ n. is_true n (view x)) (λ n. each_true n rest) old
           ∙ (ap (λ ys. where_true g (λ n. each_true n (items_view ys)) old) (sym here) ∙ c.values.invariant.kept));
-      found = λ list. sym (later_is (fault_at (list ++ index at) (view x)) (items_fault list (at + 1) rest) (c.in-Ok.ensures.found (list ++ index at)))
+      found = λ list. sym (later_is (fault_at (list ++ index at) (view x)) (items_fault list (at + 1) rest)
+          (c.in-Ok.ensures.found (list ++ index at)))
           ∙ (ap (λ ys. items_fault list at (items_view ys)) (sym here) ∙ c.values.invariant.found list);
     }
 
@@ -94,12 +96,15 @@ narrow_by_none-values-preserved t c =
     let old = c.values.nodes.items in
     let rest = items_view (drop (at + 1) vs) in
     let here : drop at vs ≡ x ∷ drop (at + 1) vs = drop_more vs at x (omega arith) ∙ ap (λ y. y ∷ drop (at + 1) vs) (sym c.index-values-at.is) in
-    let taken = c.in_ok-take_away.ensures (λ v. is_true (facts_of g v) (view x)) (c.as_slice.ensures.value ∙ (c.in-Ok.ensures.kept ∙ ap (where_true g (λ n. is_true n (view x))) c.in_ok-some.ensures)) in
+    let taken = c.in_ok-take_away-in-Ok.ensures (λ v. is_true (facts_of g v) (view x))
+        (c.as_slice.ensures.value ∙ (c.in-Ok.ensures.kept
+        ∙ ap (where_true g (λ n. is_true n (view x))) c.in_ok-some.ensures)) in
     record {
       kept = ap (where_true g (λ n. not (some_true n rest))) taken
           ∙ (neither_left g (λ n. is_true n (view x)) (λ n. some_true n rest) old
           ∙ (ap (λ ys. where_true g (λ n. not (some_true n (items_view ys))) old) (sym here) ∙ c.values.invariant.kept));
-      found = λ list. sym (later_is (fault_at (list ++ index at) (view x)) (items_fault list (at + 1) rest) (c.in-Ok.ensures.found (list ++ index at)))
+      found = λ list. sym (later_is (fault_at (list ++ index at) (view x)) (items_fault list (at + 1) rest)
+          (c.in-Ok.ensures.found (list ++ index at)))
           ∙ (ap (λ ys. items_fault list at (items_view ys)) (sym here) ∙ c.values.invariant.found list);
     }
 
