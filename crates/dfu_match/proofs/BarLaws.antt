@@ -19,8 +19,7 @@ use Rattle.dfu_match.specs.Bars.{is_node_at, AreNodesOf, RisesStrictly, IsLeastF
 use Rattle.list_laws.proofs.Tests.{false_from}
 
 -- the least number from `from` on stands at the index before which all are less
-pub least_at_index : (list : List ℕ) (from index : ℕ) → RisesStrictly list → IsPlaceOf list from index →
-    index < length list → IsLeastFrom list from (slice_index list index)
+pub least_at_index : (list : List ℕ) (from index : ℕ) → RisesStrictly list → IsPlaceOf list from index → index < length list → IsLeastFrom list from (slice_index list index)
 least_at_index list from index up at lt = record {
   there = (index, lt, refl);
   low = at.after index (omega arith) lt;
@@ -28,14 +27,12 @@ least_at_index list from index up at lt = record {
     | inl before ↦ (let less : slice_index list i < from = at.before i before in absurd (omega arith))
     | inr later ↦ elim (cases_lt index i) [
       | inl after ↦ (let more : slice_index list index < slice_index list i = up index i after within in omega arith)
-      | inr same ↦ (let e : i ≡ index = omega arith in let f : slice_index list i ≡ slice_index list index = ap
-          (slice_index list) e in omega arith)
+      | inr same ↦ (let e : i ≡ index = omega arith in let f : slice_index list i ≡ slice_index list index = ap (slice_index list) e in omega arith)
     ]
   ];
 }
 
-pub none_from_index : (list : List ℕ) (from index : ℕ) → IsPlaceOf list from index → index ≡ length list → (i : ℕ) →
-    i < length list → slice_index list i < from
+pub none_from_index : (list : List ℕ) (from index : ℕ) → IsPlaceOf list from index → index ≡ length list → (i : ℕ) → i < length list → slice_index list i < from
 none_from_index list from index at over i lt = at.before i (omega arith)
 
 -- no member passes a test that is false of each

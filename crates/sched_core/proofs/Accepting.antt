@@ -98,14 +98,12 @@ module _ (g : Setting) (names : List (List ℕ)) (valid : IsValidGraph g.graph n
         begins = subst (λ (n : ℕ). job.start < n) (sym is.end-is) (subst (λ (n : ℕ). n < (window_of g.horizon ask start).to) (sym is.start-is) sp.0);
         ends = subst (λ (n : ℕ). job.end ≤ n) (sym until) (subst (λ (n : ℕ). n ≤ g.horizon) (sym is.end-is) sp.1);
         on_vertices = subst (λ (x : List Vertex). AllByRecursion (λ c. vertex_of c < length x) job.claims) (sym over) (fits_on vs ok 1 Everywhere ask.needs job.claims fit);
-        from_pools = subst (λ (x : List Vertex). AllByRecursion (TakesFromPool x) job.claims) (sym over)
-            (all_along (IsHad vs ok) (TakesFromPool vs) (λ c h. pool_of vs c h.1) job.claims had);
+        from_pools = subst (λ (x : List Vertex). AllByRecursion (TakesFromPool x) job.claims) (sym over) (all_along (IsHad vs ok) (TakesFromPool vs) (λ c h. pool_of vs c h.1) job.claims had);
         separate = subst (λ (x : List Vertex). AreAllSeparate x job.claims) (sym over) (separate_fits g.graph names valid ok 1 Everywhere ask.needs proper.needs job.claims fit);
         available = λ jobs stands.
             subst (λ (x : List Vertex). AllByRecursion (IsAvailable (no_bars x jobs) w) job.claims) (sym over)
             (subst (λ (js : List Job). AllByRecursion (IsAvailable (no_bars vs js) w) job.claims) (stood book s.jobs at.jobs ∙ sym (stood book jobs stands))
-            (all_along (IsHad vs ok) (IsAvailable (no_bars vs s.jobs) w)
-                (λ c h. unbarred vs s.jobs ask.barred w c h.0) job.claims had));
+            (all_along (IsHad vs ok) (IsAvailable (no_bars vs s.jobs) w) (λ c h. unbarred vs s.jobs ask.barred w c h.0) job.claims had));
         fresh = fresh_row journal s job.id (get (rows_of book) job.id) (at.table job.id) (subst (λ (n : ℕ). Contains s.used n → ⊥) (sym is.id-is) fresh);
       }
 
@@ -119,24 +117,20 @@ module _ (g : Setting) (names : List (List ℕ)) (valid : IsValidGraph g.graph n
   within : (a b : ℕ) → (a < b → ⊥) → b ≤ a
   within a b n = elim (cases_lt a b) [ inl lt ↦ absurd (n lt) | inr ge ↦ ge ]
 
-  accepted : (c : Command) (job : Job) (b : Bool) → MayAdd book job →
-      s.claim_count + length job.claims ≤ g.claim_limit → Owed c (if b then reply.Allocated job else reply.Reserved job)
+  accepted : (c : Command) (job : Job) (b : Bool) → MayAdd book job → s.claim_count + length job.claims ≤ g.claim_limit → Owed c (if b then reply.Allocated job else reply.Reserved job)
   accepted c job true may room = (may, room)
   accepted c job false may room = (may, room)
 
   accepted_or_full : (c : Command) (id start : ℕ) (ask : Ask) (r : Reply) → IsProperAsk g.graph.vertices ask → CountsWithin g.horizon ask start → (Contains s.used id → ⊥) → AcceptedOrFull g s id ask start r → Owed c r
   accepted_or_full c id start ask r proper counts fresh (job, is, inl full) = refused c r reply.Full full.1 (tt, tt)
   accepted_or_full c id start ask r proper counts fresh (job, is, inr fits) =
-      refused c r (accepted_reply s.moment job) fits.1
-          (accepted c job (job.start == s.moment) (may_add id start ask job proper counts fresh is)
-          (within g.claim_limit (s.claim_count + length job.claims) fits.0))
+      refused c r (accepted_reply s.moment job) fits.1 (accepted c job (job.start == s.moment) (may_add id start ask job proper counts fresh is) (within g.claim_limit (s.claim_count + length job.claims) fits.0))
 
   informed : (id : ℕ) (found : Option Job) (r : Reply) → MatchOption found (r ≡ reply.Absent) (λ job. r ≡ info_at s.moment job) → Owed (command.Info id) r
   informed id None r h = refused (command.Info id) r reply.Absent h (tt, tt)
   informed id (Some job) r h = refused (command.Info id) r (info_at s.moment job) h (tt, tt)
 
-  pub owed : (c : Command) (r : Reply) → IsProper g.graph.vertices c → Replies g s c r → MayFollow book s c r
-      × HasRoom g.claim_limit s.claim_count r
+  pub owed : (c : Command) (r : Reply) → IsProper g.graph.vertices c → Replies g s c r → MayFollow book s c r × HasRoom g.claim_limit s.claim_count r
   owed (command.Allocate id ask) r proper (inl x) = refused (command.Allocate id ask) r reply.Exists x.1 (tt, tt)
   owed (command.Allocate id ask) r proper (inr (_, inl x)) = refused (command.Allocate id ask) r reply.Unsatisfiable x.1 (tt, tt)
   owed (command.Allocate id ask) r proper (inr (_, inr (_, inl x))) = refused (command.Allocate id ask) r reply.TooLong x.1 (tt, tt)

@@ -38,8 +38,7 @@ pair_of rule = (rule.high, rule.low)
 
 -- the setting of these four
 abbrev pub setting_of : ResourceGraph → List Rule → ℕ → ℕ → Setting
-setting_of graph rules horizon limit =
-    record { graph = graph; rules = map pair_of rules; horizon = horizon; claim_limit = limit }
+setting_of graph rules horizon limit = record { graph = graph; rules = map pair_of rules; horizon = horizon; claim_limit = limit }
 
 -- a course without an entry
 abbrev pub empty_course : ResourceGraph → List Rule → ℕ → ℕ → Course

@@ -106,8 +106,7 @@ reach-returns-in_default-clause-greatest g t c = λ jobs stands.
     let never = none_at_all vs ok scope need c.in_default.ensures in
     greatest_along _ _ c.args.most 0 (group_from vs ok scope need) (group_to vs ok scope need)
     (reached_end _ (serves_less vs ok (takes_less _ _) scope need) c.args.most 0 0 (λ v q lo some can. never v q can)
-    (reached_start _ (serves_less vs ok (takes_less _ _) scope need) c.args.most 0
-        (λ v q lo hi some can. never v q can)))
+    (reached_start _ (serves_less vs ok (takes_less _ _) scope need) c.args.most 0 (λ v q lo hi some can. never v q can)))
 
 pub reach-loop-reached-init : goal.reach-loop-reached-init
 reach-loop-reached-init g t c =
@@ -118,8 +117,7 @@ reach-loop-reached-init g t c =
       reached = λ jobs stands.
           let ok : Claim → Type 0 = open_to vs jobs c.args.s.now.barred.now c.args.s.now.window in
           let scope = scope_of c.args.scope in
-          reached_start _ (serves_less vs ok
-              (takes_less _ _) scope c.args.need.now) c.args.most c.span_of-span.result.from
+          reached_start _ (serves_less vs ok (takes_less _ _) scope c.args.need.now) c.args.most c.span_of-span.result.from
           (none_before vs ok scope c.args.need.now c.span_of-span.result.from c.span_of-span.result.to c.span_of-span.ensures.covers);
     }
 
@@ -142,8 +140,7 @@ reach-loop-reached-preserved g t c =
     let of_kind = rw c.in-Some.is at c.kind_of.ensures in
     let next = rw c.in-Some-next_of_kind.is at c.next_of_kind.ensures in
     let low = next.low in
-    let is = found vs (λ claim. ⊥)
-        (scope_of c.args.scope) need c.in-Some.kind c.span_of-span.result.from c.loop-reached.at c.span_of-span.result.to c.in-Some-next_of_kind.vertex c.span_of-span.ensures.covers
+    let is = found vs (λ claim. ⊥) (scope_of c.args.scope) need c.in-Some.kind c.span_of-span.result.from c.loop-reached.at c.span_of-span.result.to c.in-Some-next_of_kind.vertex c.span_of-span.ensures.covers
     c.loop-reached.invariant.from c.span_of-span.ensures.within of_kind next in
     record {
       within = (let few = c.serves.ensures.within in let same = c.from-reached.ensures in let before = c.loop-reached.invariant.within in omega arith);
@@ -151,10 +148,8 @@ reach-loop-reached-preserved g t c =
       reached = λ jobs stands.
           let ok : Claim → Type 0 = open_to vs jobs c.args.s.now.barred.now c.args.s.now.window in
           let scope = scope_of c.args.scope in
-          reached_next _ (serves_less vs ok
-              (takes_less _ _) scope need) c.args.most c.in-Some-next_of_kind.vertex c.loop-reached.reached c.from-reached.result
-          (reached_over _ (serves_less vs ok
-              (takes_less _ _) scope need) c.args.most c.loop-reached.at c.in-Some-next_of_kind.vertex c.loop-reached.reached low
+          reached_next _ (serves_less vs ok (takes_less _ _) scope need) c.args.most c.in-Some-next_of_kind.vertex c.loop-reached.reached c.from-reached.result
+          (reached_over _ (serves_less vs ok (takes_less _ _) scope need) c.args.most c.loop-reached.at c.in-Some-next_of_kind.vertex c.loop-reached.reached low
           (none_skipped vs ok scope need c.in-Some.kind c.loop-reached.at c.span_of-span.result.to c.in-Some-next_of_kind.vertex of_kind next) (c.loop-reached.invariant.reached jobs stands))
           (rw c.from-reached.ensures (c.serves.ensures.greatest jobs stands scope is.1));
     }
@@ -166,9 +161,7 @@ reach-returns-clause-greatest g t c = λ jobs stands.
     let scope = scope_of c.args.scope in
     let need = c.args.need.now in
     greatest_along _ _ c.args.most c.loop-reached.reached (group_from vs ok scope need) (group_to vs ok scope need)
-    (reached_all _ (serves_less vs ok
-        (takes_less _ _) scope need) c.args.most c.loop-reached.at c.loop-reached.reached c.loop-reached-test.false
-        (c.loop-reached.invariant.reached jobs stands))
+    (reached_all _ (serves_less vs ok (takes_less _ _) scope need) c.args.most c.loop-reached.at c.loop-reached.reached c.loop-reached-test.false (c.loop-reached.invariant.reached jobs stands))
 
 pub serves-returns-then-not-admits-clause-greatest : goal.serves-returns-then-not-admits-clause-greatest
 serves-returns-then-not-admits-clause-greatest g t c = λ jobs stands scope within.

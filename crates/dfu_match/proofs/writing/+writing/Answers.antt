@@ -102,9 +102,7 @@ offer-returns-else-not-fit-clause-offers g t c =
 
 pub offer-returns-then-quantity-eq0-clause-offers : goal.offer-returns-then-quantity-eq0-clause-offers
 offer-returns-then-quantity-eq0-clause-offers g t c =
-    laws.extends_none c.args.out.now.items _
-        (λ jobs stands scope within. laws.offers_none _ _ c.args.most c.serves-quantity.result c.if-quantity-eq0.true
-        (c.serves-quantity.ensures.greatest jobs stands scope within))
+    laws.extends_none c.args.out.now.items _ (λ jobs stands scope within. laws.offers_none _ _ c.args.most c.serves-quantity.result c.if-quantity-eq0.true (c.serves-quantity.ensures.greatest jobs stands scope within))
 
 pub offer-returns-in_ok-write_claim-in-Pool-clause-offers : goal.offer-returns-in_ok-write_claim-in-Pool-clause-offers
 offer-returns-in_ok-write_claim-in-Pool-clause-offers g t c = (
@@ -117,9 +115,7 @@ offer-returns-in_ok-write_claim-in-Pool-clause-offers g t c = (
 
 pub offer-returns-then-count-eq0-clause-offers : goal.offer-returns-then-count-eq0-clause-offers
 offer-returns-then-count-eq0-clause-offers g t c =
-    laws.extends_none c.args.out.now.items _
-        (λ jobs stands scope within. laws.offers_none _ _ c.args.most c.serves-count.result c.if-count-eq0.true
-        (c.serves-count.ensures.greatest jobs stands scope within))
+    laws.extends_none c.args.out.now.items _ (λ jobs stands scope within. laws.offers_none _ _ c.args.most c.serves-count.result c.if-count-eq0.true (c.serves-count.ensures.greatest jobs stands scope within))
 
 pub offer-write_shared-requires-in-Spread : goal.offer-write_shared-requires-in-Spread
 offer-write_shared-requires-in-Spread g t c κs h =
@@ -176,11 +172,9 @@ write_group-returns-in_default g t c =
     let scope = scope_of c.args.scope in
     let need = c.args.need.now in
     let never = none_at_all vs ok scope need c.in_default.ensures in
-    filled_none _ (serves_less vs ok (takes_less _ _) scope need) (λ v q cs. ⊥) (c.args.k * amount_of need) 0
-        (c.args.k * amount_of need) [] (λ v q lo h can. never v q can)
+    filled_none _ (serves_less vs ok (takes_less _ _) scope need) (λ v q cs. ⊥) (c.args.k * amount_of need) 0 (c.args.k * amount_of need) [] (λ v q lo h can. never v q can)
     (laws.some_scaled c.args.k (amount_of need) c.requires.some (counts.amount_some vs need c.requires.valid))
-    (filled_start _ _ (c.args.k * amount_of need) 0 (λ v q lo hi h can. never v q can))
-        (group_to vs ok scope need (c.args.k * amount_of need) some))
+    (filled_start _ _ (c.args.k * amount_of need) 0 (λ v q lo hi h can. never v q can)) (group_to vs ok scope need (c.args.k * amount_of need) some))
 
 pub write_group-loop-missing-init : goal.write_group-loop-missing-init
 write_group-loop-missing-init g t c =
@@ -206,8 +200,7 @@ write_group-returns-in_default-next_of_kind g t c =
           let scope = scope_of c.args.scope in
           let need = c.args.need.now in
           let of_kind = rw c.in-Some.is at c.kind_of.ensures in
-          filled_none _ (serves_less vs ok (takes_less _ _) scope need) _
-              (c.args.k * amount_of need) c.loop-missing.at c.loop-missing.missing wrote.0
+          filled_none _ (serves_less vs ok (takes_less _ _) scope need) _ (c.args.k * amount_of need) c.loop-missing.at c.loop-missing.missing wrote.0
           (none_after vs ok scope need c.in-Some.kind c.span_of-span.result.from c.loop-missing.at c.span_of-span.result.to c.span_of-span.ensures.covers of_kind c.in_default-next_of_kind.ensures)
           c.loop-missing-test.true (wrote.2 jobs stands) (group_to vs ok scope need (c.args.k * amount_of need) some),
     )
@@ -219,8 +212,7 @@ write_group-loop-missing-preserved g t c =
     let of_kind = rw c.in-Some.is at c.kind_of.ensures in
     let next = rw c.in-Some-next_of_kind.is at c.next_of_kind.ensures in
     let low = next.low in
-    let is = found vs (λ claim. ⊥)
-        (scope_of c.args.scope) need c.in-Some.kind c.span_of-span.result.from c.loop-missing.at c.span_of-span.result.to c.in-Some-next_of_kind.vertex c.span_of-span.ensures.covers
+    let is = found vs (λ claim. ⊥) (scope_of c.args.scope) need c.in-Some.kind c.span_of-span.result.from c.loop-missing.at c.span_of-span.result.to c.in-Some-next_of_kind.vertex c.span_of-span.ensures.covers
     c.loop-missing.invariant.from c.span_of-span.ensures.within of_kind next in
     let before = c.loop-missing.invariant.written in
     let wrote = c.in_ok-served.ensures.offers in
@@ -233,8 +225,7 @@ write_group-loop-missing-preserved g t c =
         λ jobs stands.
             let ok : Claim → Type 0 = open_to vs jobs c.args.s.now.barred.now c.args.s.now.window in
             let scope = scope_of c.args.scope in
-            rw c.from-missing.ensures (filled_next _ (serves_less vs ok (takes_less _ _) scope need) _
-                (c.args.k * amount_of need) c.in-Some-next_of_kind.vertex c.loop-missing.missing c.in_ok-served.served before.0 wrote.0
+            rw c.from-missing.ensures (filled_next _ (serves_less vs ok (takes_less _ _) scope need) _ (c.args.k * amount_of need) c.in-Some-next_of_kind.vertex c.loop-missing.missing c.in_ok-served.served before.0 wrote.0
             c.loop-missing-test.true
             (filled_over _ _ (c.args.k * amount_of need) c.loop-missing.at c.in-Some-next_of_kind.vertex c.loop-missing.missing before.0 low
             (none_skipped vs ok scope need c.in-Some.kind c.loop-missing.at c.span_of-span.result.to c.in-Some-next_of_kind.vertex of_kind next) (before.2 jobs stands))
@@ -287,8 +278,7 @@ write_needs-returns-then-not-filled g t c =
           let vs = c.args.s.now.graph.now.resources.vertices in
           let ok : Claim → Type 0 = open_to vs jobs c.args.s.now.barred.now c.args.s.now.window in
           let never = rw c.if-not-filled.true at (wrote.2 jobs stands) in
-          never (group_at vs ok c.args.k (scope_of c.args.scope) items i need (drop (i + 1) items) split
-              (rw c.items-need-items.ensures fit)),
+          never (group_at vs ok c.args.k (scope_of c.args.scope) items i need (drop (i + 1) items) split (rw c.items-need-items.ensures fit)),
     )
 
 pub write_needs-loop-need-preserved : goal.write_needs-loop-need-preserved
@@ -305,8 +295,7 @@ write_needs-loop-need-preserved g t c =
           let vs = c.args.s.now.graph.now.resources.vertices in
           let ok : Claim → Type 0 = open_to vs jobs c.args.s.now.barred.now c.args.s.now.window in
           let group = rw c.if-not-filled.false at (wrote.2 jobs stands) in
-          completes_next vs ok c.args.k (scope_of c.args.scope) items (drop i items)
-              (drop (i + 1) items) need before.0 wrote.0 split group (before.2 jobs stands),
+          completes_next vs ok c.args.k (scope_of c.args.scope) items (drop i items) (drop (i + 1) items) need before.0 wrote.0 split group (before.2 jobs stands),
     )
 
 pub write_needs-returns : goal.write_needs-returns
@@ -318,7 +307,5 @@ write_needs-returns g t c =
       λ jobs stands.
           let vs = c.args.s.now.graph.now.resources.vertices in
           let ok : Claim → Type 0 = open_to vs jobs c.args.s.now.barred.now c.args.s.now.window in
-          rw (← c.items-need-items.ensures)
-              (completes_end vs ok c.args.k (scope_of c.args.scope) items (drop c.loop-need.need-index items) wrote.0
-              (drop_all c.loop-need.need-index items c.loop-need-test.false) (wrote.2 jobs stands)),
+          rw (← c.items-need-items.ensures) (completes_end vs ok c.args.k (scope_of c.args.scope) items (drop c.loop-need.need-index items) wrote.0 (drop_all c.loop-need.need-index items c.loop-need-test.false) (wrote.2 jobs stands)),
     )
