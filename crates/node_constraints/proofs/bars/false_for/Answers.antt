@@ -1,14 +1,16 @@
-use Rattle.std.proofs.Common.{◌≡◌, ◌∙◌, ℕ, sym, ap, not, length}
+use Rattle.std.proofs.Common.{◌≡◌, ◌∙◌, ℕ, sym, ap, not, length, []}
 use Rattle.std.specs.Prelude.{is_some}
 use Rattle.std.specs.List.{filter, range_with_len}
 use Rattle.serde_json.specs.View.{view}
 use Rattle.node_constraints.specs.Truth.{facts_of, is_true}
 use Rattle.node_constraints.specs.Narrowing.{where_true}
 use Rattle.node_constraints.proofs.FilterLaws.{filter_twice}
+use Rattle.node_constraints.specs.Faults.{fault_at}
+use Rattle.node_constraints.specs.Bars.{root}
 use Rattle.node_constraints.proofs.bars.false_for.Goals as goal
 
-pub returns-clause-bars : goal.returns-clause-bars
-returns-clause-bars c =
+pub returns-in-Ok-clause-bars : goal.returns-in-Ok-clause-bars
+returns-in-Ok-clause-bars c =
     let g = c.args.graph.now in
     let d = view c.args.constraint.now in
     let holds = λ (v : ℕ). is_true (facts_of g v) d in
@@ -17,3 +19,6 @@ returns-clause-bars c =
     c.in_ok-bars.ensures holds fitting
     ∙ (ap (filter (λ v. not (holds v))) (c.as_slice-2.ensures.value ∙ c.in_ok-nodes.ensures)
     ∙ filter_twice (λ v. is_some (facts_of g v).rank) (λ v. not (holds v)) (range_with_len 0 (length g.resources.vertices)))
+
+pub returns-clause-found : goal.returns-clause-found
+returns-clause-found c = c.behind.ensures [] (fault_at root (view c.args.constraint.now)) (c.in-Err.ensures.found root)

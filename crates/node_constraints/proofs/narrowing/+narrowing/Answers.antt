@@ -1,4 +1,4 @@
-use Rattle.std.proofs.Common.{rules, ◌≡◌, ◌∙◌, sym, ap, subst, ◌++◌, ◌∷◌, ◌+◌, ◌*◌, ◌<◌, ◌≤◌, ◌&&◌, [], max, not, drop, arith, string_bytes}
+use Rattle.std.proofs.Common.{rules, ◌≡◌, ◌∙◌, sym, ap, subst, ◌++◌, ◌∷◌, ◌+◌, ◌*◌, ◌<◌, ◌≤◌, ◌&&◌, [], max, not, drop, arith, string_bytes, Some}
 use Rattle.std.proofs.lemmas.List.{drop_more, drop_all}
 use Rattle.std.specs.Option.{option_or}
 use Rattle.serde_json.specs.Data.{depth, items_depth, members_depth}
@@ -9,7 +9,7 @@ use Rattle.node_constraints.specs.Truth.{facts_of, key_of, is_true, each_key, ke
 use Rattle.node_constraints.specs.Faults.{fault_at, keys_fault, key_fault, items_fault}
 use Rattle.node_constraints.specs.Narrowing.{where_true}
 use Rattle.node_constraints.proofs.FilterLaws.{filter_all, others_of_others}
-use Rattle.node_constraints.proofs.FaultLaws.{later_is}
+use Rattle.node_constraints.proofs.FaultLaws.{later_is, means_same, no_object, no_list, told_at}
 use Rattle.node_constraints.proofs.StepLaws.{is_object, narrowed_twice, neither_left, none_given, some_given}
 use Rattle.json_fields.proofs.Depths.{at_depth}
 use Rattle.node_constraints.proofs.narrowing.+narrowing.Goals as goal
@@ -125,3 +125,43 @@ narrow_by_some-returns-clause-kept t c =
     let others = c.as_slice.ensures.value ∙ (c.in_ok-narrow_by_none.ensures.kept ∙ ap (where_true g (λ n. not (some_true n (items_view vs)))) c.in_ok-others.ensures) in
     others_of_others nodes c.as_slice.result.now c.take_away.new.nodes.items (λ v. some_true (facts_of g v) (items_view vs)) others c.in_ok-take_away.ensures
     ∙ some_given g vs (sym c.is_empty.ensures ∙ c.if-is_empty.false) nodes
+
+pub narrow-returns-in_default-clause-found : goal.narrow-returns-in_default-clause-found
+narrow-returns-in_default-clause-found t c = λ path.
+    let d = view c.args.constraint.now in
+    means_same path (Some path) (fault_at path d) c.fault_here.result
+    (sym (no_object path d (sym c.in_default.ensures))) (c.fault_here.ensures path)
+
+pub narrow_by_key-returns-in_default-clause-found : goal.narrow_by_key-returns-in_default-clause-found
+narrow_by_key-returns-in_default-clause-found t c = λ path.
+    let key = c.args.key.now in
+    let d = view c.args.value.now in
+    means_same path (Some path) (key_fault path key (key_of key) d) c.fault_here.result
+    (ap (λ k. key_fault path key k d) c.in_default.ensures) (c.fault_here.ensures path)
+
+pub narrow_by_key-returns-in_default-as_array-clause-found : goal.narrow_by_key-returns-in_default-as_array-clause-found
+narrow_by_key-returns-in_default-as_array-clause-found t c = λ path.
+    let key = c.args.key.now in
+    let d = view c.args.value.now in
+    let fault = c.fault_here-in_default-as_array in
+    means_same path (Some path) (key_fault path key (key_of key) d) fault.result
+    (sym (no_list path key c.in-Some.known d (sym c.in_default-as_array.ensures))
+    ∙ ap (λ k. key_fault path key k d) c.in-Some.ensures) (fault.ensures path)
+
+pub narrow_by_each-returns-in-Err-clause-found : goal.narrow_by_each-returns-in-Err-clause-found
+narrow_by_each-returns-in-Err-clause-found t c = λ list.
+    let vs = c.args.values.now in
+    let at = c.values.at in
+    let x = c.index-values-at.result in
+    let here : drop at vs ≡ x ∷ drop (at + 1) vs = drop_more vs at x (omega arith) ∙ ap (λ y. y ∷ drop (at + 1) vs) (sym c.index-values-at.is) in
+    c.in_member.ensures list (items_fault list 0 (items_view vs))
+    (told_at list vs at x c.in-Err.fault here (c.values.invariant.found list) (c.in-Err.ensures.found (list ++ index at)))
+
+pub narrow_by_none-returns-in-Err-clause-found : goal.narrow_by_none-returns-in-Err-clause-found
+narrow_by_none-returns-in-Err-clause-found t c = λ list.
+    let vs = c.args.values.now in
+    let at = c.values.at in
+    let x = c.index-values-at.result in
+    let here : drop at vs ≡ x ∷ drop (at + 1) vs = drop_more vs at x (omega arith) ∙ ap (λ y. y ∷ drop (at + 1) vs) (sym c.index-values-at.is) in
+    c.in_member.ensures list (items_fault list 0 (items_view vs))
+    (told_at list vs at x c.in-Err.fault here (c.values.invariant.found list) (c.in-Err.ensures.found (list ++ index at)))
