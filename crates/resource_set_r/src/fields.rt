@@ -43,10 +43,10 @@ pub(crate) fn field_path(alloc: Global, field: FieldPath) -> Result<Text, AllocE
 }
 
 /// What a field gives, or its fault there.
-pub(crate) fn at_field<T>(field: FieldPath, field: Result<T, FieldFault>) -> Result<T, Misread>
-    ensures { result ≡ at_field field field }
+pub(crate) fn at_field<T>(field: FieldPath, read: Result<T, FieldFault>) -> Result<T, Misread>
+    ensures { result ≡ at_field field read }
 {
-    match field {
+    match read {
         Ok(found) => Ok(found),
         Err(fault) => Err(Misread::Field { field, fault }),
     }
