@@ -1,5 +1,6 @@
 -- The count is stored and loaded.
-use Rattle.std.proofs.Common.{◌≡◌, ◌≢◌, ℕ, ◌-◌, List, [], ◌∷◌, ◌++◌, length, get_or, set, Option, Some, refl, sym, ap, subst, inr}
+use Rattle.std.proofs.Common.{◌≡◌, ◌≢◌, ℕ, ◌-◌, List, [], ◌∷◌, ◌++◌, length, get_or, set, Option, Some, refl, sym, ap}
+use Rattle.std.proofs.Common.{subst, inr}
 use Rattle.std.specs.List.{range_with_len}
 use mathlib.Core.Option.{some, none}
 use mathlib.Core.List.{IsPrefix}

@@ -1,5 +1,6 @@
 -- Where the value is: at home, or out with one seat.
-use Rattle.std.proofs.Common.{◌≡◌, ◌≢◌, ◌⊎◌, ℕ, List, [], ◌∷◌, ◌++◌, length, set, Option, refl, sym, ap, ◌∙◌, subst, inl, inr, ⊎_elim}
+use Rattle.std.proofs.Common.{◌≡◌, ◌≢◌, ◌⊎◌, ℕ, List, [], ◌∷◌, ◌++◌, length, set, Option, refl, sym, ap, ◌∙◌, subst}
+use Rattle.std.proofs.Common.{inl, inr, ⊎_elim}
 use mathlib.Core.Logic.{dite}
 use mathlib.Core.Option.{some, none, some-injective}
 use mathlib.Core.Option as maybe
@@ -17,7 +18,8 @@ module _ {V E K : Type 0} (history : V → List E) (setting : V → K) (k : K) w
   Homes = List (maybe.Option (Option V))
 
   abbrev Place : List E → ℕ → Homes → List (View E K) → Type 0
-  Place log turn homes views = IsFree history setting k log turn homes views ⊎ IsTaken history setting k turn homes views
+  Place log turn homes views =
+      IsFree history setting k log turn homes views ⊎ IsTaken history setting k turn homes views
 
   -- what a seat that has the turn knows
   pub record HasIt (turn : ℕ) (homes : Homes) (views : List (View E K)) (i : ℕ) : Type 0 where
@@ -54,7 +56,8 @@ module _ {V E K : Type 0} (history : V → List E) (setting : V → K) (k : K) w
 
   -- one view changes, but for its phase
   pub place_same : (log : List E) (turn : ℕ) (homes : Homes) (views : List (View E K)) (i : ℕ) (v w : View E K)
-      → get_elem? views i ≡ some v → w.phase ≡ v.phase → Place log turn homes views → Place log turn homes (set views i w)
+      → get_elem? views i ≡ some v → w.phase ≡ v.phase → Place log turn homes views
+      → Place log turn homes (set views i w)
   place_same log turn homes views i v w at same place = ⊎_elim
       (λ (free : IsFree history setting k log turn homes views). inl record {
         value = free.value;

@@ -1,5 +1,6 @@
 -- How often a position stands in a list.
-use Rattle.std.proofs.Common.{◌≡◌, ◌≢◌, ℕ, zero, suc, ◌+◌, ◌≤◌, ◌<◌, ◌==◌, nat_lt, Bool, true, false, List, [], ◌∷◌, ◌++◌, refl, sym, ap, ◌∙◌, ◌-◌, arith, if◌then◌else◌, eq-eqb, ne_eqb}
+use Rattle.std.proofs.Common.{◌≡◌, ◌≢◌, ℕ, zero, suc, ◌+◌, ◌≤◌, ◌<◌, ◌==◌, nat_lt, Bool, true, false, List, [], ◌∷◌}
+use Rattle.std.proofs.Common.{◌++◌, refl, sym, ap, ◌∙◌, ◌-◌, arith, if◌then◌else◌, eq-eqb, ne_eqb}
 use Rattle.std.specs.List.{range_with_len}
 use Rattle.std.proofs.lemmas.List.Sums.{sum_by-cons, sum_by-append}
 use mathlib.Core.Logic.{dite}
@@ -58,7 +59,8 @@ times_once p a (suc n) = dite (ℕ_discrete a p)
     let rest = times_once p (a + 1) n in omega arith)
 
 pub range_append : (a m n b : ℕ) → a + m ≡ b → range_with_len a (m + n) ≡ range_with_len a m ++ range_with_len b n
-range_append a zero n b e = let n_is : zero + n ≡ n = omega arith in let b_is : b ≡ a = omega arith in rw (n_is, b_is) refl
+range_append a zero n b e =
+    let all : zero + n ≡ n = omega arith in let here : b ≡ a = omega arith in rw (all, here) refl
 range_append a (suc m) n b e =
     let more : suc m + n ≡ suc (m + n) = omega arith in
     let rest = range_append (a + 1) m n b (omega arith) in rw more (ap (λ ps. a ∷ ps) rest)

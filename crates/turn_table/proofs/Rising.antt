@@ -1,5 +1,6 @@
 -- Rising lists of positions.
-use Rattle.std.proofs.Common.{◌≡◌, ◌≢◌, ℕ, zero, suc, ◌+◌, ◌-◌, ◌≤◌, ◌<◌, nat_lt, Bool, true, false, List, [], ◌∷◌, ◌++◌, refl, subst, arith, if◌then◌else◌}
+use Rattle.std.proofs.Common.{◌≡◌, ◌≢◌, ℕ, zero, suc, ◌+◌, ◌-◌, ◌≤◌, ◌<◌, nat_lt, Bool, true, false, List, [], ◌∷◌}
+use Rattle.std.proofs.Common.{◌++◌, refl, subst, arith, if◌then◌else◌}
 use Rattle.std.specs.List.{AllByRecursion, range_with_len}
 use Rattle.std.specs.List.Sorted.{IsStrictlySortedBy}
 use Rattle.std.specs.Ordering.{nat_cmp}
@@ -148,7 +149,9 @@ put_at a b x y ys r l h none rest false is =
 put_rises : (a b x : ℕ) (ys : List ℕ) → RisesIn a ys b → a ≤ x → x < b → times x ys ≡ 0 → RisesIn a (put_in x ys) b
 put_rises a b x [] r l h none = (l, omega arith)
 put_rises a b x (y ∷ ys) r l h none = put_at a b x y ys r l h none
-    (λ less. let miss = times_miss x y ys (λ e. omega arith) in put_rises (y + 1) b x ys r.1 (omega arith) h (omega arith))
+    (λ less.
+    let miss = times_miss x y ys (λ e. omega arith) in
+    put_rises (y + 1) b x ys r.1 (omega arith) h (omega arith))
     (nat_lt x y) refl
 
 merged_from : (a b : ℕ) (xs ys : List ℕ) → RisesIn a xs b → RisesIn 0 ys b
@@ -169,4 +172,5 @@ merged_from a b (x ∷ xs) ys r s once =
 -- two rising lists that share no position
 pub merged_rises : (n : ℕ) (xs ys : List ℕ) → RisesBelow n xs → RisesBelow n ys
     → ((p : ℕ) → times p xs + times p ys ≤ 1) → RisesBelow n (merged xs ys)
-merged_rises n xs ys r s once = in_words n (merged xs ys) (merged_from 0 n xs ys (from_words n xs r) (from_words n ys s) once)
+merged_rises n xs ys r s once =
+    in_words n (merged xs ys) (merged_from 0 n xs ys (from_words n xs r) (from_words n ys s) once)

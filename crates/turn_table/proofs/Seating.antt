@@ -1,5 +1,6 @@
 -- A seat is split, and two are joined.
-use Rattle.std.proofs.Common.{◌≡◌, ℕ, ◌+◌, ◌≤◌, List, [], ◌∷◌, ◌++◌, length, set, Option, Some, refl, sym, ap, ◌∙◌, subst}
+use Rattle.std.proofs.Common.{◌≡◌, ℕ, ◌+◌, ◌≤◌, List, [], ◌∷◌, ◌++◌, length, set, Option, Some, refl, sym, ap, ◌∙◌}
+use Rattle.std.proofs.Common.{subst}
 use mathlib.Core.Option.{some}
 use lib.ListN.{get_elem?}
 use Rattle.atomic_table.specs.Table.{State, Me, Splits, Joins}
@@ -10,7 +11,8 @@ use Rattle.turn_table.specs.Rule.{spent, Fits, IsKept}
 use Rattle.turn_table.specs.Positions.{times}
 use Rattle.turn_table.specs.Plays.{looks, kept_share, given_share, joined}
 use Rattle.turn_table.proofs.Positions.{times_merged}
-use Rattle.turn_table.proofs.Views.{each_kept, each_push, fits_kept, fits_given, fits_joined, fits_spent, counted_split, counted_joined, apart}
+use Rattle.turn_table.proofs.Views.{each_kept, each_push, fits_kept, fits_given, fits_joined, fits_spent}
+use Rattle.turn_table.proofs.Views.{counted_split, counted_joined, apart}
 use Rattle.turn_table.proofs.Places.{place_same, place_push}
 
 module _ {V E K : Type 0} (history : V → List E) (setting : V → K) (k : K) where
@@ -29,7 +31,8 @@ module _ {V E K : Type 0} (history : V → List E) (setting : V → K) (k : K) w
         log = r.log;
         turn = r.turn;
         words = refl;
-        fits = each_push (Fits r.log k) views x (each_kept (Fits r.log k) s.views i w r.fits (fits_kept k r.log v fit is room))
+        fits = each_push (Fits r.log k) views x
+            (each_kept (Fits r.log k) s.views i w r.fits (fits_kept k r.log v fit is room))
             (fits_given k r.log v fit is);
         counted = counted_split (length r.log) s.views i v at room r.counted;
         place = place_push history setting k r.log r.turn s.homes views x refl

@@ -1,11 +1,13 @@
 -- The turn is taken and given up.
-use Rattle.std.proofs.Common.{◌≡◌, ◌≢◌, ℕ, ◌==◌, List, [], ◌∷◌, length, get_or, set, Option, Some, refl, sym, ap, ◌∙◌, subst, inl, inr, ⊎_elim, arith}
+use Rattle.std.proofs.Common.{◌≡◌, ◌≢◌, ℕ, ◌==◌, List, [], ◌∷◌, length, get_or, set, Option, Some, refl, sym, ap, ◌∙◌}
+use Rattle.std.proofs.Common.{subst, inl, inr, ⊎_elim, arith}
 use mathlib.Core.Option.{some, none}
 use mathlib.Core.Option as maybe
 use mathlib.Core.List.{IsPrefix}
 use lib.ListN.{get_elem?}
 use prog.Atomic.{either}
-use Rattle.atomic_table.specs.Table.{State, Me, step, Act, keeps, gives, takes, Valid, homes_after, carried_after, Allows}
+use Rattle.atomic_table.specs.Table.{State, Me, step, Act, keeps, gives, takes, Valid, homes_after, carried_after}
+use Rattle.atomic_table.specs.Table.{Allows}
 use Rattle.turn_table.specs.declared.view.View.{View}
 use Rattle.turn_table.specs.declared.view.Phase.TheVariants.{Idle, Stored}
 use Rattle.turn_table.specs.Positions.{RisesBelow}
@@ -88,7 +90,8 @@ module _ {V E K : Type 0} (history : V → List E) (setting : V → K) (k : K) w
 
   give_allows_of : (slots i : ℕ) (v : View E K) (b : V) → v.setting ≡ Some k → v.phase ≡ Stored → v.seen ≡ history b
       → setting b ≡ k
-      → Allows Rule slots i (v, (0, Some b) ∷ []) 0 (λ _. 0) (λ _. Gives (step slots 0 0 0 none) (v, (0, Some b) ∷ []) 0)
+      → Allows Rule slots i (v, (0, Some b) ∷ []) 0 (λ _. 0)
+      (λ _. Gives (step slots 0 0 0 none) (v, (0, Some b) ∷ []) 0)
   give_allows_of slots i v b is stored here set_is s r _ at _ =
       let busy : v.phase ≢ Idle = λ e. cc in
       let fit : Fits r.log k v = r.fits i v at in
@@ -96,7 +99,8 @@ module _ {V E K : Type 0} (history : V → List E) (setting : V → K) (k : K) w
       let it : HasIt history setting k r.turn s.homes s.views i =
       has_it history setting k r.log r.turn s.homes s.views i v at busy r.place in
       let homes : List (maybe.Option (Option V)) = set s.homes 0 (some (Some b)) in
-      let After : List ℕ → Type 0 = λ ws. Rule record { words = set ws 0 0; homes = homes; views = set s.views i w } in (
+      let After : List ℕ → Type 0 = λ ws.
+      Rule record { words = set ws 0 0; homes = homes; views = set s.views i w } in (
         w,
         gives,
         tt,

@@ -1,5 +1,7 @@
 -- Views: each fits the history, and together they have its positions and all the shares.
-use Rattle.std.proofs.Common.{◌≡◌, ◌≢◌, ℕ, zero, suc, ◌+◌, ◌-◌, ◌≤◌, nat_lt, Bool, true, false, if◌then◌else◌, List, [], ◌∷◌, ◌++◌, length, set, Some, None, refl, sym, ap, ◌∙◌, subst, ⊎_elim, arith, length-append}
+use Rattle.std.proofs.Common.{◌≡◌, ◌≢◌, ℕ, zero, suc, ◌+◌, ◌-◌, ◌≤◌, nat_lt, Bool, true, false, if◌then◌else◌, List}
+use Rattle.std.proofs.Common.{[], ◌∷◌, ◌++◌, length, set, Some, None, refl, sym, ap, ◌∙◌, subst, ⊎_elim, arith}
+use Rattle.std.proofs.Common.{length-append}
 use Rattle.std.specs.List.{range_with_len, sum_by}
 use Rattle.std.proofs.lemmas.Bool.Decides.{nat_tests}
 use Rattle.std.proofs.lemmas.List.Elements.{All-nil, All-cons, All-append, All-weaker}
@@ -240,8 +242,9 @@ module _ {E K : Type 0} where
   }
 
   -- the history grows, and one view has the new positions
-  pub counted_more : (m n : ℕ) (views : List (View E K)) (i : ℕ) (v w : View E K) → get_elem? views i ≡ some v → m ≤ n
-      → w.mine ≡ v.mine ++ range_with_len m (n - m) → w.share ≡ v.share → IsCounted m views → IsCounted n (set views i w)
+  pub counted_more : (m n : ℕ) (views : List (View E K)) (i : ℕ) (v w : View E K) → get_elem? views i ≡ some v
+      → m ≤ n → w.mine ≡ v.mine ++ range_with_len m (n - m) → w.share ≡ v.share → IsCounted m views
+      → IsCounted n (set views i w)
   counted_more m n views i v w at l mine share c = record {
     positions = λ p.
         let sums = sum_set (own p) views i v w at in

@@ -15,14 +15,22 @@ module _ {E K : Type 0} where
   -- the view of the first seat, where the first value has this history and this setting
   abbrev pub first_view : List E → K → View E K
   first_view log k =
-      record { seen = log; earlier = []; mine = range_with_len 0 (length log); share = WHOLE; phase = Idle; setting = Some k }
+      record {
+        seen = log;
+        earlier = [];
+        mine = range_with_len 0 (length log);
+        share = WHOLE;
+        phase = Idle;
+        setting = Some k;
+      }
 
   -- the view that a join leaves to the seat that was taken in
   abbrev pub spent : View E K
   spent = record { seen = []; earlier = []; mine = []; share = 0; phase = Idle; setting = None }
 
-  -- What a view says is so, where the history is log and the setting is k: the history begins with what was seen, and with
-  -- what was seen before a join; with the turn, all was seen; positions rise and were seen; only a spent view has no share.
+  -- What a view says is so, where the history is log and the setting is k: the history begins with what was seen, and
+  -- with what was seen before a join; who has the turn has seen all; the positions rise, and the entries there were
+  -- seen; only a spent view has no share.
   pub record Fits (log : List E) (k : K) (v : View E K) : Type 0 where
     pub seen : IsPrefix v.seen log
     pub earlier : All (λ old. IsPrefix old log) v.earlier
@@ -49,8 +57,12 @@ module _ {E K : Type 0} where
     pub shares : sum_by (λ v. v.share) views ≡ WHOLE
 
 module _ {V E K : Type 0} (history : V → List E) (setting : V → K) (k : K) where
+  -- what is at home in each slot
+  abbrev Homes : Type 0
+  Homes = List (maybe.Option (Option V))
+
   -- Nobody has the turn, and the value is at home: it stands for the history.
-  pub record IsFree (log : List E) (turn : ℕ) (homes : List (maybe.Option (Option V))) (views : List (View E K)) : Type 0 where
+  pub record IsFree (log : List E) (turn : ℕ) (homes : Homes) (views : List (View E K)) : Type 0 where
     pub value : V
     pub turn_is : turn ≡ 0
     pub home : homes ≡ some (Some value) ∷ []
@@ -59,7 +71,7 @@ module _ {V E K : Type 0} (history : V → List E) (setting : V → K) (k : K) w
     pub idle : Each IsIdle views
 
   -- One seat has the turn, and the slot is out with it.
-  pub record IsTaken (turn : ℕ) (homes : List (maybe.Option (Option V))) (views : List (View E K)) : Type 0 where
+  pub record IsTaken (turn : ℕ) (homes : Homes) (views : List (View E K)) : Type 0 where
     pub holder : ℕ
     pub holds : View E K
     pub turn_is : turn ≡ 1

@@ -41,6 +41,10 @@ module _ {V E K : Type 0} where
   abbrev pub KeepsTurn : Seat (Option V) (View E K) → Seat (Option V) (View E K) → Type 0
   KeepsTurn s s' = (Rests s → Rests s') × (HasTurn s → HasTurn s')
 
+  -- the seat has in hand the slot with this value in it
+  abbrev pub HasInHand : Seat (Option V) (View E K) → V → Type 0
+  HasInHand s value = s.me.1 ≡ (0, Some value) ∷ []
+
 -- the seat has the turn, and in hand the value, whose history begins with what was seen
 abbrev pub Took : {V E K : Type 0} → (V → List E) → (V → K) → K → View E K → Hand V E K → Type 0
 Took history setting k v m' =

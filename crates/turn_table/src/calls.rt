@@ -70,8 +70,8 @@ impl<V: Logged> Turn<V> {
         }
     }
 
-    /// Takes the turn and the value, once nobody else has it: it may wait. The history of the value begins with what the
-    /// seat had seen, and the seat has then seen all of it.
+    /// Takes the turn and the value, once nobody else has it: it may wait. The history of the value begins with what
+    /// the seat had seen, and the seat has then seen all of it.
     pub fn take<R: Wait>(&self, rt: &R, seat: &mut Seat<V>) -> V
         requires own { Belongs V.setting self.now seat.old }
         requires rests { Rests seat.old }
@@ -90,8 +90,8 @@ impl<V: Logged> Turn<V> {
         unreachable!()
     }
 
-    /// Gives the turn up with a value whose history begins with that of the value that was taken. The seat has then seen
-    /// it, and the positions that it adds are the seat's. It never waits, and wakes one of those who do.
+    /// Gives the turn up with a value whose history begins with that of the value that was taken. The seat has then
+    /// seen it, and the positions that it adds are the seat's. It never waits, and wakes one of those who do.
     pub fn give(&self, seat: &mut Seat<V>, value: V)
         requires own { Belongs V.setting self.now seat.old × HasTurn seat.old }
         requires later { IsPrefix (seen seat.old) (V.history value) }
@@ -108,8 +108,8 @@ impl<V: Logged> Turn<V> {
         self.give_turn(seat);
     }
 
-    /// The length of a history that begins with what the seat had seen. The seat has then seen that history. It takes no
-    /// memory and never waits, and the seat may have the turn.
+    /// The length of a history that begins with what the seat had seen. The seat has then seen that history. It takes
+    /// no memory and never waits, and the seat may have the turn.
     pub fn version(&self, seat: &mut Seat<V>) -> u64
         requires own { Belongs V.setting self.now seat.old }
         ensures own { Belongs V.setting self.now seat.new }
@@ -121,8 +121,8 @@ impl<V: Logged> Turn<V> {
         self.load_count(seat)
     }
 
-    /// Another seat, which has seen as much, has no position and no turn, and has one share of this seat's. It never waits
-    /// and takes no memory, so it always succeeds.
+    /// Another seat, which has seen as much, has no position and no turn, and has one share of this seat's. It never
+    /// waits and takes no memory, so it always succeeds.
     pub fn split(&self, seat: &mut Seat<V>) -> Result<Seat<V>, AllocError>
         requires own { Belongs V.setting self.now seat.old }
         requires room { 2 ≤ share seat.old }
@@ -137,8 +137,8 @@ impl<V: Logged> Turn<V> {
         Ok(self.table.shared.split_seat::<Part>(seat))
     }
 
-    /// Takes another seat in. The seat has then seen a history that begins with what each of the two had seen, and has the
-    /// positions and the shares of both. It takes no memory and never waits.
+    /// Takes another seat in. The seat has then seen a history that begins with what each of the two had seen, and has
+    /// the positions and the shares of both. It takes no memory and never waits.
     pub fn join(&self, seat: &mut Seat<V>, other: Seat<V>)
         requires own { Belongs V.setting self.now seat.old × Rests seat.old }
         requires other { Belongs V.setting self.now other × Rests other }

@@ -4,7 +4,7 @@ ghost use mathlib.Core.List.{IsPrefix};
 ghost use Rattle.turn_table.specs.declared.view.Phase.TheVariants.{Holding, Stored};
 ghost use Rattle.turn_table.specs.Positions.{RisesBelow};
 ghost use Rattle.turn_table.specs.Plays.{stores, rests, Looks};
-ghost use Rattle.turn_table.specs.Seats.{seen, Took};
+ghost use Rattle.turn_table.specs.Seats.{seen, HasInHand, Took};
 ghost use Rattle.turn_table.specs.Turns.{setting_of, Stands};
 
 use crate::logged::Logged;
@@ -30,7 +30,8 @@ impl<V: Logged> Turn<V> {
         requires own { Stands V.setting self.now seat.old }
         requires hand { seat.old.me.1 ≡ [] }
         ensures own { seat.new.table_id ≡ seat.old.table_id }
-        ensures took { MatchBool result (Took V.history V.setting (setting_of V.setting self.now) seat.old.me.0 seat.new.me)
+        ensures took { MatchBool result
+            (Took V.history V.setting (setting_of V.setting self.now) seat.old.me.0 seat.new.me)
             (seat.new.me ≡ seat.old.me) }
     {
         self.table
@@ -47,9 +48,9 @@ impl<V: Logged> Turn<V> {
     // Takes the value out of the slot in hand.
     pub(crate) fn lift(&self, seat: &mut Seat<V>) -> V
         requires own { seat.old.table_id ≡ self.now.table.shared.table_id }
-        requires hand { (value : V) × (seat.old.me.1 ≡ (0, Some value) ∷ []) }
+        requires hand { (value : V) × HasInHand seat.old value }
         ensures own { seat.new.table_id ≡ seat.old.table_id }
-        ensures value { seat.old.me.1 ≡ (0, Some result) ∷ [] }
+        ensures value { HasInHand seat.old result }
         ensures left { seat.new.me ≡ (seat.old.me.0, (0, None) ∷ []) }
     {
         let Some(value) = self.table.shared.exchange(seat, VALUE, None) else {
@@ -72,12 +73,12 @@ impl<V: Logged> Turn<V> {
     // Makes the history of the value in hand the history of all. The positions that it adds are the seat's.
     pub(crate) fn store_count(&self, seat: &mut Seat<V>, count: u64)
         requires own { Stands V.setting self.now seat.old }
-        requires hand { (value : V) × (seat.old.me.1 ≡ (0, Some value) ∷ []) × IsPrefix (seen seat.old) (V.history value)
+        requires hand { (value : V) × HasInHand seat.old value × IsPrefix (seen seat.old) (V.history value)
             × (length (V.history value) ≡ count) }
         requires turn { seat.old.me.0.phase ≡ Holding }
         ensures own { seat.new.table_id ≡ seat.old.table_id }
-        ensures stored { (value : V) → seat.old.me.1 ≡ (0, Some value) ∷ []
-            → (seat.new.me ≡ (stores (V.history value) seat.old.me.0, seat.old.me.1))
+        ensures stored { (value : V) → HasInHand seat.old value →
+            (seat.new.me ≡ (stores (V.history value) seat.old.me.0, seat.old.me.1))
             × RisesBelow (length (V.history value)) seat.new.me.0.mine }
     {
         self.table.shared.store::<Store>(seat, COUNT, count);
@@ -86,7 +87,7 @@ impl<V: Logged> Turn<V> {
     // Gives the turn up, and with it the slot and the value in it. Wakes one of those who wait.
     pub(crate) fn give_turn(&self, seat: &mut Seat<V>)
         requires own { Stands V.setting self.now seat.old }
-        requires hand { (value : V) × (seat.old.me.1 ≡ (0, Some value) ∷ []) × (seen seat.old ≡ V.history value)
+        requires hand { (value : V) × HasInHand seat.old value × (seen seat.old ≡ V.history value)
             × (V.setting value ≡ setting_of V.setting self.now) }
         requires stored { seat.old.me.0.phase ≡ Stored }
         ensures own { seat.new.table_id ≡ seat.old.table_id }

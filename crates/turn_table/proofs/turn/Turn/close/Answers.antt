@@ -21,4 +21,5 @@ returns-clause-mine g c =
 pub returns-clause-setting : goal.returns-clause-setting
 returns-clause-setting g c =
     (closes_with g.V.Logged.history g.V.Logged.setting _ _ _ _ _ c.take-slot.result c.in-Some.value
-    c.close_with-closed.ensures.values.2 (search rules) (search rules) c.take-slot.ensures.value c.in-Some.is).setting_is
+    c.close_with-closed.ensures.values.2 (search rules) (search rules) c.take-slot.ensures.value
+    c.in-Some.is).setting_is

@@ -8,7 +8,8 @@ join_seat-requires g c = (
   search rules,
   search rules,
   search rules,
-  join_allows g.V.Logged.history g.V.Logged.setting _ _ _ _ _ (search rules) (search rules) (search rules) (search rules),
+  join_allows g.V.Logged.history g.V.Logged.setting _ _ _ _ _
+      (search rules) (search rules) (search rules) (search rules),
 )
 
 pub returns-clause-mine : goal.returns-clause-mine
