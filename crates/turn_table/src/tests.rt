@@ -1,1 +1,101 @@
-//! Rows, and many threads.
+//! One entry beside a look, and many threads at one value.
+ghost use Rattle.std.specs.Prelude.{◌≡◌, ◌+◌, All, length, IfOk};
+ghost use Rattle.turn_table.specs.declared.view.TheConstants.{WHOLE};
+ghost use Rattle.turn_table.specs.Seats.{share, Rests};
+ghost use Rattle.turn_table.specs.Turns.{Belongs};
+
+use crate::{Logged, Seat, Turn};
+use flux_defs::List;
+use std::alloc::{AllocError, Global};
+use std::sync::Wait;
+use std::test::Fail;
+use std::thread::{Threads, for_each_mut, join_mut};
+
+const CLIENTS: usize = 16;
+const ROUNDS: u64 = 200;
+
+// Numbers of clients, in the order in which they came.
+#[derive(Drop)]
+struct Log {
+    name: u8,
+    entries: List<u32>,
+}
+
+impl Logged for Log {
+    type Entry = u32;
+
+    type Setting = u8;
+
+    ghost history = { λ log. log.entries };
+
+    ghost setting = { λ log. log.name };
+
+    fn count(&self) -> u64 {
+        self.entries.len() as u64
+    }
+}
+
+// Adds one entry, and answers its position.
+fn add<R: Wait>(
+    rt: &R,
+    turn: &Turn<Log>,
+    seat: &mut Seat<Log>,
+    entry: u32,
+) -> Result<u64, AllocError>
+    requires { Belongs (λ log. log.name) turn.now seat.old × Rests seat.old }
+    ensures own { Belongs (λ log. log.name) turn.now seat.new × Rests seat.new }
+    ensures share { share seat.new ≡ share seat.old }
+{
+    let mut log = turn.take(rt, seat);
+    let at = log.count();
+    let pushed = log.entries.push(entry);
+    turn.give(seat, log);
+    match pushed {
+        Ok(()) => Ok(at),
+        Err((_, failed)) => Err(failed),
+    }
+}
+
+// One seat looks, and beside it the other adds an entry.
+fn look_and_add<R: Threads + Wait + Sync>(
+    rt: &R,
+    turn: &Turn<Log>,
+    first: &mut Seat<Log>,
+    second: &mut Seat<Log>,
+) -> (u64, bool)
+    requires first { Belongs (λ log. log.name) turn.now first.old × Rests first.old }
+    requires second { Belongs (λ log. log.name) turn.now second.old × Rests second.old }
+    ensures first { Belongs (λ log. log.name) turn.now first.new × Rests first.new }
+    ensures second { Belongs (λ log. log.name) turn.now second.new × Rests second.new }
+    ensures share { (share first.new ≡ share first.old) × (share second.new ≡ share second.old) }
+{
+    join_mut(
+        rt,
+        &mut || turn.version(first),
+        &mut || add(rt, turn, second, 5).is_ok(),
+    )
+}
+
+fn open(alloc: Global) -> Result<(Turn<Log>, Seat<Log>), AllocError>
+    ensures own { IfOk result (λ made. Belongs (λ log. log.name) made.0 made.1 × Rests made.1) }
+    ensures share { IfOk result (λ made. share made.1 ≡ WHOLE) }
+{
+    let empty = Log {
+        name: 7,
+        entries: List::new(alloc),
+    };
+    Turn::new(alloc, empty).map_err(|(_, failed)| failed)
+}
+
+#[test]
+fn a_seat_sees_what_another_added(rt: HostRuntime) -> Result<(), Fail> {
+    let (turn, mut first) = open(rt.alloc())?;
+    let mut second = turn.split(&mut first)?;
+    let (count, added) = look_and_add(&rt, &turn, &mut first, &mut second);
+    assert!(rt; added && count <= 1, "beside the other: {count}");
+    turn.join(&mut first, second);
+    assert_eq!(rt; turn.version(&mut first), 1);
+    let log = turn.close(first);
+    assert!(rt; log.name == 7 && log.entries.items() == [5].as_slice());
+    Ok(())
+}
