@@ -7,7 +7,7 @@ use mathlib.Core.List.{IsPrefix}
 use lib.ListN.{get_elem?}
 use Rattle.atomic_table.specs.Table.{State, Me, step, Act, keeps, Valid, homes_after, carried_after, Allows}
 use Rattle.turn_table.specs.declared.view.View.{View}
-use Rattle.turn_table.specs.declared.view.Phase.TheVariants.{Idle, Holding}
+use Rattle.turn_table.specs.declared.view.TurnPhase.TheVariants.{Idle, Holding}
 use Rattle.turn_table.specs.Positions.{RisesBelow}
 use Rattle.turn_table.specs.Rule.{Fits, IsKept}
 use Rattle.turn_table.specs.Plays.{stores, looks, Stores, Loads}

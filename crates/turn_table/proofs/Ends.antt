@@ -9,7 +9,7 @@ use native.Mathlib.Decide.{ℕ_discrete}
 use lib.ListN.{get_elem?}
 use Rattle.atomic_table.specs.Table.{State, opening, Final, Seen}
 use Rattle.turn_table.specs.declared.view.View.{View}
-use Rattle.turn_table.specs.declared.view.Phase.TheVariants.{Idle}
+use Rattle.turn_table.specs.declared.view.TurnPhase.TheVariants.{Idle}
 use Rattle.turn_table.specs.Rule.{first_view, Fits, IsIdle, IsFree, IsTaken, IsKept}
 use Rattle.turn_table.proofs.Views.{each_one, fits_first, counted_first, others_spent, has_all}
 

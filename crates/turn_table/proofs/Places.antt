@@ -9,7 +9,7 @@ use lib.ListN.{get_elem?}
 use Rattle.atomic_table.specs.Table.{State}
 use Rattle.atomic_table.proofs.Lists.{at_set, set_else, at_longer}
 use Rattle.turn_table.specs.declared.view.View.{View}
-use Rattle.turn_table.specs.declared.view.Phase.TheVariants.{Idle}
+use Rattle.turn_table.specs.declared.view.TurnPhase.TheVariants.{Idle}
 use Rattle.turn_table.specs.Rule.{Fits, IsIdle, EachOther, IsFree, IsTaken, IsKept}
 use Rattle.turn_table.proofs.Views.{set_at, each_kept, each_push, other_set, other_push, counted_same}
 

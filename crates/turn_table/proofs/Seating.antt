@@ -6,7 +6,7 @@ use lib.ListN.{get_elem?}
 use Rattle.atomic_table.specs.Table.{State, Me, Splits, Joins}
 use Rattle.atomic_table.proofs.Lists.{set_else}
 use Rattle.turn_table.specs.declared.view.View.{View}
-use Rattle.turn_table.specs.declared.view.Phase.TheVariants.{Idle}
+use Rattle.turn_table.specs.declared.view.TurnPhase.TheVariants.{Idle}
 use Rattle.turn_table.specs.Rule.{spent, Fits, IsKept}
 use Rattle.turn_table.specs.Positions.{times}
 use Rattle.turn_table.specs.Plays.{looks, kept_share, given_share, joined}

@@ -9,7 +9,7 @@ use prog.Atomic.{either}
 use Rattle.atomic_table.specs.Table.{State, Me, step, Act, keeps, gives, takes, Valid, homes_after, carried_after}
 use Rattle.atomic_table.specs.Table.{Allows}
 use Rattle.turn_table.specs.declared.view.View.{View}
-use Rattle.turn_table.specs.declared.view.Phase.TheVariants.{Idle, Stored}
+use Rattle.turn_table.specs.declared.view.TurnPhase.TheVariants.{Idle, Stored}
 use Rattle.turn_table.specs.Positions.{RisesBelow}
 use Rattle.turn_table.specs.Rule.{Fits, IsIdle, IsFree, IsTaken, IsKept}
 use Rattle.turn_table.specs.Plays.{holds, rests, Takes, Gives}

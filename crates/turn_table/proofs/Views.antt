@@ -12,7 +12,7 @@ use lib.ListN.{get_elem?}
 use base.Growing.{prefix_refl, prefix_trans}
 use Rattle.atomic_table.proofs.Lists.{at_set, set_else, at_snoc}
 use Rattle.turn_table.specs.declared.view.View.{View}
-use Rattle.turn_table.specs.declared.view.Phase.TheVariants.{Idle}
+use Rattle.turn_table.specs.declared.view.TurnPhase.TheVariants.{Idle}
 use Rattle.turn_table.specs.Positions.{times, RisesBelow}
 use Rattle.turn_table.specs.Rule.{first_view, spent, Fits, Each, EachOther, IsCounted}
 use Rattle.turn_table.specs.Plays.{longer, holds, stores, rests, looks, kept_share, given_share, joined}

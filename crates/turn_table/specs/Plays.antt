@@ -5,7 +5,7 @@ use Rattle.std.specs.List.{range_with_len}
 use mathlib.Core.List.{IsPrefix}
 use Rattle.atomic_table.specs.Table.{Me, Step, rest}
 use Rattle.turn_table.specs.declared.view.View.{View}
-use Rattle.turn_table.specs.declared.view.Phase.TheVariants.{Idle, Holding, Stored}
+use Rattle.turn_table.specs.declared.view.TurnPhase.TheVariants.{Idle, Holding, Stored}
 use Rattle.turn_table.specs.Positions.{RisesBelow, merged}
 
 -- the longer of two lists

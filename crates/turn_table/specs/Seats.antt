@@ -4,7 +4,7 @@ use mathlib.Core.List.{IsPrefix}
 use Rattle.atomic_table.specs.Seated.{TableId}
 use Rattle.atomic_table.specs.declared.shared.Seat.{Seat}
 use Rattle.turn_table.specs.declared.view.View.{View}
-use Rattle.turn_table.specs.declared.view.Phase.TheVariants.{Idle, Holding}
+use Rattle.turn_table.specs.declared.view.TurnPhase.TheVariants.{Idle, Holding}
 use Rattle.turn_table.specs.Positions.{RisesBelow}
 use Rattle.turn_table.specs.Plays.{holds, Hand}
 

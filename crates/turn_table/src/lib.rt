@@ -39,7 +39,7 @@ mod view;
 
 pub use logged::Logged;
 pub use turn::{Seat, Turn};
-pub use view::{Phase, View, WHOLE};
+pub use view::{TurnPhase, View, WHOLE};
 
 #[cfg(test)]
 mod tests;

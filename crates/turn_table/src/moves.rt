@@ -1,7 +1,7 @@
 //! One function for each kind of step.
 ghost use Rattle.std.specs.Prelude.{◌≡◌, [], ◌∷◌, length, Some, None, MatchBool};
 ghost use mathlib.Core.List.{IsPrefix};
-ghost use Rattle.turn_table.specs.declared.view.Phase.TheVariants.{Holding, Stored};
+ghost use Rattle.turn_table.specs.declared.view.TurnPhase.TheVariants.{Holding, Stored};
 ghost use Rattle.turn_table.specs.Positions.{RisesBelow};
 ghost use Rattle.turn_table.specs.Plays.{stores, rests, Looks};
 ghost use Rattle.turn_table.specs.Seats.{seen, HasInHand, Took};

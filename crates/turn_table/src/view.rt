@@ -5,7 +5,7 @@ use std::collections::LinkedList;
 pub const WHOLE: u64 = 65_536;
 
 /// Where a seat stands.
-pub enum Phase {
+pub enum TurnPhase {
     /// It has no turn.
     Idle,
     /// It has the turn.
@@ -25,7 +25,7 @@ pub struct View<E, K> {
     /// How many of the 65,536 shares it has; 0 exactly where it was joined to another.
     pub share: u64,
     /// Whether it has the turn.
-    pub phase: Phase,
+    pub phase: TurnPhase,
     /// The setting of every value, and `None` exactly where it was joined to another.
     pub setting: Option<K>,
 }
