@@ -83,6 +83,6 @@ module _ {V E K : Type 0} where
       (log : List E) × (m' ≡ (looks log m.0, m.1)) × (length log ≡ found) × IsPrefix m.0.seen log
       × All (λ old. IsPrefix old log) m.0.earlier × RisesBelow (length log) m.0.mine
 
-  -- the same of a load
+  -- a load of the count tells this
   abbrev pub Loads : Step (Option V) → Hand V E K → ℕ → Hand V E K → Type 0
   Loads st m found m' = Looks found m m'

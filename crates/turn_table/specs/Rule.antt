@@ -6,7 +6,7 @@ use mathlib.Core.Option as maybe
 use mathlib.Core.List.{IsPrefix}
 use lib.ListN.{get_elem?}
 use Rattle.atomic_table.specs.Table.{State}
-use Rattle.turn_table.specs.declared.view.TheConstants.{WHOLE}
+use Rattle.turn_table.specs.declared.view.TheConstants.{ALL_SHARES}
 use Rattle.turn_table.specs.declared.view.View.{View}
 use Rattle.turn_table.specs.declared.view.TurnPhase.TheVariants.{Idle}
 use Rattle.turn_table.specs.Positions.{times, RisesBelow}
@@ -19,7 +19,7 @@ module _ {E K : Type 0} where
         seen = log;
         earlier = [];
         mine = range_with_len 0 (length log);
-        share = WHOLE;
+        share = ALL_SHARES;
         phase = Idle;
         setting = Some k;
       }
@@ -54,7 +54,7 @@ module _ {E K : Type 0} where
   -- The views together have each position below n once and no other, and they have all the shares.
   pub record IsCounted (n : ℕ) (views : List (View E K)) : Type 0 where
     pub positions : (p : ℕ) → sum_by (λ v. times p v.mine) views ≡ times p (range_with_len 0 n)
-    pub shares : sum_by (λ v. v.share) views ≡ WHOLE
+    pub shares : sum_by (λ v. v.share) views ≡ ALL_SHARES
 
 module _ {V E K : Type 0} (history : V → List E) (setting : V → K) (k : K) where
   -- what is at home in each slot

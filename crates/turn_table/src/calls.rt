@@ -2,12 +2,13 @@
 ghost use Rattle.std.specs.Prelude.{◌≡◌, ◌+◌, ◌-◌, ◌≤◌, ℕ, [], ◌∷◌, ◌++◌, length, Some, IsOk, IfOk, IfErr};
 ghost use Rattle.std.specs.List.{range_with_len};
 ghost use mathlib.Core.List.{IsPrefix};
-ghost use Rattle.turn_table.specs.declared.view.TheConstants.{WHOLE};
+ghost use Rattle.turn_table.specs.declared.view.TheConstants.{ALL_SHARES};
 ghost use Rattle.turn_table.specs.Positions.{times};
 ghost use Rattle.turn_table.specs.Seats.{seen, mine, share, Rests, HasTurn, KeepsTurn};
 ghost use Rattle.turn_table.specs.Turns.{setting_of, Belongs};
 
 use crate::logged::Logged;
+use crate::moves::{FREE, VALUE};
 use crate::plays::{Merge, Part};
 use crate::turn::{Seat, Turn};
 use atomic_table::{Refused, Table};
@@ -55,7 +56,7 @@ impl<V: Logged> Turn<V> {
         ensures setting { IfOk result (λ made. setting_of V.setting made.0 ≡ V.setting value) }
         ensures seen { IfOk result (λ made. seen made.1 ≡ V.history value) }
         ensures mine { IfOk result (λ made. mine made.1 ≡ range_with_len 0 (length (V.history value))) }
-        ensures share { IfOk result (λ made. share made.1 ≡ WHOLE) }
+        ensures share { IfOk result (λ made. share made.1 ≡ ALL_SHARES) }
         ensures err { IfErr result (λ failed. failed.0 ≡ value) }
     {
         let count = value.count();
@@ -64,7 +65,7 @@ impl<V: Logged> Turn<V> {
             Ok(slots) => slots,
             Err(value) => return Err((value, AllocError)),
         };
-        match Table::new(alloc, &[0, count], slots, &about) {
+        match Table::new(alloc, &[FREE, count], slots, &about) {
             Ok((table, seat)) => Ok((Turn { table }, seat)),
             Err(Refused { slots }) => Err((out_of_slot(slots), AllocError)),
         }
@@ -154,14 +155,14 @@ impl<V: Logged> Turn<V> {
     /// The value, at the end. The seat is the last one: all positions of the value's history are its own.
     pub fn close(self, seat: Seat<V>) -> V
         requires own { Belongs V.setting self seat × Rests seat }
-        requires last { share seat ≡ WHOLE }
+        requires last { share seat ≡ ALL_SHARES }
         ensures later { IsPrefix (seen seat) (V.history result) }
         ensures mine { mine seat ≡ range_with_len 0 (length (V.history result)) }
         ensures setting { V.setting result ≡ setting_of V.setting self }
     {
         let Turn { table } = self;
         let mut closed = table.close_with(seat);
-        let slot = closed.take(0);
+        let slot = closed.take(VALUE);
         closed.free();
         let Some(value) = slot else { unreachable!() };
         value

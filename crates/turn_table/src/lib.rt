@@ -39,7 +39,7 @@ mod view;
 
 pub use logged::Logged;
 pub use turn::{Seat, Turn};
-pub use view::{TurnPhase, View, WHOLE};
+pub use view::{ALL_SHARES, TurnPhase, View};
 
 #[cfg(test)]
 mod tests;

@@ -17,10 +17,10 @@ const TURN: usize = 0;
 
 const COUNT: usize = 1;
 
-const VALUE: usize = 0;
+pub(crate) const VALUE: usize = 0;
 
 // What the turn word is while nobody has the turn, and while somebody has it.
-const FREE: u64 = 0;
+pub(crate) const FREE: u64 = 0;
 
 const TAKEN: u64 = 1;
 

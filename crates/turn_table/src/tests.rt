@@ -1,6 +1,6 @@
 //! One entry beside a look, and many threads at one value.
 ghost use Rattle.std.specs.Prelude.{◌≡◌, ◌+◌, All, length, IfOk};
-ghost use Rattle.turn_table.specs.declared.view.TheConstants.{WHOLE};
+ghost use Rattle.turn_table.specs.declared.view.TheConstants.{ALL_SHARES};
 ghost use Rattle.turn_table.specs.Seats.{share, Rests};
 ghost use Rattle.turn_table.specs.Turns.{Belongs};
 
@@ -79,7 +79,7 @@ fn look_and_add<R: Threads + Wait + Sync>(
 
 fn open(alloc: Global) -> Result<(Turn<Log>, Seat<Log>), AllocError>
     ensures own { IfOk result (λ made. Belongs (λ log. log.name) made.0 made.1 × Rests made.1) }
-    ensures share { IfOk result (λ made. share made.1 ≡ WHOLE) }
+    ensures share { IfOk result (λ made. share made.1 ≡ ALL_SHARES) }
 {
     let empty = Log {
         name: 7,
@@ -112,11 +112,11 @@ struct Client {
 // A client for each number, each with a seat.
 fn deal(alloc: Global, turn: &Turn<Log>, first: &mut Seat<Log>) -> Result<Vec<Client>, AllocError>
     requires own { Belongs (λ log. log.name) turn.now first.old × Rests first.old }
-    requires share { share first.old ≡ WHOLE }
+    requires share { share first.old ≡ ALL_SHARES }
     ensures own { Belongs (λ log. log.name) turn.now first.new × Rests first.new }
     ensures theirs { IfOk result (λ clients. All
         (λ c. Belongs (λ log. log.name) turn.now c.seat × Rests c.seat × (share c.seat ≡ 1)) clients.items) }
-    ensures share { IfOk result (λ clients. share first.new + length clients.items ≡ WHOLE) }
+    ensures share { IfOk result (λ clients. share first.new + length clients.items ≡ ALL_SHARES) }
 {
     let mut clients = Vec::new(alloc);
     for number in 0..CLIENTS {
@@ -164,9 +164,9 @@ fn work_all<R: Threads + Wait + Sync>(rt: &R, turn: &Turn<Log>, clients: &mut Ve
 fn gather(turn: &Turn<Log>, first: &mut Seat<Log>, mut clients: Vec<Client>)
     requires own { Belongs (λ log. log.name) turn.now first.old × Rests first.old }
     requires theirs { All (λ c. Belongs (λ log. log.name) turn.now c.seat × Rests c.seat × (share c.seat ≡ 1)) clients.items }
-    requires share { share first.old + length clients.items ≡ WHOLE }
+    requires share { share first.old + length clients.items ≡ ALL_SHARES }
     ensures own { Belongs (λ log. log.name) turn.now first.new × Rests first.new }
-    ensures share { share first.new ≡ WHOLE }
+    ensures share { share first.new ≡ ALL_SHARES }
 {
     while let Some(client) = clients.pop() {
         turn.join(first, client.seat);

@@ -2,7 +2,7 @@
 use std::collections::LinkedList;
 
 /// The shares of all seats together, and so the share of the last one.
-pub const WHOLE: u64 = 65_536;
+pub const ALL_SHARES: u64 = 65_536;
 
 /// Where a seat stands.
 pub enum TurnPhase {
