@@ -133,8 +133,10 @@ fn deal(alloc: Global, turn: &Turn<Log>, first: &mut Seat<Log>) -> Result<Vec<Cl
 
 // The client adds its entries, and notes their positions. It stops where no memory is left.
 fn work<R: Wait>(rt: &R, turn: &Turn<Log>, client: &mut Client)
-    requires { Belongs (λ log. log.name) turn.now client.old.seat × Rests client.old.seat × (share client.old.seat ≡ 1) }
-    ensures { Belongs (λ log. log.name) turn.now client.new.seat × Rests client.new.seat × (share client.new.seat ≡ 1) }
+    requires { Belongs (λ log. log.name) turn.now client.old.seat × Rests client.old.seat
+        × (share client.old.seat ≡ 1) }
+    ensures { Belongs (λ log. log.name) turn.now client.new.seat × Rests client.new.seat
+        × (share client.new.seat ≡ 1) }
 {
     for _ in 0..ROUNDS {
         let Ok(at) = add(rt, turn, &mut client.seat, client.number) else {
@@ -148,8 +150,10 @@ fn work<R: Wait>(rt: &R, turn: &Turn<Log>, client: &mut Client)
 
 // All clients work, each in a thread.
 fn work_all<R: Threads + Wait + Sync>(rt: &R, turn: &Turn<Log>, clients: &mut Vec<Client>)
-    requires { All (λ c. Belongs (λ log. log.name) turn.now c.seat × Rests c.seat × (share c.seat ≡ 1)) clients.old.items }
-    ensures theirs { All (λ c. Belongs (λ log. log.name) turn.now c.seat × Rests c.seat × (share c.seat ≡ 1)) clients.new.items }
+    requires { All
+        (λ c. Belongs (λ log. log.name) turn.now c.seat × Rests c.seat × (share c.seat ≡ 1)) clients.old.items }
+    ensures theirs { All
+        (λ c. Belongs (λ log. log.name) turn.now c.seat × Rests c.seat × (share c.seat ≡ 1)) clients.new.items }
     ensures count { length clients.new.items ≡ length clients.old.items }
 {
     for_each_mut(
@@ -163,7 +167,8 @@ fn work_all<R: Threads + Wait + Sync>(rt: &R, turn: &Turn<Log>, clients: &mut Ve
 // Takes all seats in.
 fn gather(turn: &Turn<Log>, first: &mut Seat<Log>, mut clients: Vec<Client>)
     requires own { Belongs (λ log. log.name) turn.now first.old × Rests first.old }
-    requires theirs { All (λ c. Belongs (λ log. log.name) turn.now c.seat × Rests c.seat × (share c.seat ≡ 1)) clients.items }
+    requires theirs { All
+        (λ c. Belongs (λ log. log.name) turn.now c.seat × Rests c.seat × (share c.seat ≡ 1)) clients.items }
     requires share { share first.old + length clients.items ≡ ALL_SHARES }
     ensures own { Belongs (λ log. log.name) turn.now first.new × Rests first.new }
     ensures share { share first.new ≡ ALL_SHARES }

@@ -10,4 +10,5 @@ invariant-loop-number l =
     (Belongs (λ (log : Log). log.name) l.turn l.first × Rests l.first)
     × (share l.first + length l.clients.items ≡ 65536)
     × (length l.clients.items ≡ l.number)
-    × All (λ (c : Client). Belongs (λ (log : Log). log.name) l.turn c.seat × Rests c.seat × (share c.seat ≡ 1)) l.clients.items
+    × All (λ (c : Client). Belongs (λ (log : Log). log.name) l.turn c.seat × Rests c.seat × (share c.seat ≡ 1))
+    l.clients.items

@@ -9,7 +9,8 @@ abbrev pub invariant-loop-client : goal.invariant-loop-client
 invariant-loop-client l =
     (Belongs (λ (log : Log). log.name) l.turn l.first × Rests l.first)
     × (share l.first + length l.clients.items ≡ 65536)
-    × All (λ (c : Client). Belongs (λ (log : Log). log.name) l.turn c.seat × Rests c.seat × (share c.seat ≡ 1)) l.clients.items
+    × All (λ (c : Client). Belongs (λ (log : Log). log.name) l.turn c.seat × Rests c.seat × (share c.seat ≡ 1))
+    l.clients.items
 
 abbrev pub decreases-loop-client : goal.decreases-loop-client
 decreases-loop-client l = goal.left-loop-client l

@@ -5,4 +5,5 @@ use Rattle.turn_table.specs.Turns.{Belongs}
 use Rattle.turn_table.proofs.tests.work.Given as goal
 
 abbrev pub invariant-loop : goal.invariant-loop
-invariant-loop g l = Belongs (λ (log : Log). log.name) l.turn l.client.seat × Rests l.client.seat × (share l.client.seat ≡ 1)
+invariant-loop g l =
+    Belongs (λ (log : Log). log.name) l.turn l.client.seat × Rests l.client.seat × (share l.client.seat ≡ 1)
