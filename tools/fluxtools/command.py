@@ -72,6 +72,12 @@ def read_bytes(path):
         raise Fault(called(path), reason(error)) from None
 
 
+def read_once(*paths):
+    """Refuses paths of which two are standard input."""
+    if paths.count("-") > 1:
+        raise Fault("standard input", "can be read once only")
+
+
 def called(path):
     """How a place of input or output is called in a fault."""
     return "standard input" if path == "-" else path
@@ -110,7 +116,8 @@ def write_whole(data, path):
         with open(path, "wb") as device:
             device.write(data)
         return
-    number, beside = tempfile.mkstemp(prefix=os.path.basename(path)[:100] + ".", suffix=".part", dir=os.path.dirname(path))
+    folder, name = os.path.split(path)
+    number, beside = tempfile.mkstemp(prefix=name[:100] + ".", suffix=".part", dir=folder)
     try:
         with os.fdopen(number, "wb") as file:
             file.write(data)

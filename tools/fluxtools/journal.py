@@ -6,7 +6,7 @@ from collections import namedtuple
 from fluxtools.command import Fault, called, read_bytes, shown
 from fluxtools.texts import BadText, read_hosts, read_idset
 
-# An answer: its place in the file, the input line, the client, the words of the reply, and the present moment before it.
+# An answer: its place in the file, the input line, the client, the words of the reply, the present moment before it.
 Answer = namedtuple("Answer", "place line client words moment")
 
 # What a job has on some nodes: their ranks, and the ids of cores and gpus that it has on each, all as ranges.
@@ -21,6 +21,17 @@ REPLIES = {
     "info": 4,
     "now": 2,
     "reserved": 4,
+}
+
+
+PLACES = ("allocate", "reserve")
+ANSWERED_SO = {
+    **{word: PLACES for word in REFUSALS},
+    "allocated": PLACES,
+    "cancelled": ("cancel",),
+    "now": ("advance",),
+    "reserved": ("reserve",),
+    "unsatisfiable": (*PLACES, "satisfy"),
 }
 
 
@@ -49,16 +60,16 @@ class Job:
 class Journal:
     """A journal as it was read.
 
-    `answers` are in the order of the file. `jobs` are the accepted ones by their ids, in the order of the file. `moves` are
-    the moments that the present moment reached, from 0 on. `cancels` are the answers `cancelled`, each with its job, or
-    None where no input says which one it was. `refused` are the answers that refuse a job, each with the job's id or None;
-    without an input an `unsatisfiable` of a satisfy and any line that can't be read are among them.
+    `answers` are in the order of the file. `jobs` are the accepted ones by their ids, in the order of the file. `moves`
+    are what the present moment was, from 0 on. `cancels` are the answers `cancelled`, each with its job, or None where
+    no input says which one it was. `refused` are the answers that refuse a job, each with the job's id or None; without
+    an input an `unsatisfiable` of a satisfy and any line that can't be read are among them.
     """
 
     def __init__(self, answers, commands):
         self.answers, self.jobs, self.moves, self.cancels, self.refused = answers, {}, [0], [], []
         for answer in answers:
-            self.take(answer, commands and command_of(answer, commands))
+            self.take(answer, None if commands is None else command_of(answer, commands))
 
     def take(self, answer, command):
         """What an answer changes."""
@@ -77,7 +88,7 @@ class Journal:
             if job is not None:
                 job.cancelled = answer.moment
             self.cancels.append((answer, job))
-        elif word in (*REFUSALS, "invalid") and (command is None or command[0] in ("allocate", "reserve")):
+        elif word in (*REFUSALS, "invalid") and (command is None or command[0] in PLACES):
             self.refused.append((answer, command[1] if command else None))
 
 
@@ -113,10 +124,16 @@ def parts_of(row, place):
         raise Fault(place, f"is no line POSITION LINE CLIENT REPLY: {shown(row.decode('ascii', 'replace'), 40)}")
     words = parts[4].decode("utf-8", "replace").split(" ")
     words = words[:3] + [" ".join(words[3:])] if words[0] in ("allocated", "reserved") and len(words) > 3 else words
-    known = len(words) >= (4 if words[1:2] == ["field"] else 2) if words[0] == "invalid" else len(words) == REPLIES.get(words[0])
-    if not known:
+    if not is_reply(words):
         raise Fault(place, f"{shown(' '.join(words), 40)} is no reply")
     return number_of(parts[2].decode(), place), parts[3].decode(), words
+
+
+def is_reply(words):
+    """Whether words are as many as their reply has."""
+    if words[0] == "invalid":
+        return len(words) >= (4 if words[1:2] == ["field"] else 3 if words[1:2] == ["shape"] else 2)
+    return len(words) == REPLIES.get(words[0])
 
 
 def number_of(text, place):
@@ -166,8 +183,7 @@ def read_commands(path):
 def command_of(answer, commands):
     """The command of the input that an answer belongs to, which has to be one that is answered so."""
     command = commands.get(answer.line, ("", None))
-    wanted = {"cancelled": ["cancel"], "allocated": ["allocate", "reserve"], "reserved": ["reserve"], "now": ["advance"]}
-    wanted.update({word: ["allocate", "reserve"] for word in REFUSALS}, unsatisfiable=["allocate", "reserve", "satisfy"])
-    if answer.words[0] in wanted and command[0] not in wanted[answer.words[0]]:
-        raise Fault(answer.place, f"line {answer.line} of the input is no {' or '.join(wanted[answer.words[0]])}")
+    wanted = ANSWERED_SO.get(answer.words[0])
+    if wanted and command[0] not in wanted:
+        raise Fault(answer.place, f"line {answer.line} of the input is no {' or '.join(wanted)}")
     return command

@@ -41,7 +41,7 @@ def objects_below(own):
 
 
 def under_sockets(machine, wanted):
-    """How many sockets there are, and for each object that is wanted its socket; nothing in such an object is looked at."""
+    """How many sockets there are, and for each object that is wanted its socket; nothing in such a one is looked at."""
     sockets, found = 0, []
 
     def walk(own, socket):

@@ -74,7 +74,7 @@ class Picture:
         self.height = min(36, max(1000 / rows, min(1.5, 2000 / rows)))
         self.gap = 2 if self.height >= 9 and self.by == "node" else 0
         longest = max(len(node.name) for node in self.nodes) + (4 if self.by == "core" and self.height >= 11 else 0)
-        self.left = MARGIN + 8 + CHAR * min(32, max(longest, len("cancelled")))
+        self.left = MARGIN + 14 + CHAR * min(32, max(longest, len("cancelled")))
         self.right = self.width - MARGIN - 12
         self.legend = self.legend_places()
         self.lanes = [(kind, own) for kind, own in (("cancelled", self.cancels()), ("refused", self.refusals())) if own]
@@ -203,6 +203,7 @@ class Picture:
         left, right = self.x(job.start), self.x(job.until)
         if job.until < job.end:
             self.shape(job, "bar gone", fill, right, self.x(job.end), boxes)
+            self.labels(job, "#777", right, self.x(job.end), boxes)
         if job.until > job.start:
             self.shape(job, "bar bare" if bare else "bar" + thin, fill, left, right, boxes)
             self.labels(job, "#000" if bare else ink(fill), left, right, boxes)
@@ -223,16 +224,15 @@ class Picture:
 
     def move_lines(self):
         """A line for each moment that the present one moved to; the last one is the present moment."""
-        moves = sorted({moment for moment in self.journal.moves if self.first <= moment <= self.last})
-        for moment in moves:
-            last = moment == self.journal.moves[-1]
-            x, top = num(self.x(moment)), num(self.top - (38 + LANE * len(self.lanes) if last else 4))
-            title = f"<title>the present moment: {moment}</title>"
-            kind = "now" if last else "move"
-            self.add(f'<path class="{kind}" d="M{x} {top}V{num(self.bottom + 4)}">{title}</path>')
-            if last:
-                side, shift = ("small right", -4) if self.x(moment) > (self.left + self.right) / 2 else ("small", 4)
-                self.text(self.x(moment) + shift, self.top - 30 - LANE * len(self.lanes), f"now {duration(moment)}", side)
+        last, ceiling = self.journal.moves[-1], self.top - 38 - LANE * len(self.lanes)
+        for moment in sorted({moment for moment in self.journal.moves if self.first <= moment <= self.last}):
+            x, kind = num(self.x(moment)), "now" if moment == last else "move"
+            above = f"M{x} {num(ceiling)}V{num(self.top - 20)}" if moment == last else ""
+            line = f"{above}M{x} {num(self.top - 4)}V{num(self.bottom + 4)}"
+            self.add(f'<path class="{kind}" d="{line}"><title>the present moment: {moment}</title></path>')
+        if self.first <= last <= self.last:
+            side, shift = ("small right", -4) if self.x(last) > (self.left + self.right) / 2 else ("small", 4)
+            self.text(self.x(last) + shift, ceiling + 8, f"now {duration(last)}", side)
 
     def cancels(self):
         """Cancelled jobs by the moment of their cancelling, as (what is told, job or None)."""
@@ -254,7 +254,7 @@ class Picture:
         """A lane of marks for cancelled jobs and one for refused ones, and a mark where a cancelled bar ends."""
         for at, (kind, marks) in enumerate(self.lanes):
             y = self.top - 26 - LANE * at - LANE / 2 + 4
-            self.text(self.left - 8, y + 4, kind, "small right")
+            self.text(self.left - 14, y + 4, kind, "small right")
             shown = [moment for moment in sorted(marks) if self.first <= moment <= self.last]
             for moment, following in zip(shown, [*shown[1:], None]):
                 lines = marks[moment]

@@ -4,7 +4,7 @@ from collections import namedtuple
 
 from fluxtools.command import Fault
 
-# What a job has of one node: the node's place, and a run of places in its list of cores; None for a job without cores there.
+# What a job has of one node: the node's place, and a run of places in its list of cores; None where it has no core.
 Piece = namedtuple("Piece", "node first last")
 
 YEAR = 365 * 86400
@@ -47,8 +47,8 @@ class Rows:
 def last_moment(journal):
     """The moment up to which a picture goes: the last start, end or move.
 
-    Jobs without a limit end at the horizon, ten years ahead. An end more than a year ahead and more than ten times later
-    than all that is before it would leave no room for the rest, so it is left out, and what goes on beyond is cut.
+    Jobs without a limit end at the horizon, ten years ahead. An end more than a year ahead and more than ten times
+    later than all that is before it would leave no room for the rest, so it is left out, and what goes on is cut.
     """
     jobs = journal.jobs.values()
     moments = sorted({0, *journal.moves, *(job.start for job in jobs), *(job.end for job in jobs)})

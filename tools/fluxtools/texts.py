@@ -95,7 +95,7 @@ def hosts_of(item):
 
 
 def read_hosts(text):
-    """The names of a hostlist in their order, repeats included: `node[0-127]`, `rack[0-1]n[01-16]`, `login,n[0-8/2]`."""
+    """The names of a hostlist in their order, repeats included: `node[0-127]`, `r[0-1]n[01-16]`, `login,n[0-8/2]`."""
     if text == "":
         return []
     hosts = []
@@ -129,7 +129,11 @@ def write_hosts(names):
             runs[-1].append(name)
         else:
             runs.append([name])
-    return [run[0] if len(run) == 1 else "{0}[{1}-{2}]".format(*parts_of(run[0]), parts_of(run[-1])[1]) for run in runs]
+    texts = []
+    for run in runs:
+        (prefix, first), (_, last) = parts_of(run[0]), parts_of(run[-1])
+        texts.append(run[0] if len(run) == 1 else f"{prefix}[{first}-{last}]")
+    return texts
 
 
 def folded(names):

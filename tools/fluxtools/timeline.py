@@ -60,12 +60,18 @@ class Timeline:
         inside = min(max(moment, self.first), self.last - 1)
         return (inside - self.first) * self.columns // (self.last - self.first)
 
+    def columns_of(self, job):
+        """The columns that a job touches; none where it was cancelled before its start."""
+        start, end = max(job.start, self.first) - self.first, min(job.until, self.last) - self.first
+        span = self.last - self.first
+        return range(start * self.columns // span, -(-end * self.columns // span)) if start < end else range(0)
+
     def cells(self, jobs):
         """A row's columns: free, a job's symbol, or that several jobs are there at once."""
         cells = [FREE] * self.columns
         until = [self.first] * self.columns
         for job in sorted(jobs, key=lambda job: job.start):
-            for at in range(self.column(job.start), self.column(job.until - 1) + 1):
+            for at in self.columns_of(job):
                 over = cells[at] != FREE and until[at] > job.start
                 cells[at] = SEVERAL if over or cells[at] == SEVERAL else self.symbols[job.number]
                 until[at] = max(until[at], job.until)
