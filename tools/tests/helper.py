@@ -18,6 +18,7 @@ DATA = os.path.join(TESTS, "data")
 
 sys.dont_write_bytecode = True
 sys.path.insert(0, TOOLS)
+ENVIRONMENT = {**os.environ, "PYTHONDONTWRITEBYTECODE": "1"}
 LOADED = {}
 
 
@@ -49,8 +50,7 @@ def shell(name, *words, stdin="", **more):
     """The same in a process of its own."""
     command = [os.path.join(TOOLS, name), *words]
     more = {"stdout": subprocess.PIPE, **more}
-    environment = {**os.environ, "PYTHONDONTWRITEBYTECODE": "1"}
-    made = subprocess.run(command, input=stdin.encode(), stderr=subprocess.PIPE, env=environment, **more)
+    made = subprocess.run(command, input=stdin.encode(), stderr=subprocess.PIPE, env=ENVIRONMENT, **more)
     return made.returncode, (made.stdout or b"").decode(), made.stderr.decode()
 
 
@@ -76,6 +76,12 @@ class ToolTest(unittest.TestCase):
         self.assertEqual(err.count("\n"), 1)
         self.assertTrue(err.startswith(f"tools/{name}: ") and err.endswith("\n"), err)
         return err[len(f"tools/{name}: ") : -1]
+
+
+def oracle(graph, lines, *words):
+    """What the other model of the program answers, which is at hand without a build."""
+    command = [sys.executable, os.path.join(TOOLS, "lines_oracle.py"), "answer", graph, lines, *words]
+    return subprocess.run(command, stdout=subprocess.PIPE, check=True, env=ENVIRONMENT).stdout.decode()
 
 
 def example(name):

@@ -1,11 +1,8 @@
 """Command lines and their jobspecs, each written out by hand from RFC 25, RFC 14, RFC 31 and flux-submit(1)."""
-import os
-import subprocess
-import sys
 import tempfile
 import unittest
 
-from helper import TOOLS, ToolTest, example, run
+from helper import ToolTest, example, oracle, run
 
 
 def slot(count, *parts):
@@ -149,10 +146,8 @@ class Readers(ToolTest):
         with tempfile.NamedTemporaryFile("w") as lines:
             lines.write("".join(f"a satisfy {spec}" for spec in specs))
             lines.flush()
-            oracle = [sys.executable, os.path.join(TOOLS, "lines_oracle.py"), "answer"]
-            words = [example("four-nodes.json"), lines.name, "--form", form]
-            made = subprocess.run([*oracle, *words], stdout=subprocess.PIPE)
-        return [line.split(" ", 3)[3] for line in made.stdout.decode().splitlines()]
+            told = oracle(example("four-nodes.json"), lines.name, "--form", form)
+        return [line.split(" ", 3)[3] for line in told.splitlines()]
 
     def test_forms(self):
         plain = [
