@@ -18,8 +18,8 @@ class Readme(ToolTest):
             with open(lines, "w") as file:
                 for start, options in (
                     ("ann allocate 1", "-N4 -t 2h"),
-                    ("bob allocate 2", "-n6 -c2 -t 1h"),
-                    ("cy reserve 3", "-N2 -n8 -t 30m --requires fast"),
+                    ("ann allocate 2", "-n6 -c2 -t 1h"),
+                    ("ann reserve 3", "-N2 -n8 -t 30m --requires fast"),
                 ):
                     self.assertIn(f'echo "{start} $(tools/jobspec {options} -- app)"\n', readme)
                     file.write(f"{start} {self.told('jobspec', *options.split(), '--', 'app')}")
