@@ -13,7 +13,7 @@ from helper import PROGRAM, TOOLS, ToolTest, data, example, shell, text_of
 
 class Shell(ToolTest):
     def test_from_another_folder(self):
-        for name in ("jobspec", "graph", "schedule", "follow"):
+        for name in ("jobspec", "graph", "schedule", "follow", "definitions"):
             status, out, err = shell(name, "--help", cwd="/")
             self.assertEqual((status, err), (0, ""))
             self.assertTrue(out.startswith(f"usage: tools/{name} "), out)
@@ -94,7 +94,7 @@ class Files(ToolTest):
 
 class Sources(unittest.TestCase):
     def test_lines_are_short(self):
-        paths = [os.path.join(TOOLS, name) for name in ("jobspec", "graph", "schedule", "follow")]
+        paths = [os.path.join(TOOLS, name) for name in ("jobspec", "graph", "schedule", "follow", "definitions")]
         for folder in ("fluxtools", "tests"):
             paths += glob.glob(os.path.join(TOOLS, folder, "*.py"))
         for path in paths:
