@@ -14,6 +14,8 @@ def read_site(path):
         about = {str(node["id"]): node["metadata"] for node in graph["nodes"]}
         parent = {str(edge["target"]): str(edge["source"]) for edge in graph["edges"] if counts(edge)}
         nodes = nodes_of(about, parent)
+        if not all(map(is_node, nodes)):
+            raise ValueError
     except (ValueError, KeyError, TypeError, AttributeError):
         raise Fault(called(path), "is no graph file; `fluxion graph` says what is wrong") from None
     if len({node.rank for node in nodes}) < len(nodes):
@@ -21,6 +23,11 @@ def read_site(path):
     if not nodes:
         raise Fault(called(path), "has no node")
     return sorted(nodes)
+
+
+def is_node(node):
+    """Whether a node has what the tools use: a rank and a name, and ids of cores and gpus."""
+    return isinstance(node.name, str) and all(isinstance(own, int) for own in (node.rank, *node.cores, *node.gpus))
 
 
 def counts(edge):

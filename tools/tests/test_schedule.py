@@ -218,6 +218,26 @@ class Faults(ToolTest):
         ):
             self.assertEqual(self.refused("schedule", *words), wanted)
 
+    def test_graphs(self):
+        graph = json.loads(site(2, 1))
+        own = [node["metadata"] for node in graph["graph"]["nodes"] if node["metadata"]["type"] == "node"]
+        for change, wanted in (
+            ({"rank": 0}, "is no graph file; `fluxion graph` says what is wrong"),
+            ({"rank": "x"}, "is no graph file; `fluxion graph` says what is wrong"),
+            ({"name": 7}, "is no graph file; `fluxion graph` says what is wrong"),
+        ):
+            before = dict(own[0])
+            own[0].update(change)
+            told = self.refused("schedule", "-", JOURNAL, stdin=json.dumps(graph))
+            self.assertEqual(told, f"standard input: {wanted}")
+            own[0].clear()
+            own[0].update(before)
+        own[0]["rank"] = own[1]["rank"] = 3
+        self.assertEqual(self.refused("schedule", "-", JOURNAL, stdin=json.dumps(graph)),
+                         "standard input: two nodes have one rank")
+        self.assertEqual(self.refused("schedule", "-", JOURNAL, stdin='{"graph":{"nodes":[],"edges":[]}}'),
+                         "standard input: has no node")
+
     def test_journals(self):
         good = answer(0, "a", 1, 0, 10, [("0", "0")], ["node0"])
         for journal, wanted in (
