@@ -14,6 +14,7 @@ Share = namedtuple("Share", "ranks cores gpus")
 
 LINE = re.compile(rb"(0|[1-9][0-9]*) (0|[1-9][0-9]*) ([a-z0-9]{1,16}|-) (.+)")
 NUMBER = re.compile("0|[1-9][0-9]{0,19}")
+LIMIT = 10**20  # no number of a journal is so great
 REFUSALS = ("busy", "exists", "full", "nostart", "toolong", "unsatisfiable")
 REPLIES = {
     **{word: 1 for word in ("absent", "backwards", "beyond", "cancelled", "satisfiable", *REFUSALS)},
@@ -152,7 +153,7 @@ def job_of(answer):
         shares = [share_of(row) for row in execution["R_lite"]]
     except (BadText, ValueError, KeyError, TypeError, AttributeError):
         raise Fault(answer.place, "has no R of version 1 behind its start") from None
-    if not isinstance(end, int) or execution.get("starttime") != start or end < start:
+    if not isinstance(end, int) or execution.get("starttime") != start or not start <= end < LIMIT:
         raise Fault(answer.place, f"its R has another start than {start}, or no end behind it")
     if len(hosts) != sum(size_of(share.ranks) for share in shares):
         raise Fault(answer.place, "its R has not as many hosts as ranks")

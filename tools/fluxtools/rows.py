@@ -73,7 +73,7 @@ def duration(seconds):
 def ticks(first, last, most):
     """At most so many round moments between two."""
     steps = [1, 2, 5, 10, 15, 30, 60, 120, 300, 600, 900, 1800, 3600, 7200, 10800, 21600, 43200]
-    steps += [86400 * many * 10**power for power in range(12) for many in (1, 2, 5)]
+    steps += [86400 * many * 10**power for power in range(20) for many in (1, 2, 5)]
     step = next(step for step in steps if (last - first) // step < most)
     return list(range(-(-first // step) * step, last + 1, step))
 
