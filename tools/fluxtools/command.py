@@ -29,6 +29,7 @@ class Parser(argparse.ArgumentParser):
         )
 
     def error(self, message):
+        """Raises the fault that argparse's message tells."""
         one = re.fullmatch(r"argument (.+?): (.+)", message, re.DOTALL)
         if one:
             raise Fault(one[1], one[2].replace("\n", " "))

@@ -45,6 +45,7 @@ def under_sockets(machine, wanted):
     sockets, found = 0, []
 
     def walk(own, socket):
+        """Looks at an object that stands in this socket."""
         nonlocal sockets
         if wanted(own):
             found.append(socket)

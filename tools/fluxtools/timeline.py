@@ -39,11 +39,9 @@ class Timeline:
         rows = Rows(self.nodes)
         for job in self.jobs:
             for piece in rows.pieces(job):
-                if piece.first is None:
-                    bare[piece.node].append(job)
-                else:
-                    for own in on[piece.node][piece.first : piece.last + 1]:
-                        own.append(job)
+                cores = on[piece.node][piece.first : piece.last + 1] if piece.first is not None else [bare[piece.node]]
+                for own in cores:
+                    own.append(job)
         return self.alike(
             (node.name, *run) for node, own, rest in zip(self.nodes, on, bare) for run in core_runs(node, own, rest)
         )
