@@ -130,13 +130,13 @@ class Definitions(ToolTest):
         self.assertEqual(self.told("definitions", "--top", self.top), MADE)
 
     def test_faults(self):
-        specs = os.path.join(self.top, "crates/upper/specs")
+        unsaid = "docs/DEFINITIONS.md: lists what is no public word with a comment"
         for name, old, new, wanted in (
             ("docs/DEFINITIONS.md", "upper: IsRound", "upper: IsFlat",
-             f"{specs}: has no public word IsFlat, which docs/DEFINITIONS.md lists"),
+             f"{unsaid}: upper IsFlat"),
             ("docs/DEFINITIONS.md", "flux_defs Sizes", "upper Sizes",
              f"{self.path}: lists the modules Shapes; the crate has Shapes Sizes"),
-            ("crates/upper/specs/Shapes.antt", "-- the shape is round\n", "", f"{specs}: IsRound has no comment"),
+            ("crates/upper/specs/Shapes.antt", "-- the shape is round\n", "", f"{unsaid}: upper IsRound"),
             ("crates/flux_defs/specs/Shapes.antt", "-- in which place: here | there\n", "",
              f"{os.path.join(self.top, 'crates/flux_defs/specs/Shapes.antt')}: Place has no comment"),
         ):
