@@ -3,11 +3,12 @@ use Rattle.std.specs.Prelude.{◌≡◌, ◌≢◌, ◌⊎◌, ℕ, List, Some, 
 use Rattle.json_whole.specs.Whole.{value_of}
 use Rattle.serde_json.specs.Data.{Data}
 use Rattle.resource_graph.specs.NamedGraph.{NamedGraph}
-use Rattle.resource_graph.specs.Raw.{IsBuiltFrom, raw_graph, raw_names}
-use Rattle.resource_graph.specs.Faults.{IsFaultless}
-use Rattle.resource_graph.specs.Told.{IsLeastBad, Nowhere, Tells as TellsGraph}
-use Rattle.resource_graph.specs.declared.raw.RawVertex.{RawVertex}
-use Rattle.resource_graph.specs.declared.raw.GraphFault.TheVariants.{Memory as NoRoom}
+use Rattle.graph_build.specs.Raw.{IsBuiltFrom, raw_graph, raw_names}
+use Rattle.graph_build.specs.Faults.{IsFaultless}
+use Rattle.graph_build.specs.Told.{Tells as TellsGraph}
+use Rattle.resource_graph.specs.Finds.{IsLeast, Nowhere}
+use Rattle.graph_build.specs.declared.raw.RawVertex.{RawVertex}
+use Rattle.graph_build.specs.declared.raw.GraphFault.TheVariants.{Memory as NoRoom}
 use Rattle.graph_json.specs.Places.{path_of}
 use Rattle.graph_json.specs.Edges.{counted, IsWrongEdge, IsFirstWrong}
 use Rattle.graph_json.specs.Ids.{ids_of, IsRepeated}
@@ -59,7 +60,7 @@ HasUnfitEdge bytes m = (file : GraphFile) × Says bytes file × HasDistinctIds f
 abbrev pub Tells : List ℕ → ReadFault → Type 0
 Tells bytes NotJson = value_of bytes ≡ None
 Tells bytes (Field path fault) = (m : Misfit) × (path ≡ path_of m.place) × (fault ≡ m.fault) × (HasMisfit bytes m ⊎ HasUnfitEdge bytes m)
-Tells bytes (DuplicateNode at) = (file : GraphFile) × Says bytes file × IsLeastBad (IsRepeated (ids_of file.nodes)) at
+Tells bytes (DuplicateNode at) = (file : GraphFile) × Says bytes file × IsLeast (IsRepeated (ids_of file.nodes)) at
 Tells bytes (Edge at) = (file : GraphFile) × Says bytes file × HasDistinctIds file × IsFirstWrong (ids_of file.nodes) file.edges (Wrong at)
 Tells bytes (Graph fault) = (file : GraphFile) × Says bytes file × HasRightEdges file × TellsGraph (raw_graph (kinds_of file.nodes) (raw_of file)) (raw_names (raw_of file)) fault × (fault ≢ NoRoom)
 Tells bytes Memory = Unit {0}

@@ -6,7 +6,7 @@ use flux_defs::Vertex;
 use std::alloc::{AllocError, Global};
 
 /// The vertex and those above it, up to the root.
-pub(crate) fn line_up(
+pub fn line_up(
     alloc: Global,
     vertices: &[Vertex],
     vertex: u32,

@@ -116,7 +116,7 @@ pub(crate) fn rank_table(
 }
 
 /// By type, whether it is a pool type.
-pub(crate) fn pool_table(
+pub fn pool_table(
     alloc: Global,
     vertices: &[Vertex],
     kinds: usize,

@@ -1,7 +1,7 @@
 //! Small graphs.
 ghost use Rattle.std.specs.Prelude.{◌≡◌, ◌≢◌, ◌↔◌, IsTrue};
 ghost use Rattle.std.specs.List.{AllByRecursion};
-ghost use Rattle.resource_graph.specs.Raw.{KindsApart};
+ghost use Rattle.graph_build.specs.Raw.{KindsApart};
 
 use flux_defs::{List, Text};
 use resource_graph::{Graph, RawVertex};

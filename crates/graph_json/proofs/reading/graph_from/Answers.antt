@@ -1,9 +1,9 @@
 use Rattle.std.proofs.Common.{◌≡◌, sym, ap, subst, ◌∙◌, arith, true≢false, ℕ, List, length, map, Option, slice_get}
 use Rattle.std.proofs.lemmas.List.{length-map}
-use Rattle.resource_graph.specs.Raw.{IsBuiltFrom, KindsApart, raw_graph, raw_names}
-use Rattle.resource_graph.specs.Faults.{IsFaultless}
-use Rattle.resource_graph.specs.Told.{Tells}
-use Rattle.resource_graph.specs.declared.raw.RawVertex.{RawVertex}
+use Rattle.graph_build.specs.Raw.{IsBuiltFrom, KindsApart, raw_graph, raw_names}
+use Rattle.graph_build.specs.Faults.{IsFaultless}
+use Rattle.graph_build.specs.Told.{Tells}
+use Rattle.graph_build.specs.declared.raw.RawVertex.{RawVertex}
 use Rattle.graph_json.specs.Nodes.{FileNode, node_held}
 use Rattle.graph_json.specs.Edges.{FileEdge, parent_of, parents_of}
 use Rattle.graph_json.specs.Ids.{ids_of}
