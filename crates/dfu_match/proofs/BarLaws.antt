@@ -17,22 +17,22 @@ use Rattle.flux_laws.proofs.Valid.{nodes_alike}
 use Rattle.resource_graph.specs.Tables.{IsPlaceOf, IsPast}
 use Rattle.dfu_match.specs.Bars.{is_node_at, AreNodesOf, RisesStrictly, IsLeastFrom, FindsLeast}
 
--- the least number from `from` on stands at the place before which all are less
-pub least_at_place : (list : List ℕ) (from place : ℕ) → RisesStrictly list → IsPlaceOf list from place → place < length list → IsLeastFrom list from (slice_index list place)
-least_at_place list from place up at lt = record {
-  there = (place, lt, refl);
-  low = at.after place (omega arith) lt;
-  least = λ i within ge. elim (cases_lt i place) [
+-- the least number from `from` on stands at the index before which all are less
+pub least_at_index : (list : List ℕ) (from index : ℕ) → RisesStrictly list → IsPlaceOf list from index → index < length list → IsLeastFrom list from (slice_index list index)
+least_at_index list from index up at lt = record {
+  there = (index, lt, refl);
+  low = at.after index (omega arith) lt;
+  least = λ i within ge. elim (cases_lt i index) [
     | inl before ↦ (let less : slice_index list i < from = at.before i before in absurd (omega arith))
-    | inr later ↦ elim (cases_lt place i) [
-      | inl after ↦ (let more : slice_index list place < slice_index list i = up place i after within in omega arith)
-      | inr same ↦ (let e : i ≡ place = omega arith in let f : slice_index list i ≡ slice_index list place = ap (slice_index list) e in omega arith)
+    | inr later ↦ elim (cases_lt index i) [
+      | inl after ↦ (let more : slice_index list index < slice_index list i = up index i after within in omega arith)
+      | inr same ↦ (let e : i ≡ index = omega arith in let f : slice_index list i ≡ slice_index list index = ap (slice_index list) e in omega arith)
     ]
   ];
 }
 
-pub none_from_place : (list : List ℕ) (from place : ℕ) → IsPlaceOf list from place → place ≡ length list → (i : ℕ) → i < length list → slice_index list i < from
-none_from_place list from place at over i lt = at.before i (omega arith)
+pub none_from_index : (list : List ℕ) (from index : ℕ) → IsPlaceOf list from index → index ≡ length list → (i : ℕ) → i < length list → slice_index list i < from
+none_from_index list from index at over i lt = at.before i (omega arith)
 
 false_from : (b : Bool) → (IsTrue b → ⊥) → b ≡ false
 false_from true h = absurd (h refl)

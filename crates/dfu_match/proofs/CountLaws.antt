@@ -7,7 +7,7 @@ use Rattle.flux_defs.specs.declared.vertices.Vertex.{Vertex}
 use Rattle.flux_defs.specs.declared.claims.Claim.{Claim}
 use Rattle.flux_defs.specs.declared.claims.Claim.TheVariants.{Take, Hold, Pass}
 use Rattle.flux_defs.specs.declared.requests.Need.{Need, Vert, Vert', Pool, Spread, Spread'}
-use Rattle.flux_defs.specs.Graph.{Place, Beneath, IsIn, HasKind, IsNode}
+use Rattle.flux_defs.specs.Graph.{Scope, Beneath, IsIn, HasKind, IsNode}
 use Rattle.flux_defs.specs.Needs.{amount_of, HasNoSpread, IsValidNeed, AreValidNeeds}
 use Rattle.flux_defs.specs.Lowest.{CanServe}
 use Rattle.flux_laws.proofs.FitLaws.{TakesLess}
@@ -80,12 +80,12 @@ may_ask_at most best needs i need rest le e lt (inr none) = may_ask_without (bes
 
 module _ (vertices : List Vertex) (ok : Claim → Type 0) where
   -- a vertex that may not be claimed serves nothing
-  pub vertex_closed : (place : Place) (kind count : ℕ) (hold : Bool) (needs : List Need) (v most : ℕ) → (ok (claim_on hold v) → ⊥) →
-      IsGreatest (CanServe vertices ok place (Vert kind count hold needs) v) most 0
-  vertex_closed place kind count hold needs v most never = record {
+  pub vertex_closed : (scope : Scope) (kind count : ℕ) (hold : Bool) (needs : List Need) (v most : ℕ) → (ok (claim_on hold v) → ⊥) →
+      IsGreatest (CanServe vertices ok scope (Vert kind count hold needs) v) most 0
+  vertex_closed scope kind count hold needs v most never = record {
     within = omega arith;
     can_be = λ some. absurd (omega arith);
-    full = λ lt c. let p = (vertex_serves vertices ok place kind count hold needs v 1 c).1 in never (claimed hold p.0 p.1);
+    full = λ lt c. let p = (vertex_serves vertices ok scope kind count hold needs v 1 c).1 in never (claimed hold p.0 p.1);
   }
     where
       claimed : (h : Bool) (claims : List Claim) → VertexClaims vertices ok h needs v claims → ok (claim_on h v)
@@ -93,96 +93,96 @@ module _ (vertices : List Vertex) (ok : Claim → Type 0) where
       claimed false claims p = p.2
 
   -- one that may be serves 1 exactly where the inner needs fit below it
-  pub vertex_open : (place : Place) (kind count : ℕ) (hold : Bool) (needs : List Need) (v most found : ℕ) → 1 ≤ most → IsIn vertices place v → HasKind vertices kind v → ok (claim_on hold v) →
-      IsGreatest (SomeFits vertices ok (Beneath v) needs) 1 found → IsGreatest (CanServe vertices ok place (Vert kind count hold needs) v) most found
-  vertex_open place kind count hold needs v most found some within is may g = record {
+  pub vertex_open : (scope : Scope) (kind count : ℕ) (hold : Bool) (needs : List Need) (v most found : ℕ) → 1 ≤ most → IsIn vertices scope v → HasKind vertices kind v → ok (claim_on hold v) →
+      IsGreatest (SomeFits vertices ok (Beneath v) needs) 1 found → IsGreatest (CanServe vertices ok scope (Vert kind count hold needs) v) most found
+  vertex_open scope kind count hold needs v most found some within is may g = record {
     within = (let le : found ≤ 1 = g.within in omega arith);
     can_be = λ h. let one : found ≡ 1 = (let le : found ≤ 1 = g.within in omega arith) in
-        subst (CanServe vertices ok place (Vert kind count hold needs) v) (sym one) (served hold may (subst (SomeFits vertices ok (Beneath v) needs) one (g.can_be h)));
+        subst (CanServe vertices ok scope (Vert kind count hold needs) v) (sym one) (served hold may (subst (SomeFits vertices ok (Beneath v) needs) one (g.can_be h)));
     full = λ lt c.
-        let p = vertex_serves vertices ok place kind count hold needs v (found + 1) c in
+        let p = vertex_serves vertices ok scope kind count hold needs v (found + 1) c in
         let none : found ≡ 0 = (let e : found + 1 ≡ 1 = p.0 in omega arith) in
         let e : 1 ≡ found + 1 = omega arith in
         g.full (omega arith) (subst (SomeFits vertices ok (Beneath v) needs) e (inside hold p.1.0 p.1.1));
   }
     where
-      served : (h : Bool) → ok (claim_on h v) → SomeFits vertices ok (Beneath v) needs 1 → CanServe vertices ok place (Vert kind count h needs) v 1
-      served true o f = serves_vertex vertices ok place kind count true needs v within is (Hold v ∷ []) (refl, o, f)
-      served false o f = serves_vertex vertices ok place kind count false needs v within is (Pass v ∷ f.0) (f.0, refl, o, f.1)
+      served : (h : Bool) → ok (claim_on h v) → SomeFits vertices ok (Beneath v) needs 1 → CanServe vertices ok scope (Vert kind count h needs) v 1
+      served true o f = serves_vertex vertices ok scope kind count true needs v within is (Hold v ∷ []) (refl, o, f)
+      served false o f = serves_vertex vertices ok scope kind count false needs v within is (Pass v ∷ f.0) (f.0, refl, o, f.1)
 
       inside : (h : Bool) (claims : List Claim) → VertexClaims vertices ok h needs v claims → SomeFits vertices ok (Beneath v) needs 1
       inside true claims p = p.2
       inside false claims p = (p.0, p.3)
 
   -- a pool serves what is free of it
-  pub pool_serves : (place : Place) (kind quantity v most free n : ℕ) → IsIn vertices place v → HasKind vertices kind v → ((q : ℕ) → ((q ≤ free) ↔ ok (Take v q))) → n ≡ min free most →
-      IsGreatest (CanServe vertices ok place (Pool kind quantity) v) most n
-  pool_serves place kind quantity v most free n within is told e = record {
+  pub pool_serves : (scope : Scope) (kind quantity v most free n : ℕ) → IsIn vertices scope v → HasKind vertices kind v → ((q : ℕ) → ((q ≤ free) ↔ ok (Take v q))) → n ≡ min free most →
+      IsGreatest (CanServe vertices ok scope (Pool kind quantity) v) most n
+  pool_serves scope kind quantity v most free n within is told e = record {
     within = omega arith;
     can_be = λ some. (Take v n ∷ [], (within, is, refl, (told n).0 (omega arith)));
     full = λ lt c. let le : n + 1 ≤ free = (told (n + 1)).1 c.1.3 in omega arith;
   }
 
   -- a node that may not be passed serves no copy
-  pub node_closed : (place : Place) (count : ℕ) (needs : List Need) (v most : ℕ) → (ok (Pass v) → ⊥) → IsGreatest (CanServe vertices ok place (Spread count needs) v) most 0
-  node_closed place count needs v most never = record {
+  pub node_closed : (scope : Scope) (count : ℕ) (needs : List Need) (v most : ℕ) → (ok (Pass v) → ⊥) → IsGreatest (CanServe vertices ok scope (Spread count needs) v) most 0
+  node_closed scope count needs v most never = record {
     within = omega arith;
     can_be = λ some. absurd (omega arith);
-    full = λ lt c. never (copies_serve vertices ok place count needs v 1 c).0;
+    full = λ lt c. never (copies_serve vertices ok scope count needs v 1 c).0;
   }
 
   -- one that may be serves as many as fit below it
-  pub node_open : (place : Place) (count : ℕ) (needs : List Need) (v most found : ℕ) → IsIn vertices place v → IsNode vertices v → ok (Pass v) →
-      IsGreatest (SomeFits vertices ok (Beneath v) needs) most found → IsGreatest (CanServe vertices ok place (Spread count needs) v) most found
-  node_open place count needs v most found within is may g = record {
+  pub node_open : (scope : Scope) (count : ℕ) (needs : List Need) (v most found : ℕ) → IsIn vertices scope v → IsNode vertices v → ok (Pass v) →
+      IsGreatest (SomeFits vertices ok (Beneath v) needs) most found → IsGreatest (CanServe vertices ok scope (Spread count needs) v) most found
+  node_open scope count needs v most found within is may g = record {
     within = g.within;
-    can_be = λ some. serves_copies vertices ok place count needs v found within is may (g.can_be some);
-    full = λ lt c. g.full lt (copies_serve vertices ok place count needs v (found + 1) c).1;
+    can_be = λ some. serves_copies vertices ok scope count needs v found within is may (g.can_be some);
+    full = λ lt c. g.full lt (copies_serve vertices ok scope count needs v (found + 1) c).1;
   }
 
-  module _ (less : TakesLess ok) (place : Place) where
+  module _ (less : TakesLess ok) (scope : Scope) where
     -- one more need is filled for as many copies
     pub enough_next : (items : List Need) (i : ℕ) (need : Need) (rest : List Need) (best reached new : ℕ) → drop i items ≡ need ∷ rest →
-        IsGreatest (SomeGroup vertices ok place need) (best * amount_of need) reached → new * amount_of need ≤ reached → new ≤ best →
-        ((k : ℕ) → k ≤ best → AllFill vertices ok place k (drop i items) → AllFill vertices ok place k items) →
-        (k : ℕ) → k ≤ new → AllFill vertices ok place k rest → AllFill vertices ok place k items
+        IsGreatest (SomeGroup vertices ok scope need) (best * amount_of need) reached → new * amount_of need ≤ reached → new ≤ best →
+        ((k : ℕ) → k ≤ best → AllFill vertices ok scope k (drop i items) → AllFill vertices ok scope k items) →
+        (k : ℕ) → k ≤ new → AllFill vertices ok scope k rest → AllFill vertices ok scope k items
     enough_next items i need rest best reached new split g low few before k le each =
         let fits : k * amount_of need ≤ new * amount_of need = mul-le-mul_right (amount_of need) le in
-        let group : SomeGroup vertices ok place need (k * amount_of need) = elim (cases_lt 0 reached) [
-          | inl some ↦ group_less vertices ok less place need reached (k * amount_of need) (omega arith) (g.can_be some)
-          | inr none ↦ group_zero vertices ok place need (k * amount_of need) (omega arith)
+        let group : SomeGroup vertices ok scope need (k * amount_of need) = elim (cases_lt 0 reached) [
+          | inl some ↦ group_less vertices ok less scope need reached (k * amount_of need) (omega arith) (g.can_be some)
+          | inr none ↦ group_zero vertices ok scope need (k * amount_of need) (omega arith)
         ] in
-        before k (omega arith) (subst (λ (ns : List Need). AllFill vertices ok place k ns) (sym split) (group, each))
+        before k (omega arith) (subst (λ (ns : List Need). AllFill vertices ok scope k ns) (sym split) (group, each))
 
     -- and the list for no more
     pub full_next : (items : List Need) (i : ℕ) (need : Need) (rest : List Need) (most best reached new : ℕ) → drop i items ≡ need ∷ rest →
-        IsGreatest (SomeGroup vertices ok place need) (best * amount_of need) reached → reached < (new + 1) * amount_of need → new ≤ best →
-        (best < most → SomeFits vertices ok place items (best + 1) → ⊥) → new < most → SomeFits vertices ok place items (new + 1) → ⊥
+        IsGreatest (SomeGroup vertices ok scope need) (best * amount_of need) reached → reached < (new + 1) * amount_of need → new ≤ best →
+        (best < most → SomeFits vertices ok scope items (best + 1) → ⊥) → new < most → SomeFits vertices ok scope items (new + 1) → ⊥
     full_next items i need rest most best reached new split g high few before lt f =
         elim (cases_lt new best) [
           | inl fewer ↦
               let asked : (new + 1) * amount_of need ≤ best * amount_of need = mul-le-mul_right (amount_of need) (omega arith) in
-              let group = group_at vertices ok (new + 1) place items i need rest split f in
-              g.full (omega arith) (group_less vertices ok less place need ((new + 1) * amount_of need) (reached + 1) (omega arith) group)
-          | inr same ↦ (let e : new ≡ best = omega arith in before (omega arith) (subst (λ n. SomeFits vertices ok place items (n + 1)) e f))
+              let group = group_at vertices ok (new + 1) scope items i need rest split f in
+              g.full (omega arith) (group_less vertices ok less scope need ((new + 1) * amount_of need) (reached + 1) (omega arith) group)
+          | inr same ↦ (let e : new ≡ best = omega arith in before (omega arith) (subst (λ n. SomeFits vertices ok scope items (n + 1)) e f))
         ]
 
   -- the needs are over
-  pub copies_end : (place : Place) (items needs left : List Need) (most best : ℕ) → items ≡ needs → left ≡ [] → best ≤ most →
-      ((k : ℕ) → k ≤ best → AllFill vertices ok place k left → AllFill vertices ok place k items) →
-      (best < most → SomeFits vertices ok place items (best + 1) → ⊥) → IsGreatest (SomeFits vertices ok place needs) most best
-  copies_end place items needs left most best same over within enough full =
-      subst (λ (ns : List Need). IsGreatest (SomeFits vertices ok place ns) most best) same (record {
+  pub copies_end : (scope : Scope) (items needs left : List Need) (most best : ℕ) → items ≡ needs → left ≡ [] → best ≤ most →
+      ((k : ℕ) → k ≤ best → AllFill vertices ok scope k left → AllFill vertices ok scope k items) →
+      (best < most → SomeFits vertices ok scope items (best + 1) → ⊥) → IsGreatest (SomeFits vertices ok scope needs) most best
+  copies_end scope items needs left most best same over within enough full =
+      subst (λ (ns : List Need). IsGreatest (SomeFits vertices ok scope ns) most best) same (record {
         within = within;
-        can_be = λ some. alone_fits vertices ok best place items (enough best (omega arith) (subst (λ (ns : List Need). AllFill vertices ok place best ns) (sym over) tt));
+        can_be = λ some. alone_fits vertices ok best scope items (enough best (omega arith) (subst (λ (ns : List Need). AllFill vertices ok scope best ns) (sym over) tt));
         full = full;
       })
 
   -- one need leaves no copy
-  pub copies_none : (place : Place) (items needs : List Need) (most new : ℕ) → items ≡ needs → new ≡ 0 → (new < most → SomeFits vertices ok place items (new + 1) → ⊥) → IsGreatest (SomeFits vertices ok place needs) most 0
-  copies_none place items needs most new same none full =
-      subst (λ (ns : List Need). IsGreatest (SomeFits vertices ok place ns) most 0) same (record {
+  pub copies_none : (scope : Scope) (items needs : List Need) (most new : ℕ) → items ≡ needs → new ≡ 0 → (new < most → SomeFits vertices ok scope items (new + 1) → ⊥) → IsGreatest (SomeFits vertices ok scope needs) most 0
+  copies_none scope items needs most new same none full =
+      subst (λ (ns : List Need). IsGreatest (SomeFits vertices ok scope ns) most 0) same (record {
         within = omega arith;
         can_be = λ some. absurd (omega arith);
-        full = λ lt f. let e : 1 ≡ new + 1 = omega arith in full (omega arith) (subst (SomeFits vertices ok place items) e f);
+        full = λ lt f. let e : 1 ≡ new + 1 = omega arith in full (omega arith) (subst (SomeFits vertices ok scope items) e f);
       })

@@ -1,5 +1,5 @@
 pub mod BarLaws
-pub mod PlaceLaws
+pub mod ScopeLaws
 pub mod CountLaws
 pub mod WriteLaws
 pub mod ProperLaws

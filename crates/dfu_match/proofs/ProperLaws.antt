@@ -14,7 +14,7 @@ use Rattle.flux_laws.proofs.Rows.{valid_to_list, valid_to_row, no_spread_to_list
 use Rattle.flux_laws.proofs.Valid.{nodes_alike}
 use Rattle.resource_graph.specs.Tables.{IsNamedKind, Nests}
 use Rattle.dfu_match.specs.Kinds.{IsOnlyKind}
-use Rattle.dfu_match.proofs.PlaceLaws.{node_kind, no_node}
+use Rattle.dfu_match.proofs.ScopeLaws.{node_kind, no_node}
 
 pub never : (P : Type 0) → (P → ⊥) → (IsTrue false ↔ P)
 never P f = (λ t. absurd (true≢false (sym t)), λ p. absurd (f p))

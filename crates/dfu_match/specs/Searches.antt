@@ -7,19 +7,19 @@ use Rattle.flux_defs.specs.declared.claims.Claim.TheVariants.{Hold, Pass}
 use Rattle.flux_defs.specs.declared.claims.Job.{Job}
 use Rattle.flux_defs.specs.declared.claims.Window.{Window}
 use Rattle.flux_defs.specs.declared.requests.Need.{Need, Vert', Pool, Spread'}
-use Rattle.flux_defs.specs.Graph.{Place, Everywhere, Beneath, IsIn, HasKind}
+use Rattle.flux_defs.specs.Graph.{Scope, Everywhere, Beneath, IsIn, HasKind}
 use Rattle.flux_defs.specs.Closed.{Scene}
 use Rattle.flux_defs.specs.Available.{IsAvailable}
 use Rattle.flux_defs.specs.Needs.{IsOfNeed, HasNoSpread}
 
 -- where is looked: below this vertex, or everywhere
-abbrev pub place_of : Option ℕ → Place
-place_of None = Everywhere
-place_of (Some u) = Beneath u
+abbrev pub scope_of : Option ℕ → Scope
+scope_of None = Everywhere
+scope_of (Some u) = Beneath u
 
 -- the vertex, where there is one, is one of the graph
-abbrev pub IsPlace : List Vertex → Option ℕ → Type 0
-IsPlace vertices place = MatchOption place (Unit {0}) (λ u. u < length vertices)
+abbrev pub IsScope : List Vertex → Option ℕ → Type 0
+IsScope vertices scope = MatchOption scope (Unit {0}) (λ u. u < length vertices)
 
 -- what an ask with these bars meets
 abbrev pub meets : List Vertex → List Job → List ℕ → Scene
@@ -33,9 +33,9 @@ open_to vertices jobs barred w = IsAvailable (meets vertices jobs barred) w
 abbrev pub claim_on : Bool → ℕ → Claim
 claim_on hold v = if hold then Hold v else Pass v
 
--- exactly the vertices from `from` on and before `to` are in the place
-abbrev pub Covers : List Vertex → Place → ℕ → ℕ → Type 0
-Covers vertices place from to = (v : ℕ) → v < length vertices → (IsIn vertices place v ↔ ((from ≤ v) × (v < to)))
+-- exactly the vertices from `from` on and before `to` are in the scope
+abbrev pub Covers : List Vertex → Scope → ℕ → ℕ → Type 0
+Covers vertices scope from to = (v : ℕ) → v < length vertices → (IsIn vertices scope v ↔ ((from ≤ v) × (v < to)))
 
 -- exactly the vertices of the kind are of the need; where there is no kind, no vertex is
 abbrev pub IsKindOfNeed : List Vertex → Need → Option ℕ → Type 0

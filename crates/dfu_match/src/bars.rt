@@ -6,9 +6,9 @@ pub(crate) fn least_from(list: &[u32], from: u32) -> Option<u32>
     requires { RisesStrictly list.now }
     ensures { FindsLeast list.now from result }
 {
-    let place = list.partition_point(|number| *number < from);
-    if place == list.len() {
+    let index = list.partition_point(|number| *number < from);
+    if index == list.len() {
         return None;
     }
-    Some(list[place])
+    Some(list[index])
 }

@@ -3,39 +3,39 @@ ghost use Rattle.std.specs.Prelude.{◌≡◌, ◌+◌, ◌*◌, ◌<◌, ◌≤
 ghost use Rattle.flux_defs.specs.declared.vertices.Vertex.{Vertex};
 ghost use Rattle.flux_defs.specs.declared.claims.Claim.{Claim};
 ghost use Rattle.flux_defs.specs.declared.claims.Job.{Job};
-ghost use Rattle.flux_defs.specs.Graph.{Place, Beneath, IsIn};
+ghost use Rattle.flux_defs.specs.Graph.{Scope, Beneath, IsIn};
 ghost use Rattle.flux_defs.specs.Needs.{IsOfNeed, IsValidNeed, AreValidNeeds};
 ghost use Rattle.flux_defs.specs.Lowest.{CanServe};
 ghost use Rattle.match_laws.specs.Offers.{IsGreatest, SomeGroup, SomeFits};
-ghost use Rattle.dfu_match.specs.Searches.{open_to, place_of, IsPlace, MayAsk, MayScale};
+ghost use Rattle.dfu_match.specs.Searches.{open_to, scope_of, IsScope, MayAsk, MayScale};
 
-use crate::places::{amount_of, kind_of, span_of};
+use crate::scopes::{amount_of, kind_of, span_of};
 use crate::search::{Search, admits, free};
 use flux_defs::{FreeView, List, Need, Steps};
 use std::sync::ledger::Ledger;
 
-/// As much of the need as the place can serve, at most so much.
+/// As much of the need as the scope can serve, at most so much.
 #[cycle(counting)]
 fn reach<F: FreeView, L: Ledger>(
     s: &Search<F>,
     need: &Need,
-    place: Option<u32>,
+    scope: Option<u32>,
     most: u128,
     steps: &mut Steps<L>,
 ) -> u128
-    requires place { IsPlace s.now.graph.now.resources.vertices place }
+    requires scope { IsScope s.now.graph.now.resources.vertices scope }
     requires valid { IsValidNeed s.now.graph.now.resources.vertices need.now }
     requires may { MayAsk most need.now }
     ensures within { result ≤ most }
     ensures greatest { (jobs : List Job) → F.stands_for s.now.view.now jobs →
         (let vs : List Vertex = s.now.graph.now.resources.vertices in
         let ok : Claim → Type 0 = open_to vs jobs s.now.barred.now s.now.window in
-        IsGreatest (SomeGroup vs ok (place_of place) need.now) most result) }
+        IsGreatest (SomeGroup vs ok (scope_of scope) need.now) most result) }
 {
     let Some(kind) = kind_of(s.graph, need) else {
         return 0;
     };
-    let span = span_of(s.graph, place);
+    let span = span_of(s.graph, scope);
     let mut reached = 0;
     let mut at = span.from;
     while reached < most {
@@ -66,8 +66,8 @@ pub(crate) fn serves<F: FreeView, L: Ledger>(
     ensures greatest { (jobs : List Job) → F.stands_for s.now.view.now jobs →
         (let vs : List Vertex = s.now.graph.now.resources.vertices in
         let ok : Claim → Type 0 = open_to vs jobs s.now.barred.now s.now.window in
-        (place : Place) → IsIn vs place vertex →
-        IsGreatest (CanServe vs ok place need.now vertex) most result) }
+        (scope : Scope) → IsIn vs scope vertex →
+        IsGreatest (CanServe vs ok scope need.now vertex) most result) }
 {
     match need {
         Need::Vert { hold, needs, .. } => {

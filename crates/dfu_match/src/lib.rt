@@ -5,7 +5,7 @@
 mod bars;
 mod counting;
 mod matching;
-mod places;
+mod scopes;
 mod proper;
 mod search;
 mod writing;

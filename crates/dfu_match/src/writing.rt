@@ -3,31 +3,31 @@ ghost use Rattle.std.specs.Prelude.{◌≡◌, ◌*◌, ◌<◌, ◌≤◌, [], 
 ghost use Rattle.flux_defs.specs.declared.vertices.Vertex.{Vertex};
 ghost use Rattle.flux_defs.specs.declared.claims.Job.{Job};
 ghost use Rattle.flux_defs.specs.declared.claims.Claim.{Claim};
-ghost use Rattle.flux_defs.specs.Graph.{Place, Beneath, IsIn};
+ghost use Rattle.flux_defs.specs.Graph.{Scope, Beneath, IsIn};
 ghost use Rattle.flux_defs.specs.Needs.{amount_of, IsOfNeed, IsValidNeed, AreValidNeeds};
 ghost use Rattle.flux_defs.specs.Lowest.{CanServe, FollowsPass, LowestPiece, Lowest};
 ghost use Rattle.match_laws.specs.Offers.{Extends, Offers, SomeGroup, SomeFits, LowestGroup};
-ghost use Rattle.dfu_match.specs.Searches.{open_to, place_of, IsPlace, MayAsk, MayScale, MayScaleNeed};
+ghost use Rattle.dfu_match.specs.Searches.{open_to, scope_of, IsScope, MayAsk, MayScale, MayScaleNeed};
 
 use crate::counting::{copies, serves};
-use crate::places::{amount_of, kind_of, span_of};
+use crate::scopes::{amount_of, kind_of, span_of};
 use crate::search::{Search, admits};
 use flux_defs::{Claim, FreeView, List, Need, Steps};
 use std::alloc::AllocError;
 use std::sync::ledger::Ledger;
 
-/// Writes the lowest-first claims of the needs scaled by `k` in the place. `false` exactly where no claims fit; what was
+/// Writes the lowest-first claims of the needs scaled by `k` in the scope. `false` exactly where no claims fit; what was
 /// written by then is of no use.
 #[cycle(writing)]
 pub(crate) fn write_needs<F: FreeView, L: Ledger>(
     s: &Search<F>,
     needs: &List<Need>,
     k: u64,
-    place: Option<u32>,
+    scope: Option<u32>,
     out: &mut Vec<Claim>,
     steps: &mut Steps<L>,
 ) -> Result<bool, AllocError>
-    requires place { IsPlace s.now.graph.now.resources.vertices place }
+    requires scope { IsScope s.now.graph.now.resources.vertices scope }
     requires valid { AreValidNeeds s.now.graph.now.resources.vertices needs.now }
     requires may { MayScale k needs.now }
     requires some { 1 ≤ k }
@@ -35,11 +35,11 @@ pub(crate) fn write_needs<F: FreeView, L: Ledger>(
         (let vs : List Vertex = s.now.graph.now.resources.vertices in
         let ok : Claim → Type 0 = open_to vs jobs s.now.barred.now s.now.window in
         MatchBool fit
-        (Lowest vs ok k (place_of place) needs.now claims)
-        (SomeFits vs ok (place_of place) needs.now k → ⊥)))) }
+        (Lowest vs ok k (scope_of scope) needs.now claims)
+        (SomeFits vs ok (scope_of scope) needs.now k → ⊥)))) }
 {
     for need in needs.items() {
-        let filled = write_group(s, need, k, place, out, steps)?;
+        let filled = write_group(s, need, k, scope, out, steps)?;
         if !filled {
             return Ok(false);
         }
@@ -47,18 +47,18 @@ pub(crate) fn write_needs<F: FreeView, L: Ledger>(
     Ok(true)
 }
 
-/// Writes the need's lowest-first group of `k` times its amount in the place. `false` exactly where there is no such
+/// Writes the need's lowest-first group of `k` times its amount in the scope. `false` exactly where there is no such
 /// group; what was written by then is of no use.
 #[cycle(writing)]
 fn write_group<F: FreeView, L: Ledger>(
     s: &Search<F>,
     need: &Need,
     k: u64,
-    place: Option<u32>,
+    scope: Option<u32>,
     out: &mut Vec<Claim>,
     steps: &mut Steps<L>,
 ) -> Result<bool, AllocError>
-    requires place { IsPlace s.now.graph.now.resources.vertices place }
+    requires scope { IsScope s.now.graph.now.resources.vertices scope }
     requires valid { IsValidNeed s.now.graph.now.resources.vertices need.now }
     requires may { MayScaleNeed k need.now }
     requires some { 1 ≤ k }
@@ -66,14 +66,14 @@ fn write_group<F: FreeView, L: Ledger>(
         (let vs : List Vertex = s.now.graph.now.resources.vertices in
         let ok : Claim → Type 0 = open_to vs jobs s.now.barred.now s.now.window in
         MatchBool filled
-        (LowestGroup vs ok (place_of place) need.now (k * amount_of need.now) claims)
-        (SomeGroup vs ok (place_of place) need.now (k * amount_of need.now) → ⊥)))) }
+        (LowestGroup vs ok (scope_of scope) need.now (k * amount_of need.now) claims)
+        (SomeGroup vs ok (scope_of scope) need.now (k * amount_of need.now) → ⊥)))) }
 {
     let Some(kind) = kind_of(s.graph, need) else {
         return Ok(false);
     };
     let mut missing = u128::from(k) * u128::from(amount_of(need));
-    let span = span_of(s.graph, place);
+    let span = span_of(s.graph, scope);
     let mut at = span.from;
     while missing > 0 {
         let Some(vertex) = s.graph.next_of_kind(kind, at, span.to) else {
@@ -105,8 +105,8 @@ fn offer<F: FreeView, L: Ledger>(
     ensures offers { IfOk result (λ served. Extends out.old.items out.new.items (λ claims. (jobs : List Job) → F.stands_for s.now.view.now jobs →
         (let vs : List Vertex = s.now.graph.now.resources.vertices in
         let ok : Claim → Type 0 = open_to vs jobs s.now.barred.now s.now.window in
-        (place : Place) → IsIn vs place vertex →
-        Offers (CanServe vs ok place need.now vertex)
+        (scope : Scope) → IsIn vs scope vertex →
+        Offers (CanServe vs ok scope need.now vertex)
         (LowestPiece vs ok need.now vertex) most served claims))) }
 {
     match need {

@@ -5,7 +5,7 @@ use Rattle.flux_defs.specs.declared.vertices.Vertex.{Vertex}
 use Rattle.flux_defs.specs.declared.claims.Claim.{Claim}
 use Rattle.flux_defs.specs.declared.claims.Claim.TheVariants.{Take, Hold, Pass}
 use Rattle.flux_defs.specs.declared.requests.Need.{Need, Vert', Pool, Spread', Row_of-Need, end_of-Need, more_of-Need}
-use Rattle.flux_defs.specs.Graph.{Place, Beneath, IsIn, HasKind, IsNode}
+use Rattle.flux_defs.specs.Graph.{Scope, Beneath, IsIn, HasKind, IsNode}
 use Rattle.flux_defs.specs.Needs.{amount_of}
 
 -- a vertex, and how much of a need it serves
@@ -48,27 +48,27 @@ module _ (vertices : List Vertex) (ok : Claim → Type 0) where
   SharedPiece v inner claims = (within : List Claim) × (claims ≡ Pass v ∷ within) × ok (Pass v) × inner within
 
   abbrev mutual
-    -- The claims are a piece by which vertex v of the place serves q of the need: one vertex, held or shared, with its
+    -- The claims are a piece by which vertex v of the scope serves q of the need: one vertex, held or shared, with its
     -- inner needs below it; q units of a pool; q copies of a spread's needs, all below one node.
-    pub Piece : Place → Need → ℕ → ℕ → List Claim → Type 0
-    Piece place (Vert' kind count hold m needs) v q claims =
-        (q ≡ 1) × IsIn vertices place v × HasKind vertices kind v
+    pub Piece : Scope → Need → ℕ → ℕ → List Claim → Type 0
+    Piece scope (Vert' kind count hold m needs) v q claims =
+        (q ≡ 1) × IsIn vertices scope v × HasKind vertices kind v
         × MatchBool hold (HeldPiece v (FitsRow 1 (Beneath v) needs) claims) (SharedPiece v (FitsRow 1 (Beneath v) needs) claims)
-    Piece place (Pool kind quantity) v q claims =
-        IsIn vertices place v × HasKind vertices kind v × (claims ≡ Take v q ∷ []) × ok (Take v q)
-    Piece place (Spread' count m needs) v q claims =
-        IsIn vertices place v × IsNode vertices v × SharedPiece v (FitsRow q (Beneath v) needs) claims
+    Piece scope (Pool kind quantity) v q claims =
+        IsIn vertices scope v × HasKind vertices kind v × (claims ≡ Take v q ∷ []) × ok (Take v q)
+    Piece scope (Spread' count m needs) v q claims =
+        IsIn vertices scope v × IsNode vertices v × SharedPiece v (FitsRow q (Beneath v) needs) claims
 
-    -- The claims fit the needs scaled by k in the place: one group after another, one a need, in the needs' order.
-    pub FitsRow : {m : _} → ℕ → Place → Row_of-Need m → List Claim → Type 0
-    FitsRow k place end_of-Need claims = claims ≡ []
-    FitsRow k place (more_of-Need need rest) claims =
+    -- The claims fit the needs scaled by k in the scope: one group after another, one a need, in the needs' order.
+    pub FitsRow : {m : _} → ℕ → Scope → Row_of-Need m → List Claim → Type 0
+    FitsRow k scope end_of-Need claims = claims ≡ []
+    FitsRow k scope (more_of-Need need rest) claims =
         (group : List Claim) × (others : List Claim) × (claims ≡ group ++ others)
-        × Group (k * amount_of need) (Piece place need) group × FitsRow k place rest others
+        × Group (k * amount_of need) (Piece scope need) group × FitsRow k scope rest others
 
   -- the same of a list of needs
-  abbrev pub Fits : ℕ → Place → List Need → List Claim → Type 0
-  Fits k place [] claims = claims ≡ []
-  Fits k place (need ∷ rest) claims =
+  abbrev pub Fits : ℕ → Scope → List Need → List Claim → Type 0
+  Fits k scope [] claims = claims ≡ []
+  Fits k scope (need ∷ rest) claims =
       (group : List Claim) × (others : List Claim) × (claims ≡ group ++ others)
-      × Group (k * amount_of need) (Piece place need) group × Fits k place rest others
+      × Group (k * amount_of need) (Piece scope need) group × Fits k scope rest others

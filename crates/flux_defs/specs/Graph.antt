@@ -52,11 +52,11 @@ abbrev pub is_pool : List Vertex → ℕ → Bool
 is_pool vertices v = option_map_or (λ x. is_pool_kind vertices x.kind) (slice_get vertices v) false
 
 -- where vertices are looked for: everywhere, or among those below a vertex
-pub data Place : Type 0 where
-  Everywhere : Place
-  Beneath : (u : ℕ) → Place
+pub data Scope : Type 0 where
+  Everywhere : Scope
+  Beneath : (u : ℕ) → Scope
 
--- v is a vertex of the place
-abbrev pub IsIn : List Vertex → Place → ℕ → Type 0
+-- v is a vertex of the scope
+abbrev pub IsIn : List Vertex → Scope → ℕ → Type 0
 IsIn vertices Everywhere v = v < length vertices
 IsIn vertices (Beneath u) v = (v < length vertices) × IsTrue (is_below vertices v u)

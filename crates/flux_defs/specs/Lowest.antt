@@ -4,7 +4,7 @@ use Rattle.flux_defs.specs.declared.vertices.Vertex.{Vertex}
 use Rattle.flux_defs.specs.declared.claims.Claim.{Claim}
 use Rattle.flux_defs.specs.declared.claims.Claim.TheVariants.{Take, Hold, Pass}
 use Rattle.flux_defs.specs.declared.requests.Need.{Need, Vert', Pool, Spread', Row_of-Need, end_of-Need, more_of-Need}
-use Rattle.flux_defs.specs.Graph.{Place, Beneath}
+use Rattle.flux_defs.specs.Graph.{Scope, Beneath}
 use Rattle.flux_defs.specs.Needs.{amount_of}
 use Rattle.flux_defs.specs.Fits.{Pick, Pieces, Piece}
 
@@ -19,9 +19,9 @@ FillsFrom can low missing (p ∷ ps) =
 
 -- over the vertices, and the claims that are available
 module _ (vertices : List Vertex) (ok : Claim → Type 0) where
-  -- vertex v of the place can serve q of the need: some claims are a piece by which it does
-  abbrev pub CanServe : Place → Need → ℕ → ℕ → Type 0
-  CanServe place need v q = (claims : List Claim) × Piece vertices ok place need v q claims
+  -- vertex v of the scope can serve q of the need: some claims are a piece by which it does
+  abbrev pub CanServe : Scope → Need → ℕ → ℕ → Type 0
+  CanServe scope need v q = (claims : List Claim) × Piece vertices ok scope need v q claims
 
   -- a shared vertex's claims: its pass, and then those within it
   abbrev pub FollowsPass : ℕ → (List Claim → Type 0) → List Claim → Type 0
@@ -36,19 +36,19 @@ module _ (vertices : List Vertex) (ok : Claim → Type 0) where
     LowestPiece (Pool kind quantity) v q claims = claims ≡ Take v q ∷ []
     LowestPiece (Spread' count m needs) v q claims = FollowsPass v (LowestRow q (Beneath v) needs) claims
 
-    -- The lowest-first claims of the needs scaled by k in the place: need by need, the picks that fill its amount from
+    -- The lowest-first claims of the needs scaled by k in the scope: need by need, the picks that fill its amount from
     -- the first vertex on, and what they write.
-    pub LowestRow : {m : _} → ℕ → Place → Row_of-Need m → List Claim → Type 0
-    LowestRow k place end_of-Need claims = claims ≡ []
-    LowestRow k place (more_of-Need need rest) claims =
+    pub LowestRow : {m : _} → ℕ → Scope → Row_of-Need m → List Claim → Type 0
+    LowestRow k scope end_of-Need claims = claims ≡ []
+    LowestRow k scope (more_of-Need need rest) claims =
         (picks : List Pick) × (group : List Claim) × (others : List Claim) × (claims ≡ group ++ others)
-        × FillsFrom (CanServe place need) 0 (k * amount_of need) picks × Pieces (LowestPiece need) picks group
-        × LowestRow k place rest others
+        × FillsFrom (CanServe scope need) 0 (k * amount_of need) picks × Pieces (LowestPiece need) picks group
+        × LowestRow k scope rest others
 
   -- the same of a list of needs
-  abbrev pub Lowest : ℕ → Place → List Need → List Claim → Type 0
-  Lowest k place [] claims = claims ≡ []
-  Lowest k place (need ∷ rest) claims =
+  abbrev pub Lowest : ℕ → Scope → List Need → List Claim → Type 0
+  Lowest k scope [] claims = claims ≡ []
+  Lowest k scope (need ∷ rest) claims =
       (picks : List Pick) × (group : List Claim) × (others : List Claim) × (claims ≡ group ++ others)
-      × FillsFrom (CanServe place need) 0 (k * amount_of need) picks × Pieces (LowestPiece need) picks group
-      × Lowest k place rest others
+      × FillsFrom (CanServe scope need) 0 (k * amount_of need) picks × Pieces (LowestPiece need) picks group
+      × Lowest k scope rest others

@@ -20,7 +20,7 @@ pub record Setting : Type 0 where
   pub graph : ResourceGraph
   pub rules : List (List ℕ × List ℕ)
   pub horizon : ℕ
-  pub limit : ℕ
+  pub claim_limit : ℕ
 
 -- The present moment, the jobs that were accepted and not cancelled, the ids that were ever accepted, and how many
 -- claims the accepted jobs had.
@@ -28,10 +28,10 @@ pub record State : Type 0 where
   pub moment : ℕ
   pub jobs : List Job
   pub used : List ℕ
-  pub claims : ℕ
+  pub claim_count : ℕ
 
 abbrev pub first_state : State
-first_state = record { moment = 0; jobs = []; used = []; claims = 0 }
+first_state = record { moment = 0; jobs = []; used = []; claim_count = 0 }
 
 -- the command's ask, if it has one, is proper for the graph
 abbrev pub IsProper : List Vertex → Command → Type 0
@@ -63,7 +63,7 @@ accepted_reply moment job = if job.start == moment then reply.Allocated job else
 abbrev pub AcceptedOrFull : Setting → State → ℕ → Ask → ℕ → Reply → Type 0
 AcceptedOrFull g s id ask start r =
     (job : Job) × IsAcceptedAs g s id start ask job
-    × Where (g.limit < s.claims + length job.claims) reply.Full (λ r. r ≡ accepted_reply s.moment job) r
+    × Where (g.claim_limit < s.claim_count + length job.claims) reply.Full (λ r. r ≡ accepted_reply s.moment job) r
 
 -- the job of this id, if it was accepted and not cancelled
 abbrev pub job_with : ℕ → List Job → Option Job
@@ -100,7 +100,7 @@ Replies g s (command.Invalid why) = λ r. r ≡ reply.Invalid
 -- the state with one more accepted job
 abbrev pub with_job : State → Job → State
 with_job s job =
-    record { moment = s.moment; jobs = s.jobs ++ job ∷ []; used = s.used ++ job.id ∷ []; claims = s.claims + length job.claims }
+    record { moment = s.moment; jobs = s.jobs ++ job ∷ []; used = s.used ++ job.id ∷ []; claim_count = s.claim_count + length job.claims }
 
 -- the jobs that are left once the one of this id is cancelled
 abbrev pub without_job : ℕ → List Job → List Job

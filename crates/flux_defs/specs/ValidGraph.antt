@@ -2,6 +2,7 @@
 use Rattle.std.specs.Prelude.{◌≡◌, ◌≢◌, ℕ, suc, ◌^◌, ◌<◌, ◌≤◌, ◌⊎◌, ◌↔◌, false, List, length, Some, None, slice_get, codes, IsTrue, IsSome}
 use Rattle.std.specs.Option.{IsSomeAnd}
 use Rattle.flux_defs.specs.declared.vertices.Vertex.{Vertex}
+use Rattle.flux_defs.specs.declared.limits.TheConstants.{GREATEST_NUMBER, MOST_TYPES, MOST_VERTICES}
 use Rattle.flux_defs.specs.Graph.{ResourceGraph, parent_of, chain, is_at_or_below, is_below, HasKind, IsNode, is_pool}
 
 -- v is a vertex whose type is called so
@@ -44,16 +45,16 @@ pub record NumbersDevices (g : ResourceGraph) : Type 0 where
   pub apart : (v u n id kind : ℕ) → IsDevice g v → HasKind g.vertices kind v → HasKind g.vertices kind u → IsNode g.vertices n →
       IsTrue (is_below g.vertices v n) → IsTrue (is_below g.vertices u n) → HasId g id v → HasId g id u → v ≡ u
 
--- sizes: a pool contains nothing, and nodes, cores and gpus are whole; no size is past 2 ^ 46
+-- sizes: a pool contains nothing, and nodes, cores and gpus are whole; no size is past the greatest number
 pub record HasFairSizes (g : ResourceGraph) : Type 0 where
   pub leaves : (v p : ℕ) → parent_of g.vertices v ≡ Some p → is_pool g.vertices p ≡ false
   pub whole : EachVertex g (λ v x. IsNode g.vertices v ⊎ IsDevice g v → x.size ≡ 1)
-  pub most : EachVertex g (λ v x. x.size ≤ 2 ^ 46)
+  pub most : EachVertex g (λ v x. x.size ≤ GREATEST_NUMBER)
 
 -- The graph is valid; `names` are the names of its vertices, by number.
 pub record IsValidGraph (g : ResourceGraph) (names : List (List ℕ)) : Type 0 where
-  pub few : length g.vertices ≤ 65536
-  pub few_kinds : length g.kinds ≤ 256
+  pub few : length g.vertices ≤ MOST_VERTICES
+  pub few_kinds : length g.kinds ≤ MOST_TYPES
   pub kinds : NumbersKinds g
   pub preorder : StandsInPreorder g
   -- at most 16 vertices from the root to each, both counted

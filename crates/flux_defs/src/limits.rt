@@ -1,5 +1,21 @@
-//! How much the program takes.
+//! How much is taken: of a graph, of numbers and names, and of an input.
 ghost use Rattle.std.specs.Prelude.{◌≡◌};
+ghost use Rattle.flux_defs.specs.declared.limits.TheConstants.{SHIPPED};
+
+/// The most vertices of a graph.
+pub const MOST_VERTICES: usize = 65_536;
+/// The most types of a graph.
+pub const MOST_TYPES: usize = 256;
+/// The greatest size of a vertex, count of a request, and whole number of a field.
+pub const GREATEST_NUMBER: u64 = 70_368_744_177_664;
+/// The most bytes of a name.
+pub const MOST_NAME_BYTES: usize = 255;
+/// The most bytes of the name of a type.
+pub const MOST_TYPE_BYTES: usize = 64;
+/// The latest second at which time may end.
+pub const LATEST_HORIZON: u64 = 1_099_511_627_776;
+/// The most bytes of a graph file and of an input.
+pub const MOST_FILE_BYTES: u64 = 268_435_456;
 
 /// The most lines, bytes of a line, clients, barred nodes over all lines, and claims of all accepted jobs.
 #[derive(Clone, Copy, Debug, PartialEq, Eq)]
@@ -11,21 +27,20 @@ pub struct Limits {
     pub claims: u64,
 }
 
+/// The limits that the program runs with.
+pub const SHIPPED: Limits = Limits {
+    lines: 262_144,
+    line_bytes: 1_048_576,
+    clients: 64,
+    barred: 67_108_864,
+    claims: 2_097_152,
+};
+
 impl Limits {
-    /// The numbers that the program runs with.
+    /// The limits that the program runs with.
     pub fn shipped() -> Limits
-        ensures lines { result.lines ≡ 262144 }
-        ensures line_bytes { result.line_bytes ≡ 1048576 }
-        ensures clients { result.clients ≡ 64 }
-        ensures barred { result.barred ≡ 67108864 }
-        ensures claims { result.claims ≡ 2097152 }
+        ensures { result ≡ SHIPPED }
     {
-        Limits {
-            lines: 262_144,
-            line_bytes: 1_048_576,
-            clients: 64,
-            barred: 67_108_864,
-            claims: 2_097_152,
-        }
+        SHIPPED
     }
 }

@@ -165,18 +165,18 @@ module _ (can : ℕ → ℕ → Type 0) (down : IsDownward can) where
   fills_once low n [] (q ∷ qs) f g = let a : n ≡ 0 = f in let b : 1 ≤ q.1 = g.2 in let c : q.1 ≤ n = g.3 in absurd (omega arith)
   fills_once low n (p ∷ ps) [] f g = let a : n ≡ 0 = g in let b : 1 ≤ p.1 = f.2 in let c : p.1 ≤ n = f.3 in absurd (omega arith)
   fills_once low n (p ∷ ps) (q ∷ qs) f g =
-      let place : p.0 ≡ q.0 = elim (cases_lt p.0 q.0) [
+      let scope : p.0 ≡ q.0 = elim (cases_lt p.0 q.0) [
         | inl lt ↦ absurd (g.1 p.0 f.0 lt (lower p.0 1 p.1 (omega arith) f.2 f.4))
         | inr ge ↦ elim (cases_lt q.0 p.0) [ inl gt ↦ absurd (f.1 q.0 g.0 gt (lower q.0 1 q.1 (omega arith) g.2 g.4)) | inr le ↦ omega arith ]
       ] in
       let amount : p.1 ≡ q.1 = elim (cases_lt p.1 q.1) [
-        | inl lt ↦ (let most : q.1 ≤ n = g.3 in absurd (f.5 (omega arith) (subst (λ (v : ℕ). can v (p.1 + 1)) (sym place) (lower q.0 (p.1 + 1) q.1 (omega arith) (omega arith) g.4))))
+        | inl lt ↦ (let most : q.1 ≤ n = g.3 in absurd (f.5 (omega arith) (subst (λ (v : ℕ). can v (p.1 + 1)) (sym scope) (lower q.0 (p.1 + 1) q.1 (omega arith) (omega arith) g.4))))
         | inr ge ↦ elim (cases_lt q.1 p.1) [
-          | inl gt ↦ (let most : p.1 ≤ n = f.3 in absurd (g.5 (omega arith) (subst (λ (v : ℕ). can v (q.1 + 1)) place (lower p.0 (q.1 + 1) p.1 (omega arith) (omega arith) f.4))))
+          | inl gt ↦ (let most : p.1 ≤ n = f.3 in absurd (g.5 (omega arith) (subst (λ (v : ℕ). can v (q.1 + 1)) scope (lower p.0 (q.1 + 1) p.1 (omega arith) (omega arith) f.4))))
           | inr le ↦ omega arith
         ]
       ] in
-      let head : p ≡ q = same_pick p.0 p.1 q.0 q.1 place amount in
+      let head : p ≡ q = same_pick p.0 p.1 q.0 q.1 scope amount in
       let tail : ps ≡ qs = fills_once (p.0 + 1) (n - p.1) ps qs f.6 (subst (λ (r : Pick). FillsFrom can (r.0 + 1) (n - r.1) qs) (sym head) g.6) in
       cc
 

@@ -5,7 +5,7 @@ use Rattle.flux_defs.specs.declared.vertices.Vertex.{Vertex}
 use Rattle.flux_defs.specs.declared.claims.Claim.{Claim}
 use Rattle.flux_defs.specs.declared.claims.Claim.TheVariants.{Take, Pass}
 use Rattle.flux_defs.specs.declared.requests.Need.{Need, Vert', Pool, Spread', Row_of-Need, end_of-Need, more_of-Need}
-use Rattle.flux_defs.specs.Graph.{Place, Beneath}
+use Rattle.flux_defs.specs.Graph.{Scope, Beneath}
 use Rattle.flux_defs.specs.Needs.{amount_of}
 use Rattle.flux_defs.specs.Fits.{Pick, Pieces, Group, Piece, FitsRow}
 use Rattle.flux_defs.specs.Lowest.{CanServe, LowestPiece, LowestRow}
@@ -60,55 +60,55 @@ pieces_once piece once (p ∷ ps) a b g h =
 module _ (vertices : List Vertex) (ok : Claim → Type 0) where
   -- lowest-first claims fit
   mutual
-    pub lowest_piece : (place : Place) (need : Need) (v q : ℕ) (claims : List Claim) → CanServe vertices ok place need v q → LowestPiece vertices ok need v q claims →
-        Piece vertices ok place need v q claims
-    lowest_piece place (Vert' kind count true m needs) v q claims can low =
+    pub lowest_piece : (scope : Scope) (need : Need) (v q : ℕ) (claims : List Claim) → CanServe vertices ok scope need v q → LowestPiece vertices ok need v q claims →
+        Piece vertices ok scope need v q claims
+    lowest_piece scope (Vert' kind count true m needs) v q claims can low =
         let p = can.1 in (p.0, p.1, p.2, (low, p.3.1, p.3.2))
-    lowest_piece place (Vert' kind count false m needs) v q claims can low =
+    lowest_piece scope (Vert' kind count false m needs) v q claims can low =
         let p = can.1 in (p.0, p.1, p.2, (low.0, low.1, p.3.2, lowest_row_fits 1 (Beneath v) needs low.0 low.2))
-    lowest_piece place (Pool kind quantity) v q claims can low = let p = can.1 in (p.0, p.1, low, p.3)
-    lowest_piece place (Spread' count m needs) v q claims can low =
+    lowest_piece scope (Pool kind quantity) v q claims can low = let p = can.1 in (p.0, p.1, low, p.3)
+    lowest_piece scope (Spread' count m needs) v q claims can low =
         let p = can.1 in (p.0, p.1, (low.0, low.1, p.2.2, lowest_row_fits q (Beneath v) needs low.0 low.2))
 
-    pub lowest_row_fits : {m : _} (k : ℕ) (place : Place) (row : Row_of-Need m) (claims : List Claim) → LowestRow vertices ok k place row claims →
-        FitsRow vertices ok k place row claims
-    lowest_row_fits k place end_of-Need claims low = low
-    lowest_row_fits k place (more_of-Need need rest) claims low =
-        let f = fills_parts (CanServe vertices ok place need) 0 (k * amount_of need) low.0 low.4 in (
+    pub lowest_row_fits : {m : _} (k : ℕ) (scope : Scope) (row : Row_of-Need m) (claims : List Claim) → LowestRow vertices ok k scope row claims →
+        FitsRow vertices ok k scope row claims
+    lowest_row_fits k scope end_of-Need claims low = low
+    lowest_row_fits k scope (more_of-Need need rest) claims low =
+        let f = fills_parts (CanServe vertices ok scope need) 0 (k * amount_of need) low.0 low.4 in (
           low.1,
           low.2,
           low.3,
           (
             low.0,
             f.0,
-            serve_some (CanServe vertices ok place need) 0 low.0 f.1,
+            serve_some (CanServe vertices ok scope need) 0 low.0 f.1,
             f.2,
-            pieces_along 0 (LowestPiece vertices ok need) (Piece vertices ok place need) (lowest_piece place need) low.0 low.1 f.1 low.5,
+            pieces_along 0 (LowestPiece vertices ok need) (Piece vertices ok scope need) (lowest_piece scope need) low.0 low.1 f.1 low.5,
           ),
-          lowest_row_fits k place rest low.2 low.6,
+          lowest_row_fits k scope rest low.2 low.6,
         )
 
   module _ (less : TakesLess ok) where
     -- a fit of k + 1 copies contains one of k
     mutual
-      pub serves_less : (place : Place) (need : Need) → IsDownward (CanServe vertices ok place need)
-      serves_less place (Vert' kind count hold m needs) v q some can = let one : q + 1 ≡ 1 = can.1.0 in absurd (omega arith)
-      serves_less place (Pool kind quantity) v q some can =
+      pub serves_less : (scope : Scope) (need : Need) → IsDownward (CanServe vertices ok scope need)
+      serves_less scope (Vert' kind count hold m needs) v q some can = let one : q + 1 ≡ 1 = can.1.0 in absurd (omega arith)
+      serves_less scope (Pool kind quantity) v q some can =
           let p = can.1 in (Take v q ∷ [], (p.0, p.1, refl, less v q p.3))
-      serves_less place (Spread' count m needs) v q some can =
+      serves_less scope (Spread' count m needs) v q some can =
           let p = can.1 in
           let r = row_less q (Beneath v) needs p.2.0 p.2.3 in
           (Pass v ∷ r.0, (p.0, p.1, (r.0, refl, p.2.2, r.1)))
 
-      pub row_less : {m : _} (k : ℕ) (place : Place) (row : Row_of-Need m) (claims : List Claim) → FitsRow vertices ok (k + 1) place row claims →
-          (fewer : List Claim) × FitsRow vertices ok k place row fewer
-      row_less k place end_of-Need claims fit = ([], refl)
-      row_less k place (more_of-Need need rest) claims fit =
-          let piece = Piece vertices ok place need in
+      pub row_less : {m : _} (k : ℕ) (scope : Scope) (row : Row_of-Need m) (claims : List Claim) → FitsRow vertices ok (k + 1) scope row claims →
+          (fewer : List Claim) × FitsRow vertices ok k scope row fewer
+      row_less k scope end_of-Need claims fit = ([], refl)
+      row_less k scope (more_of-Need need rest) claims fit =
+          let piece = Piece vertices ok scope need in
           let f = group_fills piece ((k + 1) * amount_of need) fit.0 fit.3 in
           let g = filled_group piece (k * amount_of need)
-          (can_fill_less (SomePiece piece) (serves_less place need) 0 ((k + 1) * amount_of need) (k * amount_of need) (omega arith) f) in
-          let r = row_less k place rest fit.1 fit.4 in
+          (can_fill_less (SomePiece piece) (serves_less scope need) 0 ((k + 1) * amount_of need) (k * amount_of need) (omega arith) f) in
+          let r = row_less k scope rest fit.1 fit.4 in
           (g.0 ++ r.0, (g.0, r.0, refl, g.1, r.1))
 
     -- lowest-first claims are determined
@@ -121,11 +121,11 @@ module _ (vertices : List Vertex) (ok : Claim → Type 0) where
       piece_once (Spread' count m needs) v q a b g h =
           g.1 ∙ ap (λ x. Pass v ∷ x) (lowest_row_once q (Beneath v) needs g.0 h.0 g.2 h.2) ∙ sym h.1
 
-      pub lowest_row_once : {m : _} (k : ℕ) (place : Place) (row : Row_of-Need m) (a b : List Claim) → LowestRow vertices ok k place row a → LowestRow vertices ok k place row b → a ≡ b
-      lowest_row_once k place end_of-Need a b g h = g ∙ sym h
-      lowest_row_once k place (more_of-Need need rest) a b g h =
-          let same : g.0 ≡ h.0 = fills_once (CanServe vertices ok place need) (serves_less place need) 0 (k * amount_of need) g.0 h.0 g.4 h.4 in
+      pub lowest_row_once : {m : _} (k : ℕ) (scope : Scope) (row : Row_of-Need m) (a b : List Claim) → LowestRow vertices ok k scope row a → LowestRow vertices ok k scope row b → a ≡ b
+      lowest_row_once k scope end_of-Need a b g h = g ∙ sym h
+      lowest_row_once k scope (more_of-Need need rest) a b g h =
+          let same : g.0 ≡ h.0 = fills_once (CanServe vertices ok scope need) (serves_less scope need) 0 (k * amount_of need) g.0 h.0 g.4 h.4 in
           let group : g.1 ≡ h.1 = pieces_once (LowestPiece vertices ok need) (piece_once need) g.0 g.1 h.1 g.5
           (subst (λ (ps : List Pick). Pieces (LowestPiece vertices ok need) ps h.1) (sym same) h.5) in
-          let others : g.2 ≡ h.2 = lowest_row_once k place rest g.2 h.2 g.6 h.6 in
+          let others : g.2 ≡ h.2 = lowest_row_once k scope rest g.2 h.2 g.6 h.6 in
           g.3 ∙ (ap (λ x. x ++ g.2) group ∙ ap (λ x. h.1 ++ x) others) ∙ sym h.3

@@ -6,53 +6,53 @@ use Rattle.flux_defs.specs.declared.claims.Claim.{Claim}
 use Rattle.flux_defs.specs.declared.claims.Claim.TheVariants.{Hold}
 use Rattle.flux_defs.specs.declared.requests.Need.{Need, Vert, Spread, Row_of-Need, end_of-Need, more_of-Need, items-the_row-Need, items_hidden-the_row-Need-0}
 use Rattle.flux_defs.specs.declared.requests.Need.TheBlock.{hidden-the_row-Need-0}
-use Rattle.flux_defs.specs.Graph.{Place, Beneath, IsIn, HasKind, IsNode}
+use Rattle.flux_defs.specs.Graph.{Scope, Beneath, IsIn, HasKind, IsNode}
 use Rattle.flux_defs.specs.Needs.{amount_of, AreApartKinds, AreApartKindsRow, IsSomeRow, HasNoSpread, HaveNoSpreadRow, AreValidRow, AreValidNeeds}
 use Rattle.flux_defs.specs.Fits.{Pick, Pieces, Group, Piece, FitsRow, Fits, HeldPiece, SharedPiece}
 use Rattle.flux_defs.specs.Lowest.{FillsFrom, CanServe, FollowsPass, LowestPiece, LowestRow, Lowest}
 
 module _ (vertices : List Vertex) (ok : Claim → Type 0) where
-  fits_row : {n : _} (k : ℕ) (place : Place) (row : Row_of-Need n) (claims : List Claim) → FitsRow vertices ok k place row claims ≡ Fits vertices ok k place (items-the_row-Need _ row) claims
-  fits_row k place end_of-Need claims = refl
-  fits_row k place (more_of-Need need rest) claims = λ i.
+  fits_row : {n : _} (k : ℕ) (scope : Scope) (row : Row_of-Need n) (claims : List Claim) → FitsRow vertices ok k scope row claims ≡ Fits vertices ok k scope (items-the_row-Need _ row) claims
+  fits_row k scope end_of-Need claims = refl
+  fits_row k scope (more_of-Need need rest) claims = λ i.
       (group : List Claim) × (others : List Claim) × (claims ≡ group ++ others)
-      × Group (k * amount_of need) (Piece vertices ok place need) group × fits_row k place rest others i
+      × Group (k * amount_of need) (Piece vertices ok scope need) group × fits_row k scope rest others i
 
-  pub fits_list : (needs : List Need) (k : ℕ) (place : Place) → (let row : List Claim → Type 0 = FitsRow vertices ok k place (hidden-the_row-Need-0 needs) in row ≡ Fits vertices ok k place needs)
-  fits_list needs k place = λ i claims.
-      (fits_row k place (hidden-the_row-Need-0 needs) claims ∙ ap (λ ns. Fits vertices ok k place ns claims) (items_hidden-the_row-Need-0 needs)) i
+  pub fits_list : (needs : List Need) (k : ℕ) (scope : Scope) → (let row : List Claim → Type 0 = FitsRow vertices ok k scope (hidden-the_row-Need-0 needs) in row ≡ Fits vertices ok k scope needs)
+  fits_list needs k scope = λ i claims.
+      (fits_row k scope (hidden-the_row-Need-0 needs) claims ∙ ap (λ ns. Fits vertices ok k scope ns claims) (items_hidden-the_row-Need-0 needs)) i
 
-  lowest_row : {n : _} (k : ℕ) (place : Place) (row : Row_of-Need n) (claims : List Claim) → LowestRow vertices ok k place row claims ≡ Lowest vertices ok k place (items-the_row-Need _ row) claims
-  lowest_row k place end_of-Need claims = refl
-  lowest_row k place (more_of-Need need rest) claims = λ i.
+  lowest_row : {n : _} (k : ℕ) (scope : Scope) (row : Row_of-Need n) (claims : List Claim) → LowestRow vertices ok k scope row claims ≡ Lowest vertices ok k scope (items-the_row-Need _ row) claims
+  lowest_row k scope end_of-Need claims = refl
+  lowest_row k scope (more_of-Need need rest) claims = λ i.
       (picks : List Pick) × (group : List Claim) × (others : List Claim) × (claims ≡ group ++ others)
-      × FillsFrom (CanServe vertices ok place need) 0 (k * amount_of need) picks × Pieces (LowestPiece vertices ok need) picks group
-      × lowest_row k place rest others i
+      × FillsFrom (CanServe vertices ok scope need) 0 (k * amount_of need) picks × Pieces (LowestPiece vertices ok need) picks group
+      × lowest_row k scope rest others i
 
-  pub lowest_list : (needs : List Need) (k : ℕ) (place : Place) → (let row : List Claim → Type 0 = LowestRow vertices ok k place (hidden-the_row-Need-0 needs) in row ≡ Lowest vertices ok k place needs)
-  lowest_list needs k place = λ i claims.
-      (lowest_row k place (hidden-the_row-Need-0 needs) claims ∙ ap (λ ns. Lowest vertices ok k place ns claims) (items_hidden-the_row-Need-0 needs)) i
+  pub lowest_list : (needs : List Need) (k : ℕ) (scope : Scope) → (let row : List Claim → Type 0 = LowestRow vertices ok k scope (hidden-the_row-Need-0 needs) in row ≡ Lowest vertices ok k scope needs)
+  lowest_list needs k scope = λ i claims.
+      (lowest_row k scope (hidden-the_row-Need-0 needs) claims ∙ ap (λ ns. Lowest vertices ok k scope ns claims) (items_hidden-the_row-Need-0 needs)) i
 
   -- what vertex v of a need of vertices writes, by the list of inner needs
-  abbrev pub VertPiece : Place → ℕ → Bool → List Need → ℕ → ℕ → List Claim → Type 0
-  VertPiece place kind hold needs v q claims =
-      (q ≡ 1) × IsIn vertices place v × HasKind vertices kind v
+  abbrev pub VertPiece : Scope → ℕ → Bool → List Need → ℕ → ℕ → List Claim → Type 0
+  VertPiece scope kind hold needs v q claims =
+      (q ≡ 1) × IsIn vertices scope v × HasKind vertices kind v
       × MatchBool hold (HeldPiece vertices ok v (Fits vertices ok 1 (Beneath v) needs) claims) (SharedPiece vertices ok v (Fits vertices ok 1 (Beneath v) needs) claims)
 
   -- the same of a spread
-  abbrev pub SpreadPiece : Place → List Need → ℕ → ℕ → List Claim → Type 0
-  SpreadPiece place needs v q claims = IsIn vertices place v × IsNode vertices v × SharedPiece vertices ok v (Fits vertices ok q (Beneath v) needs) claims
+  abbrev pub SpreadPiece : Scope → List Need → ℕ → ℕ → List Claim → Type 0
+  SpreadPiece scope needs v q claims = IsIn vertices scope v × IsNode vertices v × SharedPiece vertices ok v (Fits vertices ok q (Beneath v) needs) claims
 
-  pub piece_Vert : (place : Place) (kind count : ℕ) (hold : Bool) (needs : List Need) (v q : ℕ) (claims : List Claim) →
-      Piece vertices ok place (Vert kind count hold needs) v q claims ≡ VertPiece place kind hold needs v q claims
-  piece_Vert place kind count hold needs v q claims =
-      ap (λ (inner : List Claim → Type 0). (q ≡ 1) × IsIn vertices place v × HasKind vertices kind v
+  pub piece_Vert : (scope : Scope) (kind count : ℕ) (hold : Bool) (needs : List Need) (v q : ℕ) (claims : List Claim) →
+      Piece vertices ok scope (Vert kind count hold needs) v q claims ≡ VertPiece scope kind hold needs v q claims
+  piece_Vert scope kind count hold needs v q claims =
+      ap (λ (inner : List Claim → Type 0). (q ≡ 1) × IsIn vertices scope v × HasKind vertices kind v
       × MatchBool hold (HeldPiece vertices ok v inner claims) (SharedPiece vertices ok v inner claims)) (fits_list needs 1 (Beneath v))
 
-  pub piece_Spread : (place : Place) (count : ℕ) (needs : List Need) (v q : ℕ) (claims : List Claim) →
-      Piece vertices ok place (Spread count needs) v q claims ≡ SpreadPiece place needs v q claims
-  piece_Spread place count needs v q claims =
-      ap (λ (inner : List Claim → Type 0). IsIn vertices place v × IsNode vertices v × SharedPiece vertices ok v inner claims) (fits_list needs q (Beneath v))
+  pub piece_Spread : (scope : Scope) (count : ℕ) (needs : List Need) (v q : ℕ) (claims : List Claim) →
+      Piece vertices ok scope (Spread count needs) v q claims ≡ SpreadPiece scope needs v q claims
+  piece_Spread scope count needs v q claims =
+      ap (λ (inner : List Claim → Type 0). IsIn vertices scope v × IsNode vertices v × SharedPiece vertices ok v inner claims) (fits_list needs q (Beneath v))
 
   pub lowest_Vert : (kind count : ℕ) (hold : Bool) (needs : List Need) (v q : ℕ) (claims : List Claim) →
       LowestPiece vertices ok (Vert kind count hold needs) v q claims ≡ MatchBool hold (claims ≡ Hold v ∷ []) (FollowsPass vertices ok v (Lowest vertices ok 1 (Beneath v) needs) claims)

@@ -8,7 +8,7 @@ use Rattle.flux_defs.specs.declared.requests.Ask.{Ask}
 use Rattle.flux_defs.specs.declared.requests.Need.{Need}
 use Rattle.flux_defs.specs.declared.journal.Command.{Command}
 use Rattle.flux_defs.specs.declared.journal.Reply.{Reply}
-use Rattle.flux_defs.specs.Graph.{ResourceGraph, Place, is_at_or_below}
+use Rattle.flux_defs.specs.Graph.{ResourceGraph, Scope, is_at_or_below}
 use Rattle.flux_defs.specs.ValidGraph.{IsValidGraph}
 use Rattle.flux_defs.specs.Jobs.{vertex_of}
 use Rattle.flux_defs.specs.Closed.{Scene}
@@ -36,14 +36,14 @@ LowestFits = (vertices : List Vertex) (jobs : List Job) (ask : Ask) (w : Window)
 
 -- A fit with the multiplier k is a fit of the needs scaled by k.
 abbrev pub MultiplyingIsScaling : Type 0
-MultiplyingIsScaling = (s : Scene) (w : Window) (k : ℕ) (place : Place) (needs : List Need) (claims : List Claim) →
-    Fits s.vertices (IsAvailable s w) k place needs claims ↔ Fits s.vertices (IsAvailable s w) 1 place (scaled k needs) claims
+MultiplyingIsScaling = (s : Scene) (w : Window) (k : ℕ) (scope : Scope) (needs : List Need) (claims : List Claim) →
+    Fits s.vertices (IsAvailable s w) k scope needs claims ↔ Fits s.vertices (IsAvailable s w) 1 scope (scaled k needs) claims
 
 -- Where claims fit the needs scaled by k + 1, some claims fit them scaled by k.
 abbrev pub FewerCopiesFit : Type 0
-FewerCopiesFit = (s : Scene) (w : Window) (k : ℕ) (place : Place) (needs : List Need) (claims : List Claim) →
-    Fits s.vertices (IsAvailable s w) 1 place (scaled (k + 1) needs) claims →
-    (fewer : List Claim) × Fits s.vertices (IsAvailable s w) 1 place (scaled k needs) fewer
+FewerCopiesFit = (s : Scene) (w : Window) (k : ℕ) (scope : Scope) (needs : List Need) (claims : List Claim) →
+    Fits s.vertices (IsAvailable s w) 1 scope (scaled (k + 1) needs) claims →
+    (fewer : List Claim) × Fits s.vertices (IsAvailable s w) 1 scope (scaled k needs) fewer
 
 -- none of the first claims is on a vertex at or below one of the others, nor the other way round
 abbrev pub AreAside : List Vertex → List Claim → List Claim → Type 0
@@ -54,14 +54,14 @@ AreAside vertices cs ds = (c d : Claim) → Contains cs c → Contains ds d →
 abbrev pub GroupsAreAside : Type 0
 GroupsAreAside = (g : ResourceGraph) (names : List (List ℕ)) → IsValidGraph g names → (needs : List Need) → AreValidNeeds g.vertices needs →
     (i j : ℕ) (a b : Need) → i ≢ j → slice_get needs i ≡ Some a → slice_get needs j ≡ Some b →
-    (s : Scene) (w : Window) (place : Place) (n m : ℕ) (cs ds : List Claim) →
-    Group n (Piece g.vertices (IsAvailable s w) place a) cs → Group m (Piece g.vertices (IsAvailable s w) place b) ds → AreAside g.vertices cs ds
+    (s : Scene) (w : Window) (scope : Scope) (n m : ℕ) (cs ds : List Claim) →
+    Group n (Piece g.vertices (IsAvailable s w) scope a) cs → Group m (Piece g.vertices (IsAvailable s w) scope b) ds → AreAside g.vertices cs ds
 
 -- The pieces of two different vertices of one valid need are aside of each other.
 abbrev pub PiecesAreAside : Type 0
 PiecesAreAside = (g : ResourceGraph) (names : List (List ℕ)) → IsValidGraph g names → (need : Need) → IsValidNeed g.vertices need →
-    (s : Scene) (w : Window) (place : Place) (v u q r : ℕ) (cs ds : List Claim) → v ≢ u →
-    Piece g.vertices (IsAvailable s w) place need v q cs → Piece g.vertices (IsAvailable s w) place need u r ds → AreAside g.vertices cs ds
+    (s : Scene) (w : Window) (scope : Scope) (v u q r : ℕ) (cs ds : List Claim) → v ≢ u →
+    Piece g.vertices (IsAvailable s w) scope need v q cs → Piece g.vertices (IsAvailable s w) scope need u r ds → AreAside g.vertices cs ds
 
 -- So no vertex has two claims of a fit, and none lies below what another holds.
 abbrev pub FitsAreSeparate : Type 0

@@ -6,7 +6,7 @@ ghost use Rattle.flux_defs.specs.declared.vertices.Vertex.{Vertex};
 ghost use Rattle.flux_defs.specs.declared.journal.Command.TheVariants as command;
 ghost use Rattle.flux_defs.specs.Needs.{IsProperAsk};
 ghost use Rattle.flux_defs.specs.Scheduler.{IsProper};
-ghost use Rattle.jobspec_v1.specs.Faults.{Tells};
+ghost use Rattle.jobspec_v1.specs.Faults.{IsFirstFault};
 ghost use Rattle.fluxion_lines.specs.Commands.{is_client, client_of, verb_of, invalid, spec_of, asked, job_and_ask, ask_alone, number_alone, made, command_by, command_of, bars_of_command};
 
 use crate::numbers::number_in;
@@ -106,7 +106,7 @@ fn invalid(alloc: Global, why: &[u8]) -> Result<Command, AllocError>
 fn read_spec(alloc: Global, graph: &Graph, form: Form, spec: &[u8]) -> Result<Ask, SpecFault>
     ensures ask { IfOk result (λ ask. spec_of graph.now form spec.now ≡ Ok ask) }
     ensures proper { IfOk result (IsProperAsk graph.now.resources.vertices) }
-    ensures told { IfErr result (Tells (spec_of graph.now form spec.now)) }
+    ensures told { IfErr result (IsFirstFault (spec_of graph.now form spec.now)) }
 {
     match form {
         Form::V1 => read_v1(alloc, graph, spec),

@@ -4,7 +4,7 @@ use Rattle.std.specs.Io.KnownBytes.{Appends}
 use Rattle.flux_io.specs.Counts.{Rose}
 use Rattle.flux_io.specs.Stores.{Stored, file_of}
 use Rattle.resource_graph.specs.NamedGraph.{NamedGraph}
-use Rattle.graph_json.specs.GraphText.{IsGraphText, Tells}
+use Rattle.graph_json.specs.GraphText.{IsGraphText, IsFirstFault}
 use Rattle.graph_json.specs.declared.faults.ReadFault.{ReadFault}
 use Rattle.graph_json.specs.declared.faults.ReadFault.TheVariants as read_fault
 use Rattle.fluxion_shell.specs.declared.status.Status.{Status}
@@ -47,7 +47,7 @@ AppendsFrontOfSome old new P = (front : List ℕ) × (rest : List ℕ) × P (fro
 
 -- the fault of a graph file's bytes; want of memory is never answered as one
 abbrev pub HasFault : List ℕ → ReadFault → Type 0
-HasFault bytes fault = Tells bytes fault × (fault ≢ read_fault.Memory)
+HasFault bytes fault = IsFirstFault bytes fault × (fault ≢ read_fault.Memory)
 
 -- a failure to read or want of memory came before the answer that is shown
 abbrev pub OrEarlier : Status → Type 0 → Type 0

@@ -1,6 +1,7 @@
 -- What may be wrong with a list of vertices, one vertex at a time. The vertices stand in any order; `names` are theirs.
 use Rattle.std.specs.Prelude.{◌≡◌, ◌≢◌, ℕ, suc, ◌^◌, ◌<◌, ◌≤◌, ◌⊎◌, List, length, Some, None, slice_get, codes, IsTrue, IsSome}
 use Rattle.std.specs.Option.{IsSomeAnd}
+use Rattle.flux_defs.specs.declared.limits.TheConstants.{GREATEST_NUMBER}
 use Rattle.flux_defs.specs.Graph.{ResourceGraph, parent_of, chain, is_below, HasKind, is_pool}
 use Rattle.flux_defs.specs.ValidGraph.{HasType, HasId, HasRank, IsDevice}
 use Rattle.resource_graph.specs.Lines.{line_of}
@@ -49,9 +50,9 @@ IsPoolWithChild g v = IsTrue (is_pool g.vertices v) × ((w : ℕ) × (parent_of 
 abbrev pub IsSized : ResourceGraph → ℕ → Type 0
 IsSized g v = (IsNodeType g v ⊎ IsDevice g v) × IsSomeAnd (slice_get g.vertices v) (λ x. x.size ≢ 1)
 
--- its size is past 2 ^ 46
+-- its size is past the greatest number
 abbrev pub IsLarge : ResourceGraph → ℕ → Type 0
-IsLarge g v = IsSomeAnd (slice_get g.vertices v) (λ x. 2 ^ 46 < x.size)
+IsLarge g v = IsSomeAnd (slice_get g.vertices v) (λ x. GREATEST_NUMBER < x.size)
 
 -- it lies below a node
 abbrev pub IsHoused : ResourceGraph → ℕ → Type 0

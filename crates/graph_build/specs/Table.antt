@@ -1,5 +1,6 @@
 -- The table of faults. Of a list of vertices the first row is told that holds, with the least number at which it does.
-use Rattle.std.specs.Prelude.{◌≡◌, ℕ, ◌<◌, ◌×◌, ◌⊎◌, ◌++◌, List, [], ◌∷◌, length}
+use Rattle.std.specs.Prelude.{◌≡◌, ℕ, ◌<◌, ◌⊎◌, ◌++◌, List, [], ◌∷◌, length}
+use Rattle.flux_defs.specs.declared.limits.TheConstants.{MOST_VERTICES, MOST_TYPES}
 use Rattle.flux_defs.specs.Graph.{ResourceGraph}
 use Rattle.resource_graph.specs.Finds.{Nowhere, IsLeast}
 use Rattle.graph_build.specs.Faults.{HasUnknownParent, HasUnknownKind, IsRoot, IsSecondRoot, NeverEnds, IsDeep, IsNestedInKind}
@@ -19,8 +20,8 @@ row fault Holds = record { fault = fault; Holds = Holds }
 -- how many there are, the parents, the kinds and the root
 abbrev pub link_rows : ResourceGraph → List Row
 link_rows g =
-    row Vertices (λ n. (n ≡ length g.vertices) × (65536 < n))
-    ∷ row Kinds (λ n. (n ≡ length g.kinds) × (256 < n))
+    row Vertices (λ n. (n ≡ length g.vertices) × (MOST_VERTICES < n))
+    ∷ row Kinds (λ n. (n ≡ length g.kinds) × (MOST_TYPES < n))
     ∷ row UnknownParent (HasUnknownParent g)
     ∷ row UnknownKind (HasUnknownKind g)
     ∷ row (λ _. NoRoot) (λ n. (n ≡ 0) × Nowhere (IsRoot g))
@@ -68,6 +69,10 @@ IsFirstRow (row ∷ rows) fault = ((n : ℕ) × (fault ≡ row.fault n) × IsLea
 -- it is that fault, or want of memory
 abbrev pub IsFirstIn : List Row → GraphFault → Type 0
 IsFirstIn rows fault = (fault ≡ Memory) ⊎ IsFirstRow rows fault
+
+-- the first fault of the vertices, or want of memory
+abbrev pub IsFirstFault : ResourceGraph → List (List ℕ) → GraphFault → Type 0
+IsFirstFault g names = IsFirstIn (table g names)
 
 -- nothing is wrong with the vertices
 abbrev pub IsFaultless : ResourceGraph → List (List ℕ) → Type 0

@@ -11,13 +11,8 @@ use crate::endless::{first_deep, first_endless};
 use crate::links::{first_root, first_unknown_kind, first_unknown_parent, second_root};
 use crate::own::{first_large, first_reserved, first_sized, first_unnamed};
 use crate::raw::{GraphFault, RawVertex};
-use flux_defs::{Text, Vertex};
+use flux_defs::{MOST_TYPES, MOST_VERTICES, Text, Vertex};
 use std::alloc::Global;
-
-/// The most vertices, and the most types.
-const MOST_VERTICES: usize = 65_536;
-
-const MOST_KINDS: usize = 256;
 
 /// How many there are, the parents, the kinds and the root.
 fn check_links(kinds: &[Text], vertices: &[Vertex]) -> Result<(), GraphFault>
@@ -29,7 +24,7 @@ fn check_links(kinds: &[Text], vertices: &[Vertex]) -> Result<(), GraphFault>
             found: vertices.len() as u64,
         });
     }
-    if kinds.len() > MOST_KINDS {
+    if kinds.len() > MOST_TYPES {
         return Err(GraphFault::Kinds {
             found: kinds.len() as u64,
         });

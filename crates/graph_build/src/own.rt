@@ -5,10 +5,7 @@ ghost use Rattle.graph_build.specs.Faults.{IsNodeType, IsReserved, IsSized, IsLa
 ghost use Rattle.resource_graph.specs.Preorder.{plain};
 ghost use Rattle.graph_build.specs.Checks.{graph_in};
 
-use flux_defs::{Text, Vertex};
-
-/// The largest size of a vertex.
-const MOST: u64 = 70_368_744_177_664;
+use flux_defs::{GREATEST_NUMBER, Text, Vertex};
 
 /// Whether the kind is called so.
 pub(crate) fn is_called(kinds: &[Text], kind: u32, name: &[u8]) -> bool
@@ -61,12 +58,12 @@ pub(crate) fn is_sized(kinds: &[Text], vertices: &[Vertex], v: usize) -> bool
     is_device_at(kinds, vertices, v)
 }
 
-/// Whether the vertex's size is past 2^46.
+/// Whether the vertex's size is past the greatest number.
 pub(crate) fn is_large(vertices: &[Vertex], v: usize) -> bool
     requires { v < length vertices.now }
     ensures { IsTrue result ↔ IsLarge (plain vertices.now) v }
 {
-    vertices[v].size > MOST
+    vertices[v].size > GREATEST_NUMBER
 }
 
 /// Whether the vertex is a core or gpu without an id.

@@ -44,7 +44,7 @@ pub enum GraphFault {
     PoolWithChild { vertex: u32 },
     /// A node, core or gpu of a size other than 1.
     Sized { vertex: u32 },
-    /// Its size is past 2^46.
+    /// Its size is past the greatest number, 2^46.
     Large { vertex: u32 },
     /// A core or gpu with no node above.
     Loose { vertex: u32 },

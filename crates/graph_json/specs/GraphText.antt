@@ -4,8 +4,8 @@ use Rattle.json_whole.specs.Whole.{value_of}
 use Rattle.serde_json.specs.Data.{Data}
 use Rattle.resource_graph.specs.NamedGraph.{NamedGraph}
 use Rattle.graph_build.specs.Raw.{IsBuiltFrom, raw_graph, raw_names}
-use Rattle.graph_build.specs.Faults.{IsFaultless}
-use Rattle.graph_build.specs.Told.{Tells as TellsGraph}
+use Rattle.graph_build.specs.Table.{IsFaultless}
+use Rattle.graph_build.specs.Table.{IsFirstFault as IsFirstGraphFault}
 use Rattle.resource_graph.specs.Finds.{IsLeast, Nowhere}
 use Rattle.graph_build.specs.declared.raw.RawVertex.{RawVertex}
 use Rattle.graph_build.specs.declared.raw.GraphFault.TheVariants.{Memory as NoRoom}
@@ -57,13 +57,13 @@ abbrev pub HasUnfitEdge : List ℕ → Misfit → Type 0
 HasUnfitEdge bytes m = (file : GraphFile) × Says bytes file × HasDistinctIds file × IsFirstWrong (ids_of file.nodes) file.edges (Unfit m)
 
 -- Which fault the bytes have: what is looked at first is told first. Of want of memory nothing is said.
-abbrev pub Tells : List ℕ → ReadFault → Type 0
-Tells bytes NotJson = value_of bytes ≡ None
-Tells bytes (Field path fault) = (m : Misfit) × (path ≡ path_of m.place) × (fault ≡ m.fault) × (HasMisfit bytes m ⊎ HasUnfitEdge bytes m)
-Tells bytes (DuplicateNode at) = (file : GraphFile) × Says bytes file × IsLeast (IsRepeated (ids_of file.nodes)) at
-Tells bytes (Edge at) = (file : GraphFile) × Says bytes file × HasDistinctIds file × IsFirstWrong (ids_of file.nodes) file.edges (Wrong at)
-Tells bytes (Graph fault) = (file : GraphFile) × Says bytes file × HasRightEdges file × TellsGraph (raw_graph (kinds_of file.nodes) (raw_of file)) (raw_names (raw_of file)) fault × (fault ≢ NoRoom)
-Tells bytes Memory = Unit {0}
+abbrev pub IsFirstFault : List ℕ → ReadFault → Type 0
+IsFirstFault bytes NotJson = value_of bytes ≡ None
+IsFirstFault bytes (Field path fault) = (m : Misfit) × (path ≡ path_of m.place) × (fault ≡ m.fault) × (HasMisfit bytes m ⊎ HasUnfitEdge bytes m)
+IsFirstFault bytes (DuplicateNode at) = (file : GraphFile) × Says bytes file × IsLeast (IsRepeated (ids_of file.nodes)) at
+IsFirstFault bytes (Edge at) = (file : GraphFile) × Says bytes file × HasDistinctIds file × IsFirstWrong (ids_of file.nodes) file.edges (Wrong at)
+IsFirstFault bytes (Graph fault) = (file : GraphFile) × Says bytes file × HasRightEdges file × IsFirstGraphFault (raw_graph (kinds_of file.nodes) (raw_of file)) (raw_names (raw_of file)) fault × (fault ≢ NoRoom)
+IsFirstFault bytes Memory = Unit {0}
 
 -- ---- for private clauses
 
@@ -82,10 +82,10 @@ IsEdgeToldAs (Unfit m) fault = IsToldAs m fault
 IsEdgeToldAs (Wrong at) fault = fault ≡ Edge at
 
 -- the fault is one of these raw vertices, or want of memory
-abbrev pub TellsRaw : List (List ℕ) → List RawVertex → ReadFault → Type 0
-TellsRaw kinds raw NotJson = ⊥
-TellsRaw kinds raw (Field path fault) = ⊥
-TellsRaw kinds raw (DuplicateNode at) = ⊥
-TellsRaw kinds raw (Edge at) = ⊥
-TellsRaw kinds raw (Graph fault) = TellsGraph (raw_graph kinds raw) (raw_names raw) fault × (fault ≢ NoRoom)
-TellsRaw kinds raw Memory = Unit {0}
+abbrev pub IsFirstRawFault : List (List ℕ) → List RawVertex → ReadFault → Type 0
+IsFirstRawFault kinds raw NotJson = ⊥
+IsFirstRawFault kinds raw (Field path fault) = ⊥
+IsFirstRawFault kinds raw (DuplicateNode at) = ⊥
+IsFirstRawFault kinds raw (Edge at) = ⊥
+IsFirstRawFault kinds raw (Graph fault) = IsFirstGraphFault (raw_graph kinds raw) (raw_names raw) fault × (fault ≢ NoRoom)
+IsFirstRawFault kinds raw Memory = Unit {0}

@@ -14,7 +14,7 @@ ghost use Rattle.graph_json.specs.Edges.{FileEdge, parents_of};
 ghost use Rattle.graph_json.specs.Ids.{ids_of};
 ghost use Rattle.graph_json.specs.RawLists.{kinds_of, vertices_of};
 ghost use Rattle.graph_json.specs.GraphFile.{lists_in, lists_of, lists_held};
-ghost use Rattle.graph_json.specs.GraphText.{IsValueOf, IsGraphText, Tells, IsToldAs, IsEdgeToldAs, TellsRaw};
+ghost use Rattle.graph_json.specs.GraphText.{IsValueOf, IsGraphText, IsFirstFault, IsToldAs, IsEdgeToldAs, IsFirstRawFault};
 
 use crate::edges::{EdgeFault, join_edges};
 use crate::faults::ReadFault;
@@ -135,7 +135,7 @@ fn graph_from(
         → IsBuiltFrom (kinds_of (map node_held nodes.now)) (vertices_of (map node_held nodes.now) edges) graph
         × IsFaultless (raw_graph (kinds_of (map node_held nodes.now)) (vertices_of (map node_held nodes.now) edges)) (raw_names (vertices_of (map node_held nodes.now) edges))) }
     ensures told { IfErr result (λ fault. (edges : List FileEdge) → parents.now ≡ parents_of (ids_of (map node_held nodes.now)) edges
-        → TellsRaw (kinds_of (map node_held nodes.now)) (vertices_of (map node_held nodes.now) edges) fault) }
+        → IsFirstRawFault (kinds_of (map node_held nodes.now)) (vertices_of (map node_held nodes.now) edges) fault) }
 {
     if nodes.len() > MOST_VERTICES {
         return Err(ReadFault::Graph(GraphFault::Vertices {
@@ -159,7 +159,7 @@ fn graph_from(
 /// The graph of a JSON value.
 fn graph_of(alloc: Global, value: &Value) -> Result<Graph, ReadFault>
     ensures graph { IfOk result (λ graph. (bytes : List ℕ) → IsValueOf bytes (view value.now) → IsGraphText bytes graph) }
-    ensures fault { IfErr result (λ fault. (bytes : List ℕ) → IsValueOf bytes (view value.now) → Tells bytes fault) }
+    ensures fault { IfErr result (λ fault. (bytes : List ℕ) → IsValueOf bytes (view value.now) → IsFirstFault bytes fault) }
 {
     let lists = match lists_of(value) {
         Ok(lists) => lists,
@@ -189,7 +189,7 @@ fn graph_of(alloc: Global, value: &Value) -> Result<Graph, ReadFault>
 pub fn read_graph(alloc: Global, bytes: &[u8]) -> Result<Graph, ReadFault>
     ensures graph { IfOk result (IsGraphText bytes.now) }
     ensures only { (graph : NamedGraph) → IsGraphText bytes.now graph → (result ≡ Ok graph) ⊎ (result ≡ Err ReadFault.Memory) }
-    ensures fault { IfErr result (Tells bytes.now) }
+    ensures fault { IfErr result (IsFirstFault bytes.now) }
 {
     match read_value(alloc, bytes) {
         Ok(value) => graph_of(alloc, &value),
@@ -200,5 +200,5 @@ pub fn read_graph(alloc: Global, bytes: &[u8]) -> Result<Graph, ReadFault>
 
 /// A law: the bytes of a graph file have no fault.
 pub fn graph_texts_have_no_fault()
-    ensures { (bytes : List ℕ) (graph : NamedGraph) (fault : ReadFault) → IsGraphText bytes graph → Tells bytes fault → fault ≡ ReadFault.Memory }
+    ensures { (bytes : List ℕ) (graph : NamedGraph) (fault : ReadFault) → IsGraphText bytes graph → IsFirstFault bytes fault → fault ≡ ReadFault.Memory }
 {}

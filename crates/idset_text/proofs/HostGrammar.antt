@@ -16,7 +16,7 @@ use Rattle.idset_text.specs.declared.faults.TextFault.{TextFault}
 use Rattle.idset_text.specs.declared.hostlists.Hosts.{Hosts}
 use Rattle.idset_text.specs.declared.hostlists.Hosts.TheVariants.{One, Many}
 use Rattle.idset_text.specs.declared.hostlists.Numbers.{Numbers}
-use Rattle.idset_text.specs.Faults.{Gives}
+use Rattle.idset_text.specs.Faults.{IsResultOf}
 use Rattle.idset_text.specs.Items.{pieces, placed, with_first, with_front, items_of, ends_of, is_inside}
 use Rattle.idset_text.specs.Numbers.{value_of, has_leading_zero, number_of}
 use Rattle.idset_text.specs.Hostlists.{is_name_byte, is_name, host_number, padded, width_of, fits, numbers_between, numbers_of, hosts_of_pieces, hosts_of_list, list_place, hosts_of_item, with_hosts, hosts_of, hostlist_of, names_from, IsNumber, Lists, IsPiece, IsHostItem, AreHostItems, IsHostlist}
@@ -382,9 +382,9 @@ hostlist_was_read (byte ∷ bytes) hosts e = by_parts (pieces false (byte ∷ by
 
 -- ---- a reader's answer
 
-pub hosts_found_by : (text : List ℕ) (r : Result (List Hosts) TextFault) → Gives r (hostlist_of text) → IfOk r (λ hosts. IsHostlist text hosts)
+pub hosts_found_by : (text : List ℕ) (r : Result (List Hosts) TextFault) → IsResultOf r (hostlist_of text) → IfOk r (λ hosts. IsHostlist text hosts)
 hosts_found_by text (Ok hosts) e = hostlist_was_read text hosts e
 hosts_found_by text (Err fault) e = tt
 
-pub hosts_only_by : (text : List ℕ) (r : Result (List Hosts) TextFault) (hosts : List Hosts) → Gives r (hostlist_of text) → IsHostlist text hosts → Gives r (Ok hosts)
-hosts_only_by text r hosts e is = let P : Result (List Hosts) ℕ → Type 0 = λ read. Gives r read in subst P (hostlist_is_read text hosts is) e
+pub hosts_only_by : (text : List ℕ) (r : Result (List Hosts) TextFault) (hosts : List Hosts) → IsResultOf r (hostlist_of text) → IsHostlist text hosts → IsResultOf r (Ok hosts)
+hosts_only_by text r hosts e is = let P : Result (List Hosts) ℕ → Type 0 = λ read. IsResultOf r read in subst P (hostlist_is_read text hosts is) e

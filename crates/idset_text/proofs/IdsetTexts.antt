@@ -13,7 +13,7 @@ use Rattle.std.proofs.lemmas.List.Folds.{list_all-append}
 use Rattle.std.proofs.lemmas.Fmt.{decimal_nonempty}
 use Rattle.idset_text.specs.declared.idsets.Range.{Range}
 use Rattle.idset_text.specs.declared.faults.TextFault.{TextFault}
-use Rattle.idset_text.specs.Faults.{Gives}
+use Rattle.idset_text.specs.Faults.{IsResultOf}
 use Rattle.idset_text.specs.Items.{pieces, with_front, placed, with_first, items_of, ends_of, is_inside}
 use Rattle.idset_text.specs.Numbers.{are_digits, has_leading_zero, number_of}
 use Rattle.idset_text.specs.Idsets.{id_of, range_between, range_of, range_from, with_range, ranges_of, is_bracketed, idset_of, IsRange, Rises, IsItem, AreItems, IsCommaList, IsIdset, ids_from, ids_between, ids_of, with_run, run_of, runs_of, range_text, runs_text, idset_text, IsIdsetOf, IsShortestOf}
@@ -467,13 +467,13 @@ written_shortest ids other (ranges, read, same) = let P : List ℕ → Type 0 = 
 
 -- ---- a reader's answer
 
-pub found_by : (text : List ℕ) (r : Result (List Range) TextFault) → Gives r (idset_of text) → IfOk r (λ ranges. IsIdset text ranges)
+pub found_by : (text : List ℕ) (r : Result (List Range) TextFault) → IsResultOf r (idset_of text) → IfOk r (λ ranges. IsIdset text ranges)
 found_by text (Ok ranges) e = idset_was_read text ranges e
 found_by text (Err fault) e = tt
 
-pub only_by : (text : List ℕ) (r : Result (List Range) TextFault) (ranges : List Range) → Gives r (idset_of text) → IsIdset text ranges → Gives r (Ok ranges)
-only_by text r ranges e is = let P : Result (List Range) ℕ → Type 0 = λ read. Gives r read in subst P (idset_is_read text ranges is) e
+pub only_by : (text : List ℕ) (r : Result (List Range) TextFault) (ranges : List Range) → IsResultOf r (idset_of text) → IsIdset text ranges → IsResultOf r (Ok ranges)
+only_by text r ranges e is = let P : Result (List Range) ℕ → Type 0 = λ read. IsResultOf r read in subst P (idset_is_read text ranges is) e
 
-pub rising_by : (text : List ℕ) (r : Result (List Range) TextFault) → Gives r (idset_of text) → IfOk r (λ ranges. Rises 0 ranges)
+pub rising_by : (text : List ℕ) (r : Result (List Range) TextFault) → IsResultOf r (idset_of text) → IfOk r (λ ranges. Rises 0 ranges)
 rising_by text (Ok ranges) e = idset_rises text ranges (idset_was_read text ranges e)
 rising_by text (Err fault) e = tt

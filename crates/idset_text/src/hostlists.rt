@@ -2,7 +2,7 @@
 ghost use Rattle.std.specs.Prelude.{◌≡◌, ℕ, Ok, MatchOption, ◌+◌, ◌≤◌, ◌↔◌, ◌∷◌, ◌++◌, ◌==◌, ◌||◌, not, nat_le, nat_lt, ◌&&◌, ◌<◌, false, length, decimal, position, All, Contains, IsTrue, IfOk, IfSome, OnOk};
 ghost use Rattle.std.specs.List.{list_all, suffix_len};
 ghost use Rattle.std.specs.Char.{is_ascii_digit};
-ghost use Rattle.idset_text.specs.Faults.{Gives};
+ghost use Rattle.idset_text.specs.Faults.{IsResultOf};
 ghost use Rattle.idset_text.specs.Items.{items_of};
 ghost use Rattle.idset_text.specs.Numbers.{has_leading_zero, number_of};
 ghost use Rattle.idset_text.specs.Hostlists.{is_name_byte, is_name, host_number, padded, width_of, numbers_of, list_place, hosts_of_list, hosts_of_item, hosts_of, hostlist_of, IsHostlist, has_width, is_one_of, IsOneOf, own_names, names_of, digits_place, prefix_of, digits_of, follows, is_alike, continues, run_text, texts_from, hostlist_texts, AreHostlistsOf, Adds};
@@ -198,7 +198,7 @@ fn push_item(alloc: Global, hosts: &mut Vec<Hosts>, item: &[u8]) -> Result<bool,
 
 /// The hosts of a text's items.
 fn read_hosts(alloc: Global, text: &[u8]) -> Result<List<Hosts>, TextFault>
-    ensures { Gives result (hosts_of (items_of 0 text.now)) }
+    ensures { IsResultOf result (hosts_of (items_of 0 text.now)) }
 {
     let mut hosts = Vec::new(alloc);
     let mut rest = text;
@@ -221,7 +221,7 @@ fn read_hosts(alloc: Global, text: &[u8]) -> Result<List<Hosts>, TextFault>
 
 /// What the text is read as.
 fn read(alloc: Global, text: &[u8]) -> Result<List<Hosts>, TextFault>
-    ensures { Gives result (hostlist_of text.now) }
+    ensures { IsResultOf result (hostlist_of text.now) }
 {
     match text {
         [] => Ok(List::new(alloc)),
@@ -237,10 +237,10 @@ fn read(alloc: Global, text: &[u8]) -> Result<List<Hosts>, TextFault>
 pub fn read_hostlist(alloc: Global, text: &[u8]) -> Result<List<Hosts>, TextFault>
     // What is read is in the grammar, and what is in the grammar is read, unless memory runs out.
     ensures found { IfOk result (λ hosts. IsHostlist text.now hosts) }
-    ensures only { (hosts : List Hosts) → IsHostlist text.now hosts → Gives result (Ok hosts) }
+    ensures only { (hosts : List Hosts) → IsHostlist text.now hosts → IsResultOf result (Ok hosts) }
 
     // A fault stands at the first item that breaks the grammar.
-    ensures exact { Gives result (hostlist_of text.now) }
+    ensures exact { IsResultOf result (hostlist_of text.now) }
 {
     read(alloc, text)
 }

@@ -2,7 +2,7 @@
 ghost use Rattle.std.specs.Prelude.{◌≡◌, Ok, ℕ, ◌+◌, ◌<◌, ◌^◌, ◌↔◌, ◌∷◌, ◌++◌, length, decimal, All, Contains, IsTrue, IfOk, IfSome, OnOk};
 ghost use Rattle.std.specs.List.{list_any};
 ghost use Rattle.std.specs.List.Sorted.{IsStrictlyIncreasing};
-ghost use Rattle.idset_text.specs.Faults.{Gives};
+ghost use Rattle.idset_text.specs.Faults.{IsResultOf};
 ghost use Rattle.idset_text.specs.Items.{items_of};
 ghost use Rattle.idset_text.specs.Idsets.{id_of, range_of, range_from, ranges_of, idset_of, IsIdset, Rises, is_within, ids_of, range_text, idset_text, IsIdsetOf, IsShortestOf};
 
@@ -70,7 +70,7 @@ fn range_at_least(least: u32, item: &[u8]) -> Option<Range>
 /// The ranges of a text's items, each above the one before. The text's first byte has the place `start`.
 fn read_ranges(alloc: Global, text: &[u8], start: usize) -> Result<List<Range>, TextFault>
     requires { start + length text.now < 2 ^ 64 }
-    ensures { Gives result (ranges_of 0 (items_of start text.now)) }
+    ensures { IsResultOf result (ranges_of 0 (items_of start text.now)) }
 {
     let mut ranges = Vec::new(alloc);
     let mut rest = text;
@@ -95,7 +95,7 @@ fn read_ranges(alloc: Global, text: &[u8], start: usize) -> Result<List<Range>, 
 
 /// What the text is read as.
 fn read(alloc: Global, text: &[u8]) -> Result<List<Range>, TextFault>
-    ensures { Gives result (idset_of text.now) }
+    ensures { IsResultOf result (idset_of text.now) }
 {
     match text {
         [] => Ok(List::new(alloc)),
@@ -110,11 +110,11 @@ fn read(alloc: Global, text: &[u8]) -> Result<List<Range>, TextFault>
 pub fn read_idset(alloc: Global, text: &[u8]) -> Result<List<Range>, TextFault>
     // What is read is in the grammar, and what is in the grammar is read, unless memory runs out.
     ensures found { IfOk result (λ ranges. IsIdset text.now ranges) }
-    ensures only { (ranges : List Range) → IsIdset text.now ranges → Gives result (Ok ranges) }
+    ensures only { (ranges : List Range) → IsIdset text.now ranges → IsResultOf result (Ok ranges) }
     ensures rising { IfOk result (λ ranges. Rises 0 ranges) }
 
     // A fault stands at the first item that breaks the grammar.
-    ensures exact { Gives result (idset_of text.now) }
+    ensures exact { IsResultOf result (idset_of text.now) }
 {
     read(alloc, text)
 }

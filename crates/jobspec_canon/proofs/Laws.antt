@@ -7,7 +7,7 @@ use Rattle.flux_defs.specs.declared.requests.Ask.{Ask}
 use Rattle.resource_graph.specs.NamedGraph.{NamedGraph}
 use Rattle.jobspec_v1.specs.declared.faults.SpecFault.{SpecFault}
 use Rattle.jobspec_v1.specs.declared.faults.SpecFault.TheVariants.{Version, Form, Task, Memory}
-use Rattle.jobspec_v1.specs.Faults.{Tells, at_path}
+use Rattle.jobspec_v1.specs.Faults.{IsFirstFault, at_path}
 use Rattle.jobspec_v1.specs.Forms.{is_v1}
 use Rattle.jobspec_v1.specs.Tasks.{task_list}
 use Rattle.jobspec_v1.specs.Jobspecs.{is_one, unless, version_of, resources_of, v1_tasks, v1_in, v1_or_no_json, v1_of}
@@ -53,7 +53,7 @@ is_same g bytes ask v1 read accepted =
     ok_is ask v1 both
 
 -- and a fault is want of memory
-pub is_memory : (g : NamedGraph) (bytes : List ℕ) (fault : SpecFault) (v1 : Ask) → Tells (canon_of g bytes) fault → v1_of g bytes ≡ Ok v1 → fault ≡ Memory
+pub is_memory : (g : NamedGraph) (bytes : List ℕ) (fault : SpecFault) (v1 : Ask) → IsFirstFault (canon_of g bytes) fault → v1_of g bytes ≡ Ok v1 → fault ≡ Memory
 is_memory g bytes fault v1 (inl memory) accepted = memory
 is_memory g bytes fault v1 (inr told) accepted =
     let both : Err fault ≡ Ok v1 = sym told ∙ same_ask g bytes v1 accepted in

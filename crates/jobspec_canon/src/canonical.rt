@@ -2,7 +2,7 @@
 ghost use Rattle.std.specs.Prelude.{◌≡◌, Ok, true, IsOk, IfOk, IfErr};
 ghost use Rattle.serde_json.specs.View.{view};
 ghost use Rattle.flux_defs.specs.Needs.{IsProperAsk};
-ghost use Rattle.jobspec_v1.specs.Faults.{Tells};
+ghost use Rattle.jobspec_v1.specs.Faults.{IsFirstFault};
 ghost use Rattle.jobspec_v1.specs.Jobspecs.{v1_of};
 ghost use Rattle.jobspec_canon.specs.Canonical.{tasks_in, canon_in, canon_of};
 
@@ -20,7 +20,7 @@ use text_table::TextTable;
 /// Refuses a jobspec that has no task, or has one that breaks a rule of tasks.
 fn check_tasks_in(alloc: Global, labels: &TextTable, value: &Value) -> Result<(), SpecFault>
     ensures fine { IsOk result → tasks_in labels.now (view value.now) ≡ Ok true }
-    ensures told { IfErr result (Tells (tasks_in labels.now (view value.now))) }
+    ensures told { IfErr result (IsFirstFault (tasks_in labels.now (view value.now))) }
 {
     match task_list(alloc, value) {
         Ok(values) => check_tasks(alloc, labels, values),
@@ -32,7 +32,7 @@ fn check_tasks_in(alloc: Global, labels: &TextTable, value: &Value) -> Result<()
 fn canon_in(alloc: Global, graph: &Graph, value: &Value) -> Result<Ask, SpecFault>
     ensures ask { IfOk result (λ ask. canon_in graph.now (view value.now) ≡ Ok ask) }
     ensures proper { IfOk result (IsProperAsk graph.now.resources.vertices) }
-    ensures told { IfErr result (Tells (canon_in graph.now (view value.now))) }
+    ensures told { IfErr result (IsFirstFault (canon_in graph.now (view value.now))) }
 {
     if !value.is_object() {
         return Err(field_at(alloc, b".", FieldFault::Kind));
@@ -51,7 +51,7 @@ fn canon_in(alloc: Global, graph: &Graph, value: &Value) -> Result<Ask, SpecFaul
 pub fn read_canon(alloc: Global, graph: &Graph, bytes: &[u8]) -> Result<Ask, SpecFault>
     ensures ask { IfOk result (λ ask. canon_of graph.now bytes.now ≡ Ok ask) }
     ensures proper { IfOk result (IsProperAsk graph.now.resources.vertices) }
-    ensures told { IfErr result (Tells (canon_of graph.now bytes.now)) }
+    ensures told { IfErr result (IsFirstFault (canon_of graph.now bytes.now)) }
     ensures same { IfOk result (λ ask. (v1 : Ask) → v1_of graph.now bytes.now ≡ Ok v1 → ask ≡ v1) }
     ensures accepts { IfErr result (λ fault. (v1 : Ask) → v1_of graph.now bytes.now ≡ Ok v1 → fault ≡ SpecFault.Memory) }
 {

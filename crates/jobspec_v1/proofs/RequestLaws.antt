@@ -11,7 +11,7 @@ use Rattle.need_shape.specs.declared.raw.RawNeed.TheBlock.{hidden-the_row-RawNee
 use Rattle.need_shape.specs.Requests.{is_slot, IsSomeRow, IsRequest, AreRequestsRow, AreRequests}
 use Rattle.jobspec_v1.specs.declared.faults.SpecFault.{SpecFault}
 use Rattle.jobspec_v1.specs.declared.headers.VertexKey.TheVariants as key
-use Rattle.jobspec_v1.specs.Faults.{Tells, at_vertex, vertex_path}
+use Rattle.jobspec_v1.specs.Faults.{IsFirstFault, at_vertex, vertex_path}
 use Rattle.jobspec_v1.specs.Requests.{Said, Requested, Reading, said_by, need_of, labels_with, around, behind, inner_of, requests_of, request_of}
 use Rattle.jobspec_v1.proofs.SaidLaws.{said_is}
 use Rattle.jobspec_v1.proofs.Results.{then_ok, both_ok}
@@ -105,8 +105,8 @@ module _ (d : Data) (s : Bool) (list : List ℕ) (at : ℕ) (labels : List (List
   pub one_read : (r : Requested) → requests_of said.with (is_slot said.kind || s) (vertex_path list at key.With) 0 (labels_with labels said.label) ≡ Ok r → request_of d s list at labels ≡ Ok (around said r)
   one_read r h = one_by ∙ ap (result_map_both (around said) (λ fault. fault)) h
 
-  pub one_told : (fault : SpecFault) → Tells (requests_of said.with (is_slot said.kind || s) (vertex_path list at key.With) 0 (labels_with labels said.label)) fault →
-      Tells (request_of d s list at labels) fault
+  pub one_told : (fault : SpecFault) → IsFirstFault (requests_of said.with (is_slot said.kind || s) (vertex_path list at key.With) 0 (labels_with labels said.label)) fault →
+      IsFirstFault (request_of d s list at labels) fault
   one_told fault (inl memory) = inl memory
   one_told fault (inr told) = inr (one_by ∙ ap (result_map_both (around said) (λ fault. fault)) told)
 

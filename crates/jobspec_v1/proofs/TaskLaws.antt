@@ -7,7 +7,7 @@ use Rattle.serde_json.specs.View.{items_view}
 use Rattle.serde_json.specs.Data.{Data, Items}
 use Rattle.jobspec_v1.specs.declared.faults.SpecFault.{SpecFault}
 use Rattle.jobspec_v1.specs.declared.faults.SpecFault.TheVariants.{Task, Memory}
-use Rattle.jobspec_v1.specs.Faults.{Tells}
+use Rattle.jobspec_v1.specs.Faults.{IsFirstFault}
 use Rattle.jobspec_v1.specs.Tasks.{task_list, tasks_fault}
 use Rattle.jobspec_v1.specs.Jobspecs.{is_one, unless, unless_fault, v1_tasks}
 
@@ -34,6 +34,6 @@ module _ (labels : List (List ℕ)) (d : Data) (ds : Items) (read : task_list d 
   pub one_fine : is_one ds ≡ true → tasks_fault labels 0 ds ≡ None → v1_tasks labels d ≡ Ok true
   one_fine one none = of_one one ∙ ap unless_fault none
 
-  pub one_told : is_one ds ≡ true → (fault : SpecFault) → (fault ≡ Memory) ⊎ (tasks_fault labels 0 ds ≡ Some fault) → Tells (v1_tasks labels d) fault
+  pub one_told : is_one ds ≡ true → (fault : SpecFault) → (fault ≡ Memory) ⊎ (tasks_fault labels 0 ds ≡ Some fault) → IsFirstFault (v1_tasks labels d) fault
   one_told one fault (inl memory) = inl memory
   one_told one fault (inr told) = inr (of_one one ∙ ap unless_fault told)

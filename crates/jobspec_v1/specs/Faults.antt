@@ -12,8 +12,8 @@ use Rattle.jobspec_v1.specs.declared.headers.KeyFault.TheVariants as of_key
 use Rattle.jobspec_v1.specs.declared.headers.Misfit.{Misfit}
 
 -- Of want of memory nothing is said; any other fault is the one that is meant.
-abbrev pub Tells : {A : Type 0} → Result A SpecFault → SpecFault → Type 0
-Tells meant fault = (fault ≡ Memory) ⊎ (meant ≡ Err fault)
+abbrev pub IsFirstFault : {A : Type 0} → Result A SpecFault → SpecFault → Type 0
+IsFirstFault meant fault = (fault ≡ Memory) ⊎ (meant ≡ Err fault)
 
 -- what a field gives, or its fault at the path
 abbrev pub at_path : {A : Type 0} → List ℕ → Result A FieldFault → Result A SpecFault

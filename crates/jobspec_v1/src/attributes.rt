@@ -3,7 +3,7 @@ ghost use Rattle.std.specs.Prelude.{◌≡◌, Ok, Some, IsSome, IfOk, IfErr};
 ghost use Rattle.serde_json.specs.Find.{as_object};
 ghost use Rattle.std.specs.Result.{result_map_both};
 ghost use Rattle.serde_json.specs.View.{view};
-ghost use Rattle.jobspec_v1.specs.Faults.{Tells};
+ghost use Rattle.jobspec_v1.specs.Faults.{IsFirstFault};
 ghost use Rattle.jobspec_v1.specs.Attributes.{duration_in, terms_of, terms_held};
 
 use crate::faults::{SpecFault, field_at};
@@ -34,7 +34,7 @@ fn duration_in(value: &Value) -> Result<u64, FieldFault>
 /// null, `duration` may be absent. Field at the path of the first that breaks its rule.
 pub fn read_attributes(alloc: Global, value: &Value) -> Result<Attributes<'_>, SpecFault>
     ensures read { IfOk result (λ attributes. terms_of (view value.now) ≡ Ok (terms_held attributes)) }
-    ensures told { IfErr result (Tells (terms_of (view value.now))) }
+    ensures told { IfErr result (IsFirstFault (terms_of (view value.now))) }
 {
     let nothing = Attributes {
         duration: 0,

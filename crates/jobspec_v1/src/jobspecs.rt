@@ -6,7 +6,7 @@ ghost use Rattle.serde_json.specs.View.{view, items_view};
 ghost use Rattle.flux_defs.specs.Graph.{IsNode};
 ghost use Rattle.flux_defs.specs.Needs.{IsProperAsk, AreRisingFrom};
 ghost use Rattle.need_shape.specs.Requests.{AreRequests};
-ghost use Rattle.jobspec_v1.specs.Faults.{Tells};
+ghost use Rattle.jobspec_v1.specs.Faults.{IsFirstFault};
 ghost use Rattle.jobspec_v1.specs.Requests.{Requested};
 ghost use Rattle.jobspec_v1.specs.Forms.{is_v1};
 ghost use Rattle.jobspec_v1.specs.Jobspecs.{version_of, resources_of, bars_in, is_one, ask_for, ask_by, v1_tasks, v1_in, v1_of};
@@ -30,7 +30,7 @@ use text_table::TextTable;
 pub fn read_version(alloc: Global, value: &Value) -> Result<u64, SpecFault>
     requires { IsSome (as_object (view value.now)) }
     ensures read { IfOk result (λ version. version_of (view value.now) ≡ Ok version) }
-    ensures told { IfErr result (Tells (version_of (view value.now))) }
+    ensures told { IfErr result (IsFirstFault (version_of (view value.now))) }
 {
     match need_u64(value, "version", 1, GREATEST) {
         Ok(version) => Ok(version),
@@ -48,7 +48,7 @@ pub fn read_resources(
     requires { labels.old ≡ [] }
     ensures read { IfOk result (λ needs. resources_of (view value.now) ≡ Ok (record { needs = needs; labels = labels.new })) }
     ensures fine { IfOk result (λ needs. AreRequests false needs) }
-    ensures told { IfErr result (Tells (resources_of (view value.now))) }
+    ensures told { IfErr result (IsFirstFault (resources_of (view value.now))) }
 {
     match some_field(value, "resources") {
         Ok(values) => read_requests(alloc, values, false, b"resources", labels),
@@ -61,7 +61,7 @@ fn bars_in(alloc: Global, graph: &Graph, constraint: Option<&Value>) -> Result<L
     ensures bars { IfOk result (λ bars. bars_in graph.now (option_map (λ v. view v.now) constraint.entry) ≡ Ok bars) }
     ensures rising { IfOk result (λ bars. AreRisingFrom 0 bars) }
     ensures nodes { IfOk result (λ bars. AllByRecursion (IsNode graph.now.resources.vertices) bars) }
-    ensures told { IfErr result (Tells (bars_in graph.now (option_map (λ v. view v.now) constraint.entry))) }
+    ensures told { IfErr result (IsFirstFault (bars_in graph.now (option_map (λ v. view v.now) constraint.entry))) }
 {
     let Some(constraint) = constraint else {
         return Ok(List::new(alloc));
@@ -87,7 +87,7 @@ fn ask_for(
     requires request { AreRequests false request.now }
     ensures ask { IfOk result (λ ask. ask_for graph.now.resources duration barred request.now ≡ Ok ask) }
     ensures proper { IfOk result (IsProperAsk graph.now.resources.vertices) }
-    ensures told { IfErr result (Tells (ask_for graph.now.resources duration barred request.now)) }
+    ensures told { IfErr result (IsFirstFault (ask_for graph.now.resources duration barred request.now)) }
 {
     match shape(alloc, graph, request) {
         Ok(needs) => Ok(Ask {
@@ -111,7 +111,7 @@ pub fn ask_by(
     requires { AreRequests false request.now }
     ensures ask { IfOk result (λ ask. ask_by graph.now request.now (view value.now) ≡ Ok ask) }
     ensures proper { IfOk result (IsProperAsk graph.now.resources.vertices) }
-    ensures told { IfErr result (Tells (ask_by graph.now request.now (view value.now))) }
+    ensures told { IfErr result (IsFirstFault (ask_by graph.now request.now (view value.now))) }
 {
     let attributes = read_attributes(alloc, value)?;
     let bars = bars_in(alloc, graph, attributes.constraint)?;
@@ -127,7 +127,7 @@ fn is_one(values: &[Value]) -> bool
 /// Refuses a jobspec that has not one task, or has one that breaks a rule of tasks.
 fn check_v1_tasks(alloc: Global, labels: &TextTable, value: &Value) -> Result<(), SpecFault>
     ensures fine { IsOk result → v1_tasks labels.now (view value.now) ≡ Ok true }
-    ensures told { IfErr result (Tells (v1_tasks labels.now (view value.now))) }
+    ensures told { IfErr result (IsFirstFault (v1_tasks labels.now (view value.now))) }
 {
     match task_list(alloc, value) {
         Ok(values) if !is_one(values) => Err(SpecFault::Task {
@@ -142,7 +142,7 @@ fn check_v1_tasks(alloc: Global, labels: &TextTable, value: &Value) -> Result<()
 fn v1_in(alloc: Global, graph: &Graph, value: &Value) -> Result<Ask, SpecFault>
     ensures ask { IfOk result (λ ask. v1_in graph.now (view value.now) ≡ Ok ask) }
     ensures proper { IfOk result (IsProperAsk graph.now.resources.vertices) }
-    ensures told { IfErr result (Tells (v1_in graph.now (view value.now))) }
+    ensures told { IfErr result (IsFirstFault (v1_in graph.now (view value.now))) }
 {
     if !value.is_object() {
         return Err(field_at(alloc, b".", FieldFault::Kind));
@@ -166,7 +166,7 @@ fn v1_in(alloc: Global, graph: &Graph, value: &Value) -> Result<Ask, SpecFault>
 pub fn read_v1(alloc: Global, graph: &Graph, bytes: &[u8]) -> Result<Ask, SpecFault>
     ensures ask { IfOk result (λ ask. v1_of graph.now bytes.now ≡ Ok ask) }
     ensures proper { IfOk result (IsProperAsk graph.now.resources.vertices) }
-    ensures told { IfErr result (Tells (v1_of graph.now bytes.now)) }
+    ensures told { IfErr result (IsFirstFault (v1_of graph.now bytes.now)) }
 {
     match read_value(alloc, bytes) {
         Ok(value) => v1_in(alloc, graph, &value),

@@ -2,7 +2,7 @@
 ghost use Rattle.std.specs.Prelude.{◌≡◌, ◌||◌, ◌++◌, ◌∷◌, [], Ok, IfOk, IfErr, OnOk, option_map};
 ghost use Rattle.serde_json.specs.View.{view, items_view};
 ghost use Rattle.need_shape.specs.Requests.{is_slot, AreRequests};
-ghost use Rattle.jobspec_v1.specs.Faults.{Tells, vertex_path};
+ghost use Rattle.jobspec_v1.specs.Faults.{IsFirstFault, vertex_path};
 ghost use Rattle.jobspec_v1.specs.Requests.{requests_of, request_of, labels_with};
 
 use crate::faults::SpecFault;
@@ -51,7 +51,7 @@ fn read_request(
 ) -> Result<RawNeed, SpecFault>
     ensures read { IfOk result (λ need. request_of (view value.now) in_slot list.now at labels.old ≡ Ok (record { needs = need ∷ []; labels = labels.new })) }
     ensures fine { IfOk result (λ need. AreRequests in_slot (need ∷ [])) }
-    ensures told { IfErr result (Tells (request_of (view value.now) in_slot list.now at labels.old)) }
+    ensures told { IfErr result (IsFirstFault (request_of (view value.now) in_slot list.now at labels.old)) }
 {
     let header = match header_of(in_slot, labels, value) {
         Ok(header) => header,
@@ -84,7 +84,7 @@ pub fn read_requests(
 ) -> Result<List<RawNeed>, SpecFault>
     ensures read { IfOk result (λ needs. requests_of (items_view values.now) in_slot list.now 0 labels.old ≡ Ok (record { needs = needs; labels = labels.new })) }
     ensures fine { IfOk result (λ needs. AreRequests in_slot needs) }
-    ensures told { IfErr result (Tells (requests_of (items_view values.now) in_slot list.now 0 labels.old)) }
+    ensures told { IfErr result (IsFirstFault (requests_of (items_view values.now) in_slot list.now 0 labels.old)) }
 {
     let mut needs = Vec::with_capacity(alloc, values.len())?;
     'values: for (at, value) in values.iter().enumerate() {

@@ -3,7 +3,7 @@ ghost use Rattle.std.specs.Prelude.{◌≡◌, ◌⊎◌, ◌∷◌, ℕ, List, 
 ghost use Rattle.std.specs.Option.{option_map_or};
 ghost use Rattle.serde_json.specs.Find.{as_object};
 ghost use Rattle.serde_json.specs.View.{view, items_view};
-ghost use Rattle.jobspec_v1.specs.Faults.{Tells};
+ghost use Rattle.jobspec_v1.specs.Faults.{IsFirstFault};
 ghost use Rattle.jobspec_v1.specs.Tasks.{are_texts, is_command, is_label, is_count_or_absent, is_task_count, is_task, tasks_fault, task_fault, task_list};
 
 use crate::faults::{SpecFault, field_at};
@@ -112,7 +112,7 @@ pub fn check_tasks(alloc: Global, labels: &TextTable, values: &[Value]) -> Resul
 /// The values at `tasks`, one or more: Field at `tasks` where it is no such list.
 pub fn task_list(alloc: Global, value: &Value) -> Result<&[Value], SpecFault>
     ensures read { IfOk result (λ values. task_list (view value.now) ≡ Ok (items_view values.now)) }
-    ensures told { IfErr result (Tells (task_list (view value.now))) }
+    ensures told { IfErr result (IsFirstFault (task_list (view value.now))) }
 {
     match some_field(value, "tasks") {
         Ok(values) => Ok(values),

@@ -3,7 +3,7 @@ use Rattle.std.specs.Prelude.{◌≡◌, ℕ, ◌+◌, ◌<◌, ◌≤◌, Bool,
 use Rattle.flux_defs.specs.declared.vertices.Vertex.{Vertex}
 use Rattle.flux_defs.specs.declared.claims.Claim.{Claim}
 use Rattle.flux_defs.specs.declared.requests.Need.{Need}
-use Rattle.flux_defs.specs.Graph.{Place, Beneath}
+use Rattle.flux_defs.specs.Graph.{Scope, Beneath}
 use Rattle.flux_defs.specs.Fits.{Pick, Pieces, Group, Piece, HeldPiece, SharedPiece, Fits}
 use Rattle.flux_defs.specs.Lowest.{FillsFrom, CanServe, LowestPiece}
 
@@ -26,17 +26,17 @@ Extends old new P = (more : List Claim) × (new ≡ old ++ more) × P more
 -- over the vertices, and the claims that are available
 module _ (vertices : List Vertex) (ok : Claim → Type 0) where
   -- some claims are a group of so much of the need
-  abbrev pub SomeGroup : Place → Need → ℕ → Type 0
-  SomeGroup place need amount = (claims : List Claim) × Group amount (Piece vertices ok place need) claims
+  abbrev pub SomeGroup : Scope → Need → ℕ → Type 0
+  SomeGroup scope need amount = (claims : List Claim) × Group amount (Piece vertices ok scope need) claims
 
   -- some claims fit the needs scaled by k
-  abbrev pub SomeFits : Place → List Need → ℕ → Type 0
-  SomeFits place needs k = (claims : List Claim) × Fits vertices ok k place needs claims
+  abbrev pub SomeFits : Scope → List Need → ℕ → Type 0
+  SomeFits scope needs k = (claims : List Claim) × Fits vertices ok k scope needs claims
 
   -- the claims are the need's lowest-first group of so much
-  abbrev pub LowestGroup : Place → Need → ℕ → List Claim → Type 0
-  LowestGroup place need amount claims =
-      (picks : List Pick) × FillsFrom (CanServe vertices ok place need) 0 amount picks × Pieces (LowestPiece vertices ok need) picks claims
+  abbrev pub LowestGroup : Scope → Need → ℕ → List Claim → Type 0
+  LowestGroup scope need amount claims =
+      (picks : List Pick) × FillsFrom (CanServe vertices ok scope need) 0 amount picks × Pieces (LowestPiece vertices ok need) picks claims
 
   -- the claims meet one of a need of vertices by vertex v, which is held or shared
   abbrev pub VertexClaims : Bool → List Need → ℕ → List Claim → Type 0

@@ -7,24 +7,24 @@ use Rattle.need_shape.specs.declared.raw.ShapeFault.{ShapeFault}
 use Rattle.need_shape.specs.declared.shaping.Within.{Within}
 use Rattle.need_shape.specs.Types.{Types, number_of}
 use Rattle.need_shape.specs.Shapes.{in_type, needs_in, type_need_in}
-use Rattle.need_shape.specs.Faults.{Tells, is_pool_type, is_some_list, pool_fault, list_fault, type_fault_in}
+use Rattle.need_shape.specs.Faults.{IsFirstFault, is_pool_type, is_some_list, pool_fault, list_fault, type_fault_in}
 
 on_errors : {T : Type 0} (P Q : ShapeFault → Type 0) (r : Result T ShapeFault) → ((f : ShapeFault) → P f → Q f) → IfErr r P → IfErr r Q
 on_errors P Q (Ok value) more h = tt
 on_errors P Q (Err fault) more h = more fault h
 
-tells_first : (a b : Option ShapeFault) (f : ShapeFault) → Tells a f → Tells (option_or a b) f
+tells_first : (a b : Option ShapeFault) (f : ShapeFault) → IsFirstFault a f → IsFirstFault (option_or a b) f
 tells_first a b f (inl memory) = inl memory
 tells_first a b f (inr is) = inr (ap (λ o. option_or o b) is)
 
 -- a fault of a pool type is the type's first
 pub pool_told : {T : Type 0} (types : Types) (within : Within) (raw : RawNeed) (r : Result T ShapeFault) → is_pool_type types (out-RawNeed raw).kind ≡ true →
-    IfErr r (Tells (pool_fault (out-RawNeed raw).kind (out-RawNeed raw).exclusive (is_some_list (out-RawNeed raw).with))) → IfErr r (Tells (type_fault_in types within raw))
+    IfErr r (IsFirstFault (pool_fault (out-RawNeed raw).kind (out-RawNeed raw).exclusive (is_some_list (out-RawNeed raw).with))) → IfErr r (IsFirstFault (type_fault_in types within raw))
 pool_told types within raw r pool told =
     let fault = pool_fault (out-RawNeed raw).kind (out-RawNeed raw).exclusive (is_some_list (out-RawNeed raw).with) in
     let list = list_fault types (in_type types within (out-RawNeed raw).kind) (out-RawNeed raw).with in
-    on_errors (Tells fault) (Tells (type_fault_in types within raw)) r
-    (λ f h. subst (λ (b : Bool). Tells (option_or (if b then fault else None) list) f) (sym pool) (tells_first fault list f h)) told
+    on_errors (IsFirstFault fault) (IsFirstFault (type_fault_in types within raw)) r
+    (λ f h. subst (λ (b : Bool). IsFirstFault (option_or (if b then fault else None) list) f) (sym pool) (tells_first fault list f h)) told
 
 -- the list's first fault is that of a type that is no pool type
 pub vert_fault : (types : Types) (within : Within) (raw : RawNeed) → is_pool_type types (out-RawNeed raw).kind ≡ false →

@@ -109,5 +109,5 @@ type_fault_in types within raw =
     (needs_in types (in_type types within (out-RawNeed raw).kind) (out-RawNeed raw).with)
 
 -- The fault is told: it is the first one. Of want of memory nothing is said.
-abbrev pub Tells : Option ShapeFault → ShapeFault → Type 0
-Tells first fault = (fault ≡ Memory) ⊎ (first ≡ Some fault)
+abbrev pub IsFirstFault : Option ShapeFault → ShapeFault → Type 0
+IsFirstFault first fault = (fault ≡ Memory) ⊎ (first ≡ Some fault)

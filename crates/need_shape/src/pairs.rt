@@ -1,7 +1,7 @@
 //! Siblings: no two have one type, and none has a type that contains another's.
 ghost use Rattle.std.specs.Prelude.{◌≡◌, ◌<◌, ◌^◌, length, None, Some, IfOk, IfErr, IfSome, IfNone, IsOk};
 ghost use Rattle.need_shape.specs.Types.{types_at};
-ghost use Rattle.need_shape.specs.Faults.{kind_in, name_in, pair_fault, row_fault, pairs_fault, Tells};
+ghost use Rattle.need_shape.specs.Faults.{kind_in, name_in, pair_fault, row_fault, pairs_fault, IsFirstFault};
 
 use crate::raw::ShapeFault;
 use crate::types::{contains_kind, number_of};

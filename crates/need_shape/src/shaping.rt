@@ -5,7 +5,7 @@ ghost use Rattle.need_shape.specs.Requests.{AreRequests};
 ghost use Rattle.need_shape.specs.Types.{types_at, types_for};
 ghost use Rattle.need_shape.specs.declared.raw.RawNeed.{out-RawNeed};
 ghost use Rattle.need_shape.specs.Shapes.{outside, in_type, needs_of, needs_in, slot_needs_in, type_need_in};
-ghost use Rattle.need_shape.specs.Faults.{Tells, fault_of, members_fault_in, list_fault, pairs_fault, slot_fault_in, type_fault_in, pool_fault, is_some_list, is_past, fault_where};
+ghost use Rattle.need_shape.specs.Faults.{IsFirstFault, fault_of, members_fault_in, list_fault, pairs_fault, slot_fault_in, type_fault_in, pool_fault, is_some_list, is_past, fault_where};
 
 use crate::pairs::pairs_fault;
 use crate::raw::{RawNeed, ShapeFault};
@@ -77,7 +77,7 @@ fn push_need(out: &mut Vec<Need>, need: Need) -> Result<(), AllocError>
 /// Adds the needs, each its count so many times.
 fn add_scaled(count: u64, needs: Vec<Need>, out: &mut Vec<Need>) -> Result<(), ShapeFault>
     ensures ok { OnOk result ((out.new.items ≡ out.old.items ++ scaled count needs.items) × (is_past count needs.items ≡ false)) }
-    ensures told { IfErr result (Tells (fault_where (is_past count needs.items) ShapeFault.CountLimit)) }
+    ensures told { IfErr result (IsFirstFault (fault_where (is_past count needs.items) ShapeFault.CountLimit)) }
 {
     for need in needs {
         match scaled_need(count, need) {
@@ -97,7 +97,7 @@ fn check_pairs(
 ) -> Result<(), ShapeFault>
     requires { length table.now < 2 ^ 32 }
     ensures ok { IsOk result → pairs_fault (types_at graph.now table.now) needs.now ≡ None }
-    ensures told { IfErr result (Tells (pairs_fault (types_at graph.now table.now) needs.now)) }
+    ensures told { IfErr result (IsFirstFault (pairs_fault (types_at graph.now table.now) needs.now)) }
 {
     match pairs_fault(alloc, graph, table, needs)? {
         Some(fault) => Err(fault),
@@ -121,7 +121,7 @@ fn shape_pool(alloc: Global, kind: u32, raw: &RawNeed) -> Result<Need, ShapeFaul
     ensures need { IfOk result (λ need. need ≡ Need.Pool kind (out-RawNeed raw.now).count) }
     ensures bare { IsOk result → (out-RawNeed raw.now).with ≡ [] }
     ensures fine { IsOk result → pool_fault (out-RawNeed raw.now).kind (out-RawNeed raw.now).exclusive (is_some_list (out-RawNeed raw.now).with) ≡ None }
-    ensures told { IfErr result (Tells (pool_fault (out-RawNeed raw.now).kind (out-RawNeed raw.now).exclusive (is_some_list (out-RawNeed raw.now).with))) }
+    ensures told { IfErr result (IsFirstFault (pool_fault (out-RawNeed raw.now).kind (out-RawNeed raw.now).exclusive (is_some_list (out-RawNeed raw.now).with))) }
 {
     if raw.exclusive.unwrap_or(false) {
         let kind = raw.kind.copy(alloc)?;
@@ -150,7 +150,7 @@ fn add_members(
     requires { length table.now < 2 ^ 32 }
     ensures ok { OnOk result ((out.new.items ≡ out.old.items ++ needs_in (types_at graph.now table.now) within request.now)
         × (members_fault_in (types_at graph.now table.now) within request.now ≡ None)) }
-    ensures told { IfErr result (Tells (members_fault_in (types_at graph.now table.now) within request.now)) }
+    ensures told { IfErr result (IsFirstFault (members_fault_in (types_at graph.now table.now) within request.now)) }
 {
     for raw in request.items() {
         add_member(alloc, graph, table, within, raw, out)?;
@@ -170,7 +170,7 @@ fn shape_list(
     requires { length table.now < 2 ^ 32 }
     ensures needs { IfOk result (λ needs. needs ≡ needs_in (types_at graph.now table.now) within request.now) }
     ensures fine { IsOk result → list_fault (types_at graph.now table.now) within request.now ≡ None }
-    ensures told { IfErr result (Tells (list_fault (types_at graph.now table.now) within request.now)) }
+    ensures told { IfErr result (IsFirstFault (list_fault (types_at graph.now table.now) within request.now)) }
 {
     let mut needs = Vec::new(alloc);
     add_members(alloc, graph, table, within, request, &mut needs)?;
@@ -191,7 +191,7 @@ fn add_member(
     requires { length table.now < 2 ^ 32 }
     ensures ok { OnOk result ((out.new.items ≡ out.old.items ++ needs_of (types_at graph.now table.now) within raw.now)
         × (fault_of (types_at graph.now table.now) within raw.now ≡ None)) }
-    ensures told { IfErr result (Tells (fault_of (types_at graph.now table.now) within raw.now)) }
+    ensures told { IfErr result (IsFirstFault (fault_of (types_at graph.now table.now) within raw.now)) }
 {
     if is_slot(raw.kind.bytes()) {
         return add_slot(alloc, graph, table, within, raw.count, &raw.with, out);
@@ -216,7 +216,7 @@ fn add_slot(
     requires { length table.now < 2 ^ 32 }
     ensures ok { OnOk result ((out.new.items ≡ out.old.items ++ slot_needs_in (types_at graph.now table.now) within count with.now)
         × (slot_fault_in (types_at graph.now table.now) within count with.now ≡ None)) }
-    ensures told { IfErr result (Tells (slot_fault_in (types_at graph.now table.now) within count with.now)) }
+    ensures told { IfErr result (IsFirstFault (slot_fault_in (types_at graph.now table.now) within count with.now)) }
 {
     let inside = Within {
         slot: true,
@@ -244,7 +244,7 @@ fn shape_type(
     requires { length table.now < 2 ^ 32 }
     ensures need { IfOk result (λ need. need ≡ type_need_in (types_at graph.now table.now) within raw.now) }
     ensures fine { IsOk result → type_fault_in (types_at graph.now table.now) within raw.now ≡ None }
-    ensures told { IfErr result (Tells (type_fault_in (types_at graph.now table.now) within raw.now)) }
+    ensures told { IfErr result (IsFirstFault (type_fault_in (types_at graph.now table.now) within raw.now)) }
 {
     let kind = number_of(table, raw.kind.bytes());
     if graph.is_pool(kind) {
@@ -272,7 +272,7 @@ pub fn shape(
     requires { AreRequests false request.now }
     ensures needs { IfOk result (λ needs. needs ≡ needs_in (types_for graph.now.resources request.now) outside request.now) }
     ensures fine { IsOk result → list_fault (types_for graph.now.resources request.now) outside request.now ≡ None }
-    ensures told { IfErr result (Tells (list_fault (types_for graph.now.resources request.now) outside request.now)) }
+    ensures told { IfErr result (IsFirstFault (list_fault (types_for graph.now.resources request.now) outside request.now)) }
     ensures valid { IfOk result (AreValidNeeds graph.now.resources.vertices) }
 {
     graph_is_valid(graph);

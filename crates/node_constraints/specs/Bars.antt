@@ -29,6 +29,6 @@ abbrev pub bars_of : NamedGraph → Data → Result (List ℕ) (List ℕ)
 bars_of g d = unless_fault (barred_by g d) (fault_at root d)
 
 -- of want of memory nothing is said; any other fault is the one that is meant
-abbrev pub Tells : {A : Type 0} → Result A (List ℕ) → ConstraintFault → Type 0
-Tells meant (Form path) = meant ≡ Err path
-Tells meant Memory = ⊤
+abbrev pub IsFirstFault : {A : Type 0} → Result A (List ℕ) → ConstraintFault → Type 0
+IsFirstFault meant (Form path) = meant ≡ Err path
+IsFirstFault meant Memory = ⊤

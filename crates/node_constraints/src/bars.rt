@@ -6,7 +6,7 @@ ghost use Rattle.flux_defs.specs.Graph.{IsNode};
 ghost use Rattle.flux_defs.specs.Needs.{AreRisingFrom};
 ghost use Rattle.node_constraints.specs.Faults.{fault_at};
 ghost use Rattle.node_constraints.specs.Narrowing.{Finds};
-ghost use Rattle.node_constraints.specs.Bars.{barred_by, root, bars_of, Tells};
+ghost use Rattle.node_constraints.specs.Bars.{barred_by, root, bars_of, IsFirstFault};
 
 use crate::faults::ConstraintFault;
 use crate::narrowing::narrow;
@@ -44,7 +44,7 @@ pub fn barred(
     ensures bars { IfOk result (λ bars. bars_of graph.now (view constraint.now) ≡ Ok bars) }
     ensures rising { IfOk result (λ bars. AreRisingFrom 0 bars) }
     ensures nodes { IfOk result (λ bars. AllByRecursion (IsNode graph.now.resources.vertices) bars) }
-    ensures told { IfErr result (Tells (bars_of graph.now (view constraint.now))) }
+    ensures told { IfErr result (IsFirstFault (bars_of graph.now (view constraint.now))) }
 {
     let bars = false_for(alloc, graph, constraint)?;
     Ok(List::of_vec(bars))

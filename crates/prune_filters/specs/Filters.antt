@@ -36,5 +36,5 @@ IsFaultOf text (Form at) = IsFirstFault text at
 IsFaultOf text Memory = ⊤
 
 -- some rule has this lower type, and this higher one or `ALL`
-abbrev pub Keeps : List Rule → List ℕ → List ℕ → Type 0
-Keeps rules high low = Any (λ rule. (rule.low ≡ low) × ((rule.high ≡ high) ⊎ (rule.high ≡ codes "ALL"))) rules
+abbrev pub IsKept : List Rule → List ℕ → List ℕ → Type 0
+IsKept rules high low = Any (λ rule. (rule.low ≡ low) × ((rule.high ≡ high) ⊎ (rule.high ≡ codes "ALL"))) rules

@@ -1,6 +1,6 @@
 //! The rules of a text.
 ghost use Rattle.std.specs.Prelude.{◌≡◌, ◌↔◌, [], ◌∷◌, ◌++◌, IsTrue, IfOk, IfErr, OnOk, MatchOption};
-ghost use Rattle.prune_filters.specs.Filters.{Spells, IsRule, AreRulesOf, IsFaultOf, Keeps};
+ghost use Rattle.prune_filters.specs.Filters.{Spells, IsRule, AreRulesOf, IsFaultOf, IsKept};
 
 use crate::items::{cut_at, first_item, is_type_name};
 use flux_defs::{List, Text};
@@ -79,7 +79,7 @@ impl Rules {
 
     /// Whether the rules keep a total of the lower type at vertices of the higher one.
     pub fn keeps(&self, high: &[u8], low: &[u8]) -> bool
-        ensures { IsTrue result ↔ Keeps self.now high.now low.now }
+        ensures { IsTrue result ↔ IsKept self.now high.now low.now }
     {
         self.rules.items().iter().any(|rule| {
             rule.low.bytes() == low

@@ -15,7 +15,7 @@ use Rattle.std.proofs.lemmas.Bool.{cases_order}
 use Rattle.resource_set_r.specs.declared.sets_read.RRow.{RRow}
 use Rattle.resource_set_r.specs.declared.sets_read.RSet.{RSet}
 use Rattle.resource_set_r.specs.ReadRows.{execution_of, rows_in, ranges_in, IsRepeatedRank}
-use Rattle.resource_set_r.specs.ReadR.{IsWrongBefore, set_with, HasRows, IsMisreadOf, IsRText, HasMisread, Tells}
+use Rattle.resource_set_r.specs.ReadR.{IsWrongBefore, set_with, HasRows, IsMisreadOf, IsRText, HasMisread, IsFirstFault}
 use Rattle.resource_set_r.specs.ReadBack.{CanBeRead, IsOfJob}
 use Rattle.resource_set_r.specs.WrittenR.{r_text}
 use Rattle.resource_set_r.proofs.SetsBack.{set_back}
@@ -63,7 +63,7 @@ no_misread bytes set m p has = by has.2
         no_ok (set_with p.2.1 p.2.0) set m p.2.4 (subst (λ (x : List RRow). set_with x p.2.0 ≡ Err m) same.1 there)
 
 -- and no fault is told of it
-pub no_fault : (bytes : List ℕ) (set : RSet) (f : RFault) → IsRText bytes set → Tells bytes f → f ≡ fault.Memory
+pub no_fault : (bytes : List ℕ) (set : RSet) (f : RFault) → IsRText bytes set → IsFirstFault bytes f → f ≡ fault.Memory
 no_fault bytes set fault.NotJson p told = absurd (let clash : None ≡ Some p.0 = sym told ∙ p.1 in cc)
 no_fault bytes set (fault.Field path k) p told = absurd (no_misread bytes set _ p told.2)
 no_fault bytes set fault.Version p told = absurd (no_misread bytes set _ p told)
@@ -73,7 +73,7 @@ no_fault bytes set (fault.RepeatedRank rank) p told = absurd (no_misread bytes s
 no_fault bytes set fault.Memory p told = refl
 
 -- what a reader answers of what was written of a job
-pub read_again : (bytes : List ℕ) (r : Result RSet RFault) → IfOk r (IsRText bytes) → IfErr r (Tells bytes) → (g : NamedGraph) (job : Job) → bytes ≡ r_text g job → CanBeRead g job →
+pub read_again : (bytes : List ℕ) (r : Result RSet RFault) → IfOk r (IsRText bytes) → IfErr r (IsFirstFault bytes) → (g : NamedGraph) (job : Job) → bytes ≡ r_text g job → CanBeRead g job →
     MatchResult r (IsOfJob g job) (λ f. f ≡ fault.Memory)
 read_again bytes (Ok set) found told g job is can =
     let back = set_back g job can in
@@ -144,7 +144,7 @@ fault_of (misread.RepeatedRank rank) = fault.RepeatedRank rank
 abbrev Cause : List ℕ → RFault → Type 0
 Cause bytes f = ((value_of bytes ≡ None) × (f ≡ fault.NotJson)) ⊎ ((m : Misread) × HasMisread bytes m × (f ≡ fault_of m))
 
-cause_of : (bytes : List ℕ) (f : RFault) → (f ≡ fault.Memory → ⊥) → Tells bytes f → Cause bytes f
+cause_of : (bytes : List ℕ) (f : RFault) → (f ≡ fault.Memory → ⊥) → IsFirstFault bytes f → Cause bytes f
 cause_of bytes fault.NotJson other told = inl (told, refl)
 cause_of bytes (fault.Field path k) other told = inr (misread.Field told.0 k, told.2, ap (λ (p : List ℕ). fault.Field p k) told.1)
 cause_of bytes fault.Version other told = inr (misread.Version, told, refl)
@@ -154,7 +154,7 @@ cause_of bytes (fault.RepeatedRank rank) other told = inr (misread.RepeatedRank 
 cause_of bytes fault.Memory other told = absurd (other refl)
 
 -- bytes have one fault at most
-pub one_fault : (bytes : List ℕ) (f k : RFault) → (f ≡ fault.Memory → ⊥) → (k ≡ fault.Memory → ⊥) → Tells bytes f → Tells bytes k → f ≡ k
+pub one_fault : (bytes : List ℕ) (f k : RFault) → (f ≡ fault.Memory → ⊥) → (k ≡ fault.Memory → ⊥) → IsFirstFault bytes f → IsFirstFault bytes k → f ≡ k
 one_fault bytes f k no_f no_k p q = by (cause_of bytes f no_f p) (cause_of bytes k no_k q)
   where
     by : Cause bytes f → Cause bytes k → f ≡ k

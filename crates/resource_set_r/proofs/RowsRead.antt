@@ -20,9 +20,9 @@ use Rattle.resource_set_r.specs.declared.faults.RFault.{RFault}
 use Rattle.resource_set_r.specs.declared.faults.RFault.TheVariants as fault
 use Rattle.resource_set_r.specs.declared.sets_read.RRow.{RRow}
 use Rattle.resource_set_r.specs.declared.sets_read.RSet.{RSet}
-use Rattle.resource_set_r.specs.Misreads.{at_field, Gives}
+use Rattle.resource_set_r.specs.Misreads.{at_field, IsResultOf}
 use Rattle.resource_set_r.specs.ReadRows.{idset_read, idset_text_at, idset_or_none, idset_field, row_with, row_in, row_of, rows_from, rows_in, ranges_in, execution_of, IsRepeatedRank}
-use Rattle.resource_set_r.specs.ReadR.{set_with, IsSetOf, IsErrorOf, IsMisreadOf, IsToldAs, HasMisread, Tells}
+use Rattle.resource_set_r.specs.ReadR.{set_with, IsSetOf, IsErrorOf, IsMisreadOf, IsToldAs, HasMisread, IsFirstFault}
 
 -- ---- a value that comes of two steps
 
@@ -90,11 +90,11 @@ ranges_ordered e rows is =
 -- ---- what is found of a value
 
 module _ (e : Data) (rows : List RRow) (read : rows_in e ≡ Ok rows) where
-  pub set_found : (r : Result RSet ReadError) → Gives r (set_with rows e) → IsRepeatedRank (ranges_in rows) None → IfOk r (λ set. (d : Data) → execution_of d ≡ Ok e → IsSetOf d set)
+  pub set_found : (r : Result RSet ReadError) → IsResultOf r (set_with rows e) → IsRepeatedRank (ranges_in rows) None → IfOk r (λ set. (d : Data) → execution_of d ≡ Ok e → IsSetOf d set)
   set_found (Ok set) gives none = λ d is. (e, rows, (is, read), none, gives)
   set_found (Err m) gives none = tt
 
-  pub error_found : (r : Result RSet ReadError) → Gives r (set_with rows e) → IsRepeatedRank (ranges_in rows) None → IfErr r (λ m. (d : Data) → execution_of d ≡ Ok e → IsErrorOf d m)
+  pub error_found : (r : Result RSet ReadError) → IsResultOf r (set_with rows e) → IsRepeatedRank (ranges_in rows) None → IfErr r (λ m. (d : Data) → execution_of d ≡ Ok e → IsErrorOf d m)
   error_found (Ok set) gives none = tt
   error_found (Err (error.Misread m)) gives none = λ d is. inr (inr (e, rows, (is, read), none, gives))
   error_found (Err error.Memory) gives none = λ d is. tt
@@ -103,7 +103,7 @@ module _ (e : Data) (rows : List RRow) (read : rows_in e ≡ Ok rows) where
   repeated_found rank least d is = inr (inl (e, rows, (is, read), rank, least, refl))
 
 -- what is wrong with a value is told of the bytes
-pub told : (bytes : List ℕ) (m : Misread) (f : RFault) → IsToldAs m f → HasMisread bytes m → Tells bytes f
+pub told : (bytes : List ℕ) (m : Misread) (f : RFault) → IsToldAs m f → HasMisread bytes m → IsFirstFault bytes f
 told bytes m fault.NotJson is has = absurd is
 told bytes m (fault.Field path k) is has = (is.0, is.1, subst (λ (x : Misread). HasMisread bytes x) is.2 has)
 told bytes m fault.Version is has = subst (λ (x : Misread). HasMisread bytes x) is has

@@ -31,7 +31,7 @@ abbrev pub at_field : {A : Type 0} → Place → Result A FieldFault → Result 
 at_field place field = result_map_both (λ x. x) (λ fault. Field place fault) field
 
 -- the answer is what is read there, a value or what is wrong; want of memory may come at any time
-abbrev pub Gives : {X : Type 0} → Result X ReadError → Result X Misread → Type 0
-Gives (Ok value) read = read ≡ Ok value
-Gives (Err (error.Misread m)) read = read ≡ Err m
-Gives (Err error.Memory) read = ⊤
+abbrev pub IsResultOf : {X : Type 0} → Result X ReadError → Result X Misread → Type 0
+IsResultOf (Ok value) read = read ≡ Ok value
+IsResultOf (Err (error.Misread m)) read = read ≡ Err m
+IsResultOf (Err error.Memory) read = ⊤

@@ -113,14 +113,14 @@ abbrev pub HasMisread : List ℕ → Misread → Type 0
 HasMisread bytes m = (d : Data) × (value_of bytes ≡ Some d) × IsMisreadOf d m
 
 -- Which fault the bytes have: what is looked at first is told first. Of want of memory nothing is said.
-abbrev pub Tells : List ℕ → RFault → Type 0
-Tells bytes fault.NotJson = value_of bytes ≡ None
-Tells bytes (fault.Field path f) = (at : Place) × (path ≡ path_of at) × HasMisread bytes (misread.Field at f)
-Tells bytes fault.Version = HasMisread bytes misread.Version
-Tells bytes (fault.Idset path) = (at : Place) × (path ≡ path_of at) × HasMisread bytes (misread.Idset at)
-Tells bytes fault.Hosts = HasMisread bytes misread.Hosts
-Tells bytes (fault.RepeatedRank rank) = HasMisread bytes (misread.RepeatedRank rank)
-Tells bytes fault.Memory = ⊤
+abbrev pub IsFirstFault : List ℕ → RFault → Type 0
+IsFirstFault bytes fault.NotJson = value_of bytes ≡ None
+IsFirstFault bytes (fault.Field path f) = (at : Place) × (path ≡ path_of at) × HasMisread bytes (misread.Field at f)
+IsFirstFault bytes fault.Version = HasMisread bytes misread.Version
+IsFirstFault bytes (fault.Idset path) = (at : Place) × (path ≡ path_of at) × HasMisread bytes (misread.Idset at)
+IsFirstFault bytes fault.Hosts = HasMisread bytes misread.Hosts
+IsFirstFault bytes (fault.RepeatedRank rank) = HasMisread bytes (misread.RepeatedRank rank)
+IsFirstFault bytes fault.Memory = ⊤
 
 -- ---- for private clauses
 

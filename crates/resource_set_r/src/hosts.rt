@@ -5,7 +5,7 @@ ghost use Rattle.idset_text.specs.Hostlists.{own_names, names_of};
 ghost use Rattle.idset_text.specs.Idsets.{ids_between, ids_of};
 ghost use Rattle.resource_set_r.specs.ReadRows.{ranges_in};
 ghost use Rattle.resource_set_r.specs.declared.sets_read.RRow.{RRow};
-ghost use Rattle.resource_set_r.specs.Misreads.{Gives};
+ghost use Rattle.resource_set_r.specs.Misreads.{IsResultOf};
 ghost use Rattle.resource_set_r.specs.ReadR.{host_value, hosts_from, hosts_fit, hosts_for, hosts_in};
 
 use crate::faults::{Misread, Place, ReadError};
@@ -18,7 +18,7 @@ use std::alloc::{AllocError, Global};
 
 /// The hosts that the value with this index is.
 fn host_value(alloc: Global, at: u64, value: &Value) -> Result<List<Hosts>, ReadError>
-    ensures { Gives result (host_value at (view value.now)) }
+    ensures { IsResultOf result (host_value at (view value.now)) }
 {
     let text = match text_value(value, Place::Host { at }) {
         Ok(text) => text,
@@ -44,7 +44,7 @@ fn add_hosts(all: &mut Vec<Hosts>, hosts: List<Hosts>) -> Result<(), AllocError>
 
 /// The hosts of a list.
 fn hosts_from(alloc: Global, values: &[Value]) -> Result<List<Hosts>, ReadError>
-    ensures { Gives result (hosts_from 0 (items_view values.now)) }
+    ensures { IsResultOf result (hosts_from 0 (items_view values.now)) }
 {
     let mut all = Vec::new(alloc);
     'lists: for (at, value) in values.iter().enumerate() {
@@ -110,7 +110,7 @@ fn hosts_fit(values: &[Value], ranks: u128, hosts: &[Hosts]) -> bool
 
 /// The hosts that a list has for so many ranks.
 fn hosts_for(alloc: Global, ranks: u128, values: &[Value]) -> Result<List<Hosts>, ReadError>
-    ensures { (rows : List RRow) → ranks ≡ length (ids_of (ranges_in rows)) → Gives result (hosts_for rows (items_view values.now)) }
+    ensures { (rows : List RRow) → ranks ≡ length (ids_of (ranges_in rows)) → IsResultOf result (hosts_for rows (items_view values.now)) }
 {
     let hosts = match hosts_from(alloc, values) {
         Ok(hosts) => hosts,
@@ -129,7 +129,7 @@ pub(crate) fn hosts_in(
     ranks: u128,
     execution: &Value,
 ) -> Result<List<Hosts>, ReadError>
-    ensures { (rows : List RRow) → ranks ≡ length (ids_of (ranges_in rows)) → Gives result (hosts_in rows (view execution.now)) }
+    ensures { (rows : List RRow) → ranks ≡ length (ids_of (ranges_in rows)) → IsResultOf result (hosts_in rows (view execution.now)) }
 {
     let Some(found) = execution.get("nodelist") else {
         return hosts_for(alloc, ranks, &[]);

@@ -4,7 +4,7 @@ ghost use Rattle.std.specs.List.{flat_map};
 ghost use Rattle.std.specs.List.Sorted.{IsPermutation, IsNonDecreasingBy};
 ghost use Rattle.serde_json.specs.Find.{as_object, get};
 ghost use Rattle.serde_json.specs.View.{view, items_view};
-ghost use Rattle.resource_set_r.specs.Misreads.{Gives};
+ghost use Rattle.resource_set_r.specs.Misreads.{IsResultOf};
 ghost use Rattle.resource_set_r.specs.ReadRows.{idset_text_at, idset_or_none, idset_field, row_with, row_in, row_of, rows_from, rows_in, ranges_in, overlap_from, IsRepeatedRank};
 
 use crate::faults::{Misread, Place, ReadError};
@@ -17,7 +17,7 @@ use std::alloc::{AllocError, Global};
 
 /// The idset that a text is.
 fn idset_text_at(alloc: Global, place: Place, text: &str) -> Result<List<Range>, ReadError>
-    ensures { Gives result (idset_text_at place text.now) }
+    ensures { IsResultOf result (idset_text_at place text.now) }
 {
     match read_idset(alloc, text.as_bytes()) {
         Ok(ranges) => Ok(ranges),
@@ -33,7 +33,7 @@ fn idset_or_none(
     key: &str,
     place: Place,
 ) -> Result<List<Range>, ReadError>
-    ensures { Gives result (idset_or_none place (get key.now (view value.now))) }
+    ensures { IsResultOf result (idset_or_none place (get key.now (view value.now))) }
 {
     let Some(found) = value.get(key) else {
         return Ok(List::new(alloc));
@@ -52,7 +52,7 @@ fn idset_field(
     place: Place,
 ) -> Result<List<Range>, ReadError>
     requires { IsSome (as_object (view value.now)) }
-    ensures { Gives result (idset_field place key.now (view value.now)) }
+    ensures { IsResultOf result (idset_field place key.now (view value.now)) }
 {
     match text_at(value, key, place) {
         Ok(text) => idset_text_at(alloc, place, text),
@@ -62,7 +62,7 @@ fn idset_field(
 
 /// The element of these ranks with these children.
 fn row_with(alloc: Global, at: u64, ranks: List<Range>, children: &Value) -> Result<RRow, ReadError>
-    ensures { Gives result (row_with at ranks (view children.now)) }
+    ensures { IsResultOf result (row_with at ranks (view children.now)) }
 {
     let cores = match idset_or_none(alloc, children, "core", Place::Core { at }) {
         Ok(cores) => cores,
@@ -77,7 +77,7 @@ fn row_with(alloc: Global, at: u64, ranks: List<Range>, children: &Value) -> Res
 /// The element that an object is.
 fn row_in(alloc: Global, at: u64, value: &Value) -> Result<RRow, ReadError>
     requires { IsSome (as_object (view value.now)) }
-    ensures { Gives result (row_in at (view value.now)) }
+    ensures { IsResultOf result (row_in at (view value.now)) }
 {
     let ranks = match idset_field(alloc, value, "rank", Place::Rank { at }) {
         Ok(ranks) => ranks,
@@ -91,7 +91,7 @@ fn row_in(alloc: Global, at: u64, value: &Value) -> Result<RRow, ReadError>
 
 /// The element that the value with this index is.
 fn row_of(alloc: Global, at: u64, value: &Value) -> Result<RRow, ReadError>
-    ensures { Gives result (row_of at (view value.now)) }
+    ensures { IsResultOf result (row_of at (view value.now)) }
 {
     match object_of(value, Place::Row { at }) {
         Ok(row) => row_in(alloc, at, row),
@@ -101,7 +101,7 @@ fn row_of(alloc: Global, at: u64, value: &Value) -> Result<RRow, ReadError>
 
 /// The elements of a list.
 fn rows_from(alloc: Global, values: &[Value]) -> Result<List<RRow>, ReadError>
-    ensures { Gives result (rows_from 0 (items_view values.now)) }
+    ensures { IsResultOf result (rows_from 0 (items_view values.now)) }
 {
     let mut rows = Vec::new(alloc);
     'rows: for (at, value) in values.iter().enumerate() {
@@ -118,7 +118,7 @@ fn rows_from(alloc: Global, values: &[Value]) -> Result<List<RRow>, ReadError>
 
 /// The elements of `R_lite`.
 pub(crate) fn rows_in(alloc: Global, execution: &Value) -> Result<List<RRow>, ReadError>
-    ensures { Gives result (rows_in (view execution.now)) }
+    ensures { IsResultOf result (rows_in (view execution.now)) }
 {
     match list_at(execution, "R_lite", Place::RLite) {
         Ok(values) => rows_from(alloc, values.as_slice()),

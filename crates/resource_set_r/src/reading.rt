@@ -8,9 +8,9 @@ ghost use Rattle.idset_text.specs.Idsets.{ids_of};
 ghost use Rattle.resource_graph.specs.NamedGraph.{NamedGraph};
 ghost use Rattle.resource_set_r.specs.ReadBack.{CanBeRead, IsOfJob};
 ghost use Rattle.resource_set_r.specs.WrittenR.{r_text};
-ghost use Rattle.resource_set_r.specs.Misreads.{Gives};
+ghost use Rattle.resource_set_r.specs.Misreads.{IsResultOf};
 ghost use Rattle.resource_set_r.specs.ReadRows.{execution_of, ranges_in};
-ghost use Rattle.resource_set_r.specs.ReadR.{seconds_of, set_with, IsSetOf, IsErrorOf, IsToldAs, IsRText, Tells};
+ghost use Rattle.resource_set_r.specs.ReadR.{seconds_of, set_with, IsSetOf, IsErrorOf, IsToldAs, IsRText, IsFirstFault};
 
 use crate::faults::{Misread, Place, RFault, ReadError};
 use crate::fields::{execution_of, path_of, second_or_zero};
@@ -41,7 +41,7 @@ fn set_with(
 ) -> Result<RSet, ReadError>
     requires object { IsSome (as_object (view execution.now)) }
     requires ranks { ranks ≡ length (ids_of (ranges_in rows)) }
-    ensures { Gives result (set_with rows (view execution.now)) }
+    ensures { IsResultOf result (set_with rows (view execution.now)) }
 {
     let hosts = match hosts_in(alloc, ranks, execution) {
         Ok(hosts) => hosts,
@@ -112,7 +112,7 @@ fn fault_of(alloc: Global, misread: Misread) -> RFault
 /// What the bytes are read as.
 fn read(alloc: Global, bytes: &[u8]) -> Result<RSet, RFault>
     ensures set { IfOk result (IsRText bytes.now) }
-    ensures fault { IfErr result (Tells bytes.now) }
+    ensures fault { IfErr result (IsFirstFault bytes.now) }
 {
     match read_value(alloc, bytes) {
         Ok(value) => match set_of(alloc, &value) {
@@ -131,7 +131,7 @@ fn read(alloc: Global, bytes: &[u8]) -> Result<RSet, RFault>
 /// two items have, `nodelist`, the number of hosts, `starttime`, `expiration`.
 pub fn read_r(alloc: Global, bytes: &[u8]) -> Result<RSet, RFault>
     ensures set { IfOk result (IsRText bytes.now) }
-    ensures fault { IfErr result (Tells bytes.now) }
+    ensures fault { IfErr result (IsFirstFault bytes.now) }
 
     // What `write_r` wrote of a job is read as the job's ranks, cores, gpus, hosts, start and end, unless memory runs out.
     ensures again { (g : NamedGraph) (job : Job) → bytes.now ≡ r_text g job → CanBeRead g job → MatchResult result (IsOfJob g job) (λ fault. fault ≡ RFault.Memory) }

@@ -112,7 +112,7 @@ module _ (g : Setting) (names : List (List ℕ)) (valid : IsValidGraph g.graph n
 
   -- what is owed of a reply
   abbrev Owed : Command → Reply → Type 0
-  Owed c r = MayFollow book s c r × HasRoom g.limit s.claims r
+  Owed c r = MayFollow book s c r × HasRoom g.claim_limit s.claim_count r
 
   refused : (c : Command) (r x : Reply) → r ≡ x → Owed c x → Owed c r
   refused c r x is h = subst (Owed c) (sym is) h
@@ -120,20 +120,20 @@ module _ (g : Setting) (names : List (List ℕ)) (valid : IsValidGraph g.graph n
   within : (a b : ℕ) → (a < b → ⊥) → b ≤ a
   within a b n = elim (cases_lt a b) [ inl lt ↦ absurd (n lt) | inr ge ↦ ge ]
 
-  accepted : (c : Command) (job : Job) (b : Bool) → MayAdd book job → s.claims + length job.claims ≤ g.limit → Owed c (if b then reply.Allocated job else reply.Reserved job)
+  accepted : (c : Command) (job : Job) (b : Bool) → MayAdd book job → s.claim_count + length job.claims ≤ g.claim_limit → Owed c (if b then reply.Allocated job else reply.Reserved job)
   accepted c job true may room = (may, room)
   accepted c job false may room = (may, room)
 
   accepted_or_full : (c : Command) (id start : ℕ) (ask : Ask) (r : Reply) → IsProperAsk g.graph.vertices ask → CountsWithin g.horizon ask start → (Contains s.used id → ⊥) → AcceptedOrFull g s id ask start r → Owed c r
   accepted_or_full c id start ask r proper counts fresh (job, is, inl full) = refused c r reply.Full full.1 (tt, tt)
   accepted_or_full c id start ask r proper counts fresh (job, is, inr fits) =
-      refused c r (accepted_reply s.moment job) fits.1 (accepted c job (job.start == s.moment) (may_add id start ask job proper counts fresh is) (within g.limit (s.claims + length job.claims) fits.0))
+      refused c r (accepted_reply s.moment job) fits.1 (accepted c job (job.start == s.moment) (may_add id start ask job proper counts fresh is) (within g.claim_limit (s.claim_count + length job.claims) fits.0))
 
   informed : (id : ℕ) (found : Option Job) (r : Reply) → MatchOption found (r ≡ reply.Absent) (λ job. r ≡ info_at s.moment job) → Owed (command.Info id) r
   informed id None r h = refused (command.Info id) r reply.Absent h (tt, tt)
   informed id (Some job) r h = refused (command.Info id) r (info_at s.moment job) h (tt, tt)
 
-  pub owed : (c : Command) (r : Reply) → IsProper g.graph.vertices c → Replies g s c r → MayFollow book s c r × HasRoom g.limit s.claims r
+  pub owed : (c : Command) (r : Reply) → IsProper g.graph.vertices c → Replies g s c r → MayFollow book s c r × HasRoom g.claim_limit s.claim_count r
   owed (command.Allocate id ask) r proper (inl x) = refused (command.Allocate id ask) r reply.Exists x.1 (tt, tt)
   owed (command.Allocate id ask) r proper (inr (_, inl x)) = refused (command.Allocate id ask) r reply.Unsatisfiable x.1 (tt, tt)
   owed (command.Allocate id ask) r proper (inr (_, inr (_, inl x))) = refused (command.Allocate id ask) r reply.TooLong x.1 (tt, tt)

@@ -10,11 +10,11 @@ use Rattle.flux_defs.specs.Scheduler.{Setting, State, Where, Replies, AcceptedOr
 use Rattle.flux_defs.specs.Verdicts.{Verdict, Found, Finds, YieldsJob, job_of}
 use Rattle.sched_core.specs.Answered.{IsOfJob, Answers}
 
-pub given_found : (g : Setting) (s : State) (id : ℕ) (ask : Ask) (start : ℕ) (claims : List Claim) (none r : Reply) (m k : ℕ) → s.moment ≡ m → s.claims ≡ k →
-    Where (g.limit < k + length claims) reply.Full (λ x. x ≡ accepted_reply m (job_of g id ask start claims)) r → YieldsJob g s id ask none (Found start claims) r
+pub given_found : (g : Setting) (s : State) (id : ℕ) (ask : Ask) (start : ℕ) (claims : List Claim) (none r : Reply) (m k : ℕ) → s.moment ≡ m → s.claim_count ≡ k →
+    Where (g.claim_limit < k + length claims) reply.Full (λ x. x ≡ accepted_reply m (job_of g id ask start claims)) r → YieldsJob g s id ask none (Found start claims) r
 given_found g s id ask start claims none r m k em ek h =
-    subst (λ (x : ℕ). Where (g.limit < s.claims + length claims) reply.Full (λ y. y ≡ accepted_reply x (job_of g id ask start claims)) r) (sym em)
-    (subst (λ (x : ℕ). Where (g.limit < x + length claims) reply.Full (λ y. y ≡ accepted_reply m (job_of g id ask start claims)) r) (sym ek) h)
+    subst (λ (x : ℕ). Where (g.claim_limit < s.claim_count + length claims) reply.Full (λ y. y ≡ accepted_reply x (job_of g id ask start claims)) r) (sym em)
+    (subst (λ (x : ℕ). Where (g.claim_limit < x + length claims) reply.Full (λ y. y ≡ accepted_reply m (job_of g id ask start claims)) r) (sym ek) h)
 
 module _ (g : Setting) (s : State) (id : ℕ) (ask : Ask) where
   accepts : (start : ℕ) (claims : List Claim) (none r : Reply) → IsLowestFirst g.graph.vertices s.jobs ask (window_of g.horizon ask start) claims →

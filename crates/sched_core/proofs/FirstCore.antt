@@ -27,7 +27,7 @@ book_none book moment rows jobs = record {
 }
 
 pub first_core : (site : Site) (kept : Kept) → IsWhole (graph_at site) → graph_of kept.book ≡ graph_at site → horizon_of kept.book ≡ site.horizon → moment_of kept.book ≡ 0 → rows_of kept.book ≡ empty →
-    StandsFor kept.book [] → journal_in kept ≡ [] → kept.claims ≡ 0 → IsCore site kept
+    StandsFor kept.book [] → journal_in kept ≡ [] → kept.claim_count ≡ 0 → IsCore site kept
 first_core site kept whole graph horizon moment rows jobs none claims = record {
   whole = whole;
   graph-is = graph;
@@ -35,7 +35,7 @@ first_core site kept whole graph horizon moment rows jobs none claims = record {
   legal = subst (λ (j : List Entry). IsLegal (setting_in site kept) j) (sym none) tt;
   proper = subst (λ (j : List Entry). HasProperCommands (vertices_at site) j) (sym none) tt;
   book-of = subst (λ (j : List Entry). IsBookOf j kept.book) (sym none) (book_none kept.book moment rows jobs);
-  claims-are = subst (λ (j : List Entry). kept.claims ≡ (left_by j).claims) (sym none) claims;
+  claims-are = subst (λ (j : List Entry). kept.claim_count ≡ (left_by j).claim_count) (sym none) claims;
 }
 
 -- after each entry no vertex is oversubscribed

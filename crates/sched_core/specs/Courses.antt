@@ -38,7 +38,7 @@ pair_of rule = (rule.high, rule.low)
 
 -- the setting of these four
 abbrev pub setting_of : ResourceGraph → List Rule → ℕ → ℕ → Setting
-setting_of graph rules horizon limit = record { graph = graph; rules = map pair_of rules; horizon = horizon; limit = limit }
+setting_of graph rules horizon limit = record { graph = graph; rules = map pair_of rules; horizon = horizon; claim_limit = limit }
 
 -- a course without an entry
 abbrev pub empty_course : ResourceGraph → List Rule → ℕ → ℕ → Course
@@ -84,7 +84,7 @@ journal_in kept = kept.journal
 
 -- what never changes, with the rules that the book keeps
 abbrev pub setting_in : Site → Kept → Setting
-setting_in site kept = setting_of (arc_value site.graph).resources (rules_of kept.book) site.horizon site.limit
+setting_in site kept = setting_of (arc_value site.graph).resources (rules_of kept.book) site.horizon site.claim_limit
 
 -- The graph is valid; the journal is a legal history of proper commands over it; and the book and the count of claims are
 -- those of the journal.
@@ -95,7 +95,7 @@ pub record IsCore (site : Site) (kept : Kept) : Type 0 where
   pub legal : IsLegal (setting_in site kept) (journal_in kept)
   pub proper : HasProperCommands (vertices_at site) (journal_in kept)
   pub book-of : IsBookOf (journal_in kept) kept.book
-  pub claims-are : kept.claims ≡ (left_by (journal_in kept)).claims
+  pub claims-are : kept.claim_count ≡ (left_by (journal_in kept)).claim_count
 
 -- the next one has one entry more, and the same setting
 pub record Grows (site : Site) (old new : Kept) (entry : Entry) : Type 0 where

@@ -15,7 +15,7 @@ use std::sync::ledger::Ledger;
 /// How many claims the accepted jobs had after this reply.
 fn claims_after(limit: u64, claims: u64, reply: &Reply) -> u64
     requires room { HasRoom limit claims reply.now }
-    ensures { (s : State) (command : Command) → s.claims ≡ claims → result ≡ (after s command reply.now).claims }
+    ensures { (s : State) (command : Command) → s.claim_count ≡ claims → result ≡ (after s command reply.now).claim_count }
 {
     match reply {
         Reply::Allocated(job) => claims + job.claims.len() as u64,
@@ -47,11 +47,11 @@ pub(crate) fn append<L: Ledger>(
     ) else {
         return Err((entry.command, AllocError));
     };
-    let claims = claims_after(site.limit, kept.claims, &entry.reply);
+    let claims = claims_after(site.claim_limit, kept.claim_count, &entry.reply);
     match kept.journal.push(entry) {
         Ok(()) => {
             kept.book = book;
-            kept.claims = claims;
+            kept.claim_count = claims;
             Ok(())
         }
         Err((entry, fault)) => Err((entry.command, fault)),

@@ -18,19 +18,19 @@ use flux_defs::{Ask, Job, Reply};
 pub(crate) struct Reached {
     pub moment: u64,
     pub horizon: u64,
-    pub claims: u64,
-    pub limit: u64,
+    pub claim_count: u64,
+    pub claim_limit: u64,
 }
 
 /// The job that was found is accepted, unless there is no room for its claims.
 fn accept(reached: Reached, id: u64, ask: &Ask, found: Found) -> Reply
     requires { CountsWithin reached.horizon ask.now found.start }
     ensures { (graph : ResourceGraph) (rules : List Rule) →
-        Where (reached.limit < reached.claims + length found.claims) reply.Full
-        (λ r. r ≡ accepted_reply reached.moment (job_of (setting_of graph rules reached.horizon reached.limit) id ask.now found.start found.claims)) result }
+        Where (reached.claim_limit < reached.claim_count + length found.claims) reply.Full
+        (λ r. r ≡ accepted_reply reached.moment (job_of (setting_of graph rules reached.horizon reached.claim_limit) id ask.now found.start found.claims)) result }
 {
     let Found { start, claims } = found;
-    if u128::from(reached.claims) + claims.len() as u128 > u128::from(reached.limit) {
+    if u128::from(reached.claim_count) + claims.len() as u128 > u128::from(reached.claim_limit) {
         return Reply::Full;
     }
     let window = window_at(reached.horizon, ask, start);
@@ -50,8 +50,8 @@ fn accept(reached: Reached, id: u64, ask: &Ask, found: Found) -> Reply
 /// The reply to an allocate or a reserve by what was found now; `none` is the reply where nothing fits.
 pub(crate) fn give(reached: Reached, id: u64, ask: &Ask, none: Reply, verdict: Verdict) -> Reply
     requires { IsOfJob reached.horizon ask.now (verdict_of verdict) }
-    ensures { (graph : ResourceGraph) (rules : List Rule) (s : State) → s.moment ≡ reached.moment → s.claims ≡ reached.claims →
-        Answers (setting_of graph rules reached.horizon reached.limit) s id ask.now none (verdict_of verdict) result }
+    ensures { (graph : ResourceGraph) (rules : List Rule) (s : State) → s.moment ≡ reached.moment → s.claim_count ≡ reached.claim_count →
+        Answers (setting_of graph rules reached.horizon reached.claim_limit) s id ask.now none (verdict_of verdict) result }
 {
     match verdict {
         Verdict::Found(found) => accept(reached, id, ask, found),

@@ -13,7 +13,7 @@ pub(crate) struct Site {
     pub alloc: Global,
     pub graph: Arc<Graph, Global>,
     pub horizon: u64,
-    pub limit: u64,
+    pub claim_limit: u64,
 }
 
 /// What grows: the journal, the book of the jobs that it leaves, and how many claims the accepted jobs had.
@@ -21,5 +21,5 @@ pub(crate) struct Site {
 pub(crate) struct Kept {
     pub journal: List<Entry>,
     pub book: BookState,
-    pub claims: u64,
+    pub claim_count: u64,
 }

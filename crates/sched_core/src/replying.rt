@@ -16,15 +16,15 @@ use std::sync::ledger::Ledger;
 fn reached(site: &Site, kept: &Kept) -> Reached
     requires { IsCore site.now kept.now }
     ensures moment { result.moment ≡ (left_by (journal_in kept.now)).moment }
-    ensures claims { result.claims ≡ (left_by (journal_in kept.now)).claims }
+    ensures claim_count { result.claim_count ≡ (left_by (journal_in kept.now)).claim_count }
     ensures horizon { result.horizon ≡ site.now.horizon }
-    ensures limit { result.limit ≡ site.now.limit }
+    ensures claim_limit { result.claim_limit ≡ site.now.claim_limit }
 {
     Reached {
         moment: kept.book.now(),
         horizon: site.horizon,
-        claims: kept.claims,
-        limit: site.limit,
+        claim_count: kept.claim_count,
+        claim_limit: site.claim_limit,
     }
 }
 

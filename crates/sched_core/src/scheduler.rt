@@ -61,12 +61,12 @@ impl Core {
                 alloc,
                 graph,
                 horizon,
-                limit: claims,
+                claim_limit: claims,
             },
             kept: Kept {
                 journal: List::new(alloc),
                 book,
-                claims: 0,
+                claim_count: 0,
             },
         })
     }
@@ -107,7 +107,7 @@ impl Core {
         ensures throughout { IsSoundThroughout self.now.setting.graph.vertices self.now.journal }
         ensures sound { IsSound self.now.setting.graph.vertices (state_of self.now).jobs }
     {
-        let _ = &self.kept.claims;
+        let _ = &self.kept.claim_count;
     }
 
     /// Appends the entry of a command, with the scheduler's reply, and answers its place. On want of memory, which is the

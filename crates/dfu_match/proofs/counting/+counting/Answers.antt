@@ -12,8 +12,8 @@ use Rattle.match_laws.proofs.Walk.{reached_start, reached_over, reached_next, re
 use Rattle.match_laws.proofs.NeedLists.{greatest_along, group_to, group_from}
 use Rattle.match_laws.proofs.ViewLaws.{available_take}
 use Rattle.match_laws.proofs.Sizes.{size_Vert, size_Spread, size_item}
-use Rattle.dfu_match.specs.Searches.{open_to, meets, place_of}
-use Rattle.dfu_match.proofs.PlaceLaws.{none_before, none_skipped, none_after, none_at_all, found}
+use Rattle.dfu_match.specs.Searches.{open_to, meets, scope_of}
+use Rattle.dfu_match.proofs.ScopeLaws.{none_before, none_skipped, none_after, none_at_all, found}
 use Rattle.dfu_match.proofs.CountLaws as laws
 use Rattle.dfu_match.proofs.counting.+counting.Goals as goal
 
@@ -101,12 +101,12 @@ pub reach-returns-in_default-clause-greatest : goal.reach-returns-in_default-cla
 reach-returns-in_default-clause-greatest g t c = λ jobs stands.
     let vs = c.args.s.now.graph.now.resources.vertices in
     let ok : Claim → Type 0 = open_to vs jobs c.args.s.now.barred.now c.args.s.now.window in
-    let place = place_of c.args.place in
+    let scope = scope_of c.args.scope in
     let need = c.args.need.now in
-    let never = none_at_all vs ok place need c.in_default.ensures in
-    greatest_along _ _ c.args.most 0 (group_from vs ok place need) (group_to vs ok place need)
-    (reached_end _ (serves_less vs ok (takes_less _ _) place need) c.args.most 0 0 (λ v q lo some can. never v q can)
-    (reached_start _ (serves_less vs ok (takes_less _ _) place need) c.args.most 0 (λ v q lo hi some can. never v q can)))
+    let never = none_at_all vs ok scope need c.in_default.ensures in
+    greatest_along _ _ c.args.most 0 (group_from vs ok scope need) (group_to vs ok scope need)
+    (reached_end _ (serves_less vs ok (takes_less _ _) scope need) c.args.most 0 0 (λ v q lo some can. never v q can)
+    (reached_start _ (serves_less vs ok (takes_less _ _) scope need) c.args.most 0 (λ v q lo hi some can. never v q can)))
 
 pub reach-loop-reached-init : goal.reach-loop-reached-init
 reach-loop-reached-init g t c =
@@ -116,21 +116,21 @@ reach-loop-reached-init g t c =
       from = omega arith;
       reached = λ jobs stands.
           let ok : Claim → Type 0 = open_to vs jobs c.args.s.now.barred.now c.args.s.now.window in
-          let place = place_of c.args.place in
-          reached_start _ (serves_less vs ok (takes_less _ _) place c.args.need.now) c.args.most c.span_of-span.result.from
-          (none_before vs ok place c.args.need.now c.span_of-span.result.from c.span_of-span.result.to c.span_of-span.ensures.covers);
+          let scope = scope_of c.args.scope in
+          reached_start _ (serves_less vs ok (takes_less _ _) scope c.args.need.now) c.args.most c.span_of-span.result.from
+          (none_before vs ok scope c.args.need.now c.span_of-span.result.from c.span_of-span.result.to c.span_of-span.ensures.covers);
     }
 
 pub reach-returns-in_default-next_of_kind-clause-greatest : goal.reach-returns-in_default-next_of_kind-clause-greatest
 reach-returns-in_default-next_of_kind-clause-greatest g t c = λ jobs stands.
     let vs = c.args.s.now.graph.now.resources.vertices in
     let ok : Claim → Type 0 = open_to vs jobs c.args.s.now.barred.now c.args.s.now.window in
-    let place = place_of c.args.place in
+    let scope = scope_of c.args.scope in
     let need = c.args.need.now in
     let of_kind = rw c.in-Some.is at c.kind_of.ensures in
-    greatest_along _ _ c.args.most c.loop-reached.reached (group_from vs ok place need) (group_to vs ok place need)
-    (reached_end _ (serves_less vs ok (takes_less _ _) place need) c.args.most c.loop-reached.at c.loop-reached.reached
-    (none_after vs ok place need c.in-Some.kind c.span_of-span.result.from c.loop-reached.at c.span_of-span.result.to c.span_of-span.ensures.covers of_kind c.in_default-next_of_kind.ensures)
+    greatest_along _ _ c.args.most c.loop-reached.reached (group_from vs ok scope need) (group_to vs ok scope need)
+    (reached_end _ (serves_less vs ok (takes_less _ _) scope need) c.args.most c.loop-reached.at c.loop-reached.reached
+    (none_after vs ok scope need c.in-Some.kind c.span_of-span.result.from c.loop-reached.at c.span_of-span.result.to c.span_of-span.ensures.covers of_kind c.in_default-next_of_kind.ensures)
     (c.loop-reached.invariant.reached jobs stands))
 
 pub reach-loop-reached-preserved : goal.reach-loop-reached-preserved
@@ -140,34 +140,34 @@ reach-loop-reached-preserved g t c =
     let of_kind = rw c.in-Some.is at c.kind_of.ensures in
     let next = rw c.in-Some-next_of_kind.is at c.next_of_kind.ensures in
     let low = next.low in
-    let is = found vs (λ claim. ⊥) (place_of c.args.place) need c.in-Some.kind c.span_of-span.result.from c.loop-reached.at c.span_of-span.result.to c.in-Some-next_of_kind.vertex c.span_of-span.ensures.covers
+    let is = found vs (λ claim. ⊥) (scope_of c.args.scope) need c.in-Some.kind c.span_of-span.result.from c.loop-reached.at c.span_of-span.result.to c.in-Some-next_of_kind.vertex c.span_of-span.ensures.covers
     c.loop-reached.invariant.from c.span_of-span.ensures.within of_kind next in
     record {
       within = (let few = c.serves.ensures.within in let same = c.from-reached.ensures in let before = c.loop-reached.invariant.within in omega arith);
       from = (let before = c.loop-reached.invariant.from in omega arith);
       reached = λ jobs stands.
           let ok : Claim → Type 0 = open_to vs jobs c.args.s.now.barred.now c.args.s.now.window in
-          let place = place_of c.args.place in
-          reached_next _ (serves_less vs ok (takes_less _ _) place need) c.args.most c.in-Some-next_of_kind.vertex c.loop-reached.reached c.from-reached.result
-          (reached_over _ (serves_less vs ok (takes_less _ _) place need) c.args.most c.loop-reached.at c.in-Some-next_of_kind.vertex c.loop-reached.reached low
-          (none_skipped vs ok place need c.in-Some.kind c.loop-reached.at c.span_of-span.result.to c.in-Some-next_of_kind.vertex of_kind next) (c.loop-reached.invariant.reached jobs stands))
-          (rw c.from-reached.ensures (c.serves.ensures.greatest jobs stands place is.1));
+          let scope = scope_of c.args.scope in
+          reached_next _ (serves_less vs ok (takes_less _ _) scope need) c.args.most c.in-Some-next_of_kind.vertex c.loop-reached.reached c.from-reached.result
+          (reached_over _ (serves_less vs ok (takes_less _ _) scope need) c.args.most c.loop-reached.at c.in-Some-next_of_kind.vertex c.loop-reached.reached low
+          (none_skipped vs ok scope need c.in-Some.kind c.loop-reached.at c.span_of-span.result.to c.in-Some-next_of_kind.vertex of_kind next) (c.loop-reached.invariant.reached jobs stands))
+          (rw c.from-reached.ensures (c.serves.ensures.greatest jobs stands scope is.1));
     }
 
 pub reach-returns-clause-greatest : goal.reach-returns-clause-greatest
 reach-returns-clause-greatest g t c = λ jobs stands.
     let vs = c.args.s.now.graph.now.resources.vertices in
     let ok : Claim → Type 0 = open_to vs jobs c.args.s.now.barred.now c.args.s.now.window in
-    let place = place_of c.args.place in
+    let scope = scope_of c.args.scope in
     let need = c.args.need.now in
-    greatest_along _ _ c.args.most c.loop-reached.reached (group_from vs ok place need) (group_to vs ok place need)
-    (reached_all _ (serves_less vs ok (takes_less _ _) place need) c.args.most c.loop-reached.at c.loop-reached.reached c.loop-reached-test.false (c.loop-reached.invariant.reached jobs stands))
+    greatest_along _ _ c.args.most c.loop-reached.reached (group_from vs ok scope need) (group_to vs ok scope need)
+    (reached_all _ (serves_less vs ok (takes_less _ _) scope need) c.args.most c.loop-reached.at c.loop-reached.reached c.loop-reached-test.false (c.loop-reached.invariant.reached jobs stands))
 
 pub serves-returns-then-not-admits-clause-greatest : goal.serves-returns-then-not-admits-clause-greatest
-serves-returns-then-not-admits-clause-greatest g t c = λ jobs stands place within.
+serves-returns-then-not-admits-clause-greatest g t c = λ jobs stands scope within.
     let vs = c.args.s.now.graph.now.resources.vertices in
     let ok : Claim → Type 0 = open_to vs jobs c.args.s.now.barred.now c.args.s.now.window in
-    let none = laws.vertex_closed vs ok place c.in-Vert.kind c.in-Vert.count c.in-Vert.hold c.in-Vert.needs c.args.vertex c.args.most
+    let none = laws.vertex_closed vs ok scope c.in-Vert.kind c.in-Vert.count c.in-Vert.hold c.in-Vert.needs c.args.vertex c.args.most
     (λ may. true≢false (sym ((c.admits.ensures jobs stands).1 may) ∙ c.if-not-admits.true)) in
     rw c.in-Vert.is none
 
@@ -213,36 +213,36 @@ serves-copies-requires-in-Spread g t c κs h =
     )
 
 pub serves-returns-else-not-admits-clause-greatest : goal.serves-returns-else-not-admits-clause-greatest
-serves-returns-else-not-admits-clause-greatest g t c = λ jobs stands place within.
+serves-returns-else-not-admits-clause-greatest g t c = λ jobs stands scope within.
     let vs = c.args.s.now.graph.now.resources.vertices in
     let ok : Claim → Type 0 = open_to vs jobs c.args.s.now.barred.now c.args.s.now.window in
     let is = rw c.in-Vert.is at c.requires.of_need in
-    let one = laws.vertex_open vs ok place c.in-Vert.kind c.in-Vert.count c.in-Vert.hold c.in-Vert.needs c.args.vertex c.args.most c.copies.result c.requires.some within is
+    let one = laws.vertex_open vs ok scope c.in-Vert.kind c.in-Vert.count c.in-Vert.hold c.in-Vert.needs c.args.vertex c.args.most c.copies.result c.requires.some within is
     ((c.admits.ensures jobs stands).0 c.if-not-admits.false) (c.copies.ensures.greatest jobs stands) in
     rw c.in-Vert.is one
 
 pub serves-returns-in-Pool-clause-greatest : goal.serves-returns-in-Pool-clause-greatest
-serves-returns-in-Pool-clause-greatest g t c = λ jobs stands place within.
+serves-returns-in-Pool-clause-greatest g t c = λ jobs stands scope within.
     let vs = c.args.s.now.graph.now.resources.vertices in
     let ok : Claim → Type 0 = open_to vs jobs c.args.s.now.barred.now c.args.s.now.window in
     let is = rw c.in-Pool.is at c.requires.of_need in
-    let some = laws.pool_serves vs ok place c.in-Pool.kind c.in-Pool.quantity c.args.vertex c.args.most c.free.result c.min.result within is
+    let some = laws.pool_serves vs ok scope c.in-Pool.kind c.in-Pool.quantity c.args.vertex c.args.most c.free.result c.min.result within is
     (λ q. available_take (meets vs jobs c.args.s.now.barred.now) c.args.s.now.window c.args.vertex q c.free.result (c.free.ensures jobs stands)) (rw c.from.ensures at c.min.ensures) in
     rw c.in-Pool.is some
 
 pub serves-returns-then-not-admits-2-clause-greatest : goal.serves-returns-then-not-admits-2-clause-greatest
-serves-returns-then-not-admits-2-clause-greatest g t c = λ jobs stands place within.
+serves-returns-then-not-admits-2-clause-greatest g t c = λ jobs stands scope within.
     let vs = c.args.s.now.graph.now.resources.vertices in
     let ok : Claim → Type 0 = open_to vs jobs c.args.s.now.barred.now c.args.s.now.window in
-    let none = laws.node_closed vs ok place c.in-Spread.count c.in-Spread.needs c.args.vertex c.args.most
+    let none = laws.node_closed vs ok scope c.in-Spread.count c.in-Spread.needs c.args.vertex c.args.most
     (λ may. true≢false (sym ((c.admits-in-Spread.ensures jobs stands).1 may) ∙ c.if-not-admits-2.true)) in
     rw c.in-Spread.is none
 
 pub serves-returns-else-not-admits-2-clause-greatest : goal.serves-returns-else-not-admits-2-clause-greatest
-serves-returns-else-not-admits-2-clause-greatest g t c = λ jobs stands place within.
+serves-returns-else-not-admits-2-clause-greatest g t c = λ jobs stands scope within.
     let vs = c.args.s.now.graph.now.resources.vertices in
     let ok : Claim → Type 0 = open_to vs jobs c.args.s.now.barred.now c.args.s.now.window in
     let is = rw c.in-Spread.is at c.requires.of_need in
-    let some = laws.node_open vs ok place c.in-Spread.count c.in-Spread.needs c.args.vertex c.args.most c.copies-in-Spread.result within is
+    let some = laws.node_open vs ok scope c.in-Spread.count c.in-Spread.needs c.args.vertex c.args.most c.copies-in-Spread.result within is
     ((c.admits-in-Spread.ensures jobs stands).0 c.if-not-admits-2.false) (c.copies-in-Spread.ensures.greatest jobs stands) in
     rw c.in-Spread.is some

@@ -5,7 +5,7 @@ use Rattle.flux_defs.specs.Lowest.{CanServe}
 use Rattle.match_laws.specs.Offers.{SomeFits}
 use Rattle.match_laws.proofs.Walk.{Reached}
 use Rattle.match_laws.proofs.NeedLists.{AllFill}
-use Rattle.dfu_match.specs.Searches.{open_to, place_of}
+use Rattle.dfu_match.specs.Searches.{open_to, scope_of}
 use Rattle.dfu_match.proofs.counting.+counting.Given as goal
 
 -- the needs so far can be filled for as many copies, and no list for more
@@ -25,7 +25,7 @@ invariant-reach-loop-reached g l = record {
   within : l.reached ≤ l.most;
   from : l.span.from ≤ l.at;
   reached : (jobs : List Job) → g.F.FreeView.stands_for l.s.view.now jobs →
-      Reached (CanServe l.s.graph.now.resources.vertices (open_to l.s.graph.now.resources.vertices jobs l.s.barred.now l.s.window) (place_of l.fn.place) l.need) l.most l.at l.reached;
+      Reached (CanServe l.s.graph.now.resources.vertices (open_to l.s.graph.now.resources.vertices jobs l.s.barred.now l.s.window) (scope_of l.fn.scope) l.need) l.most l.at l.reached;
 }
 
 abbrev pub decreases-reach-loop-reached : goal.decreases-reach-loop-reached

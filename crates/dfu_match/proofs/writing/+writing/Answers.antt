@@ -11,18 +11,18 @@ use Rattle.flux_laws.proofs.FitLaws.{serves_less}
 use Rattle.match_laws.proofs.Walk.{filled_start, filled_over, filled_next, filled_done, filled_none}
 use Rattle.match_laws.proofs.NeedLists.{group_to, group_at, completes_next, completes_end}
 use Rattle.match_laws.proofs.Sizes.{size_Vert, size_Spread, size_item}
-use Rattle.dfu_match.specs.Searches.{open_to, place_of}
-use Rattle.dfu_match.proofs.PlaceLaws.{none_before, none_skipped, none_after, none_at_all, found}
+use Rattle.dfu_match.specs.Searches.{open_to, scope_of}
+use Rattle.dfu_match.proofs.ScopeLaws.{none_before, none_skipped, none_after, none_at_all, found}
 use Rattle.dfu_match.proofs.CountLaws as counts
 use Rattle.dfu_match.proofs.WriteLaws as laws
 use Rattle.dfu_match.proofs.writing.+writing.Goals as goal
 
 pub offer-returns-then-not-admits-clause-offers : goal.offer-returns-then-not-admits-clause-offers
 offer-returns-then-not-admits-clause-offers g t c =
-    laws.extends_none c.args.out.now.items _ (λ jobs stands place within.
+    laws.extends_none c.args.out.now.items _ (λ jobs stands scope within.
     let vs = c.args.s.now.graph.now.resources.vertices in
     let ok : Claim → Type 0 = open_to vs jobs c.args.s.now.barred.now c.args.s.now.window in
-    let none = counts.vertex_closed vs ok place c.in-Vert.kind c.in-Vert.count c.in-Vert.hold c.in-Vert.needs c.args.vertex c.args.most
+    let none = counts.vertex_closed vs ok scope c.in-Vert.kind c.in-Vert.count c.in-Vert.hold c.in-Vert.needs c.args.vertex c.args.most
     (λ may. true≢false (sym ((c.admits.ensures jobs stands).1 may) ∙ c.if-not-admits.true)) in
     rw c.in-Vert.is (laws.offers_none _ _ c.args.most 0 refl none))
 
@@ -32,11 +32,11 @@ offer-copies-requires-clause-valid g t c =
 
 pub offer-returns-then-copies-eq0-clause-offers : goal.offer-returns-then-copies-eq0-clause-offers
 offer-returns-then-copies-eq0-clause-offers g t c =
-    laws.extends_none c.args.out.now.items _ (λ jobs stands place within.
+    laws.extends_none c.args.out.now.items _ (λ jobs stands scope within.
     let vs = c.args.s.now.graph.now.resources.vertices in
     let ok : Claim → Type 0 = open_to vs jobs c.args.s.now.barred.now c.args.s.now.window in
     let is = rw c.in-Vert.is at c.requires.of_need in
-    let none = counts.vertex_open vs ok place c.in-Vert.kind c.in-Vert.count c.in-Vert.hold c.in-Vert.needs c.args.vertex c.args.most c.copies.result c.requires.some within is
+    let none = counts.vertex_open vs ok scope c.in-Vert.kind c.in-Vert.count c.in-Vert.hold c.in-Vert.needs c.args.vertex c.args.most c.copies.result c.requires.some within is
     ((c.admits.ensures jobs stands).0 c.if-not-admits.false) (c.copies.ensures.greatest jobs stands) in
     rw c.in-Vert.is (laws.offers_none _ _ c.args.most c.copies.result c.if-copies-eq0.true none))
 
@@ -44,11 +44,11 @@ pub offer-returns-then-hold-clause-offers : goal.offer-returns-then-hold-clause-
 offer-returns-then-hold-clause-offers g t c = (
   Hold c.args.vertex ∷ [],
   c.in_ok-write_claim-in-Vert.ensures,
-  λ jobs stands place within.
+  λ jobs stands scope within.
       let vs = c.args.s.now.graph.now.resources.vertices in
       let ok : Claim → Type 0 = open_to vs jobs c.args.s.now.barred.now c.args.s.now.window in
       let is = rw c.in-Vert.is at c.requires.of_need in
-      rw c.in-Vert.is (laws.offers_held vs ok place c.in-Vert.kind c.in-Vert.count c.in-Vert.hold c.in-Vert.needs c.args.vertex c.args.most c.copies.result c.if-hold.true c.if-copies-eq0.false c.requires.some within is
+      rw c.in-Vert.is (laws.offers_held vs ok scope c.in-Vert.kind c.in-Vert.count c.in-Vert.hold c.in-Vert.needs c.args.vertex c.args.most c.copies.result c.if-hold.true c.if-copies-eq0.false c.requires.some within is
       ((c.admits.ensures jobs stands).0 c.if-not-admits.false) (c.copies.ensures.greatest jobs stands)),
 )
 
@@ -77,12 +77,12 @@ offer-returns-then-not-fit-clause-offers g t c =
     let wrote = c.in_ok-fit-in-Vert.ensures in (
       wrote.0,
       wrote.1,
-      λ jobs stands place within.
+      λ jobs stands scope within.
           let vs = c.args.s.now.graph.now.resources.vertices in
           let ok : Claim → Type 0 = open_to vs jobs c.args.s.now.barred.now c.args.s.now.window in
           let is = rw c.in-Vert.is at c.requires.of_need in
           let never = rw c.if-not-fit.true at (wrote.2.1 jobs stands) in
-          rw c.in-Vert.is (laws.offers_unfit vs ok place c.in-Vert.kind c.in-Vert.count c.in-Vert.hold c.in-Vert.needs c.args.vertex c.args.most wrote.0 (wrote.2.0 c.if-not-fit.true) c.requires.some within is
+          rw c.in-Vert.is (laws.offers_unfit vs ok scope c.in-Vert.kind c.in-Vert.count c.in-Vert.hold c.in-Vert.needs c.args.vertex c.args.most wrote.0 (wrote.2.0 c.if-not-fit.true) c.requires.some within is
           ((c.admits.ensures jobs stands).0 c.if-not-admits.false) never),
     )
 
@@ -91,31 +91,31 @@ offer-returns-else-not-fit-clause-offers g t c =
     let wrote = c.in_ok-fit-in-Vert.ensures in (
       wrote.0,
       wrote.1,
-      λ jobs stands place within.
+      λ jobs stands scope within.
           let vs = c.args.s.now.graph.now.resources.vertices in
           let ok : Claim → Type 0 = open_to vs jobs c.args.s.now.barred.now c.args.s.now.window in
           let is = rw c.in-Vert.is at c.requires.of_need in
           let low = rw c.if-not-fit.false at (wrote.2.1 jobs stands) in
-          rw c.in-Vert.is (laws.offers_shared vs ok place c.in-Vert.kind c.in-Vert.count c.in-Vert.hold c.in-Vert.needs c.args.vertex c.args.most wrote.0 c.if-hold.false c.requires.some within is
+          rw c.in-Vert.is (laws.offers_shared vs ok scope c.in-Vert.kind c.in-Vert.count c.in-Vert.hold c.in-Vert.needs c.args.vertex c.args.most wrote.0 c.if-hold.false c.requires.some within is
           ((c.admits.ensures jobs stands).0 c.if-not-admits.false) low),
     )
 
 pub offer-returns-then-quantity-eq0-clause-offers : goal.offer-returns-then-quantity-eq0-clause-offers
 offer-returns-then-quantity-eq0-clause-offers g t c =
-    laws.extends_none c.args.out.now.items _ (λ jobs stands place within. laws.offers_none _ _ c.args.most c.serves-quantity.result c.if-quantity-eq0.true (c.serves-quantity.ensures.greatest jobs stands place within))
+    laws.extends_none c.args.out.now.items _ (λ jobs stands scope within. laws.offers_none _ _ c.args.most c.serves-quantity.result c.if-quantity-eq0.true (c.serves-quantity.ensures.greatest jobs stands scope within))
 
 pub offer-returns-in_ok-write_claim-in-Pool-clause-offers : goal.offer-returns-in_ok-write_claim-in-Pool-clause-offers
 offer-returns-in_ok-write_claim-in-Pool-clause-offers g t c = (
   Take c.args.vertex c.serves-quantity.result ∷ [],
   c.in_ok-write_claim-in-Pool.ensures,
-  λ jobs stands place within.
-      let g = rw c.in-Pool.is at (c.serves-quantity.ensures.greatest jobs stands place within) in
+  λ jobs stands scope within.
+      let g = rw c.in-Pool.is at (c.serves-quantity.ensures.greatest jobs stands scope within) in
       rw c.in-Pool.is (laws.offers_some _ _ c.args.most c.serves-quantity.result (Take c.args.vertex c.serves-quantity.result ∷ []) (let some = c.if-quantity-eq0.false in omega arith) g refl),
 )
 
 pub offer-returns-then-count-eq0-clause-offers : goal.offer-returns-then-count-eq0-clause-offers
 offer-returns-then-count-eq0-clause-offers g t c =
-    laws.extends_none c.args.out.now.items _ (λ jobs stands place within. laws.offers_none _ _ c.args.most c.serves-count.result c.if-count-eq0.true (c.serves-count.ensures.greatest jobs stands place within))
+    laws.extends_none c.args.out.now.items _ (λ jobs stands scope within. laws.offers_none _ _ c.args.most c.serves-count.result c.if-count-eq0.true (c.serves-count.ensures.greatest jobs stands scope within))
 
 pub offer-write_shared-requires-in-Spread : goal.offer-write_shared-requires-in-Spread
 offer-write_shared-requires-in-Spread g t c κs h =
@@ -143,12 +143,12 @@ offer-returns-then-not-fit-2-clause-offers g t c =
     let wrote = c.in_ok-fit-in-Spread.ensures in (
       wrote.0,
       wrote.1,
-      λ jobs stands place within.
+      λ jobs stands scope within.
           let vs = c.args.s.now.graph.now.resources.vertices in
           let ok : Claim → Type 0 = open_to vs jobs c.args.s.now.barred.now c.args.s.now.window in
           let never = rw c.if-not-fit-2.true at (wrote.2.1 jobs stands) in
-          let greatest = rw c.in-Spread.is at (c.serves-count.ensures.greatest jobs stands place within) in
-          absurd (laws.copies_fit vs ok place c.in-Spread.count c.in-Spread.needs c.args.vertex c.args.most c.serves-count.result c.if-count-eq0.false greatest never),
+          let greatest = rw c.in-Spread.is at (c.serves-count.ensures.greatest jobs stands scope within) in
+          absurd (laws.copies_fit vs ok scope c.in-Spread.count c.in-Spread.needs c.args.vertex c.args.most c.serves-count.result c.if-count-eq0.false greatest never),
     )
 
 pub offer-returns-else-not-fit-2-clause-offers : goal.offer-returns-else-not-fit-2-clause-offers
@@ -156,12 +156,12 @@ offer-returns-else-not-fit-2-clause-offers g t c =
     let wrote = c.in_ok-fit-in-Spread.ensures in (
       wrote.0,
       wrote.1,
-      λ jobs stands place within.
+      λ jobs stands scope within.
           let vs = c.args.s.now.graph.now.resources.vertices in
           let ok : Claim → Type 0 = open_to vs jobs c.args.s.now.barred.now c.args.s.now.window in
           let low = rw c.if-not-fit-2.false at (wrote.2.1 jobs stands) in
-          let greatest = rw c.in-Spread.is at (c.serves-count.ensures.greatest jobs stands place within) in
-          rw c.in-Spread.is (laws.offers_copies vs ok place c.in-Spread.count c.in-Spread.needs c.args.vertex c.args.most c.serves-count.result wrote.0 c.if-count-eq0.false greatest low),
+          let greatest = rw c.in-Spread.is at (c.serves-count.ensures.greatest jobs stands scope within) in
+          rw c.in-Spread.is (laws.offers_copies vs ok scope c.in-Spread.count c.in-Spread.needs c.args.vertex c.args.most c.serves-count.result wrote.0 c.if-count-eq0.false greatest low),
     )
 
 pub write_group-returns-in_default : goal.write_group-returns-in_default
@@ -169,12 +169,12 @@ write_group-returns-in_default g t c =
     laws.extends_none c.args.out.now.items _ (λ jobs stands some.
     let vs = c.args.s.now.graph.now.resources.vertices in
     let ok : Claim → Type 0 = open_to vs jobs c.args.s.now.barred.now c.args.s.now.window in
-    let place = place_of c.args.place in
+    let scope = scope_of c.args.scope in
     let need = c.args.need.now in
-    let never = none_at_all vs ok place need c.in_default.ensures in
-    filled_none _ (serves_less vs ok (takes_less _ _) place need) (λ v q cs. ⊥) (c.args.k * amount_of need) 0 (c.args.k * amount_of need) [] (λ v q lo h can. never v q can)
+    let never = none_at_all vs ok scope need c.in_default.ensures in
+    filled_none _ (serves_less vs ok (takes_less _ _) scope need) (λ v q cs. ⊥) (c.args.k * amount_of need) 0 (c.args.k * amount_of need) [] (λ v q lo h can. never v q can)
     (laws.some_scaled c.args.k (amount_of need) c.requires.some (counts.amount_some vs need c.requires.valid))
-    (filled_start _ _ (c.args.k * amount_of need) 0 (λ v q lo hi h can. never v q can)) (group_to vs ok place need (c.args.k * amount_of need) some))
+    (filled_start _ _ (c.args.k * amount_of need) 0 (λ v q lo hi h can. never v q can)) (group_to vs ok scope need (c.args.k * amount_of need) some))
 
 pub write_group-loop-missing-init : goal.write_group-loop-missing-init
 write_group-loop-missing-init g t c =
@@ -186,7 +186,7 @@ write_group-loop-missing-init g t c =
           let vs = c.args.s.now.graph.now.resources.vertices in
           let ok : Claim → Type 0 = open_to vs jobs c.args.s.now.barred.now c.args.s.now.window in
           rw total (filled_start _ _ (c.args.k * amount_of c.args.need.now) c.span_of-span.result.from
-          (none_before vs ok (place_of c.args.place) c.args.need.now c.span_of-span.result.from c.span_of-span.result.to c.span_of-span.ensures.covers)));
+          (none_before vs ok (scope_of c.args.scope) c.args.need.now c.span_of-span.result.from c.span_of-span.result.to c.span_of-span.ensures.covers)));
     }
 
 pub write_group-returns-in_default-next_of_kind : goal.write_group-returns-in_default-next_of_kind
@@ -197,12 +197,12 @@ write_group-returns-in_default-next_of_kind g t c =
       λ jobs stands some.
           let vs = c.args.s.now.graph.now.resources.vertices in
           let ok : Claim → Type 0 = open_to vs jobs c.args.s.now.barred.now c.args.s.now.window in
-          let place = place_of c.args.place in
+          let scope = scope_of c.args.scope in
           let need = c.args.need.now in
           let of_kind = rw c.in-Some.is at c.kind_of.ensures in
-          filled_none _ (serves_less vs ok (takes_less _ _) place need) _ (c.args.k * amount_of need) c.loop-missing.at c.loop-missing.missing wrote.0
-          (none_after vs ok place need c.in-Some.kind c.span_of-span.result.from c.loop-missing.at c.span_of-span.result.to c.span_of-span.ensures.covers of_kind c.in_default-next_of_kind.ensures)
-          c.loop-missing-test.true (wrote.2 jobs stands) (group_to vs ok place need (c.args.k * amount_of need) some),
+          filled_none _ (serves_less vs ok (takes_less _ _) scope need) _ (c.args.k * amount_of need) c.loop-missing.at c.loop-missing.missing wrote.0
+          (none_after vs ok scope need c.in-Some.kind c.span_of-span.result.from c.loop-missing.at c.span_of-span.result.to c.span_of-span.ensures.covers of_kind c.in_default-next_of_kind.ensures)
+          c.loop-missing-test.true (wrote.2 jobs stands) (group_to vs ok scope need (c.args.k * amount_of need) some),
     )
 
 pub write_group-loop-missing-preserved : goal.write_group-loop-missing-preserved
@@ -212,7 +212,7 @@ write_group-loop-missing-preserved g t c =
     let of_kind = rw c.in-Some.is at c.kind_of.ensures in
     let next = rw c.in-Some-next_of_kind.is at c.next_of_kind.ensures in
     let low = next.low in
-    let is = found vs (λ claim. ⊥) (place_of c.args.place) need c.in-Some.kind c.span_of-span.result.from c.loop-missing.at c.span_of-span.result.to c.in-Some-next_of_kind.vertex c.span_of-span.ensures.covers
+    let is = found vs (λ claim. ⊥) (scope_of c.args.scope) need c.in-Some.kind c.span_of-span.result.from c.loop-missing.at c.span_of-span.result.to c.in-Some-next_of_kind.vertex c.span_of-span.ensures.covers
     c.loop-missing.invariant.from c.span_of-span.ensures.within of_kind next in
     let before = c.loop-missing.invariant.written in
     let wrote = c.in_ok-served.ensures.offers in
@@ -224,12 +224,12 @@ write_group-loop-missing-preserved g t c =
         laws.extends_twice c.args.out.now.items c.loop-missing.out.items c.offer.new.out.items before.0 wrote.0 before.1 wrote.1,
         λ jobs stands.
             let ok : Claim → Type 0 = open_to vs jobs c.args.s.now.barred.now c.args.s.now.window in
-            let place = place_of c.args.place in
-            rw c.from-missing.ensures (filled_next _ (serves_less vs ok (takes_less _ _) place need) _ (c.args.k * amount_of need) c.in-Some-next_of_kind.vertex c.loop-missing.missing c.in_ok-served.served before.0 wrote.0
+            let scope = scope_of c.args.scope in
+            rw c.from-missing.ensures (filled_next _ (serves_less vs ok (takes_less _ _) scope need) _ (c.args.k * amount_of need) c.in-Some-next_of_kind.vertex c.loop-missing.missing c.in_ok-served.served before.0 wrote.0
             c.loop-missing-test.true
             (filled_over _ _ (c.args.k * amount_of need) c.loop-missing.at c.in-Some-next_of_kind.vertex c.loop-missing.missing before.0 low
-            (none_skipped vs ok place need c.in-Some.kind c.loop-missing.at c.span_of-span.result.to c.in-Some-next_of_kind.vertex of_kind next) (before.2 jobs stands))
-            (wrote.2 jobs stands place is.1)),
+            (none_skipped vs ok scope need c.in-Some.kind c.loop-missing.at c.span_of-span.result.to c.in-Some-next_of_kind.vertex of_kind next) (before.2 jobs stands))
+            (wrote.2 jobs stands scope is.1)),
       );
     }
 
@@ -254,7 +254,7 @@ write_needs-write_group-requires g t c κs h =
         (
           search rules,
           (
-            c.requires.place,
+            c.requires.scope,
             (
               counts.valid_at vs items i need (drop (i + 1) items) split valid,
               (counts.may_scale_at c.args.k items i need (drop (i + 1) items) split (rw c.items-need-items.ensures c.requires.may), c.requires.some),
@@ -278,7 +278,7 @@ write_needs-returns-then-not-filled g t c =
           let vs = c.args.s.now.graph.now.resources.vertices in
           let ok : Claim → Type 0 = open_to vs jobs c.args.s.now.barred.now c.args.s.now.window in
           let never = rw c.if-not-filled.true at (wrote.2 jobs stands) in
-          never (group_at vs ok c.args.k (place_of c.args.place) items i need (drop (i + 1) items) split (rw c.items-need-items.ensures fit)),
+          never (group_at vs ok c.args.k (scope_of c.args.scope) items i need (drop (i + 1) items) split (rw c.items-need-items.ensures fit)),
     )
 
 pub write_needs-loop-need-preserved : goal.write_needs-loop-need-preserved
@@ -295,7 +295,7 @@ write_needs-loop-need-preserved g t c =
           let vs = c.args.s.now.graph.now.resources.vertices in
           let ok : Claim → Type 0 = open_to vs jobs c.args.s.now.barred.now c.args.s.now.window in
           let group = rw c.if-not-filled.false at (wrote.2 jobs stands) in
-          completes_next vs ok c.args.k (place_of c.args.place) items (drop i items) (drop (i + 1) items) need before.0 wrote.0 split group (before.2 jobs stands),
+          completes_next vs ok c.args.k (scope_of c.args.scope) items (drop i items) (drop (i + 1) items) need before.0 wrote.0 split group (before.2 jobs stands),
     )
 
 pub write_needs-returns : goal.write_needs-returns
@@ -307,5 +307,5 @@ write_needs-returns g t c =
       λ jobs stands.
           let vs = c.args.s.now.graph.now.resources.vertices in
           let ok : Claim → Type 0 = open_to vs jobs c.args.s.now.barred.now c.args.s.now.window in
-          rw (← c.items-need-items.ensures) (completes_end vs ok c.args.k (place_of c.args.place) items (drop c.loop-need.need-index items) wrote.0 (drop_all c.loop-need.need-index items c.loop-need-test.false) (wrote.2 jobs stands)),
+          rw (← c.items-need-items.ensures) (completes_end vs ok c.args.k (scope_of c.args.scope) items (drop c.loop-need.need-index items) wrote.0 (drop_all c.loop-need.need-index items c.loop-need-test.false) (wrote.2 jobs stands)),
     )

@@ -12,7 +12,7 @@ use Rattle.graph_build.specs.Raw.{IsBuiltFrom, raw_graph, raw_names}
 use Rattle.graph_json.specs.declared.faults.ReadFault.{ReadFault}
 use Rattle.graph_json.specs.RawLists.{kinds_of, vertices_of}
 use Rattle.graph_json.specs.GraphFile.{FileLists, GraphFile, lists_held, lists_of}
-use Rattle.graph_json.specs.GraphText.{IsValueOf, IsGraphText, Says, HasRightEdges, Tells, TellsRaw}
+use Rattle.graph_json.specs.GraphText.{IsValueOf, IsGraphText, Says, HasRightEdges, IsFirstFault, IsFirstRawFault}
 use Rattle.graph_json.proofs.TextLaws.{matched_ok, matched_err, file_with, file-read, told_edge, told_raw}
 use Rattle.graph_json.proofs.reading.graph_of.Goals as goal
 
@@ -65,8 +65,8 @@ module _ (d : Data) (lists : FileLists) (nodes : List FileNode) (parents : List 
   graph_told (Ok g) built = λ bytes is. (let made = built (counted (edges_of 0 lists.edges)) same in (file, says bytes is, right, made.0, made.1))
   graph_told (Err e) built = tt
 
-  fault_told : (r : Result NamedGraph ReadFault) → IfErr r (λ f. (edges : List FileEdge) → parents ≡ parents_of (ids_of nodes) edges → TellsRaw (kinds_of nodes) (vertices_of nodes edges) f)
-      → IfErr r (λ f. (bytes : List ℕ) → IsValueOf bytes d → Tells bytes f)
+  fault_told : (r : Result NamedGraph ReadFault) → IfErr r (λ f. (edges : List FileEdge) → parents ≡ parents_of (ids_of nodes) edges → IsFirstRawFault (kinds_of nodes) (vertices_of nodes edges) f)
+      → IfErr r (λ f. (bytes : List ℕ) → IsValueOf bytes d → IsFirstFault bytes f)
   fault_told (Ok g) told = tt
   fault_told (Err e) told = λ bytes is. told_raw bytes file (says bytes is) right e (told (counted (edges_of 0 lists.edges)) same)
 

@@ -2,7 +2,7 @@ use Rattle.std.proofs.Common.{ℕ, List, Result, Ok, Err, IfOk, IfErr}
 use Rattle.serde_json.specs.Data.{Data}
 use Rattle.serde_json.specs.View.{view}
 use Rattle.resource_graph.specs.NamedGraph.{NamedGraph}
-use Rattle.graph_json.specs.GraphText.{IsValueOf, IsGraphText, Tells}
+use Rattle.graph_json.specs.GraphText.{IsValueOf, IsGraphText, IsFirstFault}
 use Rattle.graph_json.specs.declared.faults.ReadFault.{ReadFault}
 use Rattle.graph_json.proofs.TextLaws.{one_answer}
 use Rattle.graph_json.proofs.reading.read_graph.Goals as goal
@@ -12,7 +12,7 @@ module _ (bytes : List ℕ) (d : Data) (is : IsValueOf bytes d) where
   graph_told (Ok g) told = told bytes is
   graph_told (Err e) told = tt
 
-  fault_told : (r : Result NamedGraph ReadFault) → IfErr r (λ f. (bytes : List ℕ) → IsValueOf bytes d → Tells bytes f) → IfErr r (Tells bytes)
+  fault_told : (r : Result NamedGraph ReadFault) → IfErr r (λ f. (bytes : List ℕ) → IsValueOf bytes d → IsFirstFault bytes f) → IfErr r (IsFirstFault bytes)
   fault_told (Ok g) told = tt
   fault_told (Err e) told = told bytes is
 

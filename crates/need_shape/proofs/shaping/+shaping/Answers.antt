@@ -7,7 +7,7 @@ use Rattle.need_shape.specs.declared.raw.ShapeFault.{ShapeFault}
 use Rattle.need_shape.specs.Requests.{is_slot}
 use Rattle.need_shape.specs.Types.{types_at}
 use Rattle.need_shape.specs.Shapes.{in_type, needs_in, slot_needs_in}
-use Rattle.need_shape.specs.Faults.{Tells, fault_of, list_fault}
+use Rattle.need_shape.specs.Faults.{IsFirstFault, fault_of, list_fault}
 use Rattle.need_shape.proofs.Rows.{needs_of_slot, needs_of_type, fault_of_slot, fault_of_type}
 use Rattle.need_shape.proofs.ShapeLaws.{pool_told, vert_fault, vert_need}
 use Rattle.need_shape.proofs.shaping.+shaping.Goals as goal
@@ -24,7 +24,7 @@ pub add_member-returns-then-is_slot-clause-told : goal.add_member-returns-then-i
 add_member-returns-then-is_slot-clause-told t c =
     let types = types_at c.args.graph.now c.args.table.now in
     let slot = ap is_slot (sym c.bytes.ensures) ∙ (sym c.is_slot.ensures ∙ c.if-is_slot.true) in
-    subst (λ (f : Option ShapeFault). IfErr c.add_slot.result (Tells f)) (sym (fault_of_slot types c.args.within c.args.raw.now slot)) c.add_slot.ensures.told
+    subst (λ (f : Option ShapeFault). IfErr c.add_slot.result (IsFirstFault f)) (sym (fault_of_slot types c.args.within c.args.raw.now slot)) c.add_slot.ensures.told
 
 pub shape_type-returns-then-is_pool-clause-told : goal.shape_type-returns-then-is_pool-clause-told
 shape_type-returns-then-is_pool-clause-told t c =
@@ -44,7 +44,7 @@ pub add_member-returns-in-Err-clause-told : goal.add_member-returns-in-Err-claus
 add_member-returns-in-Err-clause-told t c =
     let types = types_at c.args.graph.now c.args.table.now in
     let slot = ap is_slot (sym c.bytes.ensures) ∙ (sym c.is_slot.ensures ∙ c.if-is_slot.false) in
-    subst (λ (o : Option ShapeFault). Tells o c.in-Err.fault) (sym (fault_of_type types c.args.within c.args.raw.now slot)) c.in-Err.ensures.told
+    subst (λ (o : Option ShapeFault). IsFirstFault o c.in-Err.fault) (sym (fault_of_type types c.args.within c.args.raw.now slot)) c.in-Err.ensures.told
 
 pub shape_type-returns-in-Ok-clause-need : goal.shape_type-returns-in-Ok-clause-need
 shape_type-returns-in-Ok-clause-need t c =
@@ -66,5 +66,5 @@ shape_type-returns-in-Err-clause-told t c =
     let types = types_at c.args.graph.now c.args.table.now in
     let pool = ap (λ k. is_pool_kind types.vertices (place_of types.names k)) (sym c.bytes.ensures) ∙ (ap (is_pool_kind types.vertices) (sym c.number_of-kind.ensures) ∙ (sym c.is_pool.ensures ∙ c.if-is_pool.false)) in
     let inside = c.in_type-inside.ensures ∙ ap (in_type types c.args.within) c.bytes-2.ensures in
-    subst (λ (o : Option ShapeFault). Tells o c.in-Err.fault)
+    subst (λ (o : Option ShapeFault). IsFirstFault o c.in-Err.fault)
     (ap (λ w. list_fault types w (out-RawNeed c.args.raw.now).with) inside ∙ vert_fault types c.args.within c.args.raw.now pool) c.in-Err.ensures.told

@@ -15,7 +15,7 @@ claims_after-claims-requires g c =
     let kept = c.args.kept.now in
     let core = c.requires.core in
     record {
-      room = subst (λ (n : ℕ). HasRoom c.args.site.now.limit n c.args.entry.reply) (sym core.claims-are)
+      room = subst (λ (n : ℕ). HasRoom c.args.site.now.claim_limit n c.args.entry.reply) (sym core.claims-are)
           (owed_here c.args.site.now kept core c.args.entry c.requires.proper c.requires.reply).1;
     }
 

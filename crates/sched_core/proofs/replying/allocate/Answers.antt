@@ -17,8 +17,8 @@ give-requires g c =
     let core = c.requires.core in
     let s = left_by (journal_in kept) in
     let v = verdict_of c.in_ok-verdict.verdict in
-    let finds = subst (λ (n : NamedGraph). Finds (setting_of n.resources (rules_of kept.book) site.horizon site.limit) s (command.Allocate c.args.id c.args.ask.now) v) c.deref.ensures
-    (c.in_ok-verdict.ensures (rules_of kept.book) site.limit (journal_in kept) core.book-of) in
+    let finds = subst (λ (n : NamedGraph). Finds (setting_of n.resources (rules_of kept.book) site.horizon site.claim_limit) s (command.Allocate c.args.id c.args.ask.now) v) c.deref.ensures
+    (c.in_ok-verdict.ensures (rules_of kept.book) site.claim_limit (journal_in kept) core.book-of) in
     subst (λ (h : ℕ). IsOfJob h c.args.ask.now v) (sym c.reached.ensures.horizon) (now_of_job (setting_in site kept) s c.args.id c.args.ask.now v finds)
 
 pub returns : goal.returns
@@ -30,9 +30,9 @@ returns g c =
     let graph = (arc_value site.graph).resources in
     let rules = rules_of kept.book in
     let v = verdict_of c.in_ok-verdict.verdict in
-    let finds = subst (λ (n : NamedGraph). Finds (setting_of n.resources rules site.horizon site.limit) s (command.Allocate c.args.id c.args.ask.now) v) c.deref.ensures
-    (c.in_ok-verdict.ensures rules site.limit (journal_in kept) core.book-of) in
-    let given = c.give.ensures graph rules s (sym c.reached.ensures.moment) (sym c.reached.ensures.claims) in
+    let finds = subst (λ (n : NamedGraph). Finds (setting_of n.resources rules site.horizon site.claim_limit) s (command.Allocate c.args.id c.args.ask.now) v) c.deref.ensures
+    (c.in_ok-verdict.ensures rules site.claim_limit (journal_in kept) core.book-of) in
+    let given = c.give.ensures graph rules s (sym c.reached.ensures.moment) (sym c.reached.ensures.claim_count) in
     let answers = subst (λ (n : ℕ). Answers (setting_of graph rules site.horizon n) s c.args.id c.args.ask.now reply.Busy v c.give.result) c.reached.ensures.limit
-    (subst (λ (h : ℕ). Answers (setting_of graph rules h c.reached.result.limit) s c.args.id c.args.ask.now reply.Busy v c.give.result) c.reached.ensures.horizon given) in
+    (subst (λ (h : ℕ). Answers (setting_of graph rules h c.reached.result.claim_limit) s c.args.id c.args.ask.now reply.Busy v c.give.result) c.reached.ensures.horizon given) in
     now_decided (setting_in site kept) s c.args.id c.args.ask.now v c.give.result finds answers

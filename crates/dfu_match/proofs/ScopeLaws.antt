@@ -1,11 +1,11 @@
--- Which vertices are in a place, and of a need.
+-- Which vertices are in a scope, and of a need.
 use Rattle.std.proofs.Common.{◌≡◌, ◌≢◌, ℕ, ◌+◌, ◌<◌, ◌≤◌, ◌↔◌, List, length, Option, Some, None, slice_get, refl, sym, ◌∙◌, ap, arith}
 use Rattle.std.specs.Prelude.{codes, IsSome}
 use Rattle.std.specs.Option.{IsSomeAnd}
 use Rattle.flux_defs.specs.declared.vertices.Vertex.{Vertex}
 use Rattle.flux_defs.specs.declared.claims.Claim.{Claim}
 use Rattle.flux_defs.specs.declared.requests.Need.{Need}
-use Rattle.flux_defs.specs.Graph.{ResourceGraph, Place, Everywhere, Beneath, IsIn, HasKind, IsNode}
+use Rattle.flux_defs.specs.Graph.{ResourceGraph, Scope, Everywhere, Beneath, IsIn, HasKind, IsNode}
 use Rattle.flux_defs.specs.ValidGraph.{IsValidGraph, HasType}
 use Rattle.flux_defs.specs.Needs.{IsOfNeed}
 use Rattle.flux_defs.specs.Lowest.{CanServe}
@@ -70,39 +70,39 @@ module _ (g : ResourceGraph) (names : List (List ℕ)) (valid : IsValidGraph g n
       at_vertex None k = elim k [ ]
       at_vertex (Some y) k = never y.kind k
 
-module _ (vertices : List Vertex) (ok : Claim → Type 0) (place : Place) (need : Need) where
+module _ (vertices : List Vertex) (ok : Claim → Type 0) (scope : Scope) (need : Need) where
   abbrev can : ℕ → ℕ → Type 0
-  can = CanServe vertices ok place need
+  can = CanServe vertices ok scope need
 
-  in_graph : (p : Place) (v : ℕ) → IsIn vertices p v → v < length vertices
+  in_graph : (p : Scope) (v : ℕ) → IsIn vertices p v → v < length vertices
   in_graph Everywhere v h = h
   in_graph (Beneath u) v h = h.0
 
-  -- no vertex before the place serves
-  pub none_before : (from to : ℕ) → Covers vertices place from to → NoneBetween can 0 from
+  -- no vertex before the scope serves
+  pub none_before : (from to : ℕ) → Covers vertices scope from to → NoneBetween can 0 from
   none_before from to cover v q lo hi some c =
-      let s = server vertices ok place need v q c in
-      let within : from ≤ v = ((cover v (in_graph place v s.1)).0 s.1).0 in omega arith
+      let s = server vertices ok scope need v q c in
+      let within : from ≤ v = ((cover v (in_graph scope v s.1)).0 s.1).0 in omega arith
 
   -- nor one that the walk leaves out
   pub none_skipped : (kind at to v : ℕ) → IsKindOfNeed vertices need (Some kind) → IsNextOfKind vertices kind at to v → NoneBetween can at v
   none_skipped kind at to v of_kind next u q lo hi some c =
-      let s = server vertices ok place need u q c in
+      let s = server vertices ok scope need u q c in
       let least : v ≤ u = next.least u ((of_kind u).0 s.0) lo in omega arith
 
   -- nor one from where the walk finds none
-  pub none_after : (kind from at to : ℕ) → Covers vertices place from to → IsKindOfNeed vertices need (Some kind) → HasNoneOfKind vertices kind at to → (v q : ℕ) → at ≤ v → 1 ≤ q → can v q → ⊥
+  pub none_after : (kind from at to : ℕ) → Covers vertices scope from to → IsKindOfNeed vertices need (Some kind) → HasNoneOfKind vertices kind at to → (v q : ℕ) → at ≤ v → 1 ≤ q → can v q → ⊥
   none_after kind from at to cover of_kind none v q lo some c =
-      let s = server vertices ok place need v q c in
-      none v ((of_kind v).0 s.0) lo ((cover v (in_graph place v s.1)).0 s.1).1
+      let s = server vertices ok scope need v q c in
+      none v ((of_kind v).0 s.0) lo ((cover v (in_graph scope v s.1)).0 s.1).1
 
   -- nor any where the need has no kind
   pub none_at_all : IsKindOfNeed vertices need None → (v q : ℕ) → can v q → ⊥
-  none_at_all never v q c = never v (server vertices ok place need v q c).0
+  none_at_all never v q c = never v (server vertices ok scope need v q c).0
 
-  -- the vertex that the walk finds is of the need, and in the place
-  pub found : (kind from at to v : ℕ) → Covers vertices place from to → from ≤ at → to ≤ length vertices → IsKindOfNeed vertices need (Some kind) → IsNextOfKind vertices kind at to v →
-      IsOfNeed vertices need v × IsIn vertices place v
+  -- the vertex that the walk finds is of the need, and in the scope
+  pub found : (kind from at to v : ℕ) → Covers vertices scope from to → from ≤ at → to ≤ length vertices → IsKindOfNeed vertices need (Some kind) → IsNextOfKind vertices kind at to v →
+      IsOfNeed vertices need v × IsIn vertices scope v
   found kind from at to v cover lo hi of_kind next =
       let low : at ≤ v = next.low in
       let high : v < to = next.high in

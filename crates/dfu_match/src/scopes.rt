@@ -1,7 +1,7 @@
 //! Which vertices a need is looked for among.
 ghost use Rattle.std.specs.Prelude.{◌≡◌, ◌≤◌, length};
 ghost use Rattle.flux_defs.specs.Needs.{amount_of};
-ghost use Rattle.dfu_match.specs.Searches.{place_of, IsPlace, Covers, IsKindOfNeed};
+ghost use Rattle.dfu_match.specs.Searches.{scope_of, IsScope, Covers, IsKindOfNeed};
 
 use flux_defs::Need;
 use resource_graph::Graph;
@@ -14,14 +14,14 @@ pub(crate) struct Span {
 }
 
 /// The vertices below this one, which follow it, or all.
-pub(crate) fn span_of(graph: &Graph, place: Option<u32>) -> Span
-    requires { IsPlace graph.now.resources.vertices place }
-    ensures covers { Covers graph.now.resources.vertices (place_of place) result.from result.to }
+pub(crate) fn span_of(graph: &Graph, scope: Option<u32>) -> Span
+    requires { IsScope graph.now.resources.vertices scope }
+    ensures covers { Covers graph.now.resources.vertices (scope_of scope) result.from result.to }
     ensures within { result.to ≤ length graph.now.resources.vertices }
 {
     // this call tells that the graph is valid
     let _valid = graph.vertices();
-    match place {
+    match scope {
         None => Span {
             from: 0,
             to: graph.len(),

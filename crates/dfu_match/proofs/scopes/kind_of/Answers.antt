@@ -5,8 +5,8 @@ use Rattle.flux_defs.specs.declared.requests.Need.{Spread}
 use Rattle.flux_defs.specs.declared.requests.Need as need
 use Rattle.resource_graph.specs.Tables.{IsNamedKind}
 use Rattle.dfu_match.specs.Searches.{IsKindOfNeed}
-use Rattle.dfu_match.proofs.PlaceLaws.{node_kind, no_node}
-use Rattle.dfu_match.proofs.places.kind_of.Goals as goal
+use Rattle.dfu_match.proofs.ScopeLaws.{node_kind, no_node}
+use Rattle.dfu_match.proofs.scopes.kind_of.Goals as goal
 
 kind_of_spread : (g : ResourceGraph) (names : List (List ℕ)) → IsValidGraph g names → (count : ℕ) (needs : List need.Need) (found : Option ℕ) → IsNamedKind g (codes "node") found → IsKindOfNeed g.vertices (Spread count needs) found
 kind_of_spread g names valid count needs None none = no_node g names valid none

@@ -1,5 +1,5 @@
-use Rattle.dfu_match.proofs.PlaceLaws.{covers_below}
-use Rattle.dfu_match.proofs.places.span_of.Goals as goal
+use Rattle.dfu_match.proofs.ScopeLaws.{covers_below}
+use Rattle.dfu_match.proofs.scopes.span_of.Goals as goal
 
 pub returns-in-Some-clause-covers : goal.returns-in-Some-clause-covers
 returns-in-Some-clause-covers c =
