@@ -114,7 +114,7 @@ fn are_apart(graph: &Graph, need: &Need, other: &Need) -> bool
     ensures { IsTrue result ↔ AreApartKinds graph.now.resources.vertices need.now other.now }
 {
     // this call tells that the graph is valid
-    let _valid = graph.vertices();
+    graph.is_valid();
     if are_spreads(need, other) {
         return false;
     }
@@ -153,7 +153,7 @@ fn only_kind(graph: &Graph, need: &Need) -> Option<u32>
     ensures { IsOnlyKind graph.now.resources.vertices need.now result }
 {
     // this call tells that the graph is valid
-    let _valid = graph.vertices();
+    graph.is_valid();
     match need {
         Need::Vert { kind, .. } => Some(*kind),
         Need::Pool { kind, .. } => Some(*kind),

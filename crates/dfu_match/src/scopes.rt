@@ -20,7 +20,7 @@ pub(crate) fn span_of(graph: &Graph, scope: Option<u32>) -> Span
     ensures within { result.to ≤ length graph.now.resources.vertices }
 {
     // this call tells that the graph is valid
-    let _valid = graph.vertices();
+    graph.is_valid();
     match scope {
         None => Span {
             from: 0,
@@ -38,7 +38,7 @@ pub(crate) fn kind_of(graph: &Graph, need: &Need) -> Option<u32>
     ensures { IsKindOfNeed graph.now.resources.vertices need.now result }
 {
     // this call tells that the graph is valid
-    let _valid = graph.vertices();
+    graph.is_valid();
     match need {
         Need::Vert { kind, .. } => Some(*kind),
         Need::Pool { kind, .. } => Some(*kind),

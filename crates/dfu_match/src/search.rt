@@ -33,7 +33,7 @@ fn bars_over<F: FreeView>(s: &Search<F>, vertex: u32) -> bool
     ensures { result ≡ list_any (is_at_or_below s.now.graph.now.resources.vertices vertex) s.now.barred.now }
 {
     // this call tells that the graph is valid
-    let _valid = s.graph.vertices();
+    s.graph.is_valid();
     match s.graph.node_of(vertex) {
         None => false,
         Some(node) => match least_from(s.barred.items(), node) {
@@ -49,7 +49,7 @@ fn bars_below<F: FreeView>(s: &Search<F>, vertex: u32) -> bool
     ensures { result ≡ list_any (λ u. is_at_or_below s.now.graph.now.resources.vertices u vertex) s.now.barred.now }
 {
     // this call tells that the graph is valid
-    let _valid = s.graph.vertices();
+    s.graph.is_valid();
     match least_from(s.barred.items(), vertex) {
         None => false,
         Some(lower) => lower < s.graph.past(vertex),

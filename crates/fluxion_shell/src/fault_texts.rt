@@ -5,7 +5,7 @@ ghost use Rattle.fluxion_shell.specs.Ends.{graph_words, fault_words};
 use fluxion_lines::pieces::{add, add_number};
 use graph_json::ReadFault;
 use json_fields::field_word;
-use resource_graph::GraphFault;
+use graph_build::GraphFault;
 use std::alloc::AllocError;
 
 /// Adds the words and the number.

@@ -11,7 +11,7 @@ use Rattle.flux_defs.specs.ValidGraph.{IsValidGraph, NumbersKinds}
 use Rattle.resource_graph.specs.Lines.{KnowsParents}
 use Rattle.graph_build.specs.Orders.{IsOrderOf, IsPreorderOf, IsRooted}
 use Rattle.resource_graph.specs.Preorder.{KnowsKinds}
-use Rattle.graph_build.specs.Faults.{IsFaultless}
+use Rattle.graph_build.proofs.Facts.{Facts}
 use Rattle.resource_graph.specs.Made.{named_graph}
 use Rattle.graph_build.specs.Raw.{shape_of, raw_graph, raw_names, KindsApart, IsArranged, KeepsSiblings, KeepsTexts, IsBuiltFrom}
 use Rattle.graph_build.specs.Arranged.{HasNumbers, IsArrangedList, HasTexts, HasKindAt, IsNumbered, IsKindNumbering, HasKindNumbers, HasMadeTo}
@@ -23,7 +23,7 @@ use Rattle.graph_build.proofs.ValidLaws.{rooted_of_faultless, valid_of_faultless
 use Rattle.resource_graph.proofs.Values.{from_value}
 use Rattle.graph_build.proofs.ArrangeLaws.{place_of, place_at, place_is, parent_place}
 
-module _ (kinds : List (List ℕ)) (names : List (List ℕ)) (vertices : List Vertex) (fine : IsFaultless (record { kinds = kinds; vertices = vertices }) names) where
+module _ (kinds : List (List ℕ)) (names : List (List ℕ)) (vertices : List Vertex) (fine : Facts (record { kinds = kinds; vertices = vertices }) names) where
   pub kinds_known : KnowsKinds vertices (length kinds)
   kinds_known i x e = elim (cases_lt x.kind (length kinds)) [ inl less ↦ less | inr past ↦ absurd (fine.known i (from_value (slice_get vertices i) (λ z. length kinds ≤ z.kind) x e past)) ]
 
@@ -160,7 +160,7 @@ texts_kept raw list order g texts places arranged has = record {
 
 -- the graph that was built is whole, and built from the list
 pub built_whole : (kinds : List (List ℕ)) (raw list : List RawVertex) (order numbers : List ℕ) (numbering : KindNumbering) (made : List Vertex) (texts : Texts) →
-    KindsApart kinds → IsFaultless (raw_graph kinds raw) (raw_names raw) → IsPreorderOf (map shape_of raw) order → HasNumbers order (length order) numbers →
+    KindsApart kinds → Facts (raw_graph kinds raw) (raw_names raw) → IsPreorderOf (map shape_of raw) order → HasNumbers order (length order) numbers →
     IsKindNumbering kinds (map shape_of raw) order (length order) numbering →
     HasMadeTo kinds (map shape_of raw) order numbers numbering.numbers.items (length order) made →
     IsArrangedList raw order (length order) list → HasTexts list texts →
@@ -193,26 +193,21 @@ built_whole kinds raw list order numbers numbering made texts apart fine pre has
     }
 
 -- the same from what each step says of the slices that it was lent
-pub built_steps : (kinds : List (List ℕ)) (raw : List RawVertex) (lent owned : List RawVertex) (shapes s1 s3 s5 : List Vertex) (order o2 o4 o6 o9 numbers n7 : List ℕ) (kinds2 kinds3 : List (List ℕ))
+pub built_steps : (kinds : List (List ℕ)) (raw owned : List RawVertex) (shapes : List Vertex) (order o2 o4 o6 o9 numbers n7 : List ℕ)
     (numbering : KindNumbering) (kn8 : List (Option ℕ)) (made : List Vertex) (list : List RawVertex) (texts : Texts) →
-    KindsApart kinds → IsFaultless (raw_graph kinds raw) (raw_names raw) →
-    lent ≡ raw → shapes ≡ map shape_of lent →
-    s1 ≡ shapes → IsPreorderOf s1 order →
+    KindsApart kinds → Facts (raw_graph kinds raw) (raw_names raw) → shapes ≡ map shape_of raw → IsPreorderOf shapes order →
     o2 ≡ order → HasNumbers o2 (length o2) numbers →
-    kinds2 ≡ kinds → s3 ≡ shapes → o4 ≡ order → IsKindNumbering kinds2 s3 o4 (length o4) numbering →
-    kinds3 ≡ kinds → s5 ≡ shapes → o6 ≡ order → n7 ≡ numbers → kn8 ≡ numbering.numbers.items → HasMadeTo kinds3 s5 o6 n7 kn8 (length o6) made →
+    o4 ≡ order → IsKindNumbering kinds shapes o4 (length o4) numbering →
+    o6 ≡ order → n7 ≡ numbers → kn8 ≡ numbering.numbers.items → HasMadeTo kinds shapes o6 n7 kn8 (length o6) made →
     owned ≡ raw → o9 ≡ order → IsArrangedList owned o9 (length o9) list → HasTexts list texts →
     IsBuiltFrom kinds raw (named_graph numbering.kinds.items made texts)
-built_steps kinds raw lent owned shapes s1 s3 s5 order o2 o4 o6 o9 numbers n7 kinds2 kinds3 numbering kn8 made list texts apart fine
-    e_lent e_shapes e_s1 pre e_o2 has e_kinds2 e_s3 e_o4 numbered e_kinds3 e_s5 e_o6 e_n7 e_kn8 built e_owned e_o9 arranged has_texts =
-    let shape : shapes ≡ map shape_of raw = e_shapes ∙ ap (map shape_of) e_lent in
-    let pre' : IsPreorderOf (map shape_of raw) order = subst (λ (l : List Vertex). IsPreorderOf l order) (e_s1 ∙ shape) pre in
+built_steps kinds raw owned shapes order o2 o4 o6 o9 numbers n7 numbering kn8 made list texts apart fine
+    e_shapes pre e_o2 has e_o4 numbered e_o6 e_n7 e_kn8 built e_owned e_o9 arranged has_texts =
+    let pre' : IsPreorderOf (map shape_of raw) order = subst (λ (l : List Vertex). IsPreorderOf l order) e_shapes pre in
     let has' : HasNumbers order (length order) numbers = subst (λ (l : List ℕ). HasNumbers l (length l) numbers) e_o2 has in
-    let n1 : IsKindNumbering kinds s3 o4 (length o4) numbering = subst (λ (l : List (List ℕ)). IsKindNumbering l s3 o4 (length o4) numbering) e_kinds2 numbered in
-    let n2 : IsKindNumbering kinds (map shape_of raw) o4 (length o4) numbering = subst (λ (l : List Vertex). IsKindNumbering kinds l o4 (length o4) numbering) (e_s3 ∙ shape) n1 in
+    let n2 : IsKindNumbering kinds (map shape_of raw) o4 (length o4) numbering = subst (λ (l : List Vertex). IsKindNumbering kinds l o4 (length o4) numbering) e_shapes numbered in
     let n3 : IsKindNumbering kinds (map shape_of raw) order (length order) numbering = subst (λ (l : List ℕ). IsKindNumbering kinds (map shape_of raw) l (length l) numbering) e_o4 n2 in
-    let m1 : HasMadeTo kinds s5 o6 n7 kn8 (length o6) made = subst (λ (l : List (List ℕ)). HasMadeTo l s5 o6 n7 kn8 (length o6) made) e_kinds3 built in
-    let m2 : HasMadeTo kinds (map shape_of raw) o6 n7 kn8 (length o6) made = subst (λ (l : List Vertex). HasMadeTo kinds l o6 n7 kn8 (length o6) made) (e_s5 ∙ shape) m1 in
+    let m2 : HasMadeTo kinds (map shape_of raw) o6 n7 kn8 (length o6) made = subst (λ (l : List Vertex). HasMadeTo kinds l o6 n7 kn8 (length o6) made) e_shapes built in
     let m3 : HasMadeTo kinds (map shape_of raw) order n7 kn8 (length order) made = subst (λ (l : List ℕ). HasMadeTo kinds (map shape_of raw) l n7 kn8 (length l) made) e_o6 m2 in
     let m4 : HasMadeTo kinds (map shape_of raw) order numbers kn8 (length order) made = subst (λ (l : List ℕ). HasMadeTo kinds (map shape_of raw) order l kn8 (length order) made) e_n7 m3 in
     let m5 : HasMadeTo kinds (map shape_of raw) order numbers numbering.numbers.items (length order) made = subst (λ (l : List (Option ℕ)). HasMadeTo kinds (map shape_of raw) order numbers l (length order) made) e_kn8 m4 in

@@ -11,8 +11,8 @@ use Rattle.graph_build.specs.Faults.{HasUnknownParent, HasUnknownKind, IsRoot, I
 use Rattle.graph_build.specs.Checks.{graph_in, has_parent_from, has_kind_from, has_no_parent}
 use Rattle.resource_graph.specs.Finds.{IsFirstOf}
 use Rattle.resource_graph.proofs.LineLaws.{parent_read, parent_at, no_vertex}
-use Rattle.resource_graph.proofs.Values.{from_value, value_of}
 use Rattle.resource_graph.proofs.Finds.{Passes, finds_position, finds_same}
+use Rattle.resource_graph.proofs.Values.{from_value, value_of}
 
 module _ (kinds : List (List ℕ)) (vertices : List Vertex) where
   pub parent_to : (v : ℕ) → Passes (has_parent_from (length vertices)) vertices v → HasUnknownParent (graph_in kinds vertices) v

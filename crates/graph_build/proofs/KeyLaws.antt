@@ -27,7 +27,7 @@ use Rattle.resource_graph.proofs.Finds.{finds_same}
 use Rattle.graph_build.proofs.OwnLaws.{type_within, device_within}
 use Rattle.resource_graph.proofs.Values.{fact_within}
 use Rattle.resource_graph.proofs.TableLaws.{push_cases}
-use Rattle.graph_build.proofs.ValidLaws.{node_tested}
+use Rattle.graph_build.proofs.Facts.{node_tested}
 use Rattle.resource_graph.proofs.Values.{value_of, at_value, from_value}
 
 -- one place more

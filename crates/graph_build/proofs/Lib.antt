@@ -1,3 +1,5 @@
+pub mod Facts
+pub mod RowLaws
 pub mod PathLaws
 pub mod SortLaws
 pub mod ArrangeLaws
@@ -10,7 +12,6 @@ pub mod ClimbLaws
 pub mod OwnLaws
 pub mod AboveLaws
 pub mod EndLaws
-pub mod ToldLaws
 pub mod RepeatLaws
 pub mod KeyLaws
 pub mod OrderLaws

@@ -12,12 +12,14 @@ use Rattle.graph_laws.proofs.Containment.{ParentsFirst}
 use Rattle.graph_laws.proofs.Preorder.{parents_first}
 use Rattle.resource_graph.specs.NamedGraph.{NamedGraph, IsWhole}
 use Rattle.graph_build.specs.Orders.{IsOrderOf}
-use Rattle.graph_build.specs.Faults.{IsNodeType, IsFaultless, HasDoubleName}
+use Rattle.graph_build.specs.Faults.{IsNodeType, HasDoubleName}
+use Rattle.graph_build.specs.Table.{IsFaultless}
+use Rattle.graph_build.proofs.Facts.{Facts, faultless}
 use Rattle.graph_build.specs.Raw.{IsArranged, IsRenumbered, IsBuiltFrom, shape_of, rank_of, raw_graph, raw_names, is_node_of, some_ranked, nodes_among}
 use Rattle.graph_build.specs.OwnList.{own_vertex, own_list_from, own_list}
 use Rattle.graph_build.specs.declared.raw.RawVertex.{RawVertex}
 use Rattle.resource_graph.proofs.LineLaws.{no_vertex, parent_read}
-use Rattle.graph_build.proofs.ValidLaws.{node_test, node_tested}
+use Rattle.graph_build.proofs.Facts.{node_test, node_tested}
 use Rattle.resource_graph.proofs.Values.{value_of, at_value, from_value}
 use Rattle.resource_graph.proofs.Queries.{parents_known, lines_short}
 use Rattle.graph_build.proofs.OneGraph.{same_items}
@@ -52,8 +54,8 @@ module _ (g : ResourceGraph) (names : List (List ℕ)) (valid : IsValidGraph g n
   double_name v (u, less, same, inl (some, parents)) = let is : v ≡ u = valid.siblings v u some (sym parents) (sym same) in omega arith
   double_name v (u, less, same, inr (node_u, node_v)) = let is : v ≡ u = valid.hosts v u (typed_node v node_v) (typed_node u node_u) (sym same) in omega arith
 
-  pub valid_faultless : IsFaultless g names
-  valid_faultless = record {
+  pub valid_facts : Facts g names
+  valid_facts = record {
     few = valid.few;
     few_kinds = valid.few_kinds;
     parents = λ v has. let known : has.0 < length g.vertices = parents_known g names valid v has.0 has.1 in let past : length g.vertices ≤ has.0 = has.2 in omega arith;
@@ -141,7 +143,7 @@ own_graph g = ap (λ vs. record { kinds = g.resources.kinds; vertices = vs }) (o
 pub own_faultless : (g : NamedGraph) → IsWhole g → IsFaultless (raw_graph g.resources.kinds (own_list g)) (raw_names (own_list g))
 own_faultless g whole =
     subst (λ (r : ResourceGraph). IsFaultless r (raw_names (own_list g))) (sym (own_graph g))
-    (subst (λ (names : List (List ℕ)). IsFaultless g.resources names) (sym (own_names g whole.valid.named)) (valid_faultless g.resources g.names whole.valid))
+    (subst (λ (names : List (List ℕ)). IsFaultless g.resources names) (sym (own_names g whole.valid.named)) (faultless g.resources g.names (valid_facts g.resources g.names whole.valid)))
 
 -- ---- the list's order is its own
 

@@ -14,13 +14,14 @@ use Rattle.flux_defs.specs.Graph.{ResourceGraph, parent_of, chain, is_below, Has
 use Rattle.flux_defs.specs.ValidGraph.{IsValidGraph, HasType, HasId, HasRank, IsDevice, NumbersKinds, HasFairSizes, NumbersDevices}
 use Rattle.resource_graph.specs.Lines.{line_of}
 use Rattle.graph_build.specs.Orders.{IsPreorderOf, IsRooted}
-use Rattle.graph_build.specs.Faults.{IsNodeType, IsFaultless, HasDoubleName}
+use Rattle.graph_build.specs.Faults.{IsNodeType, HasDoubleName}
 use Rattle.graph_build.specs.Raw.{IsArranged, IsRenumbered, KindsApart, is_node_of, some_ranked, nodes_among, rank_of}
 use Rattle.resource_graph.proofs.Values.{value_of, at_value, from_value}
+use Rattle.graph_build.proofs.Facts.{Facts, node_test, node_tested}
 use Rattle.graph_build.proofs.ArrangeLaws.{place_of, place_at, place_in, same_place, number_of, both_of, same_below, same_line_length, parent_back, preorder_arranged}
 
 -- a list with which nothing is wrong hangs on one root
-pub rooted_of_faultless : (g : ResourceGraph) (names : List (List ℕ)) → IsFaultless g names → IsRooted g.vertices
+pub rooted_of_faultless : (g : ResourceGraph) (names : List (List ℕ)) → Facts g names → IsRooted g.vertices
 rooted_of_faultless g names fine = record {
   known = λ v p e. elim (cases_lt p (length g.vertices)) [ inl less ↦ less | inr past ↦ absurd (fine.parents v (p, e, past)) ];
   ends = λ v lt. elim (cases_lt (length g.vertices) (length (chain g.vertices (suc (length g.vertices)) (Some v)))) [ inl over ↦ absurd (fine.ends v (lt, over)) | inr le ↦ le ];
@@ -35,18 +36,6 @@ rooted_of_faultless g names fine = record {
         ]
       ];
 }
-
-module _ (kinds : List (List ℕ)) where
-  -- the test for a node and the type's name
-  pub node_test : (x : Vertex) → is_node_of kinds x ≡ true → slice_get kinds x.kind ≡ Some (codes "node")
-  node_test x h = go (slice_get kinds x.kind) h
-    where
-      go : (o : Option (List ℕ)) → option_map_or (bytes_eq (codes "node")) o false ≡ true → o ≡ Some (codes "node")
-      go None e = absurd (true≢false (sym e))
-      go (Some name) e = ap Some (sym ((bytes_eq-Decides (codes "node") name).0 e))
-
-  pub node_tested : (x : Vertex) → slice_get kinds x.kind ≡ Some (codes "node") → is_node_of kinds x ≡ true
-  node_tested x e = ap (λ o. option_map_or (bytes_eq (codes "node")) o false) e ∙ (bytes_eq-Decides (codes "node") (codes "node")).1 refl
 
 module _ (kinds : List (List ℕ)) (vertices : List Vertex) where
   -- where some node has a rank
@@ -92,7 +81,7 @@ counts_rise p list a b d lt within here =
     omega arith
 
 module _ (kinds : List (List ℕ)) (vertices : List Vertex) (names : List (List ℕ)) (apart : KindsApart kinds)
-    (fine : IsFaultless (record { kinds = kinds; vertices = vertices }) names)
+    (fine : Facts (record { kinds = kinds; vertices = vertices }) names)
     (order : List ℕ) (g : ResourceGraph) (arranged : IsArranged kinds vertices order g) where
   raw : ResourceGraph
   raw = record { kinds = kinds; vertices = vertices }

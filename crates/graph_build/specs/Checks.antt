@@ -9,10 +9,17 @@ use Rattle.graph_build.specs.Faults.{IsNodeType, IsHoused}
 abbrev pub graph_in : List (List ℕ) → List Vertex → ResourceGraph
 graph_in kinds vertices = record { kinds = kinds; vertices = vertices }
 
--- the least number below the count at which the test answers yes, and none exactly where it answers no at each of them
-abbrev pub IsFirstPassing : ℕ → (ℕ → Bool → Type 0) → Option ℕ → Type 0
-IsFirstPassing count Answers found =
-    MatchOption found ((v : ℕ) → v < count → Answers v false) (λ v. (v < count) × Answers v true × ((u : ℕ) → u < v → Answers u false))
+-- its parent is at this place or past it
+abbrev pub has_parent_from : ℕ → Vertex → Bool
+has_parent_from count x = option_map_or (nat_le count) x.parent false
+
+-- its kind is at this place or past it
+abbrev pub has_kind_from : ℕ → Vertex → Bool
+has_kind_from count x = nat_le count x.kind
+
+-- it has no parent
+abbrev pub has_no_parent : Vertex → Bool
+has_no_parent x = not (is_some x.parent)
 
 -- the vertex so many steps up
 abbrev pub climb : List Vertex → ℕ → Option ℕ → Option ℕ

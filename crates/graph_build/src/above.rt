@@ -7,10 +7,10 @@ ghost use Rattle.resource_graph.specs.Holds.{HasPools};
 ghost use Rattle.graph_build.specs.Checks.{graph_in, IsHouse, HasHouses, HasChildren};
 ghost use Rattle.resource_graph.specs.Finds.{IsFirstOf};
 
-use crate::lines::line_up;
 use crate::own::{is_device_at, is_node_at};
-use crate::tables::pool_table;
 use flux_defs::{Text, Vertex};
+use resource_graph::lines::line_up;
+use resource_graph::tables::pool_table;
 use std::alloc::{AllocError, Global};
 
 /// The first vertex below one of its own type.
@@ -88,8 +88,42 @@ fn house_of(kinds: &[Text], vertices: &[Vertex], line: &[u32], v: usize) -> Opti
     None
 }
 
+/// The first core or gpu with no node above.
+pub(crate) fn first_loose(
+    kinds: &[Text],
+    vertices: &[Vertex],
+    houses: &[Option<u32>],
+) -> Option<usize>
+    requires { HasHouses (graph_in kinds.now vertices.now) (length vertices.now) houses.now }
+    ensures first { IsFirstOf (IsLoose (graph_in kinds.now vertices.now)) result }
+    ensures within { IfSome result (λ v. v < length vertices.now) }
+{
+    for v in 0..vertices.len() {
+        if is_loose(kinds, vertices, houses, v) {
+            return Some(v);
+        }
+    }
+    None
+}
+
+/// The first vertex of a pool type that has a child.
+pub(crate) fn first_parent_pool(
+    alloc: Global,
+    kinds: &[Text],
+    vertices: &[Vertex],
+) -> Result<Option<usize>, AllocError>
+    requires parents { KnowsParents vertices.now }
+    requires known { KnowsKinds vertices.now (length kinds.now) }
+    ensures first { IfOk result (IsFirstOf (IsPoolWithChild (graph_in kinds.now vertices.now))) }
+    ensures within { IfOk result (λ found. IfSome found (λ v. v < length vertices.now)) }
+{
+    let pools = pool_table(alloc, vertices, kinds.len())?;
+    let children = child_table(alloc, vertices)?;
+    Ok(first_pool(vertices, pools.as_slice(), children.as_slice()))
+}
+
 /// Whether the vertex is a core or gpu with no node above.
-pub(crate) fn is_loose(kinds: &[Text], vertices: &[Vertex], houses: &[Option<u32>], v: usize) -> bool
+fn is_loose(kinds: &[Text], vertices: &[Vertex], houses: &[Option<u32>], v: usize) -> bool
     requires within { v < length vertices.now }
     requires houses { HasHouses (graph_in kinds.now vertices.now) (length vertices.now) houses.now }
     ensures { IsTrue result ↔ IsLoose (graph_in kinds.now vertices.now) v }
@@ -100,8 +134,23 @@ pub(crate) fn is_loose(kinds: &[Text], vertices: &[Vertex], houses: &[Option<u32
     is_device_at(kinds, vertices, v)
 }
 
+fn first_pool(vertices: &[Vertex], pools: &[bool], children: &[bool]) -> Option<usize>
+    requires known { KnowsKinds vertices.now (length pools.now) }
+    requires pools { HasPools vertices.now pools.now }
+    requires children { HasChildren vertices.now (length vertices.now) children.now }
+    ensures first { IsFirstOf (IsPoolWithChild (plain vertices.now)) result }
+    ensures within { IfSome result (λ v. v < length vertices.now) }
+{
+    for v in 0..vertices.len() {
+        if is_parent_pool(vertices, pools, children, v) {
+            return Some(v);
+        }
+    }
+    None
+}
+
 /// Whether the vertex is of a pool type and has a child.
-pub(crate) fn is_parent_pool(vertices: &[Vertex], pools: &[bool], children: &[bool], v: usize) -> bool
+fn is_parent_pool(vertices: &[Vertex], pools: &[bool], children: &[bool], v: usize) -> bool
     requires within { v < length vertices.now }
     requires known { KnowsKinds vertices.now (length pools.now) }
     requires pools { HasPools vertices.now pools.now }
@@ -115,7 +164,7 @@ pub(crate) fn is_parent_pool(vertices: &[Vertex], pools: &[bool], children: &[bo
 }
 
 /// By vertex, whether it has a child.
-pub(crate) fn child_table(alloc: Global, vertices: &[Vertex]) -> Result<Vec<bool>, AllocError>
+fn child_table(alloc: Global, vertices: &[Vertex]) -> Result<Vec<bool>, AllocError>
     requires { KnowsParents vertices.now }
     ensures { IfOk result (λ children. HasChildren vertices.now (length vertices.now) children.items) }
 {

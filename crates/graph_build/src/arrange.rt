@@ -7,9 +7,9 @@ ghost use Rattle.resource_graph.specs.Preorder.{KnowsKinds};
 ghost use Rattle.graph_build.specs.Raw.{shape_of, is_node_of, some_ranked};
 ghost use Rattle.graph_build.specs.Arranged.{HasNumbers, IsArrangedList, HasTexts, IsMadeFrom, HasMadeTo, IsKindNumbering, AreUnused, AddsKind, HasKindNumbers};
 
-use crate::graph::Texts;
 use crate::raw::RawVertex;
 use flux_defs::{List, Text, Vertex};
+use resource_graph::Texts;
 use std::alloc::{AllocError, Global};
 
 /// The vertices without their texts.

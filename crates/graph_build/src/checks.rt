@@ -1,6 +1,7 @@
 //! The checks of a list of vertices, in the order of the table of faults.
-ghost use Rattle.std.specs.Prelude.{◌≡◌, ◌≤◌, length, map, OnOk, IfOk, IfErr};
-ghost use Rattle.graph_build.specs.Checks.{graph_in, HasHouses};
+ghost use Rattle.std.specs.Prelude.{◌≡◌, ◌≤◌, length, map, OnOk, IfErr};
+ghost use Rattle.flux_defs.specs.declared.limits.TheConstants.{MOST_VERTICES};
+ghost use Rattle.graph_build.specs.Checks.{graph_in};
 ghost use Rattle.graph_build.specs.Raw.{KindsApart, raw_graph, raw_names, shape_of};
 ghost use Rattle.graph_build.specs.Table.{link_rows, line_rows, size_rows, device_rows, vertex_rows, name_rows, rank_rows, table};
 ghost use Rattle.graph_build.specs.Table.{NoneHolds, IsFirstIn};
@@ -30,16 +31,22 @@ fn check_links(kinds: &[Text], vertices: &[Vertex]) -> Result<(), GraphFault>
         });
     }
     if let Some(vertex) = first_unknown_parent(vertices) {
-        return Err(GraphFault::UnknownParent { vertex });
+        return Err(GraphFault::UnknownParent {
+            vertex: vertex as u32,
+        });
     }
     if let Some(vertex) = first_unknown_kind(kinds, vertices) {
-        return Err(GraphFault::UnknownKind { vertex });
+        return Err(GraphFault::UnknownKind {
+            vertex: vertex as u32,
+        });
     }
     let Some(root) = first_root(vertices) else {
         return Err(GraphFault::NoRoot);
     };
     if let Some(vertex) = second_root(vertices, root) {
-        return Err(GraphFault::ManyRoots { vertex });
+        return Err(GraphFault::ManyRoots {
+            vertex: vertex as u32,
+        });
     }
     Ok(())
 }
@@ -51,13 +58,19 @@ fn check_lines(alloc: Global, kinds: &[Text], vertices: &[Vertex]) -> Result<(),
     ensures err { IfErr result (IsFirstIn (line_rows (graph_in kinds.now vertices.now))) }
 {
     if let Some(vertex) = first_endless(alloc, vertices)? {
-        return Err(GraphFault::Cycle { vertex });
+        return Err(GraphFault::Cycle {
+            vertex: vertex as u32,
+        });
     }
     if let Some(vertex) = first_deep(alloc, vertices)? {
-        return Err(GraphFault::Depth { vertex });
+        return Err(GraphFault::Depth {
+            vertex: vertex as u32,
+        });
     }
     if let Some(vertex) = first_nested(alloc, vertices)? {
-        return Err(GraphFault::NestedKind { vertex });
+        return Err(GraphFault::NestedKind {
+            vertex: vertex as u32,
+        });
     }
     Ok(())
 }
@@ -69,16 +82,24 @@ fn check_sizes(alloc: Global, kinds: &[Text], vertices: &[Vertex]) -> Result<(),
     ensures err { IfErr result (IsFirstIn (size_rows (graph_in kinds.now vertices.now))) }
 {
     if let Some(vertex) = first_reserved(kinds, vertices) {
-        return Err(GraphFault::ReservedKind { vertex });
+        return Err(GraphFault::ReservedKind {
+            vertex: vertex as u32,
+        });
     }
     if let Some(vertex) = first_parent_pool(alloc, kinds, vertices)? {
-        return Err(GraphFault::PoolWithChild { vertex });
+        return Err(GraphFault::PoolWithChild {
+            vertex: vertex as u32,
+        });
     }
     if let Some(vertex) = first_sized(kinds, vertices) {
-        return Err(GraphFault::Sized { vertex });
+        return Err(GraphFault::Sized {
+            vertex: vertex as u32,
+        });
     }
     if let Some(vertex) = first_large(vertices) {
-        return Err(GraphFault::Large { vertex });
+        return Err(GraphFault::Large {
+            vertex: vertex as u32,
+        });
     }
     Ok(())
 }
@@ -93,13 +114,19 @@ fn check_devices(alloc: Global, kinds: &[Text], vertices: &[Vertex]) -> Result<(
 {
     let houses = house_table(alloc, kinds, vertices)?;
     if let Some(vertex) = first_loose(kinds, vertices, houses.as_slice()) {
-        return Err(GraphFault::Loose { vertex });
+        return Err(GraphFault::Loose {
+            vertex: vertex as u32,
+        });
     }
     if let Some(vertex) = first_unnamed(kinds, vertices) {
-        return Err(GraphFault::NoId { vertex });
+        return Err(GraphFault::NoId {
+            vertex: vertex as u32,
+        });
     }
     if let Some(vertex) = first_double_id(alloc, kinds, vertices, houses.as_slice())? {
-        return Err(GraphFault::DuplicateId { vertex });
+        return Err(GraphFault::DuplicateId {
+            vertex: vertex as u32,
+        });
     }
     Ok(())
 }
@@ -118,24 +145,28 @@ fn check_vertices(alloc: Global, kinds: &[Text], vertices: &[Vertex]) -> Result<
 
 /// The names of siblings and of nodes.
 fn check_names(alloc: Global, kinds: &[Text], raw: &[RawVertex]) -> Result<(), GraphFault>
-    requires { length raw.now ≤ 65536 }
+    requires { length raw.now ≤ MOST_VERTICES }
     ensures ok { OnOk result (NoneHolds (name_rows (raw_graph kinds.now raw.now) (raw_names raw.now))) }
     ensures err { IfErr result (IsFirstIn (name_rows (raw_graph kinds.now raw.now) (raw_names raw.now))) }
 {
     match first_double_name(alloc, kinds, raw)? {
-        Some(vertex) => Err(GraphFault::DuplicateName { vertex }),
+        Some(vertex) => Err(GraphFault::DuplicateName {
+            vertex: vertex as u32,
+        }),
         None => Ok(()),
     }
 }
 
 /// The ranks of nodes.
 fn check_ranks(alloc: Global, kinds: &[Text], vertices: &[Vertex]) -> Result<(), GraphFault>
-    requires { length vertices.now ≤ 65536 }
+    requires { length vertices.now ≤ MOST_VERTICES }
     ensures ok { OnOk result (NoneHolds (rank_rows (graph_in kinds.now vertices.now))) }
     ensures err { IfErr result (IsFirstIn (rank_rows (graph_in kinds.now vertices.now))) }
 {
     match first_bad_rank(alloc, kinds, vertices)? {
-        Some(vertex) => Err(GraphFault::Ranks { vertex }),
+        Some(vertex) => Err(GraphFault::Ranks {
+            vertex: vertex as u32,
+        }),
         None => Ok(()),
     }
 }

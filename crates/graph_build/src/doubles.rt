@@ -1,6 +1,6 @@
 //! The first vertex that has what only one may have: an id in its node, a name among its siblings or among the nodes,
 //! or the rank of a node.
-ghost use Rattle.std.specs.Prelude.{◌≡◌, ◌<◌, ◌↔◌, ℕ, IsTrue, IfOk, IfSome, length, map};
+ghost use Rattle.std.specs.Prelude.{◌≡◌, ◌<◌, ℕ, IfOk, IfSome, length, map};
 ghost use Rattle.graph_build.specs.Faults.{IsNestedInKind, HasDoubleId, HasDoubleName, HasBadRank};
 ghost use Rattle.graph_build.specs.Checks.{graph_in, HasHouses};
 ghost use Rattle.resource_graph.specs.Finds.{IsFirstOf};
@@ -178,15 +178,14 @@ fn node_rank(kinds: &[Text], vertices: &[Vertex], v: usize) -> Option<u32>
     vertices[v].rank
 }
 
-/// Whether the vertex is a node without a rank.
-fn is_unranked(kinds: &[Text], vertices: &[Vertex], v: usize) -> bool
-    requires { v < length vertices.now }
-    ensures { IsTrue result ↔ IsUnranked (graph_in kinds.now vertices.now) v }
+/// The first node without a rank.
+fn first_unranked(kinds: &[Text], vertices: &[Vertex]) -> Option<usize>
+    ensures first { IsFirstOf (IsUnranked (graph_in kinds.now vertices.now)) result }
+    ensures within { IfSome result (λ v. v < length vertices.now) }
 {
-    if vertices[v].rank.is_some() {
-        return false;
-    }
-    is_node_at(kinds, vertices, v)
+    vertices
+        .iter()
+        .position(|vertex| vertex.rank.is_none() && is_called(kinds, vertex.kind, b"node"))
 }
 
 /// Where some node has a rank, the first node without one or with that of an earlier node.

@@ -2,7 +2,7 @@
 ghost use Rattle.std.specs.Prelude.{◌≡◌, ℕ, List};
 ghost use Rattle.resource_graph.specs.NamedGraph.{NamedGraph, IsWhole};
 ghost use Rattle.graph_build.specs.Raw.{IsBuiltFrom, raw_graph, raw_names};
-ghost use Rattle.graph_build.specs.Faults.{IsFaultless};
+ghost use Rattle.graph_build.specs.Table.{IsFaultless};
 ghost use Rattle.graph_build.specs.OwnList.{own_list};
 ghost use Rattle.graph_build.specs.declared.raw.RawVertex.{RawVertex};
 

@@ -3,12 +3,11 @@
 
 mod above;
 mod arrange;
-mod build;
+mod building;
 mod checks;
 mod climbs;
 mod doubles;
 mod endless;
-mod firsts;
 mod laws;
 mod links;
 mod order;
@@ -16,7 +15,7 @@ mod own;
 pub mod raw;
 mod repeats;
 
-pub use build::build;
+pub use building::build;
 pub use laws::{a_graph_is_built_from_itself, a_list_has_one_graph};
 pub use raw::{GraphFault, RawVertex};
 

@@ -2,8 +2,8 @@
 ghost use Rattle.std.specs.Prelude.{◌≡◌, ℕ, ◌<◌, ◌≤◌, length, slice_get, Some, IfOk};
 ghost use Rattle.graph_build.specs.Orders.{IsRooted, IsPreorderOf, HasPaths, HasEnds, NoneIsEmpty};
 
-use crate::lines::line_up;
 use flux_defs::Vertex;
+use resource_graph::lines::line_up;
 use std::alloc::{AllocError, Global};
 
 /// The places of the vertices in preorder, siblings by their places in the list.

@@ -1,8 +1,9 @@
-//! What is wrong with a vertex by itself: its type, its size or its id.
-ghost use Rattle.std.specs.Prelude.{◌≡◌, ◌<◌, ◌↔◌, IsTrue, Some, length, slice_get};
+//! The first vertex of which something of its own is wrong: its type, its size or its id.
+ghost use Rattle.std.specs.Prelude.{◌≡◌, ◌<◌, ◌↔◌, ◌⊎◌, IsTrue, IfSome, codes, length, slice_get};
 ghost use Rattle.flux_defs.specs.ValidGraph.{IsDevice};
 ghost use Rattle.graph_build.specs.Faults.{IsNodeType, IsReserved, IsSized, IsLarge, HasNoId};
 ghost use Rattle.resource_graph.specs.Preorder.{plain};
+ghost use Rattle.resource_graph.specs.Finds.{IsFirstOf};
 ghost use Rattle.graph_build.specs.Checks.{graph_in};
 
 use flux_defs::{GREATEST_NUMBER, Text, Vertex};
@@ -25,6 +26,13 @@ pub(crate) fn is_node_at(kinds: &[Text], vertices: &[Vertex], v: usize) -> bool
     is_called(kinds, vertices[v].kind, b"node")
 }
 
+/// Whether the type is that of cores or of gpus.
+fn is_device(kinds: &[Text], kind: u32) -> bool
+    ensures { IsTrue result ↔ ((slice_get kinds.now kind ≡ Some (codes "core")) ⊎ (slice_get kinds.now kind ≡ Some (codes "gpu"))) }
+{
+    is_called(kinds, kind, b"core") || is_called(kinds, kind, b"gpu")
+}
+
 /// Whether the vertex is a core or a gpu.
 pub(crate) fn is_device_at(kinds: &[Text], vertices: &[Vertex], v: usize) -> bool
     requires { v < length vertices.now }
@@ -36,43 +44,49 @@ pub(crate) fn is_device_at(kinds: &[Text], vertices: &[Vertex], v: usize) -> boo
     is_called(kinds, vertices[v].kind, b"gpu")
 }
 
-/// Whether the vertex's type is called slot.
-pub(crate) fn is_reserved(kinds: &[Text], vertices: &[Vertex], v: usize) -> bool
-    requires { v < length vertices.now }
-    ensures { IsTrue result ↔ IsReserved (graph_in kinds.now vertices.now) v }
+/// Whether the type is that of nodes, of cores or of gpus.
+fn is_whole(kinds: &[Text], kind: u32) -> bool
+    ensures { IsTrue result ↔ ((slice_get kinds.now kind ≡ Some (codes "node")) ⊎ ((slice_get kinds.now kind ≡ Some (codes "core")) ⊎ (slice_get kinds.now kind ≡ Some (codes "gpu")))) }
 {
-    is_called(kinds, vertices[v].kind, b"slot")
+    is_called(kinds, kind, b"node") || is_device(kinds, kind)
 }
 
-/// Whether the vertex is a node, core or gpu of a size other than 1.
-pub(crate) fn is_sized(kinds: &[Text], vertices: &[Vertex], v: usize) -> bool
-    requires { v < length vertices.now }
-    ensures { IsTrue result ↔ IsSized (graph_in kinds.now vertices.now) v }
+/// The first vertex whose type is called slot.
+pub(crate) fn first_reserved(kinds: &[Text], vertices: &[Vertex]) -> Option<usize>
+    ensures first { IsFirstOf (IsReserved (graph_in kinds.now vertices.now)) result }
+    ensures within { IfSome result (λ v. v < length vertices.now) }
 {
-    if vertices[v].size == 1 {
-        return false;
-    }
-    if is_node_at(kinds, vertices, v) {
-        return true;
-    }
-    is_device_at(kinds, vertices, v)
+    vertices
+        .iter()
+        .position(|vertex| is_called(kinds, vertex.kind, b"slot"))
 }
 
-/// Whether the vertex's size is past the greatest number.
-pub(crate) fn is_large(vertices: &[Vertex], v: usize) -> bool
-    requires { v < length vertices.now }
-    ensures { IsTrue result ↔ IsLarge (plain vertices.now) v }
+/// The first node, core or gpu of a size other than 1.
+pub(crate) fn first_sized(kinds: &[Text], vertices: &[Vertex]) -> Option<usize>
+    ensures first { IsFirstOf (IsSized (graph_in kinds.now vertices.now)) result }
+    ensures within { IfSome result (λ v. v < length vertices.now) }
 {
-    vertices[v].size > GREATEST_NUMBER
+    vertices
+        .iter()
+        .position(|vertex| vertex.size != 1 && is_whole(kinds, vertex.kind))
 }
 
-/// Whether the vertex is a core or gpu without an id.
-pub(crate) fn is_unnamed(kinds: &[Text], vertices: &[Vertex], v: usize) -> bool
-    requires { v < length vertices.now }
-    ensures { IsTrue result ↔ HasNoId (graph_in kinds.now vertices.now) v }
+/// The first vertex of a size past the greatest number.
+pub(crate) fn first_large(vertices: &[Vertex]) -> Option<usize>
+    ensures first { IsFirstOf (IsLarge (plain vertices.now)) result }
+    ensures within { IfSome result (λ v. v < length vertices.now) }
 {
-    if vertices[v].id.is_some() {
-        return false;
-    }
-    is_device_at(kinds, vertices, v)
+    vertices
+        .iter()
+        .position(|vertex| vertex.size > GREATEST_NUMBER)
+}
+
+/// The first core or gpu without an id.
+pub(crate) fn first_unnamed(kinds: &[Text], vertices: &[Vertex]) -> Option<usize>
+    ensures first { IsFirstOf (HasNoId (graph_in kinds.now vertices.now)) result }
+    ensures within { IfSome result (λ v. v < length vertices.now) }
+{
+    vertices
+        .iter()
+        .position(|vertex| vertex.id.is_none() && is_device(kinds, vertex.kind))
 }

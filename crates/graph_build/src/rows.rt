@@ -5,9 +5,10 @@
 ghost use Rattle.std.specs.Prelude.{IsTrue};
 ghost use Rattle.graph_build.specs.Raw.{KindsApart};
 
-use crate::graph::text_at;
-use crate::{Graph, GraphFault, RawVertex};
+use crate::{GraphFault, RawVertex, build};
 use flux_defs::{List, Text};
+use resource_graph::Graph;
+use resource_graph::graph::text_at;
 use std::alloc::{AllocError, Global};
 use std::test::Fail;
 
@@ -101,7 +102,7 @@ fn built(alloc: Global, lines: &[u8]) -> Result<Graph, GraphFault> {
     if !are_apart(kinds.items()) {
         return Err(GraphFault::Memory);
     }
-    Graph::build(alloc, kinds, raw)
+    build(alloc, kinds, raw)
 }
 
 /// A list and its fault, which a later vertex of most lists has too.

@@ -14,7 +14,7 @@ use Rattle.flux_defs.specs.Graph.{HasKind}
 use Rattle.flux_defs.specs.ValidGraph.{NumbersKinds}
 use Rattle.resource_graph.specs.NamedGraph.{NamedGraph, IsWhole}
 use Rattle.graph_build.specs.Raw.{IsBuiltFrom, raw_graph, raw_names}
-use Rattle.graph_build.specs.Faults.{IsFaultless}
+use Rattle.graph_build.specs.Table.{IsFaultless}
 use Rattle.graph_build.specs.OwnList.{own_vertex, own_list}
 use Rattle.graph_build.specs.declared.raw.RawVertex.{RawVertex}
 use Rattle.resource_graph.proofs.LineLaws.{no_vertex, parent_read}

@@ -5,7 +5,7 @@ use Rattle.resource_graph.specs.NamedGraph.{NamedGraph}
 use Rattle.graph_build.specs.Raw.{IsBuiltFrom, raw_graph, raw_names}
 use Rattle.graph_build.specs.Table.{IsFirstFault as IsFirstGraphFault}
 use Rattle.graph_build.proofs.OneGraph.{one_graph}
-use Rattle.graph_build.proofs.TableLaws.{nothing_told}
+use Rattle.graph_build.proofs.RowLaws.{nothing_told}
 use Rattle.graph_json.specs.Nodes.{FileNode, nodes_of}
 use Rattle.graph_json.specs.Edges.{edges_of, IsWrongEdge, IsFirstWrong}
 use Rattle.graph_json.specs.Ids.{ids_of, IsRepeated}

@@ -5,7 +5,7 @@ ghost use Rattle.std.specs.Str.{bytes_eq};
 ghost use Rattle.std.specs.Result.{result_map_both};
 ghost use Rattle.serde_json.specs.Find.{as_object};
 ghost use Rattle.serde_json.specs.View.{view, items_view};
-ghost use Rattle.graph_build.specs.Faults.{IsFaultless};
+ghost use Rattle.graph_build.specs.Table.{IsFaultless};
 ghost use Rattle.resource_graph.specs.NamedGraph.{NamedGraph};
 ghost use Rattle.graph_build.specs.Raw.{IsBuiltFrom, raw_graph, raw_names};
 ghost use Rattle.graph_json.specs.Fields.{object_field, list_field};
@@ -23,7 +23,8 @@ use crate::nodes::{NodeFields, NodesFault, nodes_of};
 use crate::places::{Misfit, Place, at_place, path_of};
 use crate::raw_lists::{kind_table, table_texts, vertices_of};
 use json_whole::{FieldFault, ValueFault, read_value};
-use resource_graph::{Graph, GraphFault};
+use graph_build::{GraphFault, build};
+use resource_graph::Graph;
 use serde_json::Value;
 use std::alloc::{AllocError, Global};
 
@@ -145,7 +146,7 @@ fn graph_from(
     let kinds = kind_table(alloc, nodes)?;
     let names = table_texts(alloc, &kinds)?;
     let raw = vertices_of(alloc, &kinds, nodes, parents)?;
-    match Graph::build(alloc, names, raw) {
+    match build(alloc, names, raw) {
         Ok(graph) => Ok(graph),
         Err(fault) => {
             if is_memory(&fault) {

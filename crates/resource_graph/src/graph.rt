@@ -98,7 +98,8 @@ impl Graph {
 
     /// Its vertices, by their numbers in preorder.
     pub fn vertices(&self) -> &List<Vertex>
-        ensures { result.now ≡ self.now.resources.vertices }
+        ensures value { result.now ≡ self.now.resources.vertices }
+        ensures valid { IsWhole self.now }
     {
         &self.vertices
     }

@@ -76,7 +76,7 @@ fn part_of<'a>(graph: &Graph, given: &'a [u32], rank: u32) -> &'a [u32]
     requires { IsStrictlyIncreasing given.now }
     ensures { result.now ≡ part_of graph.now.resources.vertices given.now rank }
 {
-    let _vertices = graph.vertices();
+    graph.is_valid();
     match graph.node_of_rank(rank) {
         Some(node) => &given[place_of(given, node)..place_of(given, graph.past(node))],
         None => &[],
@@ -142,7 +142,7 @@ fn name_at(graph: &Graph, vertex: u32) -> &[u8]
 fn host_of(graph: &Graph, rank: u32) -> &[u8]
     ensures { result.now ≡ host_of graph.now rank }
 {
-    let _vertices = graph.vertices();
+    graph.is_valid();
     match graph.node_of_rank(rank) {
         Some(node) => name_at(graph, node),
         None => &[],
@@ -189,7 +189,7 @@ pub(crate) fn types_of(graph: &Graph) -> Types
 fn type_called(graph: &Graph, name: &[u8]) -> Option<u32>
     ensures { result ≡ type_called graph.now.resources name.now }
 {
-    let _vertices = graph.vertices();
+    graph.is_valid();
     graph.kind_of(name)
 }
 

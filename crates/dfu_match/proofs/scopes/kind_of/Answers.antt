@@ -15,4 +15,4 @@ kind_of_spread g names valid count needs (Some k) is = node_kind g names valid k
 pub returns-in-Spread : goal.returns-in-Spread
 returns-in-Spread c =
     let graph = c.args.graph.now in
-    rw c.in-Spread.is (kind_of_spread graph.resources graph.names c.vertices-valid.ensures.valid.valid c.in-Spread.count c.in-Spread.needs c.kind_of.result c.kind_of.ensures)
+    rw c.in-Spread.is (kind_of_spread graph.resources graph.names c.is_valid.ensures.valid c.in-Spread.count c.in-Spread.needs c.kind_of.result c.kind_of.ensures)

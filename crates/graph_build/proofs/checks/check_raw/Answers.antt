@@ -1,36 +1,47 @@
-use Rattle.std.proofs.Common.{◌≡◌, List, map, sym, ◌∙◌, subst}
+use Rattle.std.proofs.Common.{◌≡◌, ◌++◌, List, Err, subst, rules}
 use Rattle.std.proofs.lemmas.Result.{IfErr-weaker, on_ok_weaker}
 use Rattle.flux_defs.specs.declared.vertices.Vertex.{Vertex}
 use Rattle.graph_build.specs.Checks.{graph_in}
-use Rattle.graph_build.specs.Faults.{HasBadRank}
-use Rattle.graph_build.specs.Raw.{shape_of, raw_graph, raw_names}
-use Rattle.graph_build.specs.Told.{Tells, DistinctIds, DistinctNames}
-use Rattle.resource_graph.specs.Finds.{Nowhere}
-use Rattle.graph_build.proofs.ToldLaws.{faultless_clear}
+use Rattle.graph_build.specs.Raw.{raw_graph, raw_names}
+use Rattle.graph_build.specs.Table.{vertex_rows, name_rows, rank_rows, NoneHolds, IsFirstIn}
+use Rattle.graph_build.proofs.RowLaws.{none_append, in_left, in_right}
 use Rattle.graph_build.proofs.checks.check_raw.Goals as goal
 
-pub returns-in-Err-clause-err : goal.returns-in-Err-clause-err
-returns-in-Err-clause-err c =
-    let shape : c.as_slice.result.now ≡ map shape_of c.args.raw.now = c.as_slice.ensures.value ∙ c.in-Ok.ensures in
-    subst (λ (v : List Vertex). Tells (graph_in c.args.kinds.now v) (raw_names c.args.raw.now) c.in-Err.fault) shape (c.in-Err.ensures.err (raw_names c.args.raw.now))
+pub returns-in_err-check_vertices-clause-err : goal.returns-in_err-check_vertices-clause-err
+returns-in_err-check_vertices-clause-err c =
+    let kinds = c.args.kinds.now in
+    let g = raw_graph kinds c.args.raw.now in
+    let fault = c.in_err-check_vertices.field-0.0 in
+    let is : c.from_residual.result ≡ Err fault = search rules in
+    rw is (in_left (vertex_rows g) (name_rows g (raw_names c.args.raw.now) ++ rank_rows g) fault
+    (subst (λ (v : List Vertex). IsFirstIn (vertex_rows (graph_in kinds v)) fault) c.requires.shapes c.in_err-check_vertices.ensures.err))
 
-pub check_names-requires : goal.check_names-requires
-check_names-requires c =
-    let shape : c.as_slice.result.now ≡ map shape_of c.args.raw.now = c.as_slice.ensures.value ∙ c.in-Ok.ensures in
-    subst (λ (v : List Vertex). DistinctIds (graph_in c.args.kinds.now v)) shape c.in_default-check_vertices.ensures.ok
+pub returns-in_err-check_names-clause-err : goal.returns-in_err-check_names-clause-err
+returns-in_err-check_names-clause-err c =
+    let kinds = c.args.kinds.now in
+    let g = raw_graph kinds c.args.raw.now in
+    let names = raw_names c.args.raw.now in
+    let fault = c.in_err-check_names.field-0.0 in
+    let clear : NoneHolds (vertex_rows g) = subst (λ (v : List Vertex). NoneHolds (vertex_rows (graph_in kinds v))) c.requires.shapes c.in_ok-check_vertices.ensures.ok in
+    let is : c.from_residual-in_err-check_names.result ≡ Err fault = search rules in
+    rw is (in_right (vertex_rows g) (name_rows g names ++ rank_rows g) clear fault (in_left (name_rows g names) (rank_rows g) fault c.in_err-check_names.ensures.err))
 
 pub returns-clause-ok : goal.returns-clause-ok
 returns-clause-ok c =
-    let shape : c.as_slice-2.result.now ≡ map shape_of c.args.raw.now = c.as_slice-2.ensures.value ∙ c.in-Ok.ensures in
+    let kinds = c.args.kinds.now in
+    let g = raw_graph kinds c.args.raw.now in
+    let names = raw_names c.args.raw.now in
+    let clear : NoneHolds (vertex_rows g) = subst (λ (v : List Vertex). NoneHolds (vertex_rows (graph_in kinds v))) c.requires.shapes c.in_ok-check_vertices.ensures.ok in
     on_ok_weaker c.check_ranks.result
-    (λ clear. faultless_clear (raw_graph c.args.kinds.now c.args.raw.now) (raw_names c.args.raw.now) c.in_default-check_names.ensures.ok
-    (subst (λ (v : List Vertex). Nowhere (HasBadRank (graph_in c.args.kinds.now v))) shape clear))
-    c.check_ranks.ensures.ok
+    (λ ranks. none_append (vertex_rows g) (name_rows g names ++ rank_rows g) clear (none_append (name_rows g names) (rank_rows g) c.in_ok-check_names.ensures.ok
+    (subst (λ (v : List Vertex). NoneHolds (rank_rows (graph_in kinds v))) c.requires.shapes ranks))) c.check_ranks.ensures.ok
 
 pub returns-clause-err : goal.returns-clause-err
 returns-clause-err c =
-    let shape : c.as_slice-2.result.now ≡ map shape_of c.args.raw.now = c.as_slice-2.ensures.value ∙ c.in-Ok.ensures in
-    IfErr-weaker c.check_ranks.result _ _
-    (λ fault tells. subst (λ (v : List Vertex). Tells (graph_in c.args.kinds.now v) (raw_names c.args.raw.now) fault) shape tells)
-    (c.check_ranks.ensures.err (raw_names c.args.raw.now)
-    (subst (λ (v : List Vertex). DistinctNames (graph_in c.args.kinds.now v) (raw_names c.args.raw.now)) (sym shape) c.in_default-check_names.ensures.ok))
+    let kinds = c.args.kinds.now in
+    let g = raw_graph kinds c.args.raw.now in
+    let names = raw_names c.args.raw.now in
+    let clear : NoneHolds (vertex_rows g) = subst (λ (v : List Vertex). NoneHolds (vertex_rows (graph_in kinds v))) c.requires.shapes c.in_ok-check_vertices.ensures.ok in
+    IfErr-weaker c.check_ranks.result (IsFirstIn (rank_rows (graph_in kinds c.args.shapes.now))) _
+    (λ fault first. in_right (vertex_rows g) (name_rows g names ++ rank_rows g) clear fault (in_right (name_rows g names) (rank_rows g) c.in_ok-check_names.ensures.ok fault
+    (subst (λ (v : List Vertex). IsFirstIn (rank_rows (graph_in kinds v)) fault) c.requires.shapes first))) c.check_ranks.ensures.err

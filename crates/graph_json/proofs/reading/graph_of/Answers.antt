@@ -7,7 +7,7 @@ use Rattle.graph_json.specs.Edges.{FileEdge, edges_of, counted, parents_of, IsFi
 use Rattle.graph_json.specs.Ids.{ids_of, IsRepeated, IsSetOf}
 use Rattle.resource_graph.specs.Finds.{IsLeast, Nowhere}
 use Rattle.resource_graph.specs.NamedGraph.{NamedGraph}
-use Rattle.graph_build.specs.Faults.{IsFaultless}
+use Rattle.graph_build.specs.Table.{IsFaultless}
 use Rattle.graph_build.specs.Raw.{IsBuiltFrom, raw_graph, raw_names}
 use Rattle.graph_json.specs.declared.faults.ReadFault.{ReadFault}
 use Rattle.graph_json.specs.RawLists.{kinds_of, vertices_of}

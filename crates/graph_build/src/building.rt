@@ -1,42 +1,42 @@
 //! A graph from a list of vertices.
-ghost use Rattle.std.specs.Prelude.{IfOk, IfErr, OnOk};
-ghost use Rattle.graph_build.specs.Faults.{IsFaultless};
-ghost use Rattle.graph_build.specs.Told.{Tells};
-ghost use Rattle.graph_build.specs.Raw.{KindsApart, IsBuiltFrom, raw_graph, raw_names};
+ghost use Rattle.std.specs.Prelude.{◌≡◌, map, IfOk, IfErr, OnOk};
+ghost use Rattle.graph_build.specs.Table.{IsFaultless, IsFirstFault};
+ghost use Rattle.graph_build.specs.Raw.{KindsApart, IsBuiltFrom, raw_graph, raw_names, shape_of};
 
 use crate::arrange::{arranged, numbered_kinds, numbers_of, shapes_of, texts_of, vertices_of};
 use crate::checks::check_raw;
-use crate::graph::Graph;
 use crate::order::preorder_of;
 use crate::raw::{GraphFault, RawVertex};
-use flux_defs::{List, Text};
+use flux_defs::{List, Text, Vertex};
+use resource_graph::Graph;
 use std::alloc::{AllocError, Global};
 
-/// The graph of a list of vertices with which nothing is wrong.
-pub(crate) fn build_faultless(
+/// The graph of a list of vertices with which nothing is wrong. The shapes are the vertices without their texts.
+fn build_faultless(
     alloc: Global,
-    kinds: &List<Text>,
+    kinds: &[Text],
     raw: List<RawVertex>,
+    shapes: &[Vertex],
 ) -> Result<Graph, AllocError>
     requires apart { KindsApart kinds.now }
+    requires shapes { shapes.now ≡ map shape_of raw }
     requires fine { IsFaultless (raw_graph kinds.now raw) (raw_names raw) }
     ensures { IfOk result (λ graph. IsBuiltFrom kinds.now raw graph) }
 {
-    let shapes = shapes_of(alloc, raw.items())?;
-    let order = preorder_of(alloc, shapes.as_slice())?;
+    let order = preorder_of(alloc, shapes)?;
     let numbers = numbers_of(alloc, order.as_slice())?;
-    let numbering = numbered_kinds(alloc, kinds.items(), shapes.as_slice(), order.as_slice())?;
+    let numbering = numbered_kinds(alloc, kinds, shapes, order.as_slice())?;
     let made = vertices_of(
         alloc,
-        kinds.items(),
-        shapes.as_slice(),
+        kinds,
+        shapes,
         order.as_slice(),
         numbers.as_slice(),
         numbering.numbers.as_slice(),
     )?;
     let list = arranged(alloc, raw.into_vec(), order.as_slice())?;
     let texts = texts_of(alloc, list)?;
-    Graph::with_tables(
+    Graph::of(
         alloc,
         List::of_vec(numbering.kinds),
         List::of_vec(made),
@@ -56,10 +56,9 @@ pub fn build(
     requires apart { KindsApart kinds }
     ensures built { IfOk result (λ graph. IsBuiltFrom kinds raw graph) }
     ensures faultless { OnOk result (IsFaultless (raw_graph kinds raw) (raw_names raw)) }
-    ensures told { IfErr result (Tells (raw_graph kinds raw) (raw_names raw)) }
+    ensures told { IfErr result (IsFirstFault (raw_graph kinds raw) (raw_names raw)) }
 {
     let shapes = shapes_of(alloc, raw.items())?;
-    check(alloc, kinds.items(), raw.items(), shapes.as_slice())?;
-    let graph = build_faultless(alloc, &kinds, raw, shapes.as_slice())?;
-    Ok(graph)
+    check_raw(alloc, kinds.items(), raw.items(), shapes.as_slice())?;
+    Ok(build_faultless(alloc, kinds.items(), raw, shapes.as_slice())?)
 }
