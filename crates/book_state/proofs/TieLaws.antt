@@ -12,6 +12,7 @@ use Rattle.job_table.specs.Rows.{live_row, cancelled_row, HasLiveRow}
 use Rattle.job_table.proofs.RowLaws.{get_same, get_other}
 use Rattle.graph_laws.proofs.Containment.{not_from, not_to}
 use Rattle.book_state.specs.Ties.{is_live_row, has_job, have_own_ids, Agree}
+use Rattle.list_laws.proofs.Tests.{same_tests}
 
 abbrev HasJob : List Job → ℕ → Type 0
 HasJob jobs id = IsTrue (has_job jobs id)
@@ -40,11 +41,6 @@ row_live (Some row) t = (row.at, λ i. Some (record { at = row.at; live = t i })
 live_is : (row : Option Row) (at : ℕ) → row ≡ Some (live_row at) → IsTrue (is_live_row row)
 live_is row at e = ap is_live_row e
 
-equal : (a b : Bool) → (IsTrue a → IsTrue b) → (IsTrue b → IsTrue a) → a ≡ b
-equal true b f h = sym (f refl)
-equal false true f h = h refl
-equal false false f h = refl
-
 tied_of : (rows : FinMap nat_cmp Row) (jobs : List Job) → Agree rows jobs → Tied rows jobs
 tied_of rows jobs a = record {
   live = λ id. (λ h. sym (a.live id) ∙ live_is (get rows id) h.0 h.1, λ t. row_live (get rows id) (a.live id ∙ t));
@@ -53,7 +49,7 @@ tied_of rows jobs a = record {
 
 agree_of : (rows : FinMap nat_cmp Row) (jobs : List Job) → Tied rows jobs → Agree rows jobs
 agree_of rows jobs t = record {
-  live = λ id. equal (is_live_row (get rows id)) (has_job jobs id) (λ l. (t.live id).0 (row_live (get rows id) l)) (λ h. let r = (t.live id).1 h in live_is (get rows id) r.0 r.1);
+  live = λ id. same_tests (is_live_row (get rows id)) (has_job jobs id) (λ l. (t.live id).0 (row_live (get rows id) l)) (λ h. let r = (t.live id).1 h in live_is (get rows id) r.0 r.1);
   own = own_to jobs t.own;
 }
 

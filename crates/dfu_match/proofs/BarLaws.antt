@@ -16,6 +16,7 @@ use Rattle.graph_laws.proofs.Preorder.{parents_first}
 use Rattle.flux_laws.proofs.Valid.{nodes_alike}
 use Rattle.resource_graph.specs.Tables.{IsPlaceOf, IsPast}
 use Rattle.dfu_match.specs.Bars.{is_node_at, AreNodesOf, RisesStrictly, IsLeastFrom, FindsLeast}
+use Rattle.list_laws.proofs.Tests.{false_from}
 
 -- the least number from `from` on stands at the index before which all are less
 pub least_at_index : (list : List ℕ) (from index : ℕ) → RisesStrictly list → IsPlaceOf list from index → index < length list → IsLeastFrom list from (slice_index list index)
@@ -33,10 +34,6 @@ least_at_index list from index up at lt = record {
 
 pub none_from_index : (list : List ℕ) (from index : ℕ) → IsPlaceOf list from index → index ≡ length list → (i : ℕ) → i < length list → slice_index list i < from
 none_from_index list from index at over i lt = at.before i (omega arith)
-
-false_from : (b : Bool) → (IsTrue b → ⊥) → b ≡ false
-false_from true h = absurd (h refl)
-false_from false h = refl
 
 -- no member passes a test that is false of each
 none_pass : (test : ℕ → Bool) (list : List ℕ) → ((i : ℕ) → i < length list → IsTrue (test (slice_index list i)) → ⊥) → list_any test list ≡ false

@@ -107,7 +107,15 @@ pub struct Entry {
     pub reply: Reply,
 }
 
-/// A line of the input, with its number from 1.
+/// A line of the input: whose it is, its number from 1, and what it says.
+#[derive(Debug, Drop)]
+pub struct ClientLine {
+    pub client: u32,
+    pub line: u32,
+    pub command: Command,
+}
+
+/// A line of one client, with its number from 1 over the whole input.
 #[derive(Debug, Drop)]
 pub struct Line {
     pub line: u32,

@@ -15,7 +15,7 @@ pub mod views;
 
 pub use claims::{Claim, Job, Window};
 pub use gates::{Gate, OpenGate, Place};
-pub use journal::{Command, Entry, Line, Phase, Reply, Script};
+pub use journal::{ClientLine, Command, Entry, Line, Phase, Reply, Script};
 pub use limits::{
     GREATEST_NUMBER, LATEST_HORIZON, Limits, MOST_FILE_BYTES, MOST_NAME_BYTES, MOST_TYPE_BYTES, MOST_TYPES, MOST_VERTICES,
     SHIPPED,

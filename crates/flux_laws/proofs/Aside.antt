@@ -21,15 +21,11 @@ use Rattle.flux_laws.proofs.Groups as groups
 use Rattle.flux_laws.proofs.Groups.{NoneNested}
 use Rattle.flux_laws.proofs.Valid.{none_nested}
 use Rattle.flux_laws.proofs.Rows.{fits_list, valid_to_row}
+use Rattle.list_laws.proofs.Lists.{all_at}
 
 -- what holds of each member holds of one
 pub of_member : {X : Type 0} (P : X → Type 0) (xs : List X) (x : X) → AllByRecursion P xs → Contains xs x → P x
 of_member P xs x all (k, lt, is) = subst P is (All-from_recursion P xs all k x lt)
-
-pub of_place : {X : Type 0} (P : X → Type 0) (xs : List X) (i : ℕ) (x : X) → AllByRecursion P xs → slice_get xs i ≡ Some x → P x
-of_place P [] i x all e = absurd (cc)
-of_place P (y ∷ ys) zero x all e = let same : y ≡ x = cc in subst P same all.0
-of_place P (y ∷ ys) (suc i) x all e = of_place P ys i x all.1 e
 
 module _ (vertices : List Vertex) (first : ParentsFirst vertices) (unnested : NoneNested vertices) where
   aside : (a b : ℕ) (c d : Claim) → groups.AreDisjoint vertices first unnested a b → groups.Under vertices first unnested a c → groups.Under vertices first unnested b d →
@@ -72,7 +68,7 @@ pub valid_pair : (vertices : List Vertex) (needs : List Need) (i j : ℕ) (a b :
 valid_pair vertices [] i j a b valid lt ea eb = absurd (cc)
 valid_pair vertices (need ∷ rest) i zero a b valid lt ea eb = absurd (omega arith)
 valid_pair vertices (need ∷ rest) zero (suc j) a b valid lt ea eb =
-    let same : need ≡ a = cc in subst (λ (n : Need). AreApartKinds vertices n b) same (of_place (AreApartKinds vertices need) rest j b valid.1 eb)
+    let same : need ≡ a = cc in subst (λ (n : Need). AreApartKinds vertices n b) same (all_at (AreApartKinds vertices need) rest j b valid.1 eb)
 valid_pair vertices (need ∷ rest) (suc i) (suc j) a b valid lt ea eb = valid_pair vertices rest i j a b valid.2 (omega arith) ea eb
 
 pub valid_at : (vertices : List Vertex) (needs : List Need) (i : ℕ) (a : Need) → AreValidNeeds vertices needs → slice_get needs i ≡ Some a → IsValidNeed vertices a

@@ -12,15 +12,7 @@ use Rattle.flux_defs.specs.Jobs.{vertex_of, holds_over}
 use Rattle.flux_defs.specs.Fits.{Pick, NoneFor, AreDistinct, Pieces, Piece, FitsRow}
 use Rattle.flux_defs.specs.Sound.{AreSeparate, AreAllSeparate}
 use Rattle.graph_laws.proofs.Containment.{ParentsFirst, below_trans, below_le, below_self, below_from, below_to, line}
-
--- lists
-pub all_append : {X : Type 0} (P : X → Type 0) (xs ys : List X) → AllByRecursion P xs → AllByRecursion P ys → AllByRecursion P (xs ++ ys)
-all_append P [] ys h k = k
-all_append P (x ∷ xs) ys h k = (h.0, all_append P xs ys h.1 k)
-
-pub all_along : {X : Type 0} (P Q : X → Type 0) → ((x : X) → P x → Q x) → (xs : List X) → AllByRecursion P xs → AllByRecursion Q xs
-all_along P Q along [] h = tt
-all_along P Q along (x ∷ xs) h = (along x h.0, all_along P Q along xs h.1)
+use Rattle.list_laws.proofs.Lists.{all_append, all_along}
 
 same_kind : (k j : ℕ) (x : Option Vertex) → IsSomeAnd x (λ y. y.kind ≡ k) → IsSomeAnd x (λ y. y.kind ≡ j) → k ≡ j
 same_kind k j None a b = elim a [ ]

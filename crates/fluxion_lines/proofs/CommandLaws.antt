@@ -4,7 +4,8 @@ use Rattle.std.proofs.lemmas.Bool.{ne_eqb}
 use Rattle.flux_defs.specs.declared.requests.Ask.{Ask}
 use Rattle.resource_graph.specs.NamedGraph.{NamedGraph}
 use Rattle.fluxion_lines.specs.declared.commands.Form.{Form}
-use Rattle.fluxion_lines.specs.Words.{skipped, first_word, after_word, number_in}
+use Rattle.fluxion_lines.specs.Words.{skipped, first_word, after_word}
+use Rattle.text_forms.specs.Numbers.{number_in}
 use Rattle.fluxion_lines.specs.Commands.{is_none, asked, with_job, job_and_ask}
 
 -- a job and its jobspec, of words that have both

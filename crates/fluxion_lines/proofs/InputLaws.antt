@@ -14,14 +14,14 @@ use Rattle.text_table.specs.Tables.{with_text, with_texts}
 use Rattle.fluxion_lines.specs.Lines.{lines_of}
 use Rattle.fluxion_lines.specs.declared.commands.Form.{Form}
 use Rattle.fluxion_lines.specs.Inputs.{client_in, line_at, lines_from, is_by_size, over_size, line_over_size, over_size_from, over_size_in, bars_in, over_bars, line_over, over_from, over_in}
-use Rattle.fluxion_lines.specs.declared.input.NumberedLine.{NumberedLine}
+use Rattle.flux_defs.specs.declared.journal.ClientLine.{ClientLine}
 use Rattle.fluxion_lines.specs.declared.input.Over.{Over}
 use Rattle.fluxion_lines.specs.declared.input.InputFault.{InputFault}
 use Rattle.fluxion_lines.specs.declared.input.InputFault.TheVariants as input_fault
 use Rattle.fluxion_lines.specs.declared.input.Over.TheVariants as over
 
 module _ (limits : Limits) (g : NamedGraph) (form : Form) (table : List (List ℕ)) (bars at : ℕ) (raw more rest : List ℕ) (split : lines_of rest ≡ raw ∷ lines_of more) where
-  pub next_lines : (done : List NumberedLine) →
+  pub next_lines : (done : List ClientLine) →
       (done ++ line_at g form table at raw ∷ []) ++ lines_from g form (with_text table (client_in raw)) (at + 1) (lines_of more) ≡ done ++ lines_from g form table at (lines_of rest)
   next_lines done =
       append_assoc done (line_at g form table at raw ∷ []) (lines_from g form (with_text table (client_in raw)) (at + 1) (lines_of more))
@@ -111,7 +111,7 @@ pub told_of : {P Q : Over → Type 0} (fault : InputFault) → (fault ≡ input_
 told_of fault (inl memory) f = inl memory
 told_of fault (inr told) f = inr (told.0, told.1, f told.0 told.2)
 
-pub proper_push : (vertices : List Vertex) (done : List NumberedLine) (line : NumberedLine) → AllByRecursion (λ x. IsProper vertices x.command) done → IsProper vertices line.command →
+pub proper_push : (vertices : List Vertex) (done : List ClientLine) (line : ClientLine) → AllByRecursion (λ x. IsProper vertices x.command) done → IsProper vertices line.command →
     AllByRecursion (λ x. IsProper vertices x.command) (done ++ line ∷ [])
 proper_push vertices [] line all one = (one, tt)
 proper_push vertices (x ∷ xs) line all one = (all.0, proper_push vertices xs line all.1 one)

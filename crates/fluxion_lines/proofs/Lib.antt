@@ -1,4 +1,3 @@
-pub mod Decimals
 pub mod LineLaws
 pub mod CommandLaws
 pub mod InputLaws

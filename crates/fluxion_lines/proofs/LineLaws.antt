@@ -2,10 +2,10 @@
 use Rattle.std.proofs.Common.{◌≡◌, ◌≢◌, ℕ, ◌+◌, ◌<◌, ◌==◌, ◌||◌, not, Bool, true, false, cond, List, [], ◌∷◌, ◌++◌, length, inl, inr, refl, sym, ◌∙◌, ap, arith, length-append, if◌then◌else◌}
 use Rattle.std.specs.List.{list_any, position_or_len}
 use Rattle.std.proofs.lemmas.Bool.{ne_eqb}
-use Rattle.std.proofs.lemmas.List.Elements.{All-tail}
 use Rattle.std.specs.Str.{bytes_eq}
 use Rattle.text_table.specs.Tables.{place_of, with_text}
-use Rattle.fluxion_lines.specs.Lines.{HasNoFeed, BeginsWithLine, lines_of, with_byte}
+use Rattle.text_forms.specs.Cuts.{Lacks}
+use Rattle.fluxion_lines.specs.Lines.{BeginsWithLine, lines_of, with_byte}
 
 -- what follows the first line is shorter
 pub shorter : (raw more bytes : List ℕ) → BeginsWithLine raw more bytes → 0 < length bytes → length more < length bytes
@@ -13,23 +13,23 @@ shorter raw more bytes (inl e) some =
     let long : length bytes ≡ length raw + length (10 ∷ more) = ap length e ∙ length-append raw (10 ∷ more) in omega arith
 shorter raw more bytes (inr (e, nonempty, none)) some = let zero' : length more ≡ 0 = ap length none in omega arith
 
-no_feed : (b : ℕ) (raw : List ℕ) → HasNoFeed (b ∷ raw) → (b == 10) ≡ false
-no_feed b raw none = ne_eqb b 10 (none 0 0 (omega arith))
+no_feed : (b : ℕ) (raw : List ℕ) → Lacks 10 (b ∷ raw) → (b == 10) ≡ false
+no_feed b raw none = ne_eqb b 10 none.0
 
 byte_more : (b : ℕ) (rest : List ℕ) (line : List ℕ) (lines : List (List ℕ)) → (b == 10) ≡ false → lines_of rest ≡ line ∷ lines → lines_of (b ∷ rest) ≡ (b ∷ line) ∷ lines
 byte_more b rest line lines none h = ap (λ t. if t then [] ∷ lines_of rest else with_byte b (lines_of rest)) none ∙ ap (with_byte b) h
 
-ended : (raw more : List ℕ) → HasNoFeed raw → lines_of (raw ++ (10 ∷ more)) ≡ raw ∷ lines_of more
+ended : (raw more : List ℕ) → Lacks 10 raw → lines_of (raw ++ (10 ∷ more)) ≡ raw ∷ lines_of more
 ended [] more none = refl
-ended (b ∷ raw) more none = byte_more b (raw ++ (10 ∷ more)) raw (lines_of more) (no_feed b raw none) (ended raw more (All-tail (λ x. x ≢ 10) b raw none))
+ended (b ∷ raw) more none = byte_more b (raw ++ (10 ∷ more)) raw (lines_of more) (no_feed b raw none) (ended raw more none.1)
 
-last : (raw : List ℕ) → HasNoFeed raw → 0 < length raw → lines_of raw ≡ raw ∷ []
+last : (raw : List ℕ) → Lacks 10 raw → 0 < length raw → lines_of raw ≡ raw ∷ []
 last [] none some = absurd (omega arith)
 last (b ∷ []) none some = ap (λ t. if t then [] ∷ [] else with_byte b []) (no_feed b [] none)
-last (b ∷ c ∷ raw) none some = byte_more b (c ∷ raw) (c ∷ raw) [] (no_feed b (c ∷ raw) none) (last (c ∷ raw) (All-tail (λ x. x ≢ 10) b (c ∷ raw) none) (omega arith))
+last (b ∷ c ∷ raw) none some = byte_more b (c ∷ raw) (c ∷ raw) [] (no_feed b (c ∷ raw) none) (last (c ∷ raw) none.1 (omega arith))
 
 -- the bytes' lines are the first one and those of what follows it
-pub first_line : (raw more bytes : List ℕ) → HasNoFeed raw → BeginsWithLine raw more bytes → lines_of bytes ≡ raw ∷ lines_of more
+pub first_line : (raw more bytes : List ℕ) → Lacks 10 raw → BeginsWithLine raw more bytes → lines_of bytes ≡ raw ∷ lines_of more
 first_line raw more bytes none (inl e) = ap lines_of e ∙ ended raw more none
 first_line raw more bytes none (inr (e, some, ended)) = ap lines_of e ∙ (last raw none some ∙ ap (λ m. raw ∷ lines_of m) (sym ended))
 

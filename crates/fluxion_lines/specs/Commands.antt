@@ -14,7 +14,8 @@ use Rattle.fluxion_lines.specs.declared.commands.Form.{Form}
 use Rattle.fluxion_lines.specs.declared.commands.Form.TheVariants as form
 use Rattle.fluxion_lines.specs.declared.commands.Verb.{Verb}
 use Rattle.fluxion_lines.specs.declared.commands.Verb.TheVariants as verb
-use Rattle.fluxion_lines.specs.Words.{skipped, first_word, after_word, number_in}
+use Rattle.fluxion_lines.specs.Words.{skipped, first_word, after_word}
+use Rattle.text_forms.specs.Numbers.{number_in}
 use Rattle.fluxion_lines.specs.Reasons.{spec_reason}
 
 -- nothing is there

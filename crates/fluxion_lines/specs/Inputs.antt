@@ -7,7 +7,7 @@ use Rattle.text_table.specs.Tables.{place_of, with_text, with_texts}
 use Rattle.fluxion_lines.specs.declared.commands.Form.{Form}
 use Rattle.fluxion_lines.specs.Lines.{lines_of, read_of}
 use Rattle.fluxion_lines.specs.Commands.{client_of, command_of, bars_of_command}
-use Rattle.fluxion_lines.specs.declared.input.NumberedLine.{NumberedLine}
+use Rattle.flux_defs.specs.declared.journal.ClientLine.{ClientLine}
 use Rattle.fluxion_lines.specs.declared.input.Over.{Over}
 use Rattle.fluxion_lines.specs.declared.input.Over.TheVariants as over
 
@@ -20,16 +20,16 @@ abbrev pub clients_of : List ℕ → List (List ℕ)
 clients_of bytes = with_texts [] (map client_in (lines_of bytes))
 
 -- the line at a number, where these are the clients of the lines before it
-abbrev pub line_at : NamedGraph → Form → List (List ℕ) → ℕ → List ℕ → NumberedLine
+abbrev pub line_at : NamedGraph → Form → List (List ℕ) → ℕ → List ℕ → ClientLine
 line_at g form clients at raw = record { client = place_of clients (client_in raw); line = at; command = command_of g form (read_of raw) }
 
 -- the lines from a number on, behind lines of these clients
-abbrev pub lines_from : NamedGraph → Form → List (List ℕ) → ℕ → List (List ℕ) → List NumberedLine
+abbrev pub lines_from : NamedGraph → Form → List (List ℕ) → ℕ → List (List ℕ) → List ClientLine
 lines_from g form clients at [] = []
 lines_from g form clients at (raw ∷ raws) = line_at g form clients at raw ∷ lines_from g form (with_text clients (client_in raw)) (at + 1) raws
 
 -- all lines, numbered from 1
-abbrev pub numbered_lines : NamedGraph → Form → List ℕ → List NumberedLine
+abbrev pub numbered_lines : NamedGraph → Form → List ℕ → List ClientLine
 numbered_lines g form bytes = lines_from g form [] 1 (lines_of bytes)
 
 -- ---- limits that the text of the lines alone tells

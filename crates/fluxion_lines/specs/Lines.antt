@@ -1,5 +1,5 @@
 -- How the input is split into lines.
-use Rattle.std.specs.Prelude.{◌≡◌, ◌≢◌, ◌⊎◌, ℕ, ◌<◌, ◌==◌, List, [], ◌∷◌, ◌++◌, length, All, if◌then◌else◌}
+use Rattle.std.specs.Prelude.{◌≡◌, ◌⊎◌, ℕ, ◌<◌, ◌==◌, List, [], ◌∷◌, ◌++◌, length, if◌then◌else◌}
 use Rattle.std.specs.Str.Lines.{strip_carriage_return}
 
 -- the lines, with one byte more at the front of the first
@@ -15,10 +15,6 @@ lines_of (b ∷ bytes) = if b == 10 then [] ∷ lines_of bytes else with_byte b 
 -- what is read of a line: all but one carriage return at its end
 abbrev pub read_of : List ℕ → List ℕ
 read_of line = strip_carriage_return line
-
--- no byte is a line feed
-abbrev pub HasNoFeed : List ℕ → Type 0
-HasNoFeed bytes = All (λ b. b ≢ 10) bytes
 
 -- the bytes begin with this run, and more follows it after a line feed; or the run is all of them, and isn't empty
 abbrev pub BeginsWithLine : List ℕ → List ℕ → List ℕ → Type 0

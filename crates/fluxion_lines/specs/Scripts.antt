@@ -5,15 +5,15 @@ use Rattle.flux_defs.specs.declared.journal.Line.{Line}
 use Rattle.flux_defs.specs.declared.journal.Script.{Script}
 use Rattle.resource_graph.specs.NamedGraph.{NamedGraph}
 use Rattle.fluxion_lines.specs.declared.commands.Form.{Form}
-use Rattle.fluxion_lines.specs.declared.input.NumberedLine.{NumberedLine}
+use Rattle.flux_defs.specs.declared.journal.ClientLine.{ClientLine}
 use Rattle.fluxion_lines.specs.Inputs.{clients_of, numbered_lines}
 
 -- the line without its client
-abbrev pub line_held : NumberedLine → Line
+abbrev pub line_held : ClientLine → Line
 line_held l = record { line = l.line; command = l.command }
 
 -- the lines of the client with this number
-abbrev pub lines_by : ℕ → List NumberedLine → List Line
+abbrev pub lines_by : ℕ → List ClientLine → List Line
 lines_by client lines = map line_held (filter (λ l. l.client == client) lines)
 
 -- by client, its lines

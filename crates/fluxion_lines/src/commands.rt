@@ -9,7 +9,6 @@ ghost use Rattle.flux_defs.specs.Scheduler.{IsProper};
 ghost use Rattle.jobspec_v1.specs.Faults.{IsFirstFault};
 ghost use Rattle.fluxion_lines.specs.Commands.{is_client, client_of, verb_of, invalid, spec_of, asked, job_and_ask, ask_alone, number_alone, made, command_by, command_of, bars_of_command};
 
-use crate::numbers::number_in;
 use crate::reasons::spec_reason;
 use crate::words::{first_word, skipped};
 use flux_defs::{Ask, Command, Text};
@@ -17,6 +16,7 @@ use jobspec_canon::read_canon;
 use jobspec_v1::{SpecFault, read_v1};
 use resource_graph::Graph;
 use std::alloc::{AllocError, Global};
+use text_forms::number_in;
 
 /// How jobspecs are written: as RFC 25 says, or in the canonical form of RFC 14.
 #[derive(Clone, Copy, Debug, PartialEq, Eq)]

@@ -9,24 +9,17 @@ ghost use Rattle.fluxion_lines.specs.Inputs.{client_in, line_at, clients_of, num
 
 use crate::commands::{Form, bars_of_command, client_of, command_of};
 use crate::lines::{cut_line, without_return};
-use flux_defs::{Command, Limits, List, Text};
+use flux_defs::{ClientLine, Command, Limits, List, Text};
 use resource_graph::Graph;
 use std::alloc::{AllocError, AllocFailed, Global};
+use text_forms::push;
 use text_table::TextTable;
-
-/// A line of the input: the number of its client, its own number from 1, and what it commands.
-#[derive(Debug, Drop)]
-pub struct NumberedLine {
-    pub client: u32,
-    pub line: u32,
-    pub command: Command,
-}
 
 /// The lines of an input in their order, and its clients in the order of their first lines.
 #[derive(Debug, Drop)]
 pub struct Input {
     pub clients: List<Text>,
-    pub lines: List<NumberedLine>,
+    pub lines: List<ClientLine>,
 }
 
 /// The line that is the first past a limit, and which limit that is.
@@ -110,7 +103,7 @@ fn read_line(
     at: u64,
     raw: &[u8],
     table: &mut TextTable,
-) -> Result<NumberedLine, InputFault>
+) -> Result<ClientLine, InputFault>
     requires lines { limits.now.lines < 2 ^ 32 }
     requires clients { limits.now.clients < 2 ^ 32 }
     ensures line { IfOk result (λ line. line ≡ line_at graph.now form table.old at raw.now) }
@@ -126,7 +119,7 @@ fn read_line(
         return Err(InputFault::Over(over));
     }
     let command = command_of(alloc, graph, form, text)?;
-    Ok(NumberedLine {
+    Ok(ClientLine {
         client: client as u32,
         line: at as u32,
         command,
@@ -145,13 +138,6 @@ fn with_bars(limits: &Limits, at: u64, bars: u64, command: &Command) -> Result<u
         return Err(Over::Barred { line: at });
     }
     Ok(bars + own)
-}
-
-fn push_line(lines: &mut Vec<NumberedLine>, line: NumberedLine) -> Result<(), AllocError>
-    ensures { OnOk result (lines.new.items ≡ lines.old.items ++ line ∷ []) }
-{
-    lines.push(line)?;
-    Ok(())
 }
 
 /// The lines of an input, over a graph: each of what a client commands, or why it can't be read. Over comes exactly where
@@ -188,7 +174,7 @@ pub fn read_lines(
             Ok(sum) => sum,
             Err(over) => return Err(InputFault::Over(over)),
         };
-        push_line(&mut lines, line)?;
+        push(&mut lines, line)?;
         rest = more;
     }
     Ok(Input {

@@ -4,15 +4,12 @@
 mod commands;
 pub mod input;
 mod lines;
-mod numbers;
-pub mod pieces;
 mod reasons;
 pub mod replies;
 pub mod scripts;
 mod words;
 
 pub use commands::Form;
-pub use input::{Input, InputFault, NumberedLine, Over, read_lines};
-pub use numbers::number_in;
+pub use input::{Input, InputFault, Over, read_lines};
 pub use replies::{history_text, line_text};
 pub use scripts::read_input;

@@ -2,19 +2,19 @@
 ghost use Rattle.std.specs.Prelude.{◌≡◌, ◌++◌, codes, IfOk};
 ghost use Rattle.fluxion_lines.specs.Reasons.{shape_reason, spec_reason};
 
-use crate::pieces::add;
 use flux_defs::Text;
 use jobspec_v1::SpecFault;
 use json_fields::field_word;
 use need_shape::ShapeFault;
 use std::alloc::{AllocError, Global};
+use text_forms::push_bytes;
 
 /// A word, and what follows it.
 fn two(alloc: Global, word: &[u8], rest: &[u8]) -> Result<Text, AllocError>
     ensures { IfOk result (λ text. text ≡ word.now ++ rest.now) }
 {
     let mut text = Vec::from_slice(alloc, word)?;
-    add(&mut text, rest)?;
+    push_bytes(&mut text, rest)?;
     Ok(Text::of_vec(text))
 }
 
@@ -23,9 +23,9 @@ fn three(alloc: Global, word: &[u8], first: &[u8], second: &[u8]) -> Result<Text
     ensures { IfOk result (λ text. text ≡ word.now ++ first.now ++ codes " " ++ second.now) }
 {
     let mut text = Vec::from_slice(alloc, word)?;
-    add(&mut text, first)?;
-    add(&mut text, b" ")?;
-    add(&mut text, second)?;
+    push_bytes(&mut text, first)?;
+    push_bytes(&mut text, b" ")?;
+    push_bytes(&mut text, second)?;
     Ok(Text::of_vec(text))
 }
 

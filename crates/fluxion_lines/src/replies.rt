@@ -2,11 +2,11 @@
 ghost use Rattle.std.specs.Prelude.{◌≡◌, ◌++◌, decimal, IfOk, OnOk, codes};
 ghost use Rattle.fluxion_lines.specs.Texts.{job_text, phase_text, why_of, reply_text, line_text, name_of, history_text};
 
-use crate::pieces::{add, add_number};
 use flux_defs::{Command, Entry, Job, List, Phase, Reply, Text};
 use resource_graph::Graph;
 use resource_set_r::write_r;
 use std::alloc::{AllocError, Global};
+use text_forms::{push_bytes, push_decimal};
 
 /// Adds an accepted job, after the word for it.
 fn add_job(
@@ -19,12 +19,12 @@ fn add_job(
     ensures { OnOk result (text.new.items ≡ text.old.items ++ job_text graph.now word.now job.now) }
 {
     let r = write_r(alloc, graph, job)?;
-    add(text, word)?;
-    add_number(text, job.id)?;
-    add(text, b" ")?;
-    add_number(text, job.start)?;
-    add(text, b" ")?;
-    add(text, r.bytes())
+    push_bytes(text, word)?;
+    push_decimal(text, job.id)?;
+    push_bytes(text, b" ")?;
+    push_decimal(text, job.start)?;
+    push_bytes(text, b" ")?;
+    push_bytes(text, r.bytes())
 }
 
 /// The word for a phase.
@@ -47,19 +47,19 @@ pub(crate) fn add_info(
 ) -> Result<(), AllocError>
     ensures { OnOk result (text.new.items ≡ text.old.items ++ (phase_text phase ++ decimal start ++ codes " " ++ decimal end)) }
 {
-    add(text, phase_word(phase))?;
-    add_number(text, start)?;
-    add(text, b" ")?;
-    add_number(text, end)
+    push_bytes(text, phase_word(phase))?;
+    push_decimal(text, start)?;
+    push_bytes(text, b" ")?;
+    push_decimal(text, end)
 }
 
 /// Adds why a line can't be read.
 pub(crate) fn add_why(text: &mut Vec<u8>, command: &Command) -> Result<(), AllocError>
     ensures { OnOk result (text.new.items ≡ text.old.items ++ (codes "invalid " ++ why_of command.now)) }
 {
-    add(text, b"invalid ")?;
+    push_bytes(text, b"invalid ")?;
     match command {
-        Command::Invalid { why } => add(text, why.bytes()),
+        Command::Invalid { why } => push_bytes(text, why.bytes()),
         _ => Ok(()),
     }
 }
@@ -77,22 +77,22 @@ fn add_reply(
     match reply {
         Reply::Allocated(job) => add_job(alloc, text, graph, b"allocated ", job),
         Reply::Reserved(job) => add_job(alloc, text, graph, b"reserved ", job),
-        Reply::Busy => add(text, b"busy"),
-        Reply::NoStart => add(text, b"nostart"),
-        Reply::Unsatisfiable => add(text, b"unsatisfiable"),
-        Reply::Satisfiable => add(text, b"satisfiable"),
-        Reply::TooLong => add(text, b"toolong"),
-        Reply::Exists => add(text, b"exists"),
-        Reply::Absent => add(text, b"absent"),
-        Reply::Cancelled => add(text, b"cancelled"),
-        Reply::Full => add(text, b"full"),
+        Reply::Busy => push_bytes(text, b"busy"),
+        Reply::NoStart => push_bytes(text, b"nostart"),
+        Reply::Unsatisfiable => push_bytes(text, b"unsatisfiable"),
+        Reply::Satisfiable => push_bytes(text, b"satisfiable"),
+        Reply::TooLong => push_bytes(text, b"toolong"),
+        Reply::Exists => push_bytes(text, b"exists"),
+        Reply::Absent => push_bytes(text, b"absent"),
+        Reply::Cancelled => push_bytes(text, b"cancelled"),
+        Reply::Full => push_bytes(text, b"full"),
         Reply::Info { phase, start, end } => add_info(text, *phase, *start, *end),
         Reply::Now { at } => {
-            add(text, b"now ")?;
-            add_number(text, *at)
+            push_bytes(text, b"now ")?;
+            push_decimal(text, *at)
         }
-        Reply::Backwards => add(text, b"backwards"),
-        Reply::Beyond => add(text, b"beyond"),
+        Reply::Backwards => push_bytes(text, b"backwards"),
+        Reply::Beyond => push_bytes(text, b"beyond"),
         Reply::Invalid => add_why(text, command),
     }
 }
@@ -108,14 +108,14 @@ fn add_line(
 ) -> Result<(), AllocError>
     ensures { OnOk result (text.new.items ≡ text.old.items ++ line_text graph.now at entry.now client.now) }
 {
-    add_number(text, at)?;
-    add(text, b" ")?;
-    add_number(text, u64::from(entry.line))?;
-    add(text, b" ")?;
-    add(text, client)?;
-    add(text, b" ")?;
+    push_decimal(text, at)?;
+    push_bytes(text, b" ")?;
+    push_decimal(text, u64::from(entry.line))?;
+    push_bytes(text, b" ")?;
+    push_bytes(text, client)?;
+    push_bytes(text, b" ")?;
     add_reply(alloc, text, graph, &entry.command, &entry.reply)?;
-    add(text, b"\n")?;
+    push_bytes(text, b"\n")?;
     Ok(())
 }
 

@@ -7,17 +7,11 @@ ghost use Rattle.fluxion_lines.specs.Inputs.{over_in};
 ghost use Rattle.fluxion_lines.specs.Scripts.{lines_by, script_of};
 
 use crate::commands::Form;
-use crate::input::{Input, InputFault, NumberedLine, read_lines};
-use flux_defs::{Limits, Line, List, Script};
+use crate::input::{Input, InputFault, read_lines};
+use flux_defs::{ClientLine, Limits, Line, List, Script};
 use resource_graph::Graph;
 use std::alloc::{AllocError, Global};
-
-fn push_list(lists: &mut Vec<List<Line>>, list: List<Line>) -> Result<(), AllocError>
-    ensures { OnOk result (lists.new.items ≡ lists.old.items ++ list ∷ []) }
-{
-    lists.push(list)?;
-    Ok(())
-}
+use text_forms::push;
 
 /// No lines for each of so many clients.
 fn no_lines(alloc: Global, count: usize) -> Result<List<List<Line>>, AllocError>
@@ -26,7 +20,7 @@ fn no_lines(alloc: Global, count: usize) -> Result<List<List<Line>>, AllocError>
     let mut lists = Vec::new(alloc);
     for client in 0..count {
         let _ = client;
-        push_list(&mut lists, List::new(alloc))?;
+        push(&mut lists, List::new(alloc))?;
     }
     Ok(List::of_vec(lists))
 }
@@ -55,14 +49,14 @@ fn add_line(
 fn by_client(
     alloc: Global,
     count: usize,
-    lines: List<NumberedLine>,
+    lines: List<ClientLine>,
 ) -> Result<List<List<Line>>, AllocError>
     requires { AllByRecursion (λ l. l.client < count) lines }
     ensures { IfOk result (λ lists. lists ≡ map (λ client. lines_by client lines) (range_with_len 0 count)) }
 {
     let mut lists = no_lines(alloc, count)?;
     for told in lines.into_vec() {
-        let NumberedLine {
+        let ClientLine {
             client,
             line,
             command,

@@ -8,12 +8,10 @@ fn spaces(bytes: &[u8]) -> usize
     ensures place { result ≡ position_or_len (λ b. not (b == 32)) bytes.now }
     ensures within { result ≤ length bytes.now }
 {
-    'bytes: for (at, byte) in bytes.iter().enumerate() {
-        if *byte != b' ' {
-            return at;
-        }
+    match bytes.iter().position(|byte| *byte != b' ') {
+        Some(at) => at,
+        None => bytes.len(),
     }
-    bytes.len()
 }
 
 /// Where the word at the front ends.
@@ -21,12 +19,10 @@ fn word_end(bytes: &[u8]) -> usize
     ensures place { result ≡ position_or_len (λ b. b == 32) bytes.now }
     ensures within { result ≤ length bytes.now }
 {
-    'bytes: for (at, byte) in bytes.iter().enumerate() {
-        if *byte == b' ' {
-            return at;
-        }
+    match bytes.iter().position(|byte| *byte == b' ') {
+        Some(at) => at,
+        None => bytes.len(),
     }
-    bytes.len()
 }
 
 /// The bytes from the first that is no space on.

@@ -3,39 +3,27 @@ use Rattle.std.proofs.Common.{◌≡◌, ℕ, List, [], ◌∷◌, map, Contains
 use Rattle.std.specs.List.{AllByRecursion}
 use Rattle.flux_defs.specs.declared.journal.Entry.{Entry}
 use Rattle.flux_defs.specs.declared.journal.Line.{Line}
-use Rattle.flux_defs.specs.declared.vertices.Vertex.{Vertex}
-use Rattle.flux_defs.specs.Scheduler.{IsProper}
 use Rattle.flux_defs.specs.Scripts.{HasLines}
 use Rattle.resource_graph.specs.NamedGraph.{NamedGraph}
-use Rattle.sched_core.specs.declared.playing.ClientLine.{ClientLine}
-use Rattle.sched_core.specs.Played.{AreProper, line_of}
-use Rattle.fluxion_lines.specs.declared.input.NumberedLine.{NumberedLine}
+use Rattle.flux_defs.specs.declared.journal.ClientLine.{ClientLine}
+use Rattle.sched_core.specs.Played.{line_of}
 use Rattle.fluxion_lines.specs.declared.input.Over.{Over}
 use Rattle.fluxion_lines.specs.declared.input.InputFault.{InputFault}
 use Rattle.fluxion_lines.specs.declared.input.InputFault.TheVariants as fault
 use Rattle.fluxion_lines.specs.Inputs.{clients_of, numbered_lines}
 use Rattle.fluxion_lines.specs.Scripts.{script_of}
-use Rattle.fluxion_lines.proofs.ScriptLaws.{all_mapped, all_unmapped, at_each, interleaves, told}
+use Rattle.fluxion_lines.proofs.ScriptLaws.{all_unmapped, at_each, interleaves, told}
 use Rattle.fluxion_shell.specs.Outputs.{served_form, IsSoundOutput}
-use Rattle.fluxion_shell.specs.PlayedText.{client_line, IsPlayedText}
+use Rattle.fluxion_shell.specs.PlayedText.{IsPlayedText}
 
 numbers_of : (history : List Entry) → map (λ (l : ClientLine). l.line) (map line_of history) ≡ map (λ e. e.line) history
 numbers_of [] = refl
 numbers_of (e ∷ es) = ap (λ ns. e.line ∷ ns) (numbers_of es)
 
-numbers_in : (lines : List NumberedLine) → map (λ (l : ClientLine). l.line) (map client_line lines) ≡ map (λ l. l.line) lines
-numbers_in [] = refl
-numbers_in (l ∷ ls) = ap (λ ns. l.line ∷ ns) (numbers_in ls)
-
--- proper commands, as the scheduler takes them
-pub proper_lines : (vertices : List Vertex) (lines : List NumberedLine) → AllByRecursion (λ l. IsProper vertices l.command) lines → AreProper vertices (map client_line lines)
-proper_lines vertices lines proper = all_mapped (λ (l : ClientLine). IsProper vertices l.command) client_line lines proper
-
-pub sound_output : (g : NamedGraph) (horizon : ℕ) (input text : List ℕ) → IsPlayedText g horizon (clients_of input) (map client_line (numbered_lines g served_form input)) text → IsSoundOutput g horizon input text
+pub sound_output : (g : NamedGraph) (horizon : ℕ) (input text : List ℕ) → IsPlayedText g horizon (clients_of input) (numbered_lines g served_form input) text → IsSoundOutput g horizon input text
 sound_output g horizon input text played =
     let IsTold : ClientLine → Type 0 = λ x. (ls : List Line) × HasLines (script_of g served_form input) x.client ls × Contains ls (record { line = x.line; command = x.command }) in
-    let lines = numbered_lines g served_form input in
-    let answers : AllByRecursion IsTold (map line_of played.history) = subst (AllByRecursion IsTold) (sym played.lines-are) (all_mapped IsTold client_line lines (told g served_form input)) in
+    let answers : AllByRecursion IsTold (map line_of played.history) = subst (AllByRecursion IsTold) (sym played.lines-are) (told g served_form input) in
     record {
       output = record {
         rules = played.rules;
@@ -43,7 +31,7 @@ sound_output g horizon input text played =
         interleaves = interleaves g served_form input;
         history = played.history;
         plays = record {
-          lines = sym (numbers_of played.history) ∙ (ap (map (λ (l : ClientLine). l.line)) played.lines-are ∙ numbers_in lines);
+          lines = sym (numbers_of played.history) ∙ ap (map (λ (l : ClientLine). l.line)) played.lines-are;
           answers = at_each _ played.history (all_unmapped IsTold line_of played.history answers);
           legal = played.legal;
         };

@@ -1,6 +1,6 @@
 -- A list of two items.
 use Rattle.std.proofs.Common.{◌≡◌, ℕ, ◌<◌, ◌≤◌, String, Global, map, string_bytes, codes, List, [], ◌∷◌, length, get_or, Some, inl, inr, sym, ◌∙◌, ap, arith}
-use Rattle.fluxion_lines.specs.Words.{number_in}
+use Rattle.text_forms.specs.Numbers.{number_in}
 use Rattle.fluxion_shell.specs.Forms.{IsCall, IsHorizonCall, Served, IsServe, IsPrint, NamesFile}
 use Rattle.fluxion_shell.proofs.FourWords.{word_at, as_many}
 

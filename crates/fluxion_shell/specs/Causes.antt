@@ -14,20 +14,17 @@ use Rattle.fluxion_shell.specs.declared.status.Which.TheVariants.{GraphBytes, In
 use Rattle.fluxion_lines.specs.declared.input.Over.{Over}
 use Rattle.fluxion_lines.specs.declared.input.Over.TheVariants as over
 use Rattle.fluxion_lines.specs.Inputs.{over_in}
-use Rattle.fluxion_shell.specs.Outputs.{shipped, served_form}
-
--- how many bytes the graph file and the input may have
-abbrev pub most_bytes : ℕ
-most_bytes = 268435456
+use Rattle.fluxion_shell.specs.Outputs.{served_form}
+use Rattle.flux_defs.specs.declared.limits.TheConstants.{MOST_FILE_BYTES, SHIPPED}
 
 abbrev pub past_graph : Limited
-past_graph = record { which = GraphBytes; found = most_bytes + 1 }
+past_graph = record { which = GraphBytes; found = MOST_FILE_BYTES + 1 }
 
 abbrev pub long_graph : Status
 long_graph = status.Limit past_graph
 
 abbrev pub long_input : Status
-long_input = status.Limit (record { which = InputBytes; found = most_bytes + 1 })
+long_input = status.Limit (record { which = InputBytes; found = MOST_FILE_BYTES + 1 })
 
 -- the bytes of the file of this name, where the store tells them
 abbrev pub told_file : Option Stored → List ℕ → Option (List ℕ)
@@ -62,7 +59,7 @@ limit_of (over.Barred line) = status.Limit (record { which = Barred; found = lin
 
 -- this line of the input is the first past a limit, over the graph of the file
 abbrev pub IsPastLimit : List ℕ → List ℕ → Over → Type 0
-IsPastLimit file input over = (g : NamedGraph) × IsGraphText file g × (over_in shipped g served_form input ≡ Some over)
+IsPastLimit file input over = (g : NamedGraph) × IsGraphText file g × (over_in SHIPPED g served_form input ≡ Some over)
 
 -- the answer that the input's lines show
 abbrev pub ShowsLines : Status → Option Over → Type 0
@@ -71,14 +68,14 @@ ShowsLines result past = MatchOption past (OrEarlier result ((result ≡ status.
 -- the answer that the input's told bytes show, over a graph
 abbrev pub ShowsInput : Status → NamedGraph → List ℕ → Type 0
 ShowsInput result g input =
-    (most_bytes < length input → OrEarlier result (result ≡ long_input))
-    × (length input ≤ most_bytes → ShowsLines result (over_in shipped g served_form input))
+    (MOST_FILE_BYTES < length input → OrEarlier result (result ≡ long_input))
+    × (length input ≤ MOST_FILE_BYTES → ShowsLines result (over_in SHIPPED g served_form input))
 
 -- the answer that the graph file's told bytes show, and what its graph then shows
 pub record ShowsFile (result : Status) (file : List ℕ) (Then : NamedGraph → Type 0) : Type 0 where
-  pub long : most_bytes < length file → OrEarlier result (result ≡ long_graph)
-  pub faulty : length file ≤ most_bytes → (fault : ReadFault) → HasFault file fault → OrEarlier result ((told : ReadFault) × HasFault file told × (result ≡ status.Graph told))
-  pub graph : length file ≤ most_bytes → (g : NamedGraph) → IsGraphText file g → Then g
+  pub long : MOST_FILE_BYTES < length file → OrEarlier result (result ≡ long_graph)
+  pub faulty : length file ≤ MOST_FILE_BYTES → (fault : ReadFault) → HasFault file fault → OrEarlier result ((told : ReadFault) × HasFault file told × (result ≡ status.Graph told))
+  pub graph : length file ≤ MOST_FILE_BYTES → (g : NamedGraph) → IsGraphText file g → Then g
 
 -- the answer that a store's files show, and what the graph of the file of this name then shows
 abbrev pub ShowsStore : Status → Option Stored → List ℕ → (NamedGraph → Type 0) → Type 0
@@ -97,7 +94,7 @@ ShowsPrint result told name = ShowsStore result told name (λ g. OrEarlier resul
 pub record HasGraphFile (told : Option Stored) (name : List ℕ) : Type 0 where
   pub file : List ℕ
   pub file-is : told_file told name ≡ Some file
-  pub short : length file ≤ most_bytes
+  pub short : length file ≤ MOST_FILE_BYTES
   pub graph : NamedGraph
   pub graph-is : IsGraphText file graph
 
@@ -105,12 +102,12 @@ pub record HasGraphFile (told : Option Stored) (name : List ℕ) : Type 0 where
 pub record HasShortInput (g : NamedGraph) (left : Option (List ℕ)) : Type 0 where
   pub input : List ℕ
   pub input-is : left ≡ Some input
-  pub short : length input ≤ most_bytes
-  pub within : over_in shipped g served_form input ≡ None
+  pub short : length input ≤ MOST_FILE_BYTES
+  pub within : over_in SHIPPED g served_form input ≡ None
 
 -- The graph of the file of this name was read: where the store tells its files, it has such a file, not too long.
 abbrev pub Known : Option Stored → List ℕ → List ℕ → Type 0
-Known told name bytes = IfSome told (λ files. (file_of files name ≡ Some bytes) × (length bytes ≤ most_bytes))
+Known told name bytes = IfSome told (λ files. (file_of files name ≡ Some bytes) × (length bytes ≤ MOST_FILE_BYTES))
 
 abbrev pub IsLoaded : Option Stored → List ℕ → NamedGraph → Type 0
 IsLoaded told name graph = (bytes : List ℕ) × Known told name bytes × IsGraphText bytes graph
@@ -120,10 +117,10 @@ abbrev pub FailsWith : Option Stored → List ℕ → (faults faults_now refused
 FailsWith told name faults faults_now refused refused_now status.Ok = ⊥
 FailsWith told name faults faults_now refused refused_now status.Usage = ⊥
 FailsWith told name faults faults_now refused refused_now (status.Graph fault) =
-    (fault ≢ read_fault.Memory) × IfSome told (λ files. (bytes : List ℕ) × (file_of files name ≡ Some bytes) × (length bytes ≤ most_bytes) × HasFault bytes fault)
+    (fault ≢ read_fault.Memory) × IfSome told (λ files. (bytes : List ℕ) × (file_of files name ≡ Some bytes) × (length bytes ≤ MOST_FILE_BYTES) × HasFault bytes fault)
 FailsWith told name faults faults_now refused refused_now status.Read = Rose faults faults_now
 FailsWith told name faults faults_now refused refused_now status.Write = ⊥
 FailsWith told name faults faults_now refused refused_now status.Memory = Unit {0}
 FailsWith told name faults faults_now refused refused_now (status.Limit limited) =
-    (limited ≡ past_graph) × Rose refused refused_now × IfSome told (λ files. (bytes : List ℕ) × (file_of files name ≡ Some bytes) × (most_bytes < length bytes))
+    (limited ≡ past_graph) × Rose refused refused_now × IfSome told (λ files. (bytes : List ℕ) × (file_of files name ≡ Some bytes) × (MOST_FILE_BYTES < length bytes))
 FailsWith told name faults faults_now refused refused_now status.NoGraphFile = Rose refused refused_now × IfSome told (λ files. file_of files name ≡ None)

@@ -1,6 +1,7 @@
 -- The words that the program takes.
+use Rattle.flux_defs.specs.declared.limits.TheConstants.{LATEST_HORIZON}
 use Rattle.std.specs.Prelude.{◌≡◌, ◌≢◌, ◌⊎◌, ℕ, ◌^◌, ◌≤◌, List, [], ◌∷◌, codes, slice_get, Some}
-use Rattle.fluxion_lines.specs.Words.{number_in}
+use Rattle.text_forms.specs.Numbers.{number_in}
 use Rattle.fluxion_shell.specs.declared.words.ServeCall.{ServeCall}
 
 -- a word that isn't empty and doesn't begin with a dash
@@ -17,7 +18,7 @@ pub record IsCall (command : List ℕ) (words : List (List ℕ)) (name : List �
 pub record IsHorizon (word : List ℕ) (horizon : ℕ) : Type 0 where
   pub number : number_in word ≡ Some horizon
   pub least : 1 ≤ horizon
-  pub most : horizon ≤ 2 ^ 40
+  pub most : horizon ≤ LATEST_HORIZON
 
 -- the words are `serve`, the name of a graph file, and a horizon after its option
 pub record IsHorizonCall (words : List (List ℕ)) (name : List ℕ) (horizon : ℕ) : Type 0 where

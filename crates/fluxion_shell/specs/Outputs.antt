@@ -1,7 +1,7 @@
 -- The text that answers an input over a graph: that of a history of the scheduler of one thread.
 use Rattle.std.specs.Prelude.{◌≡◌, ℕ, ◌++◌, List, codes}
 use Rattle.flux_defs.specs.declared.journal.Entry.{Entry}
-use Rattle.flux_defs.specs.declared.limits.Limits.{Limits}
+use Rattle.flux_defs.specs.declared.limits.TheConstants.{SHIPPED}
 use Rattle.flux_defs.specs.Scheduler.{Setting}
 use Rattle.flux_defs.specs.Scripts.{Interleaves, Plays}
 use Rattle.flux_defs.specs.Sound.{IsSoundThroughout}
@@ -17,17 +17,13 @@ use Rattle.fluxion_lines.specs.Inputs.{clients_of}
 use Rattle.fluxion_lines.specs.Scripts.{script_of, input_order}
 use Rattle.fluxion_lines.specs.Texts.{history_text}
 
--- how much the program takes
-abbrev pub shipped : Limits
-shipped = record { lines = 262144; line_bytes = 1048576; clients = 64; barred = 67108864; claims = 2097152 }
-
 -- how the jobspecs of the input are written: in the canonical form
 abbrev pub served_form : Form
 served_form = form.Rfc14
 
 -- the setting over a graph, with filter rules and a horizon
 abbrev pub served_setting : NamedGraph → List Rule → ℕ → Setting
-served_setting graph rules horizon = setting_of graph.resources rules horizon shipped.claims
+served_setting graph rules horizon = setting_of graph.resources rules horizon SHIPPED.claims
 
 -- The text is that of a history over the graph that holds each line of the input once, in input order. The history is
 -- legal: each entry is the reply of the scheduler of one thread in the state that the entries before it leave.

@@ -6,15 +6,10 @@ use Rattle.flux_defs.specs.Sound.{IsSoundThroughout}
 use Rattle.resource_graph.specs.NamedGraph.{NamedGraph}
 use Rattle.prune_filters.specs.declared.rules.Rule.{Rule}
 use Rattle.prune_filters.specs.Filters.{AreRulesOf}
-use Rattle.sched_core.specs.declared.playing.ClientLine.{ClientLine}
+use Rattle.flux_defs.specs.declared.journal.ClientLine.{ClientLine}
 use Rattle.sched_core.specs.Played.{line_of}
-use Rattle.fluxion_lines.specs.declared.input.NumberedLine.{NumberedLine}
 use Rattle.fluxion_lines.specs.Texts.{history_text}
 use Rattle.fluxion_shell.specs.Outputs.{served_setting}
-
--- a line as the scheduler takes it
-abbrev pub client_line : NumberedLine → ClientLine
-client_line l = record { client = l.client; line = l.line; command = l.command }
 
 -- the text of a legal and sound history that answers these lines, each once and in their order
 pub record IsPlayedText (graph : NamedGraph) (horizon : ℕ) (clients : List (List ℕ)) (lines : List ClientLine) (text : List ℕ) : Type 0 where

@@ -3,47 +3,17 @@ ghost use Rattle.std.specs.Prelude.{◌≡◌, ◌++◌, ◌∷◌, [], Some, No
 ghost use Rattle.fluxion_lines.specs.declared.input.Over.{Over};
 ghost use Rattle.fluxion_lines.specs.Inputs.{over_in};
 ghost use Rattle.sched_core.specs.Played.{AreProper};
-ghost use Rattle.fluxion_shell.specs.Outputs.{shipped, served_form, IsSoundOutput};
-ghost use Rattle.fluxion_shell.specs.PlayedText.{client_line, IsPlayedText};
+ghost use Rattle.fluxion_shell.specs.Outputs.{served_form, IsSoundOutput};
+ghost use Rattle.flux_defs.specs.declared.limits.TheConstants.{SHIPPED};
+ghost use Rattle.fluxion_shell.specs.PlayedText.{IsPlayedText};
 
-use flux_defs::{Limits, List, Text};
-use fluxion_lines::{Form, Input, InputFault, NumberedLine, history_text, read_lines};
+use flux_defs::{ClientLine, Limits, List, Text};
+use fluxion_lines::{Form, Input, InputFault, history_text, read_lines};
 use prune_filters::Rules;
 use resource_graph::Graph;
-use sched_core::playing::ClientLine;
 use sched_core::{Core, play};
 use std::alloc::{AllocError, Global};
 use std::sync::Arc;
-
-fn push_line(lines: &mut Vec<ClientLine>, line: ClientLine) -> Result<(), AllocError>
-    ensures { OnOk result (lines.new.items ≡ lines.old.items ++ line ∷ []) }
-{
-    lines.push(line)?;
-    Ok(())
-}
-
-/// The lines, as the scheduler takes them.
-fn client_lines(alloc: Global, lines: List<NumberedLine>) -> Result<Vec<ClientLine>, AllocError>
-    ensures { IfOk result (λ taken. taken.items ≡ map client_line lines) }
-{
-    let mut taken = Vec::new(alloc);
-    for told in lines.into_vec() {
-        let NumberedLine {
-            client,
-            line,
-            command,
-        } = told;
-        push_line(
-            &mut taken,
-            ClientLine {
-                client,
-                line,
-                command,
-            },
-        )?;
-    }
-    Ok(taken)
-}
 
 /// The text of the history that answers lines in their order.
 fn played(
@@ -70,8 +40,8 @@ fn played(
 /// that is past a limit.
 pub fn answer(alloc: Global, graph: Graph, horizon: u64, input: &[u8]) -> Result<Text, InputFault>
     ensures output { IfOk result (IsSoundOutput graph horizon input.now) }
-    ensures within { IsOk result → over_in shipped graph served_form input.now ≡ None }
-    ensures over { (over : Over) → IsErrOf result (InputFault.Over over) → over_in shipped graph served_form input.now ≡ Some over }
+    ensures within { IsOk result → over_in SHIPPED graph served_form input.now ≡ None }
+    ensures over { (over : Over) → IsErrOf result (InputFault.Over over) → over_in SHIPPED graph served_form input.now ≡ Some over }
 {
     graph.is_valid();
     let limits = Limits::shipped();
@@ -79,7 +49,6 @@ pub fn answer(alloc: Global, graph: Graph, horizon: u64, input: &[u8]) -> Result
         Ok(read) => read,
         Err(fault) => return Err(fault),
     };
-    let lines = client_lines(alloc, lines)?;
-    let text = played(alloc, graph, horizon, &clients, lines)?;
+    let text = played(alloc, graph, horizon, &clients, lines.into_vec())?;
     Ok(text)
 }

@@ -2,18 +2,18 @@
 ghost use Rattle.std.specs.Prelude.{◌≡◌, ◌++◌, decimal, OnOk};
 ghost use Rattle.fluxion_shell.specs.Ends.{graph_words, fault_words};
 
-use fluxion_lines::pieces::{add, add_number};
 use graph_json::ReadFault;
 use json_fields::field_word;
 use graph_build::GraphFault;
 use std::alloc::AllocError;
+use text_forms::{push_bytes, push_decimal};
 
 /// Adds the words and the number.
 fn add_counted(line: &mut Vec<u8>, words: &[u8], number: u64) -> Result<(), AllocError>
     ensures { OnOk result (line.new.items ≡ line.old.items ++ words.now ++ decimal number) }
 {
-    add(line, words)?;
-    add_number(line, number)
+    push_bytes(line, words)?;
+    push_decimal(line, number)
 }
 
 /// Adds what is wrong with a list of vertices.
@@ -25,7 +25,7 @@ fn add_graph_fault(line: &mut Vec<u8>, fault: &GraphFault) -> Result<(), AllocEr
         GraphFault::Kinds { found } => add_counted(line, b"kinds ", *found),
         GraphFault::UnknownParent { vertex } => add_counted(line, b"parent ", *vertex as u64),
         GraphFault::UnknownKind { vertex } => add_counted(line, b"kind ", *vertex as u64),
-        GraphFault::NoRoot => add(line, b"no root"),
+        GraphFault::NoRoot => push_bytes(line, b"no root"),
         GraphFault::ManyRoots { vertex } => add_counted(line, b"roots ", *vertex as u64),
         GraphFault::Cycle { vertex } => add_counted(line, b"cycle ", *vertex as u64),
         GraphFault::Depth { vertex } => add_counted(line, b"depth ", *vertex as u64),
@@ -39,7 +39,7 @@ fn add_graph_fault(line: &mut Vec<u8>, fault: &GraphFault) -> Result<(), AllocEr
         GraphFault::DuplicateId { vertex } => add_counted(line, b"id ", *vertex as u64),
         GraphFault::DuplicateName { vertex } => add_counted(line, b"name ", *vertex as u64),
         GraphFault::Ranks { vertex } => add_counted(line, b"ranks ", *vertex as u64),
-        GraphFault::Memory => add(line, b"memory"),
+        GraphFault::Memory => push_bytes(line, b"memory"),
     }
 }
 
@@ -48,16 +48,16 @@ pub(crate) fn add_fault(line: &mut Vec<u8>, fault: &ReadFault) -> Result<(), All
     ensures { OnOk result (line.new.items ≡ line.old.items ++ fault_words fault.now) }
 {
     match fault {
-        ReadFault::NotJson => add(line, b"json"),
+        ReadFault::NotJson => push_bytes(line, b"json"),
         ReadFault::Field { path, fault } => {
-            add(line, b"field ")?;
-            add(line, path.bytes())?;
-            add(line, b" ")?;
-            add(line, field_word(*fault).as_bytes())
+            push_bytes(line, b"field ")?;
+            push_bytes(line, path.bytes())?;
+            push_bytes(line, b" ")?;
+            push_bytes(line, field_word(*fault).as_bytes())
         }
         ReadFault::DuplicateNode { at } => add_counted(line, b"node ", *at),
         ReadFault::Edge { at } => add_counted(line, b"edge ", *at),
         ReadFault::Graph(fault) => add_graph_fault(line, fault),
-        ReadFault::Memory => add(line, b"memory"),
+        ReadFault::Memory => push_bytes(line, b"memory"),
     }
 }

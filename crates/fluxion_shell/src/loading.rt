@@ -3,13 +3,11 @@ ghost use Rattle.std.specs.Prelude.{◌≡◌, IfOk, IfErr};
 ghost use Rattle.fluxion_shell.specs.Causes.{IsLoaded, FailsWith, past_graph, long_input};
 
 use crate::status::{Limited, Status, Which};
+use flux_defs::MOST_FILE_BYTES;
 use flux_io::{FileFail, Files, Got};
 use graph_json::{ReadFault, read_graph};
 use resource_graph::Graph;
 use std::alloc::Global;
-
-/// How many bytes the graph file and the input may have.
-pub(crate) const MOST_BYTES: u64 = 268_435_456;
 
 /// More bytes than these were found.
 pub(crate) fn too_long(which: Which) -> Status
@@ -17,7 +15,7 @@ pub(crate) fn too_long(which: Which) -> Status
 {
     Status::Limit(Limited {
         which,
-        found: MOST_BYTES + 1,
+        found: MOST_FILE_BYTES + 1,
     })
 }
 
@@ -27,7 +25,7 @@ pub(crate) fn load<F: Files>(alloc: Global, name: &str, files: &mut F) -> Result
     ensures failed { IfErr result (FailsWith (F.told files.old) name.now (F.faults files.old) (F.faults files.new) (F.refused files.old) (F.refused files.new)) }
 {
     let mut bytes = Vec::new(alloc);
-    match files.read(name, &mut bytes, MOST_BYTES) {
+    match files.read(name, &mut bytes, MOST_FILE_BYTES) {
         Ok(Got::Whole) => {}
         Ok(Got::Absent) => return Err(Status::NoGraphFile),
         Ok(Got::Long) => return Err(too_long(Which::GraphBytes)),

@@ -8,11 +8,12 @@ ghost use Rattle.graph_json.specs.declared.faults.ReadFault.{ReadFault};
 ghost use Rattle.fluxion_lines.specs.declared.input.Over.{Over};
 ghost use Rattle.fluxion_lines.specs.Inputs.{is_by_size, over_size_in};
 ghost use Rattle.fluxion_shell.specs.Forms.{Served, IsServe, IsPrint, NamesFile};
-ghost use Rattle.fluxion_shell.specs.Outputs.{shipped, Answers, AnswersSoundly, Prints};
-ghost use Rattle.fluxion_shell.specs.Causes.{most_bytes, long_graph, long_input, limit_of, IsPastLimit, told_file, WhereTold, AppendsSome, AppendsFrontOfSome, HasFault, Shows, ShowsPrint, HasGraphFile, HasShortInput};
+ghost use Rattle.fluxion_shell.specs.Outputs.{Answers, AnswersSoundly, Prints};
+ghost use Rattle.flux_defs.specs.declared.limits.TheConstants.{SHIPPED, MOST_FILE_BYTES};
+ghost use Rattle.fluxion_shell.specs.Causes.{long_graph, long_input, limit_of, IsPastLimit, told_file, WhereTold, AppendsSome, AppendsFrontOfSome, HasFault, Shows, ShowsPrint, HasGraphFile, HasShortInput};
 
 use crate::answering::answer;
-use crate::loading::{MOST_BYTES, load, too_long};
+use crate::loading::{load, too_long};
 use crate::status::{Limited, Status, Which};
 use crate::words::{graph_name, serve_call};
 use flux_defs::Text;
@@ -58,9 +59,9 @@ fn serve<F: Files, S: Source, O: Sink>(
     ensures no_file { result ≡ Status.NoGraphFile → Rose (F.refused files.old) (F.refused files.new)
         × IfSome (F.told files.old) (λ all. file_of all name.now ≡ None) }
     ensures graph_limit { result ≡ long_graph → Rose (F.refused files.old) (F.refused files.new)
-        × IfSome (told_file (F.told files.old) name.now) (λ file. most_bytes < length file) }
-    ensures input_limit { result ≡ long_input → IfSome (S.left input.old) (λ lines. most_bytes < length lines) }
-    ensures line_limit { (over : Over) → is_by_size over ≡ true → result ≡ limit_of over → IfSome (S.left input.old) (λ lines. over_size_in shipped lines ≡ Some over) }
+        × IfSome (told_file (F.told files.old) name.now) (λ file. MOST_FILE_BYTES < length file) }
+    ensures input_limit { result ≡ long_input → IfSome (S.left input.old) (λ lines. MOST_FILE_BYTES < length lines) }
+    ensures line_limit { (over : Over) → is_by_size over ≡ true → result ≡ limit_of over → IfSome (S.left input.old) (λ lines. over_size_in SHIPPED lines ≡ Some over) }
     ensures past_limit { (over : Over) → result ≡ limit_of over → WhereTold (told_file (F.told files.old) name.now) (S.left input.old) (λ file lines. IsPastLimit file lines over) }
     ensures limits { (limited : Limited) → result ≡ Status.Limit limited → (result ≡ long_graph) ⊎ (result ≡ long_input) ⊎ ((over : Over) × (result ≡ limit_of over)) }
     ensures graph { (fault : ReadFault) → result ≡ Status.Graph fault →
@@ -75,7 +76,7 @@ fn serve<F: Files, S: Source, O: Sink>(
         Ok(graph) => graph,
         Err(status) => return status,
     };
-    let lines = match read_all(alloc, input, MOST_BYTES) {
+    let lines = match read_all(alloc, input, MOST_FILE_BYTES) {
         Ok(lines) => lines,
         Err(ReadAllFail::Failed) => return Status::Read,
         Err(ReadAllFail::Long) => return too_long(Which::InputBytes),
@@ -112,7 +113,7 @@ fn print_graph<F: Files, O: Sink>(alloc: Global, name: &str, files: &mut F, out:
     ensures no_file { result ≡ Status.NoGraphFile → Rose (F.refused files.old) (F.refused files.new)
         × IfSome (F.told files.old) (λ all. file_of all name.now ≡ None) }
     ensures graph_limit { result ≡ long_graph → Rose (F.refused files.old) (F.refused files.new)
-        × IfSome (told_file (F.told files.old) name.now) (λ file. most_bytes < length file) }
+        × IfSome (told_file (F.told files.old) name.now) (λ file. MOST_FILE_BYTES < length file) }
     ensures limits { (limited : Limited) → result ≡ Status.Limit limited → result ≡ long_graph }
     ensures graph { (fault : ReadFault) → result ≡ Status.Graph fault →
         IfSome (told_file (F.told files.old) name.now) (λ file. HasFault file fault) }
@@ -159,7 +160,7 @@ pub fn run<F: Files, S: Source, O: Sink>(
     ensures no_file { (name : List ℕ) → NamesFile (map string_bytes words.now) name → result ≡ Status.NoGraphFile → Rose (F.refused files.old) (F.refused files.new)
         × IfSome (F.told files.old) (λ all. file_of all name ≡ None) }
     ensures graph_limit { (name : List ℕ) → NamesFile (map string_bytes words.now) name → result ≡ long_graph → Rose (F.refused files.old) (F.refused files.new)
-        × IfSome (told_file (F.told files.old) name) (λ file. most_bytes < length file) }
+        × IfSome (told_file (F.told files.old) name) (λ file. MOST_FILE_BYTES < length file) }
     ensures graph { (name : List ℕ) → NamesFile (map string_bytes words.now) name → (fault : ReadFault) → result ≡ Status.Graph fault →
         IfSome (told_file (F.told files.old) name) (λ file. HasFault file fault) }
     ensures first { (served : Served) → IsServe (map string_bytes words.now) served → Shows result (F.told files.old) served.name (S.left input.old) }
@@ -174,8 +175,8 @@ pub fn run<F: Files, S: Source, O: Sink>(
     ensures nothing { (result ≡ Status.Ok → ⊥) → (result ≡ Status.Write → ⊥) → Keeps (O.held out.old) (O.held out.new) }
     ensures read { result ≡ Status.Read → Rose (F.faults files.old) (F.faults files.new) ⊎ Rose (S.faults input.old) (S.faults input.new) }
     ensures write { result ≡ Status.Write → Rose (O.faults out.old) (O.faults out.new) }
-    ensures input_limit { result ≡ long_input → IfSome (S.left input.old) (λ lines. most_bytes < length lines) }
-    ensures line_limit { (over : Over) → is_by_size over ≡ true → result ≡ limit_of over → IfSome (S.left input.old) (λ lines. over_size_in shipped lines ≡ Some over) }
+    ensures input_limit { result ≡ long_input → IfSome (S.left input.old) (λ lines. MOST_FILE_BYTES < length lines) }
+    ensures line_limit { (over : Over) → is_by_size over ≡ true → result ≡ limit_of over → IfSome (S.left input.old) (λ lines. over_size_in SHIPPED lines ≡ Some over) }
     ensures past_limit { (served : Served) → IsServe (map string_bytes words.now) served → (over : Over) → result ≡ limit_of over → WhereTold (told_file (F.told files.old) served.name) (S.left input.old)
         (λ file lines. IsPastLimit file lines over) }
     ensures print_limit { (name : List ℕ) → IsPrint (map string_bytes words.now) name → (over : Over) → result ≡ limit_of over → ⊥ }

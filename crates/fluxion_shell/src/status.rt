@@ -4,9 +4,9 @@ ghost use Rattle.fluxion_shell.specs.Ends.{code_of, line_of};
 
 use crate::fault_texts::add_fault;
 use flux_defs::Text;
-use fluxion_lines::pieces::{add, add_number};
 use graph_json::ReadFault;
 use std::alloc::{AllocError, Global};
+use text_forms::{push_bytes, push_decimal};
 
 /// How a run ends.
 #[derive(Debug, Drop)]
@@ -94,7 +94,7 @@ fn graph_line(alloc: Global, fault: &ReadFault) -> Result<Text, AllocError>
 {
     let mut line = Vec::from_slice(alloc, b"fluxion: graph: ")?;
     add_fault(&mut line, fault)?;
-    add(&mut line, b"\n")?;
+    push_bytes(&mut line, b"\n")?;
     Ok(Text::of_vec(line))
 }
 
@@ -111,8 +111,8 @@ fn limit_line(alloc: Global, limited: &Limited) -> Result<Text, AllocError>
         Which::Clients => b"clients ",
         Which::Barred => b"barred ",
     };
-    add(&mut line, word)?;
-    add_number(&mut line, limited.found)?;
-    add(&mut line, b"\n")?;
+    push_bytes(&mut line, word)?;
+    push_decimal(&mut line, limited.found)?;
+    push_bytes(&mut line, b"\n")?;
     Ok(Text::of_vec(line))
 }

@@ -2,13 +2,11 @@
 ghost use Rattle.std.specs.Prelude.{◌≡◌, ℕ, List, MatchOption, IsTrue, ◌↔◌, map, string_bytes};
 ghost use Rattle.fluxion_shell.specs.Forms.{IsCall, IsPlainWord, IsHorizon, IsHorizonCall, Served, IsServe, served_held};
 
-use fluxion_lines::number_in;
+use flux_defs::LATEST_HORIZON;
+use text_forms::number_in;
 
 /// The horizon without an option, in seconds: ten years of 365 days.
 const HORIZON: u64 = 315_360_000;
-
-/// The greatest horizon, in seconds.
-const MOST_HORIZON: u64 = 1 << 40;
 
 /// The name of a graph file, and a horizon in seconds.
 #[derive(Clone, Copy, Debug)]
@@ -57,7 +55,7 @@ fn horizon_of(word: &str) -> Option<u64>
     let Some(horizon) = number_in(word.as_bytes()) else {
         return None;
     };
-    if horizon < 1 || horizon > MOST_HORIZON {
+    if horizon < 1 || horizon > LATEST_HORIZON {
         return None;
     }
     Some(horizon)

@@ -13,7 +13,7 @@ use Rattle.std.specs.Str.{bytes_eq}
 use Rattle.serde_json.specs.View.{view, items_view}
 use Rattle.serde_json.specs.declared.value.Value.{Value}
 use Rattle.graph_json.specs.Edges.{FileEdge, edge_of, edges_of, counts, counted, is_among, is_wrong, IsWrongEdge, place_of, parent_of, parents_of, with_parent, joined, joined_as, HasJoined}
-use Rattle.graph_json.specs.declared.places.Misfit.{Misfit}
+use Rattle.graph_json.specs.FieldPaths.{FileMisfit}
 use Rattle.graph_json.specs.declared.edges.Role.{Role}
 use Rattle.graph_json.specs.declared.edges.Role.TheVariants.{Counted, Skipped, Refused}
 use Rattle.graph_json.proofs.IdLaws.{take_next}
@@ -42,9 +42,9 @@ placed (x ∷ xs) id = by_first (bytes_eq id x) (place_of xs id) (placed xs id)
     by_first false (Some k) e = e
 
 -- what stands at a text's place is that text
-pub at_place : (xs : List (List ℕ)) (id : List ℕ) (k : ℕ) → place_of xs id ≡ Some k → slice_get xs k ≡ Some id
-at_place [] id k e = cc
-at_place (x ∷ xs) id k e = by_first (bytes_eq id x) refl (place_of xs id) (λ j p. at_place xs id j p) e
+pub at_field : (xs : List (List ℕ)) (id : List ℕ) (k : ℕ) → place_of xs id ≡ Some k → slice_get xs k ≡ Some id
+at_field [] id k e = cc
+at_field (x ∷ xs) id k e = by_first (bytes_eq id x) refl (place_of xs id) (λ j p. at_field xs id j p) e
   where
     by_first : (b : Bool) → bytes_eq id x ≡ b → (o : Option ℕ) → ((j : ℕ) → o ≡ Some j → slice_get xs j ≡ Some id) → (if b then Some 0 else option_map suc o) ≡ Some k → slice_get (x ∷ xs) k ≡ Some id
     by_first true same o p at = let zero_is : 0 ≡ k = cc in rw (← zero_is) (ap Some (sym (same_text id x same)))
@@ -53,7 +53,7 @@ at_place (x ∷ xs) id k e = by_first (bytes_eq id x) refl (place_of xs id) (λ 
 
 pub place_within : (xs : List (List ℕ)) (id : List ℕ) (o : Option ℕ) → o ≡ place_of xs id → IfSome o (λ k. k < length xs)
 place_within xs id None e = tt
-place_within xs id (Some k) e = slice_get_within xs k id (at_place xs id k (sym e))
+place_within xs id (Some k) e = slice_get_within xs k id (at_field xs id k (sym e))
 
 -- ---- parents
 
@@ -129,7 +129,7 @@ module _ (ids : List (List ℕ)) where
   module _ (es : List FileEdge) (distinct : IsDistinct bytes_eq ids) (known : AllKnown es) where
     -- what a look at the target's entry finds
     entry : (id : List ℕ) (t : ℕ) → place_of ids id ≡ Some t → is_some (unwrap_or (slice_get (parents_of ids es) t) None) ≡ is_among (map (λ f. f.target) es) id
-    entry id t at = ap (λ o. is_some (unwrap_or o None)) (slice_get-map (parent_of ids es) ids t ∙ ap (option_map (parent_of ids es)) (at_place ids id t at)) ∙ parent_some es known id
+    entry id t at = ap (λ o. is_some (unwrap_or o None)) (slice_get-map (parent_of ids es) ids t ∙ ap (option_map (parent_of ids es)) (at_field ids id t at)) ∙ parent_some es known id
 
     module _ (source target : List ℕ) where
       abbrev edge : FileEdge
@@ -186,11 +186,11 @@ module _ (ids : List (List ℕ)) where
   all_then [] ys a b = b
   all_then (x ∷ xs) ys a b = (a.0, all_then xs ys a.1 b)
 
-  module _ (edges : List (Result FileEdge Misfit)) where
+  module _ (edges : List (Result FileEdge FileMisfit)) where
     pub joined-none : HasJoined ids edges 0 (parents_of ids [])
     joined-none = record { parents_are = refl; right = below_none (λ k. IsWrongEdge ids edges k → ⊥); known = tt }
 
-    module _ (k : ℕ) (r : Result FileEdge Misfit) (here : slice_get edges k ≡ Some r) where
+    module _ (k : ℕ) (r : Result FileEdge FileMisfit) (here : slice_get edges k ≡ Some r) where
       counted_next : counted (take (k + 1) edges) ≡ counted (take k edges) ++ counted (r ∷ [])
       counted_next = ap counted (take_next edges k r here) ∙ filter_map-append counts (take k edges) (r ∷ [])
 
@@ -212,7 +212,7 @@ module _ (ids : List (List ℕ)) where
         let j = joins (counted (take k edges)) distinct has.known e in
         wrong_by k (Ok e) here ∙ j.wrong (ap (λ ps. joined ids ps e) (sym has.parents_are) ∙ none)
 
-    pub unfit_edge : (k : ℕ) (m : Misfit) → slice_get edges k ≡ Some (Err m) → IsWrongEdge ids edges k
+    pub unfit_edge : (k : ℕ) (m : FileMisfit) → slice_get edges k ≡ Some (Err m) → IsWrongEdge ids edges k
     unfit_edge k m here = wrong_by k (Err m) here
 
     past_right : (k : ℕ) → length edges ≤ k → IsWrongEdge ids edges k → ⊥

@@ -13,11 +13,13 @@ use Rattle.graph_build.specs.declared.raw.RawVertex.{RawVertex}
 use Rattle.graph_build.proofs.ArrangeLaws.{place_at, place_in}
 use Rattle.resource_graph.proofs.LineLaws.{no_vertex}
 use Rattle.resource_graph.proofs.Values.{value_of}
-use Rattle.graph_json.specs.Fields.{is_name, is_unit}
+use Rattle.graph_json.specs.Fields.{is_unit}
+use Rattle.text_forms.specs.Names.{is_name}
 use Rattle.graph_json.specs.Nodes.{FileNode}
 use Rattle.graph_json.specs.Edges.{FileEdge, counted, is_among, parent_of}
 use Rattle.graph_json.specs.Ids.{ids_of}
-use Rattle.graph_json.specs.RawLists.{with_text, kinds_of, vertex_of, vertices_of}
+use Rattle.graph_json.specs.RawLists.{kinds_of, vertex_of, vertices_of}
+use Rattle.text_table.specs.Tables.{with_text}
 use Rattle.graph_json.specs.GraphText.{IsGraphText}
 use Rattle.graph_json.specs.FileGraph.{IsFileGraph, AreProperties, HasFileNumbers}
 use Rattle.graph_json.proofs.FittingGraph.{IsFitNode, list_all_append, nodes_fit}

@@ -17,35 +17,31 @@ use Rattle.json_whole.specs.declared.fields.FieldFault.{FieldFault}
 use Rattle.json_whole.proofs.Numerals.{digits_by_test}
 use Rattle.serde_json.specs.Data.{Num, unsigned, negative, float, Data, null, boolean, number, string, array, object, Items, no_items, item}
 use Rattle.serde_json.specs.Find.{get, as_null, as_number, as_str, as_array, as_object}
-use Rattle.graph_json.specs.Fields.{result_and_then, given, is_name, is_name_byte, is_unit, ruled, ruled_value, ruled_field, ruled_or, ruled_given, small_number, small_or_kind, small_or_none, small_given, size_given, object_value, object_of, object_field, list_or_kind, list_of, list_field, id_field}
-use Rattle.graph_json.specs.Places.{at_place, at_key}
-use Rattle.graph_json.specs.Nodes.{FileNode, default_name, short_name, name_or_default, name_given, keys_of, texts_in, in_order, first_misfit, unless_misfit, properties_of, properties_or_none, properties_given, node_with, node_of, nodes_of}
+use Rattle.graph_json.specs.Fields.{is_unit, small_number, small_or_kind, small_or_none, small_given, size_given, id_field}
+use Rattle.json_fields.specs.Values.{result_and_then, given, object_value, object_of, object_field, list_or_kind, list_of, list_field, keys_of}
+use Rattle.text_forms.specs.Names.{is_name, is_name_byte}
+use Rattle.json_fields.specs.Names.{ruled, ruled_value, ruled_field, ruled_or, ruled_given}
+use Rattle.graph_json.specs.FieldPaths.{at_key, FileMisfit}
+use Rattle.json_fields.specs.Misfits.{at_field}
+use Rattle.graph_json.specs.Nodes.{FileNode, default_name, short_name, name_or_default, name_given, texts_in, in_order, first_misfit, unless_misfit, properties_of, properties_or_none, properties_given, node_with, node_of, nodes_of}
 use Rattle.graph_json.specs.GraphFile.{FileLists, GraphFile, lists_in, lists_of, file_of}
 use Rattle.graph_json.specs.Edges.{edges_of}
 use Rattle.graph_json.specs.GraphText.{Says}
 use Rattle.graph_json.specs.FileGraph.{AreProperties}
-use Rattle.graph_json.specs.declared.places.Misfit.{Misfit}
-use Rattle.graph_json.specs.declared.places.Place.{Place}
-use Rattle.graph_json.specs.declared.places.Place.TheVariants.{Whole, Graph, Nodes, Edges, Node, NodeField, Property, PropertyKey}
-use Rattle.graph_json.specs.declared.places.NodeKey.TheVariants.{Id, Metadata, TypeName, Basename, Number, Name, Rank, Size, Unit}
+use Rattle.graph_json.specs.declared.field_paths.FieldPath.{FieldPath}
+use Rattle.graph_json.specs.declared.field_paths.FieldPath.TheVariants.{Whole, Graph, Nodes, Edges, Node, NodeField, Property, PropertyKey}
+use Rattle.graph_json.specs.declared.field_paths.NodeKey.TheVariants.{Id, Metadata, TypeName, Basename, Number, Name, Rank, Size, Unit}
 use Rattle.graph_json.proofs.OrderedData.{IsOrdered, AreOrdered, get_ordered, in_order-ordered, ordered-in_order, value_of-ordered}
+use Rattle.json_fields.proofs.Results.{then_ok, both_ok}
 
 -- ---- what an answer that is no fault was made of
 
 err_ok : {A E P : Type 0} (e : E) (x : A) → Err e ≡ Ok x → P
 err_ok e x h = absurd (cc)
 
-and_then_ok : {A B E : Type 0} (r : Result A E) (f : A → Result B E) (y : B) → result_and_then r f ≡ Ok y → (x : A) × (r ≡ Ok x) × (f x ≡ Ok y)
-and_then_ok (Ok x) f y h = (x, refl, h)
-and_then_ok (Err e) f y h = err_ok e y h
-
-map_ok : {A B E F : Type 0} (f : A → B) (g : E → F) (r : Result A E) (y : B) → result_map_both f g r ≡ Ok y → (x : A) × (r ≡ Ok x) × (f x ≡ y)
-map_ok f g (Ok x) y h = (x, refl, (let same : f x ≡ y = cc in same))
-map_ok f g (Err e) y h = err_ok (g e) y h
-
-at_ok : {A : Type 0} (place : Place) (r : Result A FieldFault) (x : A) → at_place place r ≡ Ok x → r ≡ Ok x
+at_ok : {A : Type 0} (place : FieldPath) (r : Result A FieldFault) (x : A) → at_field place r ≡ Ok x → r ≡ Ok x
 at_ok place (Ok y) x h = let same : y ≡ x = cc in ap Ok same
-at_ok place (Err e) x h = err_ok (record { place = place; fault = e }) x h
+at_ok place (Err e) x h = err_ok (record { field = place; fault = e }) x h
 
 if_ok : {A E : Type 0} (b : Bool) (x y : A) (e : E) → (if b then Ok x else Err e) ≡ Ok y → (b ≡ true) × (x ≡ y)
 if_ok true x y e h = (refl, (let same : x ≡ y = cc in same))
@@ -76,7 +72,7 @@ module _ (rule : List ℕ → Bool) where
       by (Some t) f = let p = if_ok (rule t) t x FieldFault.Text f in (ap Some p.1, ap rule (sym p.1) ∙ p.0)
 
   ruled_field_ok : (key : List ℕ) (d : Data) (x : List ℕ) → ruled_field rule key d ≡ Ok x → rule x ≡ true
-  ruled_field_ok key d x h = let t = and_then_ok (text_field key d) (ruled rule) x h in ruled_ok t.0 x t.2
+  ruled_field_ok key d x h = let t = then_ok (text_field key d) (ruled rule) x h in ruled_ok t.0 x t.2
 
   ruled_given_ok : (otherwise key : List ℕ) (d : Data) (x : List ℕ) → rule otherwise ≡ true → ruled_given rule otherwise key d ≡ Ok x → rule x ≡ true
   ruled_given_ok otherwise key d x own h = by (given key d) h
@@ -188,13 +184,13 @@ no_fault (Err e) h = absurd (let clash : Some e ≡ None = h in cc)
 texts_are_names : (at m : ℕ) (ds : Items) → first_misfit at m ds ≡ None → AreNames (texts_in ds)
 texts_are_names at m no_items h = refl
 texts_are_names at m (item d ds) h =
-    let both = neither_fault (result_err (at_place (Property at m) (ruled_value (is_name 255) d))) (first_misfit at (suc m) ds) h in
-    let found = no_fault (at_place (Property at m) (ruled_value (is_name 255) d)) both.0 in
+    let both = neither_fault (result_err (at_field (Property at m) (ruled_value (is_name 255) d))) (first_misfit at (suc m) ds) h in
+    let found = no_fault (at_field (Property at m) (ruled_value (is_name 255) d)) both.0 in
     let text = ruled_value_ok (is_name 255) d found.0 (at_ok (Property at m) (ruled_value (is_name 255) d) found.0 found.1) in
     ap (λ o. list_all (is_name 255) (option_map_or (λ s. s ∷ texts_in ds) o (texts_in ds))) text.0
     ∙ and_from (is_name 255 found.0) (list_all (is_name 255) (texts_in ds)) text.1 (texts_are_names at (suc m) ds both.1)
 
-unless_ok : {A : Type 0} (o : Option Misfit) (x y : A) → unless_misfit o x ≡ Ok y → (o ≡ None) × (x ≡ y)
+unless_ok : {A : Type 0} (o : Option FileMisfit) (x y : A) → unless_misfit o x ≡ Ok y → (o ≡ None) × (x ≡ y)
 unless_ok None x y h = (refl, (let same : x ≡ y = cc in same))
 unless_ok (Some m) x y h = err_ok m y h
 
@@ -207,7 +203,7 @@ properties_of_ok at (array ds) ps up h =
     let p = unless_ok (first_misfit at 0 ds) (in_order (texts_in ds)) ps h in
     subst AreProperties p.1 (names_fold [] (texts_in ds) refl (texts_are_names at 0 ds p.0), in_order-ordered (in_order (texts_in ds)) (ordered-in_order (texts_in ds)))
 properties_of_ok at (object ms) ps up h =
-    let p = if_ok (list_all (is_name 255) (keys_of ms)) (keys_of ms) ps (record { place = PropertyKey at; fault = FieldFault.Text }) h in
+    let p = if_ok (list_all (is_name 255) (keys_of ms)) (keys_of ms) ps (record { field = PropertyKey at; fault = FieldFault.Text }) h in
     subst AreProperties p.1 (p.0, in_order-ordered (keys_of ms) up.0)
 
 properties_given_ok : (at : ℕ) (d : Data) (ps : List (List ℕ)) → IsOrdered d → properties_given at d ≡ Ok ps → AreProperties ps
@@ -242,7 +238,7 @@ node_with_ok at id d x up h =
     then_fits (at_key at Rank (small_given (codes "rank") d)) _ x h4 (λ rank rank_is h5.
     then_fits (at_key at Size (size_given (codes "size") d)) _ x h5 (λ size size_is h6.
     then_fits (at_key at Unit (ruled_given is_unit [] (codes "unit") d)) _ x h6 (λ unit unit_is h7.
-    let made = map_ok (λ properties. record { id = id; kind = kind; base = base; number = n; name = name; rank = rank; size = size; unit = unit; properties = properties }) (λ m. m) (properties_given at d) x h7 in
+    let made = both_ok (λ properties. record { id = id; kind = kind; base = base; number = n; name = name; rank = rank; size = size; unit = unit; properties = properties }) (λ m. m) (properties_given at d) x h7 in
     let kind_fits : is_name 64 kind ≡ true = ruled_field_ok (is_name 64) (codes "type") d kind (at_ok (NodeField at TypeName) _ kind kind_is) in
     let base_fits : is_name 255 base ≡ true = ruled_given_ok (is_name 255) kind (codes "basename") d base (longer_name kind kind_fits) (at_ok (NodeField at Basename) _ base base_is) in
     let n_fits : IsSmall n = small_given_ok (codes "id") d n (at_ok (NodeField at Number) _ n n_is) in
@@ -268,7 +264,7 @@ object_field_ok key d e h = by (get key d) h
 
 node_ok : (at : ℕ) (d : Data) (x : FileNode) → IsOrdered d → node_of at d ≡ Ok x → IsFitNode x
 node_ok at d x up h =
-    then_fits (at_place (Node at) (object_value d)) _ x h (λ whole whole_is h1.
+    then_fits (at_field (Node at) (object_value d)) _ x h (λ whole whole_is h1.
     then_fits (at_key at Id (id_field (codes "id") whole)) _ x h1 (λ id id_is h2.
     then_fits (at_key at Metadata (object_field (codes "metadata") whole)) _ x h2 (λ metadata metadata_is h3.
     let same : d ≡ whole = object_ok d whole (at_ok (Node at) (object_value d) whole whole_is) in
@@ -278,8 +274,8 @@ node_ok at d x up h =
 nodes_ok : (at : ℕ) (ds : Items) (xs : List FileNode) → AreOrdered ds → nodes_of at ds ≡ Ok xs → AllByRecursion IsFitNode xs
 nodes_ok at no_items xs up h = let same : [] ≡ xs = cc in subst (AllByRecursion IsFitNode) same tt
 nodes_ok at (item d ds) xs up h =
-    let x = and_then_ok (node_of at d) (λ x. result_map_both (λ xs. x ∷ xs) (λ m. m) (nodes_of (suc at) ds)) xs h in
-    let rest = map_ok (λ xs. x.0 ∷ xs) (λ m. m) (nodes_of (suc at) ds) xs x.2 in
+    let x = then_ok (node_of at d) (λ x. result_map_both (λ xs. x ∷ xs) (λ m. m) (nodes_of (suc at) ds)) xs h in
+    let rest = both_ok (λ xs. x.0 ∷ xs) (λ m. m) (nodes_of (suc at) ds) xs x.2 in
     subst (AllByRecursion IsFitNode) rest.2 (node_ok at d x.0 up.0 x.1, nodes_ok (suc at) ds rest.0 up.1 rest.1)
 
 -- ---- the file
@@ -301,14 +297,14 @@ list_field_ordered key d ds up h = by (get key d) refl h
 
 lists_in_ordered : (d : Data) (lists : FileLists) → IsOrdered d → lists_in d ≡ Ok lists → AreOrdered lists.nodes
 lists_in_ordered d lists up h =
-    then_fits (at_place Nodes (list_field (codes "nodes") d)) _ lists h (λ nodes nodes_is h1.
-    let made = map_ok (λ edges. record { nodes = nodes; edges = edges }) (λ m. m) (at_place Edges (list_field (codes "edges") d)) lists h1 in
+    then_fits (at_field Nodes (list_field (codes "nodes") d)) _ lists h (λ nodes nodes_is h1.
+    let made = both_ok (λ edges. record { nodes = nodes; edges = edges }) (λ m. m) (at_field Edges (list_field (codes "edges") d)) lists h1 in
     subst (λ (l : FileLists). AreOrdered l.nodes) made.2 (list_field_ordered (codes "nodes") d nodes up (at_ok Nodes _ nodes nodes_is)))
 
 lists_ordered : (d : Data) (lists : FileLists) → IsOrdered d → lists_of d ≡ Ok lists → AreOrdered lists.nodes
 lists_ordered d lists up h =
-    then_fits (at_place Whole (object_value d)) _ lists h (λ whole whole_is h1.
-    then_fits (at_place Graph (object_field (codes "graph") whole)) _ lists h1 (λ graph graph_is h2.
+    then_fits (at_field Whole (object_value d)) _ lists h (λ whole whole_is h1.
+    then_fits (at_field Graph (object_field (codes "graph") whole)) _ lists h1 (λ graph graph_is h2.
     let same : d ≡ whole = object_ok d whole (at_ok Whole (object_value d) whole whole_is) in
     let found : get (codes "graph") whole ≡ Some graph = object_field_ok (codes "graph") whole graph (at_ok Graph _ graph graph_is) in
     lists_in_ordered graph lists (get_ordered (codes "graph") whole graph (subst IsOrdered same up) found) h2))
@@ -316,7 +312,7 @@ lists_ordered d lists up h =
 file_ok : (d : Data) (file : GraphFile) → IsOrdered d → file_of d ≡ Ok file → AllByRecursion IsFitNode file.nodes
 file_ok d file up h =
     then_fits (lists_of d) _ file h (λ lists lists_is h1.
-    let made = map_ok (λ nodes. record { nodes = nodes; edges = edges_of 0 lists.edges }) (λ m. m) (nodes_of 0 lists.nodes) file h1 in
+    let made = both_ok (λ nodes. record { nodes = nodes; edges = edges_of 0 lists.edges }) (λ m. m) (nodes_of 0 lists.nodes) file h1 in
     subst (λ (f : GraphFile). AllByRecursion IsFitNode f.nodes) made.2 (nodes_ok 0 lists.nodes made.0 (lists_ordered d lists up lists_is) made.1))
 
 -- the nodes of a file keep their rules

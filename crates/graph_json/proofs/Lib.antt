@@ -3,10 +3,7 @@ pub mod IdLaws
 pub mod EdgeLaws
 pub mod RawLaws
 pub mod TextLaws
-pub mod WriterLaws
-pub mod JsonLaws
 pub mod WrittenLaws
-pub mod PlainText
 pub mod WrittenText
 pub mod WrittenFile
 pub mod ReadBack

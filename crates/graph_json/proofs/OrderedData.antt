@@ -15,7 +15,8 @@ use Rattle.serde_json.specs.Read.{number_of, of_json, of_items, of_members, read
 use Rattle.json_whole.specs.Plain.{plain_of}
 use Rattle.json_whole.specs.Whole.{value_in, value_of}
 use Rattle.json_whole.proofs.Words.{and_left, and_right}
-use Rattle.graph_json.specs.Nodes.{keys_of, in_order}
+use Rattle.graph_json.specs.Nodes.{in_order}
+use Rattle.json_fields.specs.Values.{keys_of}
 use Rattle.graph_json.proofs.WrittenLaws.{less, below, ordered, ordered_insert, ordered_all}
 
 -- ---- a list in order is its own order

@@ -11,9 +11,10 @@ use Rattle.graph_build.specs.Raw.{KindsApart}
 use Rattle.graph_json.specs.Nodes.{FileNode}
 use Rattle.graph_json.specs.Edges.{FileEdge, is_among, parent_of, parents_of, place_of}
 use Rattle.graph_json.specs.Ids.{ids_of}
-use Rattle.graph_json.specs.RawLists.{with_text, kinds_of, zip_with}
+use Rattle.graph_json.specs.RawLists.{kinds_of, zip_with}
+use Rattle.text_table.specs.Tables.{with_text}
 use Rattle.graph_json.proofs.Sets.{distinct-nil}
-use Rattle.graph_json.proofs.EdgeLaws.{itself, at_place}
+use Rattle.graph_json.proofs.EdgeLaws.{itself, at_field}
 
 -- ---- types
 
@@ -74,7 +75,7 @@ module _ (ids : List (List ℕ)) (edges : List FileEdge) where
   parent-within : (id : List ℕ) (p : ℕ) → parent_of ids edges id ≡ Some p → p < length ids
   parent-within id p e =
       let found = and_then_some (λ (f : FileEdge). place_of ids f.source) (find (λ f. bytes_eq id f.target) edges) p e in
-      slice_get_within ids p _ (at_place ids _ p found.1)
+      slice_get_within ids p _ (at_field ids _ p found.1)
 
   pub parents-within : (i p : ℕ) → slice_get (parents_of ids edges) i ≡ Some (Some p) → p < length ids
   parents-within i p e = by (slice_get ids i) (sym (slice_get-map (parent_of ids edges) ids i) ∙ e)

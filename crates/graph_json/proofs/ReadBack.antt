@@ -25,22 +25,22 @@ use Rattle.resource_graph.proofs.Values.{value_of}
 use Rattle.graph_json.specs.Nodes.{FileNode}
 use Rattle.graph_json.specs.Edges.{FileEdge, counted, is_among, is_wrong, IsWrongEdge, place_of, parent_of}
 use Rattle.graph_json.specs.Ids.{ids_of, IsRepeated}
-use Rattle.graph_json.specs.RawLists.{with_text, kinds_of, vertex_of, vertices_of}
+use Rattle.graph_json.specs.RawLists.{kinds_of, vertex_of, vertices_of}
+use Rattle.text_table.specs.Tables.{with_text}
 use Rattle.graph_json.specs.GraphText.{IsGraphText, HasRightEdges, raw_of}
-use Rattle.graph_json.specs.Fields.{is_name, is_unit}
+use Rattle.graph_json.specs.Fields.{is_unit}
+use Rattle.text_forms.specs.Names.{is_name}
 use Rattle.graph_json.specs.FileGraph.{IsFileGraph, AreProperties, HasFileNumbers}
 use Rattle.graph_json.specs.WrittenGraph.{graph_data, graph_text, HasSmallNumbers}
-use Rattle.graph_json.proofs.EdgeLaws.{same_text, itself, placed, at_place}
+use Rattle.graph_json.proofs.EdgeLaws.{same_text, itself, placed, at_field}
 use Rattle.graph_json.proofs.IdLaws.{take_next}
 use Rattle.graph_json.proofs.RawLaws.{distinct_places, kinds-distinct}
 use Rattle.graph_json.proofs.Sets.{doubled_at}
 use Rattle.graph_json.proofs.WrittenFile.{file_node, file_nodes, file_edge, with_file_edge, file_edges, written_file, FitsNode, AllFit, file_written}
 use Rattle.graph_json.proofs.WrittenText.{HasParentsBelow, value_of-graph_text}
+use Rattle.list_laws.proofs.Lists.{drop_here}
 
 -- ---- texts without repeats
-
-drop_here : {A : Type 0} (xs : List A) (k : ℕ) (x : A) → slice_get xs k ≡ Some x → drop k xs ≡ x ∷ drop (k + 1) xs
-drop_here xs k x here = drop_more xs k x (slice_get_within xs k x here) ∙ ap (λ y. y ∷ drop (k + 1) xs) (get_or_from_slice_get xs k x x here)
 
 not_repeated : (texts : List (List ℕ)) → IsDistinct bytes_eq texts → (k : ℕ) → IsRepeated texts k → ⊥
 not_repeated texts distinct k repeated = by (slice_get texts k) refl repeated
@@ -61,7 +61,7 @@ place_at texts distinct k x e = by (place_of texts x) refl (placed texts x ∙ a
   where
     by : (o : Option ℕ) → place_of texts x ≡ o → is_some o ≡ true → o ≡ Some k
     by None f some = absurd (true≢false (sym some))
-    by (Some j) f some = ap Some (distinct_places texts distinct j k x (at_place texts x j f) e)
+    by (Some j) f some = ap Some (distinct_places texts distinct j k x (at_field texts x j f) e)
 
 -- ---- ids
 

@@ -3,19 +3,18 @@ use Rattle.std.proofs.Common.{◌≡◌, refl, sym, ap, subst, ◌∙◌, ℕ, s
 use Rattle.std.proofs.lemmas.Bool.{ne_eqb}
 use Rattle.std.proofs.lemmas.Bool.Decides.{nat_tests}
 use Rattle.std.proofs.lemmas.Map.Keys.{IsDistinct-push}
-use Rattle.std.specs.Cmp.Lexicographic.{nat_list_eq_equiv}
+use Rattle.std.specs.Cmp.Lexicographic.{nat_list_eq_equiv, slice_cmp}
 use Rattle.std.specs.List.{IsDistinct, AllByRecursion, list_any, position_or_len}
 use Rattle.std.specs.Str.{bytes_eq}
 use Rattle.std.specs.Ordering.{nat_cmp, match_ordering}
 use Rattle.std.specs.declared.cmp.Ordering.{Ordering}
 use Rattle.std.specs.declared.cmp.Ordering.TheVariants.{Less, Equal, Greater}
-use Rattle.std.specs.Cmp.Lexicographic.{slice_cmp}
 use Rattle.std.specs.BTreeSet.{insert_key}
 use Rattle.serde_json.specs.View.{members_view}
 use Rattle.serde_json.proofs.Views.{Entry}
-use Rattle.graph_json.specs.Nodes.{keys_of}
+use Rattle.json_fields.specs.Values.{keys_of}
 use Rattle.graph_json.specs.Edges.{is_among, place_of}
-use Rattle.graph_json.specs.RawLists.{with_text}
+use Rattle.text_table.specs.Tables.{with_text}
 
 all_at_middle : {X : Type 0} (P : X → Type 0) (xs : List X) (x : X) (rest : List X) → AllByRecursion P (xs ++ x ∷ rest) → P x
 all_at_middle P [] x rest h = h.0
@@ -82,11 +81,6 @@ insert_key-now (x ∷ xs) k = ordered (slice_cmp nat_cmp k.now x.now) k.now x.no
 pub keys_of-entries : (es : List Entry) → map (λ k. string_bytes k) (map (λ e. e.0) es) ≡ keys_of (members_view es)
 keys_of-entries [] = refl
 keys_of-entries (e ∷ es) = ap (λ ks. string_bytes e.0 ∷ ks) (keys_of-entries es)
-
--- ---- one text more, unless it is there
-
-pub with_text-there : (texts : List (List ℕ)) (text : List ℕ) → is_among texts text ≡ true → texts ≡ with_text texts text
-with_text-there texts text there = rw there refl
 
 -- ---- the place past the last
 

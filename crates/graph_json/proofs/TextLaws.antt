@@ -12,7 +12,7 @@ use Rattle.graph_json.specs.Ids.{ids_of, IsRepeated}
 use Rattle.graph_json.specs.RawLists.{kinds_of}
 use Rattle.graph_json.specs.GraphFile.{FileLists, GraphFile, lists_of, file_of}
 use Rattle.graph_json.specs.GraphText.{IsValueOf, IsGraphText, Says, HasDistinctIds, HasRightEdges, HasMisfit, HasUnfitEdge, IsFirstFault, IsToldAs, IsEdgeToldAs, IsFirstRawFault, raw_of}
-use Rattle.graph_json.specs.declared.places.Misfit.{Misfit}
+use Rattle.graph_json.specs.FieldPaths.{FileMisfit}
 use Rattle.graph_json.specs.declared.edges.EdgeFault.{EdgeFault}
 use Rattle.graph_json.specs.declared.edges.EdgeFault.TheVariants.{Unfit, Wrong}
 use Rattle.graph_json.specs.declared.faults.ReadFault.{ReadFault}
@@ -33,7 +33,7 @@ pub file-read : (d : Data) (lists : FileLists) (nodes : List FileNode) → Ok li
 file-read d lists nodes listed read = rw (← listed, ← read) refl
 
 module _ (bytes : List ℕ) where
-  pub told_misfit : (m : Misfit) (fault : ReadFault) → IsToldAs m fault → HasMisfit bytes m ⊎ HasUnfitEdge bytes m → IsFirstFault bytes fault
+  pub told_misfit : (m : FileMisfit) (fault : ReadFault) → IsToldAs m fault → HasMisfit bytes m ⊎ HasUnfitEdge bytes m → IsFirstFault bytes fault
   told_misfit m NotJson told has = absurd told
   told_misfit m (Field path fault) told has = (m, told.0, told.1, has)
   told_misfit m (DuplicateNode at) told has = absurd told

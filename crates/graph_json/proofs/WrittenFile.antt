@@ -11,14 +11,19 @@ use Rattle.serde_json.specs.Data.{Data}
 use Rattle.json_whole.specs.declared.fields.FieldFault.{FieldFault}
 use Rattle.flux_defs.specs.declared.vertices.Vertex.{Vertex}
 use Rattle.resource_graph.specs.NamedGraph.{NamedGraph}
-use Rattle.graph_json.specs.Fields.{is_name, is_name_byte, is_unit, ruled, ruled_field, ruled_given, small_number, small_given, size_given}
-use Rattle.graph_json.specs.Nodes.{FileNode, in_order, keys_of, name_given, properties_given, node_with, node_of, nodes_of}
+use Rattle.graph_json.specs.Fields.{is_unit, small_number, small_given, size_given}
+use Rattle.text_forms.specs.Names.{is_name, is_name_byte}
+use Rattle.json_fields.specs.Names.{ruled, ruled_field, ruled_given}
+use Rattle.graph_json.specs.Nodes.{FileNode, in_order, name_given, properties_given, node_with, node_of, nodes_of}
+use Rattle.json_fields.specs.Values.{keys_of}
 use Rattle.graph_json.specs.Edges.{FileEdge, edge_of, edges_of}
 use Rattle.graph_json.specs.GraphFile.{GraphFile, file_of}
 use Rattle.graph_json.specs.FileGraph.{AreProperties, HasFileNumbers}
-use Rattle.graph_json.specs.WrittenGraph.{readable, or_none, keys_object, properties_at, metadata_data, node_data, nodes_data, edge_data, with_edge, edges_data, graph_data}
-use Rattle.graph_json.specs.declared.places.Place.TheVariants.{PropertyKey}
+use Rattle.graph_json.specs.WrittenGraph.{or_none, keys_object, properties_at, metadata_data, node_data, nodes_data, edge_data, with_edge, edges_data, graph_data}
+use Rattle.json_written.specs.Texts.{readable}
+use Rattle.graph_json.specs.declared.field_paths.FieldPath.TheVariants.{PropertyKey}
 use Rattle.graph_json.specs.declared.edges.Role.TheVariants.{Counted}
+use Rattle.text_forms.proofs.Ascii.{name_byte_small}
 
 -- ---- the file of a graph
 
@@ -72,9 +77,6 @@ ascii_text p small t all =
     let utf8 : IsUtf8 t = IsUtf8-from_ascii t (IsAscii-from_all t (λ k d h. small (get_or t k d) (AllPass-from_list_all p t all k d h))) in
     ap (λ b. if b then t else []) (is_utf8-from_IsUtf8 t utf8)
 
-name_byte_small : (b : ℕ) → is_name_byte b ≡ true → b < 128
-name_byte_small b e = grind arith
-
 graphic_small : (b : ℕ) → is_ascii_graphic b ≡ true → b < 128
 graphic_small b e = grind arith
 
@@ -117,8 +119,8 @@ module _ (g : NamedGraph) (v : ℕ) (x : Vertex) (fits : FitsNode g v x) where
   kept_properties : (at : ℕ) → properties_given at (metadata_data g v x) ≡ Ok (unwrap_or (slice_get g.properties v) [])
   kept_properties at =
       let keys : keys_of (keys_object (properties_at g v)) ≡ unwrap_or (slice_get g.properties v) [] = same_keys (properties_at g v) ∙ same_properties in
-      ap (λ ks. if list_all (is_name 255) ks then Ok ks else Err (record { place = PropertyKey at; fault = FieldFault.Text })) keys
-      ∙ ap (λ b. if b then Ok (unwrap_or (slice_get g.properties v) []) else Err (record { place = PropertyKey at; fault = FieldFault.Text })) fits.properties.0
+      ap (λ ks. if list_all (is_name 255) ks then Ok ks else Err (record { field = PropertyKey at; fault = FieldFault.Text })) keys
+      ∙ ap (λ b. if b then Ok (unwrap_or (slice_get g.properties v) []) else Err (record { field = PropertyKey at; fault = FieldFault.Text })) fits.properties.0
 
   pub node_read : (at : ℕ) → node_of at (node_data g v x) ≡ Ok (file_node g v x)
   node_read at =

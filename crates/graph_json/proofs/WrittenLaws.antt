@@ -10,8 +10,9 @@ use Rattle.serde_json.specs.Read.{read}
 use Rattle.json_whole.proofs.Words.{and_left, and_right}
 use Rattle.flux_defs.specs.declared.vertices.Vertex.{Vertex}
 use Rattle.resource_graph.specs.NamedGraph.{NamedGraph}
-use Rattle.graph_json.specs.WrittenGraph.{readable, or_none, keys_object, edges_data, with_edge, nodes_data, node_data, edge_data, properties_at, graph_data, graph_text, HasSmallNumbers, HasAllSmallNumbers}
-use Rattle.graph_json.proofs.JsonLaws.{IsWhole, IsPlain, ArePlain, HasPlain, is_below, read_compact}
+use Rattle.graph_json.specs.WrittenGraph.{or_none, keys_object, edges_data, with_edge, nodes_data, node_data, edge_data, properties_at, graph_data, graph_text, HasSmallNumbers, HasAllSmallNumbers}
+use Rattle.json_written.specs.Texts.{readable}
+use Rattle.json_written.proofs.PlainLaws.{IsWhole, IsPlain, ArePlain, HasPlain, is_below, read_compact}
 
 -- ---- keys in order
 

@@ -7,12 +7,13 @@ use Rattle.serde_json.specs.Data.{Data, Items, no_items, item}
 use Rattle.serde_json.specs.Find.{get, as_str, as_object}
 use Rattle.json_whole.specs.declared.fields.FieldFault.{FieldFault}
 use Rattle.json_whole.specs.declared.fields.FieldFault.TheVariants.{Kind}
-use Rattle.graph_json.specs.Fields.{result_and_then, given, id_field, object_value}
-use Rattle.graph_json.specs.Places.{at_place}
+use Rattle.graph_json.specs.Fields.{id_field}
+use Rattle.json_fields.specs.Values.{result_and_then, given, object_value, object_or_none}
+use Rattle.json_fields.specs.Misfits.{at_field}
 use Rattle.graph_json.specs.Nodes.{id_bytes}
-use Rattle.graph_json.specs.declared.places.EdgeKey.TheVariants.{Source, Target, EdgeMetadata}
-use Rattle.graph_json.specs.declared.places.Place.TheVariants.{Edge, EdgeField}
-use Rattle.graph_json.specs.declared.places.Misfit.{Misfit}
+use Rattle.graph_json.specs.declared.field_paths.EdgeKey.TheVariants.{Source, Target, EdgeMetadata}
+use Rattle.graph_json.specs.declared.field_paths.FieldPath.TheVariants.{Edge, EdgeField}
+use Rattle.graph_json.specs.FieldPaths.{FileMisfit}
 use Rattle.graph_json.specs.declared.edges.Role.{Role}
 use Rattle.graph_json.specs.declared.edges.Role.TheVariants.{Counted, Skipped, Refused}
 use Rattle.graph_json.specs.declared.edges.EdgeFields.{EdgeFields}
@@ -52,26 +53,23 @@ abbrev pub role_of : Option Data → Role
 role_of None = Counted
 role_of (Some d) = role_in d
 
-abbrev pub object_or_none : Option Data → Result (Option Data) FieldFault
-object_or_none None = Ok None
-object_or_none (Some d) = if is_some (as_object d) then Ok (Some d) else Err Kind
 
 -- the edge with these ends that the value with this index is
-abbrev pub edge_with : ℕ → Data → Result FileEdge Misfit
+abbrev pub edge_with : ℕ → Data → Result FileEdge FileMisfit
 edge_with at d =
-    result_and_then (at_place (EdgeField at Source) (id_field (codes "source") d)) (λ source.
-    result_and_then (at_place (EdgeField at Target) (id_field (codes "target") d)) (λ target.
-    result_and_then (at_place (EdgeField at EdgeMetadata) (object_or_none (given (codes "metadata") d))) (λ metadata.
+    result_and_then (at_field (EdgeField at Source) (id_field (codes "source") d)) (λ source.
+    result_and_then (at_field (EdgeField at Target) (id_field (codes "target") d)) (λ target.
+    result_and_then (at_field (EdgeField at EdgeMetadata) (object_or_none (given (codes "metadata") d))) (λ metadata.
     Ok (record { source = source; target = target; role = role_of metadata }))))
 
 -- the edge that the value with this index is
-abbrev pub edge_of : ℕ → Data → Result FileEdge Misfit
-edge_of at d = result_and_then (at_place (Edge at) (object_value d)) (edge_with at)
+abbrev pub edge_of : ℕ → Data → Result FileEdge FileMisfit
+edge_of at d = result_and_then (at_field (Edge at) (object_value d)) (edge_with at)
 
 -- ---- all edges
 
 -- each edge of a list from this index on, as it is read
-abbrev pub edges_of : ℕ → Items → List (Result FileEdge Misfit)
+abbrev pub edges_of : ℕ → Items → List (Result FileEdge FileMisfit)
 edges_of at no_items = []
 edges_of at (item d ds) = edge_of at d ∷ edges_of (suc at) ds
 
@@ -80,12 +78,12 @@ if_counted Counted e = Some e
 if_counted Skipped e = None
 if_counted Refused e = None
 
-abbrev pub counts : Result FileEdge Misfit → Option FileEdge
+abbrev pub counts : Result FileEdge FileMisfit → Option FileEdge
 counts (Ok e) = if_counted e.role e
 counts (Err m) = None
 
 -- the edges that count
-abbrev pub counted : List (Result FileEdge Misfit) → List FileEdge
+abbrev pub counted : List (Result FileEdge FileMisfit) → List FileEdge
 counted edges = filter_map counts edges
 
 -- the text is one of these
@@ -99,25 +97,25 @@ is_wrong_as ids earlier Skipped e = false
 is_wrong_as ids earlier Refused e = true
 
 -- an edge as it is read is wrong, after these that count
-abbrev pub is_wrong : List (List ℕ) → List FileEdge → Result FileEdge Misfit → Bool
+abbrev pub is_wrong : List (List ℕ) → List FileEdge → Result FileEdge FileMisfit → Bool
 is_wrong ids earlier (Ok e) = is_wrong_as ids earlier e.role e
 is_wrong ids earlier (Err m) = true
 
 -- the k-th edge is wrong
-abbrev pub IsWrongEdge : List (List ℕ) → List (Result FileEdge Misfit) → ℕ → Type 0
+abbrev pub IsWrongEdge : List (List ℕ) → List (Result FileEdge FileMisfit) → ℕ → Type 0
 IsWrongEdge ids edges k = IsTrue (option_map_or (is_wrong ids (counted (take k edges))) (slice_get edges k) false)
 
 -- what is told of an edge as it is read with this index
-abbrev pub TellsEdge : Result FileEdge Misfit → ℕ → EdgeFault → Type 0
+abbrev pub TellsEdge : Result FileEdge FileMisfit → ℕ → EdgeFault → Type 0
 TellsEdge (Ok e) at (Wrong k) = k ≡ at
 TellsEdge (Ok e) at (Unfit m) = ⊥
 TellsEdge (Err m) at (Wrong k) = ⊥
 TellsEdge (Err m) at (Unfit n) = n ≡ m
 
 -- the fault is that of the first wrong edge
-pub record IsFirstWrong (ids : List (List ℕ)) (edges : List (Result FileEdge Misfit)) (fault : EdgeFault) : Type 0 where
+pub record IsFirstWrong (ids : List (List ℕ)) (edges : List (Result FileEdge FileMisfit)) (fault : EdgeFault) : Type 0 where
   pub at : ℕ
-  pub read : Result FileEdge Misfit
+  pub read : Result FileEdge FileMisfit
   pub here : slice_get edges at ≡ Some read
   pub wrong : IsWrongEdge ids edges at
   pub first : (k : ℕ) → k < at → IsWrongEdge ids edges k → ⊥
@@ -157,7 +155,7 @@ abbrev pub joined : List (List ℕ) → List (Option ℕ) → FileEdge → Optio
 joined ids parents e = joined_as ids parents e.role e
 
 -- the first so many edges are right, and these are the parents that they give
-pub record HasJoined (ids : List (List ℕ)) (edges : List (Result FileEdge Misfit)) (most : ℕ) (parents : List (Option ℕ)) : Type 0 where
+pub record HasJoined (ids : List (List ℕ)) (edges : List (Result FileEdge FileMisfit)) (most : ℕ) (parents : List (Option ℕ)) : Type 0 where
   pub parents_are : parents ≡ parents_of ids (counted (take most edges))
   pub right : (k : ℕ) → k < most → IsWrongEdge ids edges k → ⊥
   pub known : AllByRecursion (λ e. is_among ids e.source ≡ true) (counted (take most edges))

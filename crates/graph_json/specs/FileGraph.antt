@@ -3,7 +3,8 @@ use Rattle.std.specs.Prelude.{◌≡◌, ℕ, ◌≤◌, ◌-◌, ◌^◌, List,
 use Rattle.std.specs.List.{AllByRecursion, list_all}
 use Rattle.flux_defs.specs.declared.vertices.Vertex.{Vertex}
 use Rattle.resource_graph.specs.NamedGraph.{NamedGraph, IsWhole}
-use Rattle.graph_json.specs.Fields.{is_name, is_unit}
+use Rattle.graph_json.specs.Fields.{is_unit}
+use Rattle.text_forms.specs.Names.{is_name}
 use Rattle.graph_json.specs.Nodes.{in_order}
 
 -- the properties of a vertex: names, in byte order, each once

@@ -9,12 +9,11 @@ use Rattle.graph_build.specs.Table.{IsFirstFault as IsFirstGraphFault}
 use Rattle.resource_graph.specs.Finds.{IsLeast, Nowhere}
 use Rattle.graph_build.specs.declared.raw.RawVertex.{RawVertex}
 use Rattle.graph_build.specs.declared.raw.GraphFault.TheVariants.{Memory as NoRoom}
-use Rattle.graph_json.specs.Places.{path_of}
+use Rattle.graph_json.specs.FieldPaths.{path_text, FileMisfit}
 use Rattle.graph_json.specs.Edges.{counted, IsWrongEdge, IsFirstWrong}
 use Rattle.graph_json.specs.Ids.{ids_of, IsRepeated}
 use Rattle.graph_json.specs.RawLists.{kinds_of, vertices_of}
 use Rattle.graph_json.specs.GraphFile.{GraphFile, file_of}
-use Rattle.graph_json.specs.declared.places.Misfit.{Misfit}
 use Rattle.graph_json.specs.declared.edges.EdgeFault.{EdgeFault}
 use Rattle.graph_json.specs.declared.edges.EdgeFault.TheVariants.{Unfit, Wrong}
 use Rattle.graph_json.specs.declared.faults.ReadFault.{ReadFault}
@@ -49,17 +48,17 @@ abbrev pub IsGraphText : List ℕ → NamedGraph → Type 0
 IsGraphText bytes graph = (file : GraphFile) × Says bytes file × HasRightEdges file × IsBuiltFrom (kinds_of file.nodes) (raw_of file) graph × HasFaultlessVertices file
 
 -- a field of the file's lists or nodes breaks its rule, and it is the first
-abbrev pub HasMisfit : List ℕ → Misfit → Type 0
+abbrev pub HasMisfit : List ℕ → FileMisfit → Type 0
 HasMisfit bytes m = (d : Data) × IsValueOf bytes d × (file_of d ≡ Err m)
 
 -- the first edge that is wrong is one with a field that breaks its rule
-abbrev pub HasUnfitEdge : List ℕ → Misfit → Type 0
+abbrev pub HasUnfitEdge : List ℕ → FileMisfit → Type 0
 HasUnfitEdge bytes m = (file : GraphFile) × Says bytes file × HasDistinctIds file × IsFirstWrong (ids_of file.nodes) file.edges (Unfit m)
 
 -- Which fault the bytes have: what is looked at first is told first. Of want of memory nothing is said.
 abbrev pub IsFirstFault : List ℕ → ReadFault → Type 0
 IsFirstFault bytes NotJson = value_of bytes ≡ None
-IsFirstFault bytes (Field path fault) = (m : Misfit) × (path ≡ path_of m.place) × (fault ≡ m.fault) × (HasMisfit bytes m ⊎ HasUnfitEdge bytes m)
+IsFirstFault bytes (Field path fault) = (m : FileMisfit) × (path ≡ path_text m.field) × (fault ≡ m.fault) × (HasMisfit bytes m ⊎ HasUnfitEdge bytes m)
 IsFirstFault bytes (DuplicateNode at) = (file : GraphFile) × Says bytes file × IsLeast (IsRepeated (ids_of file.nodes)) at
 IsFirstFault bytes (Edge at) = (file : GraphFile) × Says bytes file × HasDistinctIds file × IsFirstWrong (ids_of file.nodes) file.edges (Wrong at)
 IsFirstFault bytes (Graph fault) = (file : GraphFile) × Says bytes file × HasRightEdges file × IsFirstGraphFault (raw_graph (kinds_of file.nodes) (raw_of file)) (raw_names (raw_of file)) fault × (fault ≢ NoRoom)
@@ -68,9 +67,9 @@ IsFirstFault bytes Memory = Unit {0}
 -- ---- for private clauses
 
 -- the fault tells of this misfit, or of want of memory
-abbrev pub IsToldAs : Misfit → ReadFault → Type 0
+abbrev pub IsToldAs : FileMisfit → ReadFault → Type 0
 IsToldAs m NotJson = ⊥
-IsToldAs m (Field path fault) = (path ≡ path_of m.place) × (fault ≡ m.fault)
+IsToldAs m (Field path fault) = (path ≡ path_text m.field) × (fault ≡ m.fault)
 IsToldAs m (DuplicateNode at) = ⊥
 IsToldAs m (Edge at) = ⊥
 IsToldAs m (Graph fault) = ⊥

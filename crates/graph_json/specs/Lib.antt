@@ -1,4 +1,4 @@
-pub mod Places
+pub mod FieldPaths
 pub mod Fields
 pub mod Nodes
 pub mod Edges

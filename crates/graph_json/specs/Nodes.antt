@@ -11,11 +11,14 @@ use Rattle.serde_json.specs.Find.{as_str}
 use Rattle.serde_json.specs.View.{items_view, members_view}
 use Rattle.json_whole.specs.declared.fields.FieldFault.{FieldFault}
 use Rattle.json_whole.specs.declared.fields.FieldFault.TheVariants.{Kind, Text}
-use Rattle.graph_json.specs.Fields.{result_and_then, given, is_name, is_unit, ruled_value, ruled_field, ruled_given, object_value, object_field, id_field, small_given, size_given}
-use Rattle.graph_json.specs.Places.{at_place, at_key}
-use Rattle.graph_json.specs.declared.places.NodeKey.TheVariants.{Id, Metadata, TypeName, Basename, Number, Name, Rank, Size, Unit, Properties}
-use Rattle.graph_json.specs.declared.places.Place.TheVariants.{Node, NodeField, Property, PropertyKey}
-use Rattle.graph_json.specs.declared.places.Misfit.{Misfit}
+use Rattle.graph_json.specs.Fields.{is_unit, id_field, small_given, size_given}
+use Rattle.json_fields.specs.Values.{result_and_then, given, object_value, object_field, keys_of}
+use Rattle.text_forms.specs.Names.{is_name}
+use Rattle.json_fields.specs.Names.{ruled_value, ruled_field, ruled_given}
+use Rattle.graph_json.specs.FieldPaths.{at_key, FileMisfit}
+use Rattle.json_fields.specs.Misfits.{at_field}
+use Rattle.graph_json.specs.declared.field_paths.NodeKey.TheVariants.{Id, Metadata, TypeName, Basename, Number, Name, Rank, Size, Unit, Properties}
+use Rattle.graph_json.specs.declared.field_paths.FieldPath.TheVariants.{Node, NodeField, Property, PropertyKey}
 use Rattle.graph_json.specs.declared.fields.NodeId.{NodeId}
 use Rattle.graph_json.specs.declared.fields.NodeId.TheVariants.{Written, Numbered}
 use Rattle.graph_json.specs.declared.nodes.NodeFields.{NodeFields}
@@ -53,11 +56,6 @@ name_given base n d = name_or_default base n (given (codes "name") d)
 
 -- ---- properties
 
--- the keys of an object, in byte order
-abbrev pub keys_of : Members → List (List ℕ)
-keys_of no_members = []
-keys_of (member k d ms) = k ∷ keys_of ms
-
 -- the texts of a list
 abbrev pub texts_in : Items → List (List ℕ)
 texts_in no_items = []
@@ -68,34 +66,34 @@ abbrev pub in_order : List (List ℕ) → List (List ℕ)
 in_order texts = fold (insert_key (slice_cmp nat_cmp)) [] texts
 
 -- the first of a list's members from `member` on that is no name
-abbrev pub first_misfit : ℕ → ℕ → Items → Option Misfit
+abbrev pub first_misfit : ℕ → ℕ → Items → Option FileMisfit
 first_misfit at m no_items = None
-first_misfit at m (item d ds) = option_or (result_err (at_place (Property at m) (ruled_value (is_name 255) d))) (first_misfit at (suc m) ds)
+first_misfit at m (item d ds) = option_or (result_err (at_field (Property at m) (ruled_value (is_name 255) d))) (first_misfit at (suc m) ds)
 
-abbrev pub unless_misfit : {A : Type 0} → Option Misfit → A → Result A Misfit
+abbrev pub unless_misfit : {A : Type 0} → Option FileMisfit → A → Result A FileMisfit
 unless_misfit None x = Ok x
 unless_misfit (Some m) x = Err m
 
 -- the properties that a value lists: an object's keys, or a list's texts
-abbrev pub properties_of : ℕ → Data → Result (List (List ℕ)) Misfit
-properties_of at null = Err (record { place = NodeField at Properties; fault = Kind })
-properties_of at (boolean b) = Err (record { place = NodeField at Properties; fault = Kind })
-properties_of at (number n) = Err (record { place = NodeField at Properties; fault = Kind })
-properties_of at (string s) = Err (record { place = NodeField at Properties; fault = Kind })
+abbrev pub properties_of : ℕ → Data → Result (List (List ℕ)) FileMisfit
+properties_of at null = Err (record { field = NodeField at Properties; fault = Kind })
+properties_of at (boolean b) = Err (record { field = NodeField at Properties; fault = Kind })
+properties_of at (number n) = Err (record { field = NodeField at Properties; fault = Kind })
+properties_of at (string s) = Err (record { field = NodeField at Properties; fault = Kind })
 properties_of at (array ds) = unless_misfit (first_misfit at 0 ds) (in_order (texts_in ds))
-properties_of at (object ms) = if list_all (is_name 255) (keys_of ms) then Ok (keys_of ms) else Err (record { place = PropertyKey at; fault = Text })
+properties_of at (object ms) = if list_all (is_name 255) (keys_of ms) then Ok (keys_of ms) else Err (record { field = PropertyKey at; fault = Text })
 
-abbrev pub properties_or_none : ℕ → Option Data → Result (List (List ℕ)) Misfit
+abbrev pub properties_or_none : ℕ → Option Data → Result (List (List ℕ)) FileMisfit
 properties_or_none at None = Ok []
 properties_or_none at (Some d) = properties_of at d
 
-abbrev pub properties_given : ℕ → Data → Result (List (List ℕ)) Misfit
+abbrev pub properties_given : ℕ → Data → Result (List (List ℕ)) FileMisfit
 properties_given at d = properties_or_none at (given (codes "properties") d)
 
 -- ---- nodes
 
 -- a node with this id and this metadata, key by key
-abbrev pub node_with : ℕ → List ℕ → Data → Result FileNode Misfit
+abbrev pub node_with : ℕ → List ℕ → Data → Result FileNode FileMisfit
 node_with at id d =
     result_and_then (at_key at TypeName (ruled_field (is_name 64) (codes "type") d)) (λ kind.
     result_and_then (at_key at Basename (ruled_given (is_name 255) kind (codes "basename") d)) (λ base.
@@ -108,14 +106,14 @@ node_with at id d =
     (properties_given at d))))))))
 
 -- the node that the value with this index is
-abbrev pub node_of : ℕ → Data → Result FileNode Misfit
+abbrev pub node_of : ℕ → Data → Result FileNode FileMisfit
 node_of at d =
-    result_and_then (at_place (Node at) (object_value d)) (λ whole.
+    result_and_then (at_field (Node at) (object_value d)) (λ whole.
     result_and_then (at_key at Id (id_field (codes "id") whole)) (λ id.
     result_and_then (at_key at Metadata (object_field (codes "metadata") whole)) (node_with at id)))
 
 -- the nodes of a list from this index on, and the first misfit where one can't be read
-abbrev pub nodes_of : ℕ → Items → Result (List FileNode) Misfit
+abbrev pub nodes_of : ℕ → Items → Result (List FileNode) FileMisfit
 nodes_of at no_items = Ok []
 nodes_of at (item d ds) = result_and_then (node_of at d) (λ x. result_map_both (λ xs. x ∷ xs) (λ m. m) (nodes_of (suc at) ds))
 

@@ -1,14 +1,11 @@
 -- The raw vertices that the nodes and edges of a graph file are.
-use Rattle.std.specs.Prelude.{ℕ, List, [], ◌∷◌, ◌++◌, map, if◌then◌else◌, Option, unwrap_or}
+use Rattle.std.specs.Prelude.{ℕ, List, [], ◌∷◌, map, Option, unwrap_or}
 use Rattle.std.specs.List.{fold}
 use Rattle.graph_build.specs.declared.raw.RawVertex.{RawVertex}
+use Rattle.text_table.specs.Tables.{with_text}
 use Rattle.graph_json.specs.Nodes.{FileNode}
-use Rattle.graph_json.specs.Edges.{FileEdge, is_among, parent_of, place_of}
+use Rattle.graph_json.specs.Edges.{FileEdge, parent_of, place_of}
 use Rattle.graph_json.specs.Ids.{ids_of}
-
--- the texts and one more, unless it is there
-abbrev pub with_text : List (List ℕ) → List ℕ → List (List ℕ)
-with_text texts text = if is_among texts text then texts else texts ++ text ∷ []
 
 -- the types of the nodes, in the order of their first nodes
 abbrev pub kinds_of : List FileNode → List (List ℕ)

@@ -1,16 +1,12 @@
 -- What is written of a graph.
 use Rattle.std.specs.Prelude.{ℕ, ◌<◌, ◌^◌, suc, IfSome, negsuc, zero, List, [], ◌∷◌, map, if◌then◌else◌, Option, Some, None, unwrap_or, slice_get, codes, decimal}
 use Rattle.std.specs.List.{AllByRecursion}
-use Rattle.std.specs.Str.{is_utf8}
 use Rattle.serde_json.specs.Data.{Num, Data, number, string, array, object, unsigned, negative, Items, no_items, item, Members, no_members, member}
 use Rattle.serde_json.specs.Written.{compact_text}
 use Rattle.flux_defs.specs.declared.vertices.Vertex.{Vertex}
 use Rattle.resource_graph.specs.NamedGraph.{NamedGraph, path_text}
+use Rattle.json_written.specs.Texts.{readable}
 use Rattle.graph_json.specs.Nodes.{in_order}
-
--- a text as JSON holds it: one that is no UTF-8 is written as the empty text
-abbrev pub readable : List ℕ → List ℕ
-readable text = if is_utf8 text then text else []
 
 -- a number, or -1 for none
 abbrev pub or_none : Option ℕ → Num

@@ -1,31 +1,11 @@
--- How a writer goes on.
+-- The tokens of parts of a graph.
 use Rattle.std.specs.Prelude.{◌≡◌, ℕ, List, [], ◌∷◌, ◌++◌, Option, Some, None, slice_get, codes}
 use Rattle.std.specs.Option.{option_map_or}
 use Rattle.json.specs.Token.{Token, key, string}
-use Rattle.json.specs.Tree.{json_tokens, items_tokens, members_tokens}
-use Rattle.json.specs.Written.{Written}
-use Rattle.serde_json.specs.Data.{Data, Items, Members}
-use Rattle.serde_json.specs.Written.{outline, items_outline, members_outline}
+use Rattle.json_written.specs.Tokens.{value_tokens}
 use Rattle.flux_defs.specs.declared.vertices.Vertex.{Vertex}
 use Rattle.resource_graph.specs.NamedGraph.{NamedGraph}
 use Rattle.graph_json.specs.WrittenGraph.{number_or_none, text_at, paths_data, edge_data, node_data}
-
--- the writer has written these tokens more
-pub record Adds (old new : Written) (tokens : List Token) : Type 0 where
-  pub tokens_are : new.tokens ≡ old.tokens ++ tokens
-  pub same : new.before ≡ old.before
-
--- the tokens of a value
-abbrev pub value_tokens : Data → List Token
-value_tokens d = json_tokens (outline d)
-
--- the tokens of a list's items, and the closing bracket
-abbrev pub rest_tokens : Items → List Token
-rest_tokens ds = items_tokens (items_outline ds)
-
--- the tokens of an object's members, and the closing bracket
-abbrev pub member_tokens : Members → List Token
-member_tokens ms = members_tokens (members_outline ms)
 
 -- the tokens of an object's keys with empty texts
 abbrev pub keys_tokens : List (List ℕ) → List Token

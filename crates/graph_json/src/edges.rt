@@ -5,12 +5,13 @@ ghost use Rattle.std.specs.Str.{bytes_eq};
 ghost use Rattle.std.specs.Result.{result_map_both};
 ghost use Rattle.serde_json.specs.Find.{as_object};
 ghost use Rattle.serde_json.specs.View.{view, items_view};
-ghost use Rattle.graph_json.specs.Fields.{given};
+ghost use Rattle.json_fields.specs.Values.{given, object_or_none};
 ghost use Rattle.graph_json.specs.Nodes.{id_bytes};
-ghost use Rattle.graph_json.specs.Edges.{role_in, role_of, name_role, is_contained, is_plain, object_or_none, edge_with, edge_of, edges_of, edge_held, place_of, joined, counted, parents_of, IsWrongEdge, IsFirstWrong};
+ghost use Rattle.graph_json.specs.Edges.{role_in, role_of, name_role, is_contained, is_plain, edge_with, edge_of, edges_of, edge_held, place_of, joined, counted, parents_of, IsWrongEdge, IsFirstWrong};
 
-use crate::fields::{NodeId, given, id_field};
-use crate::places::{EdgeKey, Misfit, Place, at_place};
+use crate::fields::{NodeId, id_field};
+use crate::field_paths::{EdgeKey, FieldPath, FileMisfit};
+use json_fields::{at_field, object_or_none, object_value};
 use json_whole::FieldFault;
 use serde_json::Value;
 use text_table::TextTable;
@@ -38,7 +39,7 @@ pub(crate) struct EdgeFields<'a> {
 #[derive(Clone, Copy, Debug, PartialEq, Eq)]
 pub(crate) enum EdgeFault {
     /// A field of it.
-    Unfit(Misfit),
+    Unfit(FileMisfit),
     /// The edge with this index.
     Wrong { at: u64 },
 }
@@ -91,41 +92,34 @@ fn role_in(metadata: &Value) -> Role
 fn role_of(edge: &Value) -> Result<Role, FieldFault>
     ensures { result ≡ result_map_both role_of (λ e. e) (object_or_none (given (codes "metadata") (view edge.now))) }
 {
-    let Some(metadata) = given(edge, "metadata") else {
-        return Ok(Role::Counted);
-    };
-    if !metadata.is_object() {
-        return Err(FieldFault::Kind);
+    match object_or_none(edge, "metadata") {
+        Ok(Some(metadata)) => Ok(role_in(metadata)),
+        Ok(None) => Ok(Role::Counted),
+        Err(fault) => Err(fault),
     }
-    Ok(role_in(metadata))
 }
 
 /// What a file says of the edge with this index.
-fn edge_of(at: u64, value: &Value) -> Result<EdgeFields<'_>, Misfit>
+fn edge_of(at: u64, value: &Value) -> Result<EdgeFields<'_>, FileMisfit>
     ensures { result_map_both edge_held (λ m. m) result ≡ edge_of at (view value.now) }
 {
-    if !value.is_object() {
-        return Err(Misfit {
-            place: Place::Edge { at },
-            fault: FieldFault::Kind,
-        });
-    }
-    let source = at_place(
-        Place::EdgeField {
+    at_field(FieldPath::Edge { at }, object_value(value))?;
+    let source = at_field(
+        FieldPath::EdgeField {
             at,
             key: EdgeKey::Source,
         },
         id_field(value, "source"),
     )?;
-    let target = at_place(
-        Place::EdgeField {
+    let target = at_field(
+        FieldPath::EdgeField {
             at,
             key: EdgeKey::Target,
         },
         id_field(value, "target"),
     )?;
-    let role = at_place(
-        Place::EdgeField {
+    let role = at_field(
+        FieldPath::EdgeField {
             at,
             key: EdgeKey::EdgeMetadata,
         },

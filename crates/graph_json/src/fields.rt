@@ -5,22 +5,21 @@ ghost use Rattle.std.specs.Char.{is_ascii_graphic};
 ghost use Rattle.std.specs.Result.{result_map_both};
 ghost use Rattle.serde_json.specs.Find.{as_object};
 ghost use Rattle.serde_json.specs.View.{view, number_view};
-ghost use Rattle.graph_json.specs.Fields.{given, is_name_byte, is_name, is_unit, ruled_value, ruled_field, ruled_given, id_field, small_number, small_given, size_given};
+ghost use Rattle.graph_json.specs.Fields.{is_unit, id_field, small_number, small_given, size_given};
+ghost use Rattle.json_fields.specs.Values.{given};
+ghost use Rattle.text_forms.specs.Names.{is_name_byte, is_name};
+ghost use Rattle.json_fields.specs.Names.{ruled_value, ruled_field, ruled_given};
 ghost use Rattle.graph_json.specs.Nodes.{id_bytes};
 
-use json_whole::{FieldFault, need_text, need_u64};
+use flux_defs::GREATEST_NUMBER;
+use json_fields::given;
+use json_whole::{FieldFault, need_u64};
 use serde_json::{Number, Value};
 
-/// The greatest whole number of a field.
-const GREATEST: u64 = 70_368_744_177_664;
 /// The greatest id and rank.
 const GREATEST_SMALL: u64 = 4_294_967_294;
-/// The most characters of a name.
-pub(crate) const NAME: usize = 255;
-/// The most characters of the name of a type.
-pub(crate) const TYPE_NAME: usize = 64;
 /// The most characters of a unit.
-const UNIT: usize = 64;
+const MOST_UNIT_BYTES: usize = 64;
 
 /// How a file writes the id of a node.
 #[derive(Clone, Copy, Debug)]
@@ -29,44 +28,10 @@ pub(crate) enum NodeId<'a> {
     Numbered(u64),
 }
 
-/// The value at a key that has a default: null counts as absent.
-pub(crate) fn given<'a>(value: &'a Value, key: &str) -> Option<&'a Value>
-    ensures { option_map (λ v. view v.now) result ≡ given key.now (view value.now) }
-{
-    let found = value.get(key)?;
-    if found.is_null() {
-        return None;
-    }
-    Some(found)
-}
-
-fn is_name_byte(byte: u8) -> bool
-    ensures { result ≡ is_name_byte byte }
-{
-    byte.is_ascii_alphanumeric() || byte == b'_' || byte == b'-' || byte == b'.'
-}
-
-fn are_name_bytes(bytes: &[u8]) -> bool
-    ensures { result ≡ list_all is_name_byte bytes.now }
-{
-    bytes.iter().all(|byte| is_name_byte(*byte))
-}
-
 fn are_visible(bytes: &[u8]) -> bool
     ensures { result ≡ list_all is_ascii_graphic bytes.now }
 {
     bytes.iter().all(|byte| byte.is_ascii_graphic())
-}
-
-/// Whether the text is a name of at most so many characters.
-pub(crate) fn is_name(text: &str, most: usize) -> bool
-    ensures { result ≡ is_name most text.now }
-{
-    let bytes = text.as_bytes();
-    if bytes.is_empty() || bytes.len() > most {
-        return false;
-    }
-    are_name_bytes(bytes)
 }
 
 /// Whether the text is a unit.
@@ -74,53 +39,10 @@ fn is_unit(text: &str) -> bool
     ensures { result ≡ is_unit text.now }
 {
     let bytes = text.as_bytes();
-    if bytes.len() > UNIT {
+    if bytes.len() > MOST_UNIT_BYTES {
         return false;
     }
     are_visible(bytes)
-}
-
-/// The name that a value is.
-pub(crate) fn name_value(value: &Value, most: usize) -> Result<&str, FieldFault>
-    ensures { result_map_both (λ s. s.now) (λ e. e) result ≡ ruled_value (is_name most) (view value.now) }
-{
-    let Some(text) = value.as_str() else {
-        return Err(FieldFault::Kind);
-    };
-    if !is_name(text, most) {
-        return Err(FieldFault::Text);
-    }
-    Ok(text)
-}
-
-/// The name at a key, which is required.
-pub(crate) fn name_field<'a>(
-    value: &'a Value,
-    key: &str,
-    most: usize,
-) -> Result<&'a str, FieldFault>
-    requires { IsSome (as_object (view value.now)) }
-    ensures { result_map_both (λ s. s.now) (λ e. e) result ≡ ruled_field (is_name most) key.now (view value.now) }
-{
-    let text = need_text(value, key)?;
-    if !is_name(text, most) {
-        return Err(FieldFault::Text);
-    }
-    Ok(text)
-}
-
-/// The name at a key with a default.
-pub(crate) fn name_or<'a>(
-    value: &'a Value,
-    key: &str,
-    otherwise: &'a str,
-) -> Result<&'a str, FieldFault>
-    ensures { result_map_both (λ s. s.now) (λ e. e) result ≡ ruled_given (is_name 255) otherwise.now key.now (view value.now) }
-{
-    let Some(found) = given(value, key) else {
-        return Ok(otherwise);
-    };
-    name_value(found, NAME)
 }
 
 /// The unit at a key; by default the empty text.
@@ -150,7 +72,7 @@ pub(crate) fn id_field<'a>(value: &'a Value, key: &str) -> Result<NodeId<'a>, Fi
     if let Some(text) = found.as_str() {
         return Ok(NodeId::Written(text));
     }
-    let number = need_u64(value, key, 0, GREATEST)?;
+    let number = need_u64(value, key, 0, GREATEST_NUMBER)?;
     Ok(NodeId::Numbered(number))
 }
 
@@ -192,5 +114,5 @@ pub(crate) fn size_or_one(value: &Value, key: &str) -> Result<u64, FieldFault>
     if given(value, key).is_none() {
         return Ok(1);
     }
-    need_u64(value, key, 0, GREATEST)
+    need_u64(value, key, 0, GREATEST_NUMBER)
 }

@@ -3,14 +3,14 @@
 
 mod edges;
 pub mod faults;
+mod field_paths;
 mod fields;
 mod ids;
 pub mod laws;
 mod nodes;
-pub mod places;
 mod raw_lists;
-pub mod reading;
-pub mod writing;
+mod reading;
+mod writing;
 
 pub use faults::ReadFault;
 pub use laws::{

@@ -5,19 +5,21 @@ ghost use Rattle.std.specs.List.{list_all};
 ghost use Rattle.std.specs.Result.{result_map_both};
 ghost use Rattle.serde_json.specs.Find.{as_object};
 ghost use Rattle.serde_json.specs.View.{view, items_view, members_view};
-ghost use Rattle.graph_json.specs.Fields.{is_name, object_value, object_field};
-ghost use Rattle.graph_json.specs.Places.{at_key};
-ghost use Rattle.graph_json.specs.Nodes.{id_bytes, node_held, default_name, name_given, keys_of, first_misfit, properties_given, properties_held, node_with, node_of, nodes_of};
-ghost use Rattle.graph_json.specs.declared.places.Misfit.{Misfit};
+ghost use Rattle.text_forms.specs.Names.{is_name};
+ghost use Rattle.json_fields.specs.Values.{object_value, object_field, keys_of};
+ghost use Rattle.graph_json.specs.FieldPaths.{at_key, FileMisfit};
+ghost use Rattle.graph_json.specs.Nodes.{id_bytes, node_held, default_name, name_given, first_misfit, properties_given, properties_held, node_with, node_of, nodes_of};
 
-use crate::fields::{
-    NAME, NodeId, TYPE_NAME, given, id_field, is_name, name_field, name_or, name_value,
-    size_or_one, small_or_none, unit_or_empty,
+use crate::fields::{NodeId, id_field, size_or_one, small_or_none, unit_or_empty};
+use crate::field_paths::{FieldPath, FileMisfit, NodeKey};
+use flux_defs::{MOST_NAME_BYTES, MOST_TYPE_BYTES};
+use json_fields::{
+    Misfit, at_field, given, name_field, name_or, name_value, object_field, object_value,
 };
-use crate::places::{Misfit, NodeKey, Place, at_place};
 use json_whole::FieldFault;
 use serde_json::{Map, Value};
 use std::alloc::{AllocError, AllocFailed, Global};
+use text_forms::is_name;
 
 /// How a file gives the properties of a node.
 #[derive(Clone, Copy)]
@@ -41,24 +43,11 @@ pub(crate) struct NodeFields<'a> {
     pub properties: Properties<'a>,
 }
 
-/// What a field gives, or its fault at a key of a node.
-fn at_key<T>(at: u64, key: NodeKey, field: Result<T, FieldFault>) -> Result<T, Misfit>
+/// What is read at a key of a node, or its fault there.
+fn at_key<T>(at: u64, key: NodeKey, field: Result<T, FieldFault>) -> Result<T, FileMisfit>
     ensures { result ≡ at_key at key field }
 {
-    at_place(Place::NodeField { at, key }, field)
-}
-
-/// The metadata of a node.
-fn metadata_of(value: &Value) -> Result<&Value, FieldFault>
-    ensures { result_map_both (λ v. view v.now) (λ e. e) result ≡ object_field (codes "metadata") (view value.now) }
-{
-    let Some(found) = value.get("metadata") else {
-        return Err(FieldFault::Missing);
-    };
-    if !found.is_object() {
-        return Err(FieldFault::Kind);
-    }
-    Ok(found)
+    at_field(FieldPath::NodeField { at, key }, field)
 }
 
 /// How many characters the default name of a node has.
@@ -84,10 +73,10 @@ fn name_of<'a>(
     ensures { result_map_both (λ name. option_map_or (λ s. s.now) name (default_name base.now number)) (λ e. e) result ≡ name_given base.now number (view metadata.now) }
 {
     if let Some(found) = given(metadata, "name") {
-        let name = name_value(found, NAME)?;
+        let name = name_value(found, MOST_NAME_BYTES)?;
         return Ok(Some(name));
     }
-    if default_length(base, number) > NAME {
+    if default_length(base, number) > MOST_NAME_BYTES {
         return Err(FieldFault::Text);
     }
     Ok(None)
@@ -97,17 +86,17 @@ fn name_of<'a>(
 fn keys_are_names(members: &Map<String, Value>) -> bool
     ensures { result ≡ list_all (is_name 255) (keys_of (members_view members.now.entries)) }
 {
-    members.keys().all(|key| is_name(key.as_str(), NAME))
+    members.keys().all(|key| is_name(key.as_bytes(), MOST_NAME_BYTES))
 }
 
 /// The first member of a list of properties that is no name.
-fn first_misfit(at: u64, members: &[Value]) -> Option<Misfit>
+fn first_misfit(at: u64, members: &[Value]) -> Option<FileMisfit>
     ensures { result ≡ first_misfit at 0 (items_view members.now) }
 {
     'members: for (member, value) in members.iter().enumerate() {
-        if let Err(fault) = name_value(value, NAME) {
+        if let Err(fault) = name_value(value, MOST_NAME_BYTES) {
             return Some(Misfit {
-                place: Place::Property {
+                field: FieldPath::Property {
                     at,
                     member: member as u64,
                 },
@@ -119,7 +108,7 @@ fn first_misfit(at: u64, members: &[Value]) -> Option<Misfit>
 }
 
 /// The properties of a node.
-fn properties_of(at: u64, metadata: &Value) -> Result<Properties<'_>, Misfit>
+fn properties_of(at: u64, metadata: &Value) -> Result<Properties<'_>, FileMisfit>
     ensures { result_map_both properties_held (λ m. m) result ≡ properties_given at (view metadata.now) }
 {
     let Some(found) = given(metadata, "properties") else {
@@ -128,7 +117,7 @@ fn properties_of(at: u64, metadata: &Value) -> Result<Properties<'_>, Misfit>
     if let Some(members) = found.as_object() {
         if !keys_are_names(members) {
             return Err(Misfit {
-                place: Place::PropertyKey { at },
+                field: FieldPath::PropertyKey { at },
                 fault: FieldFault::Text,
             });
         }
@@ -141,7 +130,7 @@ fn properties_of(at: u64, metadata: &Value) -> Result<Properties<'_>, Misfit>
         return Ok(Properties::Members(members));
     }
     Err(Misfit {
-        place: Place::NodeField {
+        field: FieldPath::NodeField {
             at,
             key: NodeKey::Properties,
         },
@@ -150,16 +139,16 @@ fn properties_of(at: u64, metadata: &Value) -> Result<Properties<'_>, Misfit>
 }
 
 /// What a file says of a node with this id, by its metadata.
-fn fields_with<'a>(at: u64, id: NodeId<'a>, metadata: &'a Value) -> Result<NodeFields<'a>, Misfit>
+fn fields_with<'a>(at: u64, id: NodeId<'a>, metadata: &'a Value) -> Result<NodeFields<'a>, FileMisfit>
     requires { IsSome (as_object (view metadata.now)) }
     ensures { result_map_both node_held (λ m. m) result ≡ node_with at (id_bytes id.entry) (view metadata.now) }
 {
     let kind = at_key(
         at,
         NodeKey::TypeName,
-        name_field(metadata, "type", TYPE_NAME),
+        name_field(metadata, "type", MOST_TYPE_BYTES),
     )?;
-    let base = at_key(at, NodeKey::Basename, name_or(metadata, "basename", kind))?;
+    let base = at_key(at, NodeKey::Basename, name_or(metadata, "basename", MOST_NAME_BYTES, kind))?;
     let number = at_key(at, NodeKey::Number, small_or_none(metadata, "id"))?;
     let name = at_key(at, NodeKey::Name, name_of(metadata, base, number))?;
     let rank = at_key(at, NodeKey::Rank, small_or_none(metadata, "rank"))?;
@@ -180,24 +169,19 @@ fn fields_with<'a>(at: u64, id: NodeId<'a>, metadata: &'a Value) -> Result<NodeF
 }
 
 /// What a file says of the node with this index.
-pub(crate) fn node_of(at: u64, value: &Value) -> Result<NodeFields<'_>, Misfit>
+pub(crate) fn node_of(at: u64, value: &Value) -> Result<NodeFields<'_>, FileMisfit>
     ensures { result_map_both node_held (λ m. m) result ≡ node_of at (view value.now) }
 {
-    if !value.is_object() {
-        return Err(Misfit {
-            place: Place::Node { at },
-            fault: FieldFault::Kind,
-        });
-    }
+    at_field(FieldPath::Node { at }, object_value(value))?;
     let id = at_key(at, NodeKey::Id, id_field(value, "id"))?;
-    let metadata = at_key(at, NodeKey::Metadata, metadata_of(value))?;
+    let metadata = at_key(at, NodeKey::Metadata, object_field(value, "metadata"))?;
     fields_with(at, id, metadata)
 }
 
 /// Why the nodes of a file aren't read.
 #[derive(Clone, Copy, Debug, PartialEq, Eq)]
 pub(crate) enum NodesFault {
-    Misfit(Misfit),
+    Misfit(FileMisfit),
     Memory,
 }
 
@@ -226,7 +210,7 @@ impl<T: Drop> From<AllocFailed<T>> for NodesFault {
 /// What a file says of its nodes.
 pub(crate) fn nodes_of(alloc: Global, items: &[Value]) -> Result<Vec<NodeFields<'_>>, NodesFault>
     ensures read { IfOk result (λ nodes. Ok (map node_held nodes.items) ≡ nodes_of 0 (items_view items.now)) }
-    ensures misfit { (m : Misfit) → IsErrOf result (NodesFault.Misfit m) → nodes_of 0 (items_view items.now) ≡ Err m }
+    ensures misfit { (m : FileMisfit) → IsErrOf result (NodesFault.Misfit m) → nodes_of 0 (items_view items.now) ≡ Err m }
 {
     let mut nodes = Vec::with_capacity(alloc, items.len())?;
     'nodes: for (at, item) in items.iter().enumerate() {

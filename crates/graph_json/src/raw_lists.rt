@@ -3,10 +3,12 @@ ghost use Rattle.std.specs.Prelude.{◌≡◌, ◌<◌, ◌≤◌, ℕ, Some, sl
 ghost use Rattle.std.specs.Ordering.{nat_cmp};
 ghost use Rattle.std.specs.Cmp.Lexicographic.{slice_cmp};
 ghost use Rattle.std.specs.BTreeSet.{insert_key};
-ghost use Rattle.graph_json.specs.Nodes.{node_held, name_held, properties_held, keys_of, texts_in, in_order};
+ghost use Rattle.graph_json.specs.Nodes.{node_held, name_held, properties_held, texts_in, in_order};
+ghost use Rattle.json_fields.specs.Values.{keys_of};
 ghost use Rattle.graph_json.specs.Edges.{place_of, parents_of, counted};
 ghost use Rattle.graph_json.specs.Ids.{ids_of};
-ghost use Rattle.graph_json.specs.RawLists.{with_text, kinds_of, vertex_of, vertices_of, zip_with};
+ghost use Rattle.graph_json.specs.RawLists.{kinds_of, vertex_of, vertices_of, zip_with};
+ghost use Rattle.text_table.specs.Tables.{with_text};
 ghost use Rattle.serde_json.specs.View.{items_view, members_view};
 
 use crate::edges::place_of_text;
@@ -16,6 +18,7 @@ use graph_build::RawVertex;
 use serde_json::{Map, Value};
 use std::alloc::{AllocError, Global};
 use std::collections::BTreeSet;
+use text_forms::push_decimal;
 use text_table::TextTable;
 
 /// The keys of an object, as texts.
@@ -71,20 +74,9 @@ pub(crate) fn kind_table(alloc: Global, nodes: &[NodeFields]) -> Result<TextTabl
 {
     let mut table = TextTable::new(alloc);
     'nodes: for node in nodes {
-        add_kind(alloc, &mut table, node.kind)?;
+        table.add(alloc, node.kind.as_bytes())?;
     }
     Ok(table)
-}
-
-/// Adds a type to the table, unless it is there.
-fn add_kind(alloc: Global, table: &mut TextTable, kind: &str) -> Result<(), AllocError>
-    ensures { OnOk result (table.new ≡ with_text table.old kind.now) }
-{
-    if place_of_text(table, kind.as_bytes()).is_some() {
-        return Ok(());
-    }
-    table.add(alloc, kind.as_bytes())?;
-    Ok(())
 }
 
 /// The texts of a table, in its order.
@@ -158,8 +150,7 @@ fn name_text(alloc: Global, node: &NodeFields) -> Result<Text, AllocError>
     }
     let mut name = Vec::from_slice(alloc, node.base.as_bytes())?;
     if let Some(number) = node.number {
-        let mut buffer = itoa::Buffer::new();
-        name.extend_from_slice(buffer.format(number).as_bytes())?;
+        push_decimal(&mut name, u64::from(number))?;
     }
     Ok(Text::of_vec(name))
 }

@@ -8,7 +8,7 @@ ghost use Rattle.serde_json.specs.View.{view, items_view};
 ghost use Rattle.graph_build.specs.Table.{IsFaultless};
 ghost use Rattle.resource_graph.specs.NamedGraph.{NamedGraph};
 ghost use Rattle.graph_build.specs.Raw.{IsBuiltFrom, raw_graph, raw_names};
-ghost use Rattle.graph_json.specs.Fields.{object_field, list_field};
+ghost use Rattle.json_fields.specs.Values.{object_field, list_field};
 ghost use Rattle.graph_json.specs.Nodes.{node_held};
 ghost use Rattle.graph_json.specs.Edges.{FileEdge, parents_of};
 ghost use Rattle.graph_json.specs.Ids.{ids_of};
@@ -20,22 +20,21 @@ use crate::edges::{EdgeFault, join_edges};
 use crate::faults::ReadFault;
 use crate::ids::id_table;
 use crate::nodes::{NodeFields, NodesFault, nodes_of};
-use crate::places::{Misfit, Place, at_place, path_of};
+use crate::field_paths::{FieldPath, FileMisfit, path_text};
 use crate::raw_lists::{kind_table, table_texts, vertices_of};
-use json_whole::{FieldFault, ValueFault, read_value};
+use flux_defs::MOST_VERTICES;
+use json_fields::{at_field, list_field, object_field, object_value};
+use json_whole::{ValueFault, read_value};
 use graph_build::{GraphFault, build};
 use resource_graph::Graph;
 use serde_json::Value;
 use std::alloc::{AllocError, Global};
 
-/// The most vertices of a graph.
-const MOST_VERTICES: usize = 65_536;
-
 /// The fault of a field.
-fn field_fault(alloc: Global, misfit: Misfit) -> ReadFault
+fn field_fault(alloc: Global, misfit: FileMisfit) -> ReadFault
     ensures { IsToldAs misfit result }
 {
-    match path_of(alloc, misfit.place) {
+    match path_text(alloc, misfit.field) {
         Ok(path) => ReadFault::Field {
             path,
             fault: misfit.fault,
@@ -54,29 +53,6 @@ fn edge_fault(alloc: Global, fault: EdgeFault) -> ReadFault
     }
 }
 
-/// The list at a key.
-pub fn list_of<'a>(value: &'a Value, key: &str) -> Result<&'a Vec<Value>, FieldFault>
-    ensures { result_map_both (λ v. items_view v.now.items) (λ e. e) result ≡ list_field key.now (view value.now) }
-{
-    let Some(found) = value.get(key) else {
-        return Err(FieldFault::Missing);
-    };
-    found.as_array().ok_or(FieldFault::Kind)
-}
-
-/// The object at `graph`.
-fn graph_object(value: &Value) -> Result<&Value, FieldFault>
-    ensures { result_map_both (λ v. view v.now) (λ e. e) result ≡ object_field (codes "graph") (view value.now) }
-{
-    let Some(found) = value.get("graph") else {
-        return Err(FieldFault::Missing);
-    };
-    if !found.is_object() {
-        return Err(FieldFault::Kind);
-    }
-    Ok(found)
-}
-
 /// The values that a file lists as nodes and as edges.
 #[derive(Clone, Copy)]
 struct Lists<'a> {
@@ -85,25 +61,20 @@ struct Lists<'a> {
 }
 
 /// The lists in `graph`.
-fn lists_in(graph: &Value) -> Result<Lists<'_>, Misfit>
+fn lists_in(graph: &Value) -> Result<Lists<'_>, FileMisfit>
     ensures { result_map_both lists_held (λ m. m) result ≡ lists_in (view graph.now) }
 {
-    let nodes = at_place(Place::Nodes, list_of(graph, "nodes"))?;
-    let edges = at_place(Place::Edges, list_of(graph, "edges"))?;
+    let nodes = at_field(FieldPath::Nodes, list_field(graph, "nodes"))?;
+    let edges = at_field(FieldPath::Edges, list_field(graph, "edges"))?;
     Ok(Lists { nodes, edges })
 }
 
 /// The lists of a file.
-fn lists_of(value: &Value) -> Result<Lists<'_>, Misfit>
+fn lists_of(value: &Value) -> Result<Lists<'_>, FileMisfit>
     ensures { result_map_both lists_held (λ m. m) result ≡ lists_of (view value.now) }
 {
-    if !value.is_object() {
-        return Err(Misfit {
-            place: Place::Whole,
-            fault: FieldFault::Kind,
-        });
-    }
-    let graph = at_place(Place::Graph, graph_object(value))?;
+    let whole = at_field(FieldPath::Whole, object_value(value))?;
+    let graph = at_field(FieldPath::Graph, object_field(whole, "graph"))?;
     lists_in(graph)
 }
 

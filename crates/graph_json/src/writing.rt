@@ -1,47 +1,22 @@
 //! The text of a graph.
 ghost use Rattle.std.specs.Prelude.{◌≡◌, ◌<◌, codes, [], ◌∷◌, ◌++◌, length, map, Some, unwrap_or, slice_get, decimal, IfOk, OnOk};
 ghost use Rattle.json.specs.Token.{begin_object, end_object, key, string, number};
-ghost use Rattle.serde_json.specs.Data.{member, no_members, object, unsigned};
-ghost use Rattle.serde_json.specs.Data.{number as number_data, string as string_data};
+ghost use Rattle.serde_json.specs.Data.{member, no_members, object, unsigned, number as number_data, string as string_data};
 ghost use Rattle.graph_json.specs.Nodes.{in_order};
-ghost use Rattle.graph_json.specs.WrittenGraph.{readable, text_at, number_or_none, keys_object, properties_at, paths_data, metadata_data, node_data, nodes_data, contains_data, edge_data, edges_data, graph_data, graph_text, HasAllSmallNumbers};
+ghost use Rattle.graph_json.specs.WrittenGraph.{text_at, number_or_none, keys_object, properties_at, paths_data, metadata_data, node_data, nodes_data, contains_data, edge_data, edges_data, graph_data, graph_text, HasAllSmallNumbers};
+ghost use Rattle.json_written.specs.Texts.{readable};
 ghost use Rattle.serde_json.specs.Read.{read};
 ghost use Rattle.resource_graph.specs.NamedGraph.{NamedGraph};
-ghost use Rattle.graph_json.specs.WrittenTokens.{Adds, keys_tokens, names_tokens, node_tokens, edge_tokens, edge_tokens, value_tokens, rest_tokens, member_tokens};
+ghost use Rattle.graph_json.specs.WrittenTokens.{keys_tokens, names_tokens, node_tokens, edge_tokens, edge_tokens};
+ghost use Rattle.json_written.specs.Tokens.{Adds, value_tokens, rest_tokens, member_tokens};
 
 use crate::raw_lists::add_text;
 use flux_defs::{List, Text, Vertex};
 use json::Writer;
+use json_written::{put_number, put_text, readable};
 use resource_graph::Graph;
 use std::alloc::{AllocError, Global};
 use std::collections::BTreeSet;
-use std::str;
-
-/// A text as JSON holds it; one that is no UTF-8 gives the empty text.
-pub fn readable(bytes: &[u8]) -> &str
-    ensures { result.now ≡ readable bytes.now }
-{
-    match str::from_utf8(bytes) {
-        Ok(text) => text,
-        Err(_) => "",
-    }
-}
-
-/// Writes a key with a text.
-pub fn put_text(writer: &mut Writer, name: &str, text: &str) -> Result<(), AllocError>
-    ensures { OnOk result (Adds writer.old writer.new (key name.now ∷ string text.now ∷ [])) }
-{
-    writer.key(name)?;
-    writer.string(text)
-}
-
-/// Writes a key with a number.
-pub fn put_number(writer: &mut Writer, name: &str, n: u64) -> Result<(), AllocError>
-    ensures { OnOk result (Adds writer.old writer.new (key name.now ∷ value_tokens (number_data (unsigned n)))) }
-{
-    writer.key(name)?;
-    writer.u64(n)
-}
 
 /// Writes a key with a number, or with -1 for none.
 fn put_number_or_none(writer: &mut Writer, name: &str, n: Option<u32>) -> Result<(), AllocError>

@@ -19,7 +19,8 @@ use Rattle.idset_text.specs.declared.hostlists.Numbers.{Numbers}
 use Rattle.idset_text.specs.Faults.{IsResultOf}
 use Rattle.idset_text.specs.Items.{pieces, placed, with_first, with_front, items_of, ends_of, is_inside}
 use Rattle.idset_text.specs.Numbers.{value_of, has_leading_zero, number_of}
-use Rattle.idset_text.specs.Hostlists.{is_name_byte, is_name, host_number, padded, width_of, fits, numbers_between, numbers_of, hosts_of_pieces, hosts_of_list, list_place, hosts_of_item, with_hosts, hosts_of, hostlist_of, names_from, IsNumber, Lists, IsPiece, IsHostItem, AreHostItems, IsHostlist}
+use Rattle.idset_text.specs.Hostlists.{is_host_name, host_number, padded, width_of, fits, numbers_between, numbers_of, hosts_of_pieces, hosts_of_list, list_place, hosts_of_item, with_hosts, hosts_of, hostlist_of, names_from, IsNumber, Lists, IsPiece, IsHostItem, AreHostItems, IsHostlist}
+use Rattle.text_forms.specs.Names.{is_name_byte}
 use Rattle.idset_text.proofs.NumberLemmas.{own_digits, number_of_digits, number_was_written}
 use Rattle.idset_text.proofs.ItemLemmas.{is_plain, plain_parts, pieces-plain_front, pieces-join, join-pieces, some_pieces, with_front-with_front, ends_of-joined, ends_of-digits, ends_make_up}
 use Rattle.idset_text.proofs.IdsetTexts.{digits_plain}
@@ -182,11 +183,11 @@ pieces_plain prefix (part ∷ parts) (Many own lo hi width ∷ hosts) are = and_
 
 -- ---- items
 
-prefix_bytes : (prefix : List ℕ) → (prefix ≡ []) ⊎ IsTrue (is_name prefix) → (list_all is_name_byte prefix ≡ true) × (length prefix ≤ 255)
+prefix_bytes : (prefix : List ℕ) → (prefix ≡ []) ⊎ IsTrue (is_host_name prefix) → (list_all is_name_byte prefix ≡ true) × (length prefix ≤ 255)
 prefix_bytes prefix (inl none) = (ap (list_all is_name_byte) none, omega (arith, ap length none))
 prefix_bytes prefix (inr is) = let parts = name_parts prefix is in (parts.bytes, parts.short)
 
-list_is_read : (prefix piece : List ℕ) (others : List (List ℕ)) (hosts : List Hosts) → (prefix ≡ []) ⊎ IsTrue (is_name prefix) → AllZip (IsPiece prefix) (piece ∷ others) hosts → hosts_of_list prefix (join_with_byte 44 (piece ∷ others)) ≡ Some hosts
+list_is_read : (prefix piece : List ℕ) (others : List (List ℕ)) (hosts : List Hosts) → (prefix ≡ []) ⊎ IsTrue (is_host_name prefix) → AllZip (IsPiece prefix) (piece ∷ others) hosts → hosts_of_list prefix (join_with_byte 44 (piece ∷ others)) ≡ Some hosts
 list_is_read prefix piece others hosts fine are =
     let bytes = prefix_bytes prefix fine in
     ap (λ (t : Bool). cond t (hosts_of_pieces prefix (pieces false (join_with_byte 44 (piece ∷ others)))) None) (prefix_is_fine prefix bytes.0 bytes.1)
@@ -317,36 +318,36 @@ list_parts item place e = by_test (eqb (get_or item (length item - 1) 0) 93) ref
         ∙ ap (λ (x : List ℕ). take place item ++ x) (drop_more item place 0 at.0 ∙ ap (λ (b : ℕ). b ∷ rest) open_is)
         ∙ ap (λ (x : List ℕ). take place item ++ 91 ∷ x) (sym (take-append-drop n rest) ∙ ap (λ (x : List ℕ). take n rest ++ x) tail)
 
-fine_prefix : (prefix : List ℕ) → (eqb (length prefix) 0 || is_name prefix) ≡ true → (prefix ≡ []) ⊎ IsTrue (is_name prefix)
+fine_prefix : (prefix : List ℕ) → (eqb (length prefix) 0 || is_host_name prefix) ≡ true → (prefix ≡ []) ⊎ IsTrue (is_host_name prefix)
 fine_prefix [] e = inl refl
-fine_prefix (byte ∷ prefix) e = elim (or_cases (eqb (length (byte ∷ prefix)) 0) (is_name (byte ∷ prefix)) e) [ inl none ↦ absurd (omega (arith, eqb-true (length (byte ∷ prefix)) 0 none)) | inr is ↦ inr is ]
+fine_prefix (byte ∷ prefix) e = elim (or_cases (eqb (length (byte ∷ prefix)) 0) (is_host_name (byte ∷ prefix)) e) [ inl none ↦ absurd (omega (arith, eqb-true (length (byte ∷ prefix)) 0 none)) | inr is ↦ inr is ]
 
 -- what a list that was read is
 record WasList (prefix list : List ℕ) (hosts : List Hosts) : Type 0 where
   piece : List ℕ
   others : List (List ℕ)
-  fine : (prefix ≡ []) ⊎ IsTrue (is_name prefix)
+  fine : (prefix ≡ []) ⊎ IsTrue (is_host_name prefix)
   are : AllZip (IsPiece prefix) (piece ∷ others) hosts
   joined : join_with_byte 44 (piece ∷ others) ≡ list
 
 list_was_read : (prefix list : List ℕ) (hosts : List Hosts) → hosts_of_list prefix list ≡ Some hosts → WasList prefix list hosts
-list_was_read prefix list hosts e = by_test (eqb (length prefix) 0 || is_name prefix) refl e
+list_was_read prefix list hosts e = by_test (eqb (length prefix) 0 || is_host_name prefix) refl e
   where
-    by_parts : (parts : List (List ℕ)) → 0 < length parts → join_with_byte 44 parts ≡ list → (eqb (length prefix) 0 || is_name prefix) ≡ true → hosts_of_pieces prefix parts ≡ Some hosts → WasList prefix list hosts
+    by_parts : (parts : List (List ℕ)) → 0 < length parts → join_with_byte 44 parts ≡ list → (eqb (length prefix) 0 || is_host_name prefix) ≡ true → hosts_of_pieces prefix parts ≡ Some hosts → WasList prefix list hosts
     by_parts [] some joined fine f = absurd (omega arith)
     by_parts (piece ∷ others) some joined fine f = record { piece = piece; others = others; fine = fine_prefix prefix fine; are = pieces_were_read prefix (piece ∷ others) hosts f; joined = joined }
 
-    by_test : (b : Bool) → (eqb (length prefix) 0 || is_name prefix) ≡ b → cond b (hosts_of_pieces prefix (pieces false list)) None ≡ Some hosts → WasList prefix list hosts
+    by_test : (b : Bool) → (eqb (length prefix) 0 || is_host_name prefix) ≡ b → cond b (hosts_of_pieces prefix (pieces false list)) None ≡ Some hosts → WasList prefix list hosts
     by_test true fine f = by_parts (pieces false list) (some_pieces false list) (join-pieces false list) fine f
     by_test false fine f = absurd cc
 
 item_was_read : (item : List ℕ) (hosts : List Hosts) → hosts_of_item item ≡ Some hosts → IsHostItem item hosts
-item_was_read item hosts e = by_test (is_name item) refl e
+item_was_read item hosts e = by_test (is_host_name item) refl e
   where
     some_same : (a b : List Hosts) → Some a ≡ Some b → a ≡ b
     some_same a b f = cc
 
-    by_test : (b : Bool) → is_name item ≡ b → cond b (Some (One item ∷ [])) (option_and_then (λ place. hosts_of_list (take place item) (take (length item - 1 - (place + 1)) (drop (place + 1) item))) (list_place item)) ≡ Some hosts → IsHostItem item hosts
+    by_test : (b : Bool) → is_host_name item ≡ b → cond b (Some (One item ∷ [])) (option_and_then (λ place. hosts_of_list (take place item) (take (length item - 1 - (place + 1)) (drop (place + 1) item))) (list_place item)) ≡ Some hosts → IsHostItem item hosts
     by_test true is f = inl (is, sym (some_same (One item ∷ []) hosts f))
     by_test false is f =
         option_and_then_some (λ place. hosts_of_list (take place item) (take (length item - 1 - (place + 1)) (drop (place + 1) item))) (list_place item) hosts f

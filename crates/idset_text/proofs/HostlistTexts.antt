@@ -19,7 +19,8 @@ use Rattle.idset_text.specs.declared.hostlists.Numbers.{Numbers}
 use Rattle.idset_text.specs.Items.{pieces, placed, with_front, items_of}
 use Rattle.idset_text.specs.Numbers.{value_of, are_digits, has_leading_zero, number_of}
 use Rattle.idset_text.specs.Idsets.{ids_from}
-use Rattle.idset_text.specs.Hostlists.{is_name_byte, is_name, host_number, padded, width_of, fits, numbers_between, hosts_of_pieces, hosts_of_list, list_place, hosts_of_item, with_hosts, hosts_of, hostlist_of, names_from, names_of, digits_place, prefix_of, digits_of, follows, is_alike, continues, run_text, texts_from, hostlist_texts, AreHostlistsOf}
+use Rattle.idset_text.specs.Hostlists.{is_host_name, host_number, padded, width_of, fits, numbers_between, hosts_of_pieces, hosts_of_list, list_place, hosts_of_item, with_hosts, hosts_of, hostlist_of, names_from, names_of, digits_place, prefix_of, digits_of, follows, is_alike, continues, run_text, texts_from, hostlist_texts, AreHostlistsOf}
+use Rattle.text_forms.specs.Names.{is_name_byte}
 use Rattle.idset_text.proofs.NumberLemmas.{own_digits, WritesNumber, number_was_written, digits_are_decimal}
 use Rattle.idset_text.proofs.ItemLemmas.{is_plain, pieces-plain_front, pieces-join, position-first, drop-behind, ends_of-joined}
 use Rattle.idset_text.proofs.IdsetTexts.{digits_plain, ids_from-add}
@@ -41,14 +42,14 @@ pub record NameParts (name : List ℕ) : Type 0 where
   pub short : length name ≤ 255
   pub bytes : list_all is_name_byte name ≡ true
 
-pub name_parts : (name : List ℕ) → is_name name ≡ true → NameParts name
+pub name_parts : (name : List ℕ) → is_host_name name ≡ true → NameParts name
 name_parts name h =
     let both = and_parts _ _ h in
     let first = and_parts _ _ both.0 in
     record { some = ltb-true _ _ first.0; short = leb-true _ _ first.1; bytes = both.1 }
 
 -- a name is read as itself
-hostlist_of-name : (name : List ℕ) → is_name name ≡ true → hostlist_of name ≡ Ok (One name ∷ [])
+hostlist_of-name : (name : List ℕ) → is_host_name name ≡ true → hostlist_of name ≡ Ok (One name ∷ [])
 hostlist_of-name [] h = absurd cc
 hostlist_of-name (byte ∷ bytes) h =
     let name : List ℕ = byte ∷ bytes in
@@ -67,7 +68,7 @@ pieces-listed prefix list p l =
     pieces-plain_front false prefix (91 ∷ (list ++ 93 ∷ [])) p
     ∙ ap (λ (ps : List (List ℕ)). with_front prefix (with_front (91 ∷ []) ps)) (pieces-plain_front true list (93 ∷ []) l)
 
-listed_is_no_name : (prefix list : List ℕ) → is_name (listed prefix list) ≡ false
+listed_is_no_name : (prefix list : List ℕ) → is_host_name (listed prefix list) ≡ false
 listed_is_no_name prefix list =
     and_right _ _ (list_all_at is_name_byte (listed prefix list) (length prefix) 0 (omega (arith, length-append prefix (91 ∷ (list ++ 93 ∷ [])))) (ap is_name_byte (get_or_at prefix 91 (list ++ 93 ∷ []) 0 (length prefix) refl)))
 
@@ -86,9 +87,9 @@ or_second true b e = refl
 or_second false b e = e
 
 -- a prefix of a name is one, or nothing
-pub prefix_is_fine : (prefix : List ℕ) → list_all is_name_byte prefix ≡ true → length prefix ≤ 255 → (eqb (length prefix) 0 || is_name prefix) ≡ true
+pub prefix_is_fine : (prefix : List ℕ) → list_all is_name_byte prefix ≡ true → length prefix ≤ 255 → (eqb (length prefix) 0 || is_host_name prefix) ≡ true
 prefix_is_fine [] p short = refl
-prefix_is_fine (byte ∷ prefix) p short = or_second (eqb (length (byte ∷ prefix)) 0) (is_name (byte ∷ prefix)) (and_from _ _ (and_from _ _ (lt-ltb 0 (length (byte ∷ prefix)) (omega arith)) (le-leb (length (byte ∷ prefix)) 255 short)) p)
+prefix_is_fine (byte ∷ prefix) p short = or_second (eqb (length (byte ∷ prefix)) 0) (is_host_name (byte ∷ prefix)) (and_from _ _ (and_from _ _ (lt-ltb 0 (length (byte ∷ prefix)) (omega arith)) (le-leb (length (byte ∷ prefix)) 255 short)) p)
 
 pub hosts_of_item-listed : (prefix list : List ℕ) (hosts : Option (List Hosts)) → list_all is_name_byte prefix ≡ true → hosts_of_list prefix list ≡ hosts → hosts_of_item (listed prefix list) ≡ hosts
 hosts_of_item-listed prefix list hosts p read =
@@ -305,7 +306,7 @@ record ReadsAs (text : List ℕ) (names : List (List ℕ)) : Type 0 where
   read : hostlist_of text ≡ Ok hosts
   are : names_of hosts ≡ names
 
-run_reads : (many : Bool) (first last : List ℕ) (seen : List (List ℕ)) → is_name first ≡ true → is_name last ≡ true → IsRun many first last seen → ReadsAs (run_text many first last) seen
+run_reads : (many : Bool) (first last : List ℕ) (seen : List (List ℕ)) → is_host_name first ≡ true → is_host_name last ≡ true → IsRun many first last seen → ReadsAs (run_text many first last) seen
 run_reads false first last seen f l (same, alone) = record { hosts = One first ∷ []; read = hostlist_of-name first f; are = sym alone }
 run_reads true first last seen f l run =
     let prefix : List ℕ = prefix_of first in
@@ -338,9 +339,9 @@ run_reads true first last seen f l run =
 -- ---- all names
 
 abbrev pub AreNames : List (List ℕ) → Type 0
-AreNames names = All (λ name. IsTrue (is_name name)) names
+AreNames names = All (λ name. IsTrue (is_host_name name)) names
 
-texts_read : (names : List (List ℕ)) (many : Bool) (first last : List ℕ) (seen : List (List ℕ)) → is_name first ≡ true → is_name last ≡ true → AreNames names → IsRun many first last seen → AreHostlistsOf (texts_from many first last names) (seen ++ names)
+texts_read : (names : List (List ℕ)) (many : Bool) (first last : List ℕ) (seen : List (List ℕ)) → is_host_name first ≡ true → is_host_name last ≡ true → AreNames names → IsRun many first last seen → AreHostlistsOf (texts_from many first last names) (seen ++ names)
 texts_read [] many first last seen f l h run =
     let r = run_reads many first last seen f l run in
     (r.hosts, [], r.read, ap (λ (names : List (List ℕ)). names ++ []) (sym r.are), refl)
@@ -349,11 +350,11 @@ texts_read (next ∷ names) many first last seen f l h run =
     (λ longer. texts_read names true first next (seen ++ next ∷ []) f is_next others longer)
     (texts_read names false next next (next ∷ []) is_next is_next others (refl, refl))
   where
-    is_next : is_name next ≡ true
-    is_next = All-head (λ name. IsTrue (is_name name)) next names h
+    is_next : is_host_name next ≡ true
+    is_next = All-head (λ name. IsTrue (is_host_name name)) next names h
 
     others : AreNames names
-    others = All-tail (λ name. IsTrue (is_name name)) next names h
+    others = All-tail (λ name. IsTrue (is_host_name name)) next names h
 
     by_test : (b : Bool) → continues first last next ≡ b → (RunOf first next (seen ++ next ∷ []) → AreHostlistsOf (texts_from true first next names) ((seen ++ next ∷ []) ++ names)) → AreHostlistsOf (texts_from false next next names) (next ∷ names)
         → AreHostlistsOf (cond b (texts_from true first next names) (run_text many first last ∷ texts_from false next next names)) (seen ++ next ∷ names)
@@ -368,5 +369,5 @@ texts_read (next ∷ names) many first last seen f l h run =
 pub texts_again : (names : List (List ℕ)) → AreNames names → AreHostlistsOf (hostlist_texts names) names
 texts_again [] h = refl
 texts_again (name ∷ names) h =
-    let is : is_name name ≡ true = All-head (λ n. IsTrue (is_name n)) name names h in
-    texts_read names false name name (name ∷ []) is is (All-tail (λ n. IsTrue (is_name n)) name names h) (refl, refl)
+    let is : is_host_name name ≡ true = All-head (λ n. IsTrue (is_host_name n)) name names h in
+    texts_read names false name name (name ∷ []) is is (All-tail (λ n. IsTrue (is_host_name n)) name names h) (refl, refl)

@@ -10,15 +10,14 @@ use Rattle.idset_text.specs.declared.hostlists.Numbers.{Numbers}
 use Rattle.idset_text.specs.Items.{Item, items_of, pieces, ends_of, with_first}
 use Rattle.idset_text.specs.Numbers.{value_of, are_digits, has_leading_zero, number_of}
 use Rattle.idset_text.specs.Idsets.{ids_from}
+use Rattle.flux_defs.specs.declared.limits.TheConstants.{MOST_NAME_BYTES}
+use Rattle.text_forms.specs.Names.{is_name}
 
 -- ---- names and numbers
 
--- a letter, a digit, '_' (95), '-' (45) or '.' (46)
-abbrev pub is_name_byte : ℕ → Bool
-is_name_byte byte = is_ascii_alphanumeric byte || (byte == 95) || (byte == 45) || (byte == 46)
-
-abbrev pub is_name : List ℕ → Bool
-is_name bytes = nat_lt 0 (length bytes) && nat_le (length bytes) 255 && list_all is_name_byte bytes
+-- the name of a host
+abbrev pub is_host_name : List ℕ → Bool
+is_host_name bytes = is_name MOST_NAME_BYTES bytes
 
 -- a number of 1 to 9 digits
 abbrev pub host_number : List ℕ → Option ℕ
@@ -54,7 +53,7 @@ hosts_of_pieces prefix (piece ∷ others) =
 
 -- a prefix is a name or nothing
 abbrev pub hosts_of_list : List ℕ → List ℕ → Option (List Hosts)
-hosts_of_list prefix list = if (length prefix == 0) || is_name prefix then hosts_of_pieces prefix (pieces false list) else None
+hosts_of_list prefix list = if (length prefix == 0) || is_host_name prefix then hosts_of_pieces prefix (pieces false list) else None
 
 -- the place of the first '[' (91) in bytes that end with ']' (93)
 abbrev pub list_place : List ℕ → Option ℕ
@@ -63,7 +62,7 @@ list_place item = if slice_index item (length item - 1) == 93 then position (λ 
 -- an item: a name, or a prefix and a list of numbers in brackets
 abbrev pub hosts_of_item : List ℕ → Option (List Hosts)
 hosts_of_item item =
-    if is_name item then Some (One item ∷ [])
+    if is_host_name item then Some (One item ∷ [])
     else option_and_then (λ place. hosts_of_list (take place item) (take (length item - 1 - (place + 1)) (drop (place + 1) item))) (list_place item)
 
 -- an item's hosts and those behind them; where it has none, its place
@@ -124,7 +123,7 @@ pub record Lists (prefix piece first last : List ℕ) (lo hi width : ℕ) : Type
   pub ordered : lo ≤ hi
   pub width_is : width ≡ width_of first
   pub wide : has_leading_zero first ≡ true → length last ≡ length first
-  pub short : All (λ name. length name ≤ 255) (names_from prefix width (hi + 1 - lo) lo)
+  pub short : All (λ name. length name ≤ MOST_NAME_BYTES) (names_from prefix width (hi + 1 - lo) lo)
   pub spelled : ((piece ≡ first) × (last ≡ first)) ⊎ (piece ≡ first ++ 45 ∷ last)
 
 abbrev pub IsPiece : List ℕ → List ℕ → Hosts → Type 0
@@ -133,8 +132,8 @@ IsPiece prefix piece (Many own lo hi width) = (own ≡ prefix) × (first : List 
 
 -- an item is a name, or a name or nothing with a list of pieces between '[' (91) and ']' (93), commas (44) between them
 abbrev pub IsHostItem : List ℕ → List Hosts → Type 0
-IsHostItem item hosts = (IsTrue (is_name item) × (hosts ≡ One item ∷ []))
-    ⊎ ((prefix : List ℕ) × (piece : List ℕ) × (others : List (List ℕ)) × ((prefix ≡ []) ⊎ IsTrue (is_name prefix)) × AllZip (IsPiece prefix) (piece ∷ others) hosts
+IsHostItem item hosts = (IsTrue (is_host_name item) × (hosts ≡ One item ∷ []))
+    ⊎ ((prefix : List ℕ) × (piece : List ℕ) × (others : List (List ℕ)) × ((prefix ≡ []) ⊎ IsTrue (is_host_name prefix)) × AllZip (IsPiece prefix) (piece ∷ others) hosts
     × (item ≡ prefix ++ 91 ∷ (join_with_byte 44 (piece ∷ others) ++ 93 ∷ [])))
 
 -- the hosts are those of the items, in order

@@ -5,14 +5,16 @@ ghost use Rattle.std.specs.Char.{is_ascii_digit};
 ghost use Rattle.idset_text.specs.Faults.{IsResultOf};
 ghost use Rattle.idset_text.specs.Items.{items_of};
 ghost use Rattle.idset_text.specs.Numbers.{has_leading_zero, number_of};
-ghost use Rattle.idset_text.specs.Hostlists.{is_name_byte, is_name, host_number, padded, width_of, numbers_of, list_place, hosts_of_list, hosts_of_item, hosts_of, hostlist_of, IsHostlist, has_width, is_one_of, IsOneOf, own_names, names_of, digits_place, prefix_of, digits_of, follows, is_alike, continues, run_text, texts_from, hostlist_texts, AreHostlistsOf, Adds};
+ghost use Rattle.idset_text.specs.Hostlists.{is_host_name, host_number, padded, width_of, numbers_of, list_place, hosts_of_list, hosts_of_item, hosts_of, hostlist_of, IsHostlist, has_width, is_one_of, IsOneOf, own_names, names_of, digits_place, prefix_of, digits_of, follows, is_alike, continues, run_text, texts_from, hostlist_texts, AreHostlistsOf, Adds};
+ghost use Rattle.text_forms.specs.Names.{is_name_byte};
 
 use crate::faults::TextFault;
 use crate::items::{ends, first_item};
 use crate::numbers::{leads_with_zero, number};
-use flux_defs::{List, Text};
+use flux_defs::{List, MOST_NAME_BYTES, Text};
 use itoa::Buffer;
 use std::alloc::{AllocError, Global};
+use text_forms::is_name;
 
 /// One host, or the hosts of a prefix with the numbers from `lo` up to and with `hi`, each with zeros before it up to
 /// `width` digits. The width 0 pads nothing.
@@ -37,29 +39,11 @@ struct Numbers {
     width: u32,
 }
 
-/// The most bytes of a host's name.
-const NAME_LEN: usize = 255;
-
-fn is_byte_of_name(byte: u8) -> bool
-    ensures { result ≡ is_name_byte byte }
-{
-    byte.is_ascii_alphanumeric() || byte == b'_' || byte == b'-' || byte == b'.'
-}
-
-fn are_bytes_of_name(bytes: &[u8]) -> bool
-    ensures { result ≡ list_all is_name_byte bytes.now }
-{
-    bytes.iter().all(|byte| is_byte_of_name(*byte))
-}
-
-/// Whether the bytes are a name: 1 to 255 letters, digits, `_`, `-` and `.`.
+/// Whether the bytes are the name of a host.
 fn is_host_name(bytes: &[u8]) -> bool
-    ensures { result ≡ is_name bytes.now }
+    ensures { result ≡ is_host_name bytes.now }
 {
-    if bytes.is_empty() || bytes.len() > NAME_LEN {
-        return false;
-    }
-    are_bytes_of_name(bytes)
+    is_name(bytes, MOST_NAME_BYTES)
 }
 
 /// The number that 1 to 9 digits write.
@@ -98,7 +82,7 @@ fn width(digits: &[u8]) -> usize
 fn is_short(prefix_len: usize, width: usize, number: u32) -> bool
     ensures { result ≡ nat_le (prefix_len + length (padded width number)) 255 }
 {
-    prefix_len.saturating_add(width.max(digit_count(number))) <= NAME_LEN
+    prefix_len.saturating_add(width.max(digit_count(number))) <= MOST_NAME_BYTES
 }
 
 /// Whether the first end, if it is padded, has as many digits as the last.
@@ -410,7 +394,7 @@ fn texts_of_all(alloc: Global, names: &[Text]) -> Result<Vec<Text>, AllocError>
 /// Read in order they give the names again, if each is a name.
 pub fn write_hostlist(alloc: Global, names: &List<Text>) -> Result<List<Text>, AllocError>
     ensures texts { IfOk result (λ texts. texts ≡ hostlist_texts names.now) }
-    ensures again { IfOk result (λ texts. All (λ name. IsTrue (is_name name)) names.now → AreHostlistsOf texts names.now) }
+    ensures again { IfOk result (λ texts. All (λ name. IsTrue (is_host_name name)) names.now → AreHostlistsOf texts names.now) }
 {
     let texts = texts_of_all(alloc, names.items())?;
     Ok(List::of_vec(texts))

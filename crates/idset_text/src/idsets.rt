@@ -10,8 +10,8 @@ use crate::faults::TextFault;
 use crate::items::{ends, first_item};
 use crate::numbers::{leads_with_zero, number};
 use flux_defs::{List, Text};
-use itoa::Buffer;
 use std::alloc::{AllocError, Global};
+use text_forms::push_decimal;
 
 /// The ids from `lo` up to and with `hi`.
 #[derive(Clone, Copy, Debug, PartialEq, Eq)]
@@ -133,23 +133,14 @@ pub fn has_id(ranges: &List<Range>, id: u32) -> bool
     any_contains(ranges.items(), id)
 }
 
-/// Writes a number at the end.
-fn push_number(text: &mut Vec<u8>, number: u32) -> Result<(), AllocError>
-    ensures ok { OnOk result (text.new.items ≡ text.old.items ++ decimal number) }
-{
-    let mut buffer = Buffer::new();
-    text.extend_from_slice(buffer.format(number).as_bytes())?;
-    Ok(())
-}
-
 /// Writes a run at the end.
 fn push_run(text: &mut Vec<u8>, run: Range) -> Result<(), AllocError>
     ensures ok { OnOk result (text.new.items ≡ text.old.items ++ range_text run) }
 {
-    push_number(text, run.lo)?;
+    push_decimal(text, u64::from(run.lo))?;
     if run.lo != run.hi {
         text.push(b'-')?;
-        push_number(text, run.hi)?;
+        push_decimal(text, u64::from(run.hi))?;
     }
     Ok(())
 }

@@ -10,6 +10,7 @@ use flux_defs::Ask;
 use jobspec_v1::SpecFault;
 use jobspec_v1::faults::field_at;
 use jobspec_v1::jobspecs::{ask_by, read_resources, read_version};
+use jobspec_v1::requests::Requested;
 use jobspec_v1::tasks::{check_tasks, task_list};
 use json_whole::{FieldFault, ValueFault, read_value};
 use resource_graph::Graph;
@@ -38,10 +39,9 @@ fn canon_in(alloc: Global, graph: &Graph, value: &Value) -> Result<Ask, SpecFaul
         return Err(field_at(alloc, b".", FieldFault::Kind));
     }
     read_version(alloc, value)?;
-    let mut labels = TextTable::new(alloc);
-    let request = read_resources(alloc, value, &mut labels)?;
+    let Requested { needs, labels } = read_resources(alloc, value)?;
     check_tasks_in(alloc, &labels, value)?;
-    ask_by(alloc, graph, value, &request)
+    ask_by(alloc, graph, value, &needs)
 }
 
 /// What a jobspec in the canonical form (RFC 14) asks for over a graph, from its bytes: any version from 1 on, request

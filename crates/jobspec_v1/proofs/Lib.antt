@@ -1,4 +1,3 @@
-pub mod Results
 pub mod SaidLaws
 pub mod RequestLaws
 pub mod TaskLaws

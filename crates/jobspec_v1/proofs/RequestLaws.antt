@@ -12,17 +12,13 @@ use Rattle.need_shape.specs.Requests.{is_slot, IsSomeRow, IsRequest, AreRequests
 use Rattle.jobspec_v1.specs.declared.faults.SpecFault.{SpecFault}
 use Rattle.jobspec_v1.specs.declared.headers.VertexKey.TheVariants as key
 use Rattle.jobspec_v1.specs.Faults.{IsFirstFault, at_vertex, vertex_path}
-use Rattle.jobspec_v1.specs.Requests.{Said, Requested, Reading, said_by, need_of, labels_with, around, behind, inner_of, requests_of, request_of}
+use Rattle.jobspec_v1.specs.Requests.{Said, Reading, said_by, need_of, labels_with, around, behind, inner_of, requests_of, request_of}
+use Rattle.jobspec_v1.specs.declared.requests.Requested.{Requested}
 use Rattle.jobspec_v1.proofs.SaidLaws.{said_is}
-use Rattle.jobspec_v1.proofs.Results.{then_ok, both_ok}
+use Rattle.json_fields.proofs.Results.{then_ok, both_ok}
+use Rattle.json_fields.proofs.Depths.{at_depth}
 
 -- ---- depths
-
--- a value of a list is no deeper than the list
-pub at_depth : (vs : List Value) (k : ℕ) (x : Value) → k < length vs → depth (view (get_or vs k x)) ≤ items_depth (items_view vs)
-at_depth [] k x within = absurd (omega (arith, within))
-at_depth (v ∷ vs) zero x within = omega arith
-at_depth (v ∷ vs) (suc k) x within = let below = at_depth vs k x (omega (arith, within)) in omega (arith, below)
 
 -- ---- they are a request
 

@@ -8,12 +8,14 @@ use Rattle.serde_json.specs.Data.{Num, unsigned, negative, float, Data, null, bo
 use Rattle.serde_json.specs.Find.{get, get_member, as_number}
 use Rattle.json_whole.specs.Field.{in_range, number_or_kind, u64_of, u64_field}
 use Rattle.json_fields.specs.Values.{result_and_then, list_value, some_value, some_items}
-use Rattle.json_fields.specs.Names.{is_name, ruled_field}
+use Rattle.json_fields.specs.Names.{ruled_field}
+use Rattle.text_forms.specs.Names.{is_name}
 use Rattle.need_shape.specs.Requests.{is_slot}
 use Rattle.jobspec_v1.specs.declared.headers.KeyFault.{KeyFault}
 use Rattle.jobspec_v1.specs.declared.headers.KeyFault.TheVariants as of_key
-use Rattle.jobspec_v1.specs.Requests.{Said, said_by, keys_given, type_given, count_given, is_other_count, of_field, unit_given, exclusive_given, label_given, with_or, with_given, greatest, listed, inner_of, inner_in, requests_of, nothing}
-use Rattle.jobspec_v1.proofs.Results.{ok_is, no_ok, then_ok, same_ok, else_ok}
+use Rattle.jobspec_v1.specs.Requests.{Said, said_by, keys_given, type_given, count_given, is_other_count, of_field, unit_given, exclusive_given, label_given, with_or, with_given, listed, inner_of, inner_in, requests_of, nothing}
+use Rattle.flux_defs.specs.declared.limits.TheConstants.{GREATEST_NUMBER, MOST_TYPE_BYTES}
+use Rattle.json_fields.proofs.Results.{ok_is, no_ok, then_ok, same_ok, else_ok}
 
 -- ---- each key by itself
 
@@ -37,15 +39,15 @@ u64_ok least most (Some d) n h = number_ok least most (as_number d) n h
 -- a count is in its bounds
 pub count_ok : (d : Data) (n : ℕ) → count_given d ≡ Ok n → (1 ≤ n) × (n ≤ 2 ^ 46)
 count_ok d n h =
-    let read = same_ok _ (if option_map_or is_other_count (get (codes "count") d) false then Err of_key.NotInProfile else of_field (u64_field (codes "count") 1 greatest d)) n h in
-    let field = else_ok (option_map_or is_other_count (get (codes "count") d) false) _ (of_field (u64_field (codes "count") 1 greatest d)) n read in
-    u64_ok 1 greatest (get (codes "count") d) n (same_ok _ (u64_field (codes "count") 1 greatest d) n field.1)
+    let read = same_ok _ (if option_map_or is_other_count (get (codes "count") d) false then Err of_key.NotInProfile else of_field (u64_field (codes "count") 1 GREATEST_NUMBER d)) n h in
+    let field = else_ok (option_map_or is_other_count (get (codes "count") d) false) _ (of_field (u64_field (codes "count") 1 GREATEST_NUMBER d)) n read in
+    u64_ok 1 GREATEST_NUMBER (get (codes "count") d) n (same_ok _ (u64_field (codes "count") 1 GREATEST_NUMBER d) n field.1)
 
 -- a slot is in no slot
 pub type_ok : (s : Bool) (d : Data) (kind : List ℕ) → type_given s d ≡ Ok kind → (is_slot kind && s) ≡ false
 type_ok s d kind h =
     let f : List ℕ → Result (List ℕ) KeyFault = λ k. if is_slot k && s then Err of_key.NotInProfile else Ok k in
-    let read = then_ok (of_field (ruled_field (is_name 64) (codes "type") d)) f kind (same_ok _ (result_and_then (of_field (ruled_field (is_name 64) (codes "type") d)) f) kind h) in
+    let read = then_ok (of_field (ruled_field (is_name MOST_TYPE_BYTES) (codes "type") d)) f kind (same_ok _ (result_and_then (of_field (ruled_field (is_name MOST_TYPE_BYTES) (codes "type") d)) f) kind h) in
     let fine = else_ok (is_slot read.0 && s) _ (Ok read.0) kind read.2 in
     subst (λ k. (is_slot k && s) ≡ false) (ok_is read.0 kind fine.1) fine.0
 

@@ -9,7 +9,7 @@ use Rattle.json_fields.specs.Values.{result_and_then, given, object_or_none}
 use Rattle.jobspec_v1.specs.declared.faults.SpecFault.{SpecFault}
 use Rattle.jobspec_v1.specs.declared.attributes.Attributes.{Attributes}
 use Rattle.jobspec_v1.specs.Faults.{at_path}
-use Rattle.jobspec_v1.specs.Requests.{greatest}
+use Rattle.flux_defs.specs.declared.limits.TheConstants.{GREATEST_NUMBER}
 
 -- how long it runs, in seconds (0 sets no limit), and its constraint
 pub record Terms : Type 0 where
@@ -23,7 +23,7 @@ given_in key d = option_and_then (given key) d
 -- the seconds, 0 where none are said
 abbrev pub duration_in : Option Data → Result ℕ FieldFault
 duration_in None = Ok 0
-duration_in (Some d) = if is_some (get (codes "duration") d) then u64_field (codes "duration") 0 greatest d else Ok 0
+duration_in (Some d) = if is_some (get (codes "duration") d) then u64_field (codes "duration") 0 GREATEST_NUMBER d else Ok 0
 
 -- what the attributes say, or the first fault of them
 abbrev pub terms_of : Data → Result Terms SpecFault

@@ -9,7 +9,7 @@ use Rattle.jobspec_v1.specs.declared.headers.VertexKey.{VertexKey}
 use Rattle.jobspec_v1.specs.declared.headers.VertexKey.TheVariants as key
 use Rattle.jobspec_v1.specs.declared.headers.KeyFault.{KeyFault}
 use Rattle.jobspec_v1.specs.declared.headers.KeyFault.TheVariants as of_key
-use Rattle.jobspec_v1.specs.declared.headers.Misfit.{Misfit}
+use Rattle.json_fields.specs.declared.misfits.Misfit.{Misfit}
 
 -- Of want of memory nothing is said; any other fault is the one that is meant.
 abbrev pub IsFirstFault : {A : Type 0} → Result A SpecFault → SpecFault → Type 0
@@ -40,6 +40,10 @@ fault_at path (of_key.Field fault) = Field path fault
 fault_at path of_key.Label = Label path
 fault_at path of_key.NotInProfile = NotInProfile path
 
+-- a key that breaks its rule
+abbrev pub KeyMisfit : Type 0
+KeyMisfit = Misfit VertexKey KeyFault
+
 -- what a member of the list at a path gives, or its fault there
-abbrev pub at_vertex : {A : Type 0} → List ℕ → ℕ → Result A Misfit → Result A SpecFault
-at_vertex list at read = result_map_both (λ x. x) (λ m. fault_at (vertex_path list at m.key) m.fault) read
+abbrev pub at_vertex : {A : Type 0} → List ℕ → ℕ → Result A KeyMisfit → Result A SpecFault
+at_vertex list at read = result_map_both (λ x. x) (λ m. fault_at (vertex_path list at m.field) m.fault) read

@@ -17,7 +17,9 @@ use Rattle.node_constraints.specs.Bars.{bars_of}
 use Rattle.jobspec_v1.specs.declared.faults.SpecFault.{SpecFault}
 use Rattle.jobspec_v1.specs.declared.faults.SpecFault.TheVariants.{NotJson, Version, Form, Task, Shape, Constraint}
 use Rattle.jobspec_v1.specs.Faults.{at_path}
-use Rattle.jobspec_v1.specs.Requests.{greatest, Requested, requests_of}
+use Rattle.jobspec_v1.specs.Requests.{requests_of}
+use Rattle.jobspec_v1.specs.declared.requests.Requested.{Requested}
+use Rattle.flux_defs.specs.declared.limits.TheConstants.{GREATEST_NUMBER}
 use Rattle.jobspec_v1.specs.Tasks.{task_list, tasks_fault}
 use Rattle.jobspec_v1.specs.Attributes.{terms_of}
 use Rattle.jobspec_v1.specs.Forms.{is_v1}
@@ -34,7 +36,7 @@ unless wrong fault = if wrong then Err fault else Ok true
 
 -- the version: a whole number from 1
 abbrev pub version_of : Data → Result ℕ SpecFault
-version_of d = at_path (codes "version") (u64_field (codes "version") 1 greatest d)
+version_of d = at_path (codes "version") (u64_field (codes "version") 1 GREATEST_NUMBER d)
 
 -- its request vertices, and the labels of its slots
 abbrev pub resources_of : Data → Result Requested SpecFault

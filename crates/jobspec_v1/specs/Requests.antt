@@ -1,4 +1,5 @@
 -- Request vertices (RFC 14) as a jobspec writes them: what each says, and the first fault of them.
+use Rattle.flux_defs.specs.declared.limits.TheConstants.{GREATEST_NUMBER, MOST_TYPE_BYTES}
 use Rattle.std.specs.Prelude.{ℕ, ◌^◌, ◌&&◌, ◌||◌, List, [], ◌∷◌, ◌++◌, ◌+◌, Bool, true, false, not, if◌then◌else◌, Option, Some, None, is_some, option_map, Result, Ok, Err, codes, bytes_eq, position}
 use Rattle.std.specs.List.{list_all}
 use Rattle.std.specs.Option.{option_map_or}
@@ -12,18 +13,20 @@ use Rattle.json_whole.specs.Field.{u64_field, text_field}
 use Rattle.json_whole.specs.declared.fields.FieldFault.{FieldFault}
 use Rattle.json_whole.specs.declared.fields.FieldFault.TheVariants.{Missing, Kind}
 use Rattle.json_fields.specs.Values.{result_and_then, keys_of, list_value, some_value}
-use Rattle.json_fields.specs.Names.{is_name, ruled_field}
+use Rattle.json_fields.specs.Names.{ruled_field}
+use Rattle.text_forms.specs.Names.{is_name}
 use Rattle.text_table.specs.Tables.{with_text}
 use Rattle.need_shape.specs.declared.raw.RawNeed.{RawNeed, roll-RawNeed}
 use Rattle.need_shape.specs.Requests.{is_slot}
+use Rattle.jobspec_v1.specs.declared.requests.Requested.{Requested}
 use Rattle.jobspec_v1.specs.declared.faults.SpecFault.{SpecFault}
 use Rattle.jobspec_v1.specs.declared.headers.VertexKey.{VertexKey}
 use Rattle.jobspec_v1.specs.declared.headers.VertexKey.TheVariants as key
 use Rattle.jobspec_v1.specs.declared.headers.KeyFault.{KeyFault}
 use Rattle.jobspec_v1.specs.declared.headers.KeyFault.TheVariants as of_key
-use Rattle.jobspec_v1.specs.declared.headers.Misfit.{Misfit}
+use Rattle.json_fields.specs.Misfits.{at_field}
 use Rattle.jobspec_v1.specs.declared.headers.Header.{Header}
-use Rattle.jobspec_v1.specs.Faults.{at_vertex, vertex_path}
+use Rattle.jobspec_v1.specs.Faults.{at_vertex, vertex_path, KeyMisfit}
 
 -- What a request vertex says of itself: its type, its count, whether it is asked for exclusively, its label where it is a
 -- slot, and the values of the list in it.
@@ -34,19 +37,7 @@ pub record Said : Type 0 where
   pub label : Option (List ℕ)
   pub with : Items
 
--- request vertices, and the labels of the slots up to their end
-pub record Requested : Type 0 where
-  pub needs : List RawNeed
-  pub labels : List (List ℕ)
-
 -- ---- the keys of one
-
-abbrev pub greatest : ℕ
-greatest = 2 ^ 46
-
--- what a key gives, or what is wrong with it
-abbrev pub at_key : {A : Type 0} → VertexKey → Result A KeyFault → Result A Misfit
-at_key k read = result_map_both (λ x. x) (λ fault. record { key = k; fault = fault }) read
 
 abbrev pub of_field : {A : Type 0} → Result A FieldFault → Result A KeyFault
 of_field field = result_map_both (λ x. x) (λ fault. of_key.Field fault) field
@@ -64,26 +55,26 @@ is_vertex_key k =
 abbrev pub has_own_keys : Members → Bool
 has_own_keys ms = list_all is_vertex_key (keys_of ms)
 
-abbrev pub keys_given : Data → Result Bool Misfit
-keys_given (object ms) = at_key key.Foreign (unless (not (has_own_keys ms)) of_key.NotInProfile)
-keys_given d = at_key key.Whole (Err (of_key.Field Kind))
+abbrev pub keys_given : Data → Result Bool KeyMisfit
+keys_given (object ms) = at_field key.Foreign (unless (not (has_own_keys ms)) of_key.NotInProfile)
+keys_given d = at_field key.Whole (Err (of_key.Field Kind))
 
 -- the type, which is a name; a slot is in no slot
-abbrev pub type_given : Bool → Data → Result (List ℕ) Misfit
-type_given in_slot d = at_key key.TypeName
-    (result_and_then (of_field (ruled_field (is_name 64) (codes "type") d)) (λ kind. if is_slot kind && in_slot then Err of_key.NotInProfile else Ok kind))
+abbrev pub type_given : Bool → Data → Result (List ℕ) KeyMisfit
+type_given in_slot d = at_field key.TypeName
+    (result_and_then (of_field (ruled_field (is_name MOST_TYPE_BYTES) (codes "type") d)) (λ kind. if is_slot kind && in_slot then Err of_key.NotInProfile else Ok kind))
 
 -- an object or a text is a count that this profile doesn't have
 abbrev pub is_other_count : Data → Bool
 is_other_count d = is_some (as_object d) || is_some (as_str d)
 
-abbrev pub count_given : Data → Result ℕ Misfit
-count_given d = at_key key.Count
-    (if option_map_or is_other_count (get (codes "count") d) false then Err of_key.NotInProfile else of_field (u64_field (codes "count") 1 greatest d))
+abbrev pub count_given : Data → Result ℕ KeyMisfit
+count_given d = at_field key.Count
+    (if option_map_or is_other_count (get (codes "count") d) false then Err of_key.NotInProfile else of_field (u64_field (codes "count") 1 GREATEST_NUMBER d))
 
 -- the unit is a text, and says nothing
-abbrev pub unit_given : Data → Result Bool Misfit
-unit_given d = at_key key.Unit (unless (option_map_or (λ e. not (is_some (as_str e))) (get (codes "unit") d) false) (of_key.Field Kind))
+abbrev pub unit_given : Data → Result Bool KeyMisfit
+unit_given d = at_field key.Unit (unless (option_map_or (λ e. not (is_some (as_str e))) (get (codes "unit") d) false) (of_key.Field Kind))
 
 abbrev pub exclusive_as : Bool → Option Bool → Result (Option Bool) KeyFault
 exclusive_as slot None = Err (of_key.Field Kind)
@@ -94,17 +85,17 @@ exclusive_or slot None = Ok None
 exclusive_or slot (Some d) = exclusive_as slot (as_bool d)
 
 -- whether it is asked for exclusively; a slot is never not
-abbrev pub exclusive_given : Bool → Data → Result (Option Bool) Misfit
-exclusive_given slot d = at_key key.Exclusive (exclusive_or slot (get (codes "exclusive") d))
+abbrev pub exclusive_given : Bool → Data → Result (Option Bool) KeyMisfit
+exclusive_given slot d = at_field key.Exclusive (exclusive_or slot (get (codes "exclusive") d))
 
 -- the text is one of these
 abbrev pub is_among : List (List ℕ) → List ℕ → Bool
 is_among texts text = is_some (position (bytes_eq text) texts)
 
 -- the label of a slot is a text of its own; that of anything else says nothing
-abbrev pub label_given : List (List ℕ) → Bool → Data → Result (Option (List ℕ)) Misfit
+abbrev pub label_given : List (List ℕ) → Bool → Data → Result (Option (List ℕ)) KeyMisfit
 label_given labels false d = Ok None
-label_given labels true d = at_key key.Label
+label_given labels true d = at_field key.Label
     (result_and_then (of_field (text_field (codes "label") d)) (λ label. if bytes_eq label [] || is_among labels label then Err of_key.Label else Ok (Some label)))
 
 abbrev pub with_or : Bool → Option Data → Result Items KeyFault
@@ -114,11 +105,11 @@ with_or true (Some d) = of_field (some_value d)
 with_or false (Some d) = of_field (list_value d)
 
 -- the list in it; a slot's holds something
-abbrev pub with_given : Bool → Data → Result Items Misfit
-with_given slot d = at_key key.With (with_or slot (get (codes "with") d))
+abbrev pub with_given : Bool → Data → Result Items KeyMisfit
+with_given slot d = at_field key.With (with_or slot (get (codes "with") d))
 
 -- what a request vertex says of itself, behind slots with these labels; or the first of its keys' faults
-abbrev pub said_by : Bool → List (List ℕ) → Data → Result Said Misfit
+abbrev pub said_by : Bool → List (List ℕ) → Data → Result Said KeyMisfit
 said_by in_slot labels d =
     result_and_then (keys_given d) (λ _.
     result_and_then (type_given in_slot d) (λ kind.

@@ -10,7 +10,8 @@ use Rattle.json_fields.specs.Paths.{index}
 use Rattle.jobspec_v1.specs.declared.faults.SpecFault.{SpecFault}
 use Rattle.jobspec_v1.specs.declared.faults.SpecFault.TheVariants.{Field, Task}
 use Rattle.jobspec_v1.specs.Faults.{at_path}
-use Rattle.jobspec_v1.specs.Requests.{greatest, is_among}
+use Rattle.jobspec_v1.specs.Requests.{is_among}
+use Rattle.flux_defs.specs.declared.limits.TheConstants.{GREATEST_NUMBER}
 
 -- each value is a text
 abbrev pub are_texts : Items → Bool
@@ -35,7 +36,7 @@ is_result_ok (Err e) = false
 
 -- a count from 1 to 2 ^ 46, where the key is there
 abbrev pub is_count_or_absent : List ℕ → Data → Bool
-is_count_or_absent key d = if is_some (get key d) then is_result_ok (u64_field key 1 greatest d) else true
+is_count_or_absent key d = if is_some (get key d) then is_result_ok (u64_field key 1 GREATEST_NUMBER d) else true
 
 -- an object with a count for each slot or for all of them
 abbrev pub is_task_count : Data → Bool

@@ -7,7 +7,8 @@ ghost use Rattle.jobspec_v1.specs.Faults.{IsFirstFault};
 ghost use Rattle.jobspec_v1.specs.Attributes.{duration_in, terms_of, terms_held};
 
 use crate::faults::{SpecFault, field_at};
-use json_fields::{GREATEST, given, object_or_none};
+use flux_defs::GREATEST_NUMBER;
+use json_fields::{given, object_or_none};
 use json_whole::{FieldFault, need_u64};
 use serde_json::Value;
 use std::alloc::Global;
@@ -27,7 +28,7 @@ fn duration_in(value: &Value) -> Result<u64, FieldFault>
     if value.get("duration").is_none() {
         return Ok(0);
     }
-    need_u64(value, "duration", 0, GREATEST)
+    need_u64(value, "duration", 0, GREATEST_NUMBER)
 }
 
 /// What the attributes of a jobspec say: each of `attributes`, `attributes.system` and its `constraints` may be absent or

@@ -6,17 +6,15 @@ ghost use Rattle.serde_json.specs.Find.{as_object};
 ghost use Rattle.serde_json.specs.View.{view, items_view, members_view};
 ghost use Rattle.need_shape.specs.Requests.{is_slot};
 ghost use Rattle.jobspec_v1.specs.Faults.{key_path, vertex_path, fault_at};
-ghost use Rattle.jobspec_v1.specs.Requests.{is_vertex_key, has_own_keys, keys_given, type_given, count_given, unit_given, exclusive_given, is_among, label_given, with_given, said_by, said_held, at_key, of_field};
+ghost use Rattle.jobspec_v1.specs.Requests.{is_vertex_key, has_own_keys, keys_given, type_given, count_given, unit_given, exclusive_given, is_among, label_given, with_given, said_by, said_held, at_field, of_field};
 
 use crate::faults::SpecFault;
-use json_fields::{GREATEST, list_value, member_path, name_field, some_value};
+use flux_defs::{GREATEST_NUMBER, MOST_TYPE_BYTES};
+use json_fields::{Misfit, at_field, list_value, member_path, name_field, some_value};
 use json_whole::{FieldFault, need_text, need_u64};
 use serde_json::{Map, Value};
 use std::alloc::Global;
 use text_table::TextTable;
-
-/// The most characters of the name of a type.
-const TYPE_NAME: usize = 64;
 
 /// A key of a request vertex, or the whole of it, or a key that is none of its own.
 #[derive(Clone, Copy, Debug, PartialEq, Eq)]
@@ -40,11 +38,7 @@ pub enum KeyFault {
 }
 
 /// A key that breaks its rule.
-#[derive(Clone, Copy, Debug, PartialEq, Eq)]
-pub struct Misfit {
-    pub key: VertexKey,
-    pub fault: KeyFault,
-}
+pub type KeyMisfit = Misfit<VertexKey, KeyFault>;
 
 /// What a request vertex says of itself: its label where it is a slot, and the values of the list in it.
 #[derive(Clone, Copy)]
@@ -73,26 +67,16 @@ pub(crate) fn key_path(key: VertexKey) -> &'static str
 }
 
 /// The fault of a key of a member of the list at a path.
-pub(crate) fn misfit_at(alloc: Global, list: &[u8], at: u64, misfit: Misfit) -> SpecFault
-    ensures { (result ≡ SpecFault.Memory) ⊎ (result ≡ fault_at (vertex_path list.now at misfit.key) misfit.fault) }
+pub(crate) fn misfit_at(alloc: Global, list: &[u8], at: u64, misfit: KeyMisfit) -> SpecFault
+    ensures { (result ≡ SpecFault.Memory) ⊎ (result ≡ fault_at (vertex_path list.now at misfit.field) misfit.fault) }
 {
-    let Ok(path) = member_path(alloc, list, at, key_path(misfit.key)) else {
+    let Ok(path) = member_path(alloc, list, at, key_path(misfit.field)) else {
         return SpecFault::Memory;
     };
     match misfit.fault {
         KeyFault::Field(fault) => SpecFault::Field { path, fault },
         KeyFault::Label => SpecFault::Label { path },
         KeyFault::NotInProfile => SpecFault::NotInProfile { path },
-    }
-}
-
-/// What a key gives, or its fault.
-fn at_key<T>(key: VertexKey, read: Result<T, KeyFault>) -> Result<T, Misfit>
-    ensures { result ≡ at_key key read }
-{
-    match read {
-        Ok(found) => Ok(found),
-        Err(fault) => Err(Misfit { key, fault }),
     }
 }
 
@@ -123,18 +107,18 @@ fn has_own_keys(members: &Map<String, Value>) -> bool
 }
 
 /// Whether it is an object with no other keys.
-fn keys_given(value: &Value) -> Result<bool, Misfit>
+fn keys_given(value: &Value) -> Result<bool, KeyMisfit>
     ensures { result ≡ keys_given (view value.now) }
 {
     let Some(members) = value.as_object() else {
         return Err(Misfit {
-            key: VertexKey::Whole,
+            field: VertexKey::Whole,
             fault: KeyFault::Field(FieldFault::Kind),
         });
     };
     if !has_own_keys(members) {
         return Err(Misfit {
-            key: VertexKey::Foreign,
+            field: VertexKey::Foreign,
             fault: KeyFault::NotInProfile,
         });
     }
@@ -150,9 +134,9 @@ pub(crate) fn is_slot(kind: &str) -> bool
 
 fn type_key(in_slot: bool, value: &Value) -> Result<&str, KeyFault>
     requires { IsSome (as_object (view value.now)) }
-    ensures { at_key VertexKey.TypeName (result_map_both (λ s. s.now) (λ e. e) result) ≡ type_given in_slot (view value.now) }
+    ensures { at_field VertexKey.TypeName (result_map_both (λ s. s.now) (λ e. e) result) ≡ type_given in_slot (view value.now) }
 {
-    let kind = of_field(name_field(value, "type", TYPE_NAME))?;
+    let kind = of_field(name_field(value, "type", MOST_TYPE_BYTES))?;
     if is_slot(kind) && in_slot {
         return Err(KeyFault::NotInProfile);
     }
@@ -161,18 +145,18 @@ fn type_key(in_slot: bool, value: &Value) -> Result<&str, KeyFault>
 
 fn count_key(value: &Value) -> Result<u64, KeyFault>
     requires { IsSome (as_object (view value.now)) }
-    ensures { at_key VertexKey.Count result ≡ count_given (view value.now) }
+    ensures { at_field VertexKey.Count result ≡ count_given (view value.now) }
 {
     if let Some(found) = value.get("count") {
         if found.is_object() || found.is_string() {
             return Err(KeyFault::NotInProfile);
         }
     }
-    of_field(need_u64(value, "count", 1, GREATEST))
+    of_field(need_u64(value, "count", 1, GREATEST_NUMBER))
 }
 
 fn unit_key(value: &Value) -> Result<bool, KeyFault>
-    ensures { at_key VertexKey.Unit result ≡ unit_given (view value.now) }
+    ensures { at_field VertexKey.Unit result ≡ unit_given (view value.now) }
 {
     match value.get("unit") {
         Some(found) if !found.is_string() => Err(KeyFault::Field(FieldFault::Kind)),
@@ -181,7 +165,7 @@ fn unit_key(value: &Value) -> Result<bool, KeyFault>
 }
 
 fn exclusive_key(slot: bool, value: &Value) -> Result<Option<bool>, KeyFault>
-    ensures { at_key VertexKey.Exclusive result ≡ exclusive_given slot (view value.now) }
+    ensures { at_field VertexKey.Exclusive result ≡ exclusive_given slot (view value.now) }
 {
     let Some(found) = value.get("exclusive") else {
         return Ok(None);
@@ -206,7 +190,7 @@ fn label_key<'a>(
     value: &'a Value,
 ) -> Result<Option<&'a str>, KeyFault>
     requires { IsSome (as_object (view value.now)) }
-    ensures { at_key VertexKey.Label (result_map_both (λ found. option_map (λ s. s.now) found) (λ e. e) result) ≡ label_given labels.now slot (view value.now) }
+    ensures { at_field VertexKey.Label (result_map_both (λ found. option_map (λ s. s.now) found) (λ e. e) result) ≡ label_given labels.now slot (view value.now) }
 {
     if !slot {
         return Ok(None);
@@ -219,7 +203,7 @@ fn label_key<'a>(
 }
 
 fn with_key(slot: bool, value: &Value) -> Result<&[Value], KeyFault>
-    ensures { at_key VertexKey.With (result_map_both (λ ds. items_view ds.now) (λ e. e) result) ≡ with_given slot (view value.now) }
+    ensures { at_field VertexKey.With (result_map_both (λ ds. items_view ds.now) (λ e. e) result) ≡ with_given slot (view value.now) }
 {
     let Some(found) = value.get("with") else {
         if slot {
@@ -240,17 +224,17 @@ pub fn header_of<'a>(
     in_slot: bool,
     labels: &TextTable,
     value: &'a Value,
-) -> Result<Header<'a>, Misfit>
+) -> Result<Header<'a>, KeyMisfit>
     ensures { result_map_both said_held (λ m. m) result ≡ said_by in_slot labels.now (view value.now) }
 {
     keys_given(value)?;
-    let kind = at_key(VertexKey::TypeName, type_key(in_slot, value))?;
-    let count = at_key(VertexKey::Count, count_key(value))?;
-    at_key(VertexKey::Unit, unit_key(value))?;
+    let kind = at_field(VertexKey::TypeName, type_key(in_slot, value))?;
+    let count = at_field(VertexKey::Count, count_key(value))?;
+    at_field(VertexKey::Unit, unit_key(value))?;
     let slot = is_slot(kind);
-    let exclusive = at_key(VertexKey::Exclusive, exclusive_key(slot, value))?;
-    let label = at_key(VertexKey::Label, label_key(labels, slot, value))?;
-    let with = at_key(VertexKey::With, with_key(slot, value))?;
+    let exclusive = at_field(VertexKey::Exclusive, exclusive_key(slot, value))?;
+    let label = at_field(VertexKey::Label, label_key(labels, slot, value))?;
+    let with = at_field(VertexKey::With, with_key(slot, value))?;
     Ok(Header {
         kind,
         count,

@@ -7,17 +7,16 @@ ghost use Rattle.flux_defs.specs.Graph.{IsNode};
 ghost use Rattle.flux_defs.specs.Needs.{IsProperAsk, AreRisingFrom};
 ghost use Rattle.need_shape.specs.Requests.{AreRequests};
 ghost use Rattle.jobspec_v1.specs.Faults.{IsFirstFault};
-ghost use Rattle.jobspec_v1.specs.Requests.{Requested};
 ghost use Rattle.jobspec_v1.specs.Forms.{is_v1};
 ghost use Rattle.jobspec_v1.specs.Jobspecs.{version_of, resources_of, bars_in, is_one, ask_for, ask_by, v1_tasks, v1_in, v1_of};
 
 use crate::attributes::read_attributes;
 use crate::faults::{SpecFault, field_at};
 use crate::forms::is_v1;
-use crate::requests::read_requests;
+use crate::requests::{Requested, read_requests};
 use crate::tasks::{check_tasks, task_list};
-use flux_defs::{Ask, List, Text};
-use json_fields::{GREATEST, some_field};
+use flux_defs::{Ask, GREATEST_NUMBER, List, Text};
+use json_fields::some_field;
 use json_whole::{FieldFault, ValueFault, need_u64, read_value};
 use need_shape::{RawNeed, ShapeFault, shape};
 use node_constraints::{ConstraintFault, barred};
@@ -32,26 +31,25 @@ pub fn read_version(alloc: Global, value: &Value) -> Result<u64, SpecFault>
     ensures read { IfOk result (λ version. version_of (view value.now) ≡ Ok version) }
     ensures told { IfErr result (IsFirstFault (version_of (view value.now))) }
 {
-    match need_u64(value, "version", 1, GREATEST) {
+    match need_u64(value, "version", 1, GREATEST_NUMBER) {
         Ok(version) => Ok(version),
         Err(fault) => Err(field_at(alloc, b"version", fault)),
     }
 }
 
-/// The request vertices of a jobspec, one or more; `labels`, which has none yet, gains those of their slots. The fault is
-/// the first one, as `read_requests` says, and Field at `resources` where that is no such list.
-pub fn read_resources(
-    alloc: Global,
-    value: &Value,
-    labels: &mut TextTable,
-) -> Result<List<RawNeed>, SpecFault>
-    requires { labels.old ≡ [] }
-    ensures read { IfOk result (λ needs. resources_of (view value.now) ≡ Ok (record { needs = needs; labels = labels.new })) }
-    ensures fine { IfOk result (λ needs. AreRequests false needs) }
+/// The request vertices of a jobspec, one or more, with the labels of their slots. The fault is the first one, vertex by
+/// vertex, each before those in it, and in each key by key; and Field at `resources` where that is no such list.
+pub fn read_resources(alloc: Global, value: &Value) -> Result<Requested, SpecFault>
+    ensures read { IfOk result (λ read. resources_of (view value.now) ≡ Ok read) }
+    ensures fine { IfOk result (λ read. AreRequests false read.needs) }
     ensures told { IfErr result (IsFirstFault (resources_of (view value.now))) }
 {
+    let mut labels = TextTable::new(alloc);
     match some_field(value, "resources") {
-        Ok(values) => read_requests(alloc, values, false, b"resources", labels),
+        Ok(values) => match read_requests(alloc, values, false, b"resources", &mut labels) {
+            Ok(needs) => Ok(Requested { needs, labels }),
+            Err(fault) => Err(fault),
+        },
         Err(fault) => Err(field_at(alloc, b"resources", fault)),
     }
 }
@@ -151,13 +149,12 @@ fn v1_in(alloc: Global, graph: &Graph, value: &Value) -> Result<Ask, SpecFault>
     if version != 1 {
         return Err(SpecFault::Version);
     }
-    let mut labels = TextTable::new(alloc);
-    let request = read_resources(alloc, value, &mut labels)?;
-    if !is_v1(request.items()) {
+    let Requested { needs, labels } = read_resources(alloc, value)?;
+    if !is_v1(needs.items()) {
         return Err(SpecFault::Form);
     }
     check_v1_tasks(alloc, &labels, value)?;
-    ask_by(alloc, graph, value, &request)
+    ask_by(alloc, graph, value, &needs)
 }
 
 /// What a jobspec V1 (RFC 25) asks for over a graph, from its bytes. The fault is the first one, in this order: no JSON,

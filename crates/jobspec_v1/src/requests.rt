@@ -12,7 +12,15 @@ use json_fields::member_path;
 use need_shape::RawNeed;
 use serde_json::Value;
 use std::alloc::{AllocError, Global};
+use text_forms::push;
 use text_table::TextTable;
+
+/// Request vertices, and the labels of their slots.
+#[derive(Drop)]
+pub struct Requested {
+    pub needs: List<RawNeed>,
+    pub labels: TextTable,
+}
 
 /// Adds the label, where there is one.
 fn add_label(alloc: Global, labels: &mut TextTable, label: Option<&str>) -> Result<(), AllocError>
@@ -29,13 +37,6 @@ fn is_inside(kind: &str, in_slot: bool) -> bool
     ensures { result ≡ (is_slot kind.now || in_slot) }
 {
     is_slot(kind) || in_slot
-}
-
-fn push_request(needs: &mut Vec<RawNeed>, need: RawNeed) -> Result<(), AllocError>
-    ensures { OnOk result (needs.new.items ≡ needs.old.items ++ need ∷ []) }
-{
-    needs.push(need)?;
-    Ok(())
 }
 
 /// The request vertex that the value at an index of the list at a path is, with those in it; `labels` gains those of its
@@ -75,7 +76,7 @@ fn read_request(
 /// The request vertices that the values of the list at a path are, in a slot or not, with those in each; `labels` gains
 /// those of their slots. The fault is the first one, vertex by vertex, each before those in it, and in each key by key.
 #[cycle(requests)]
-pub fn read_requests(
+pub(crate) fn read_requests(
     alloc: Global,
     values: &[Value],
     in_slot: bool,
@@ -89,7 +90,7 @@ pub fn read_requests(
     let mut needs = Vec::with_capacity(alloc, values.len())?;
     'values: for (at, value) in values.iter().enumerate() {
         match read_request(alloc, value, in_slot, list, at as u64, labels) {
-            Ok(need) => push_request(&mut needs, need)?,
+            Ok(need) => push(&mut needs, need)?,
             Err(fault) => return Err(fault),
         }
     }

@@ -8,7 +8,8 @@ ghost use Rattle.jobspec_v1.specs.Tasks.{are_texts, is_command, is_label, is_cou
 
 use crate::faults::{SpecFault, field_at};
 use crate::headers::is_among;
-use json_fields::{GREATEST, member_path, some_field};
+use flux_defs::GREATEST_NUMBER;
+use json_fields::{member_path, some_field};
 use json_whole::{FieldFault, need_u64};
 use serde_json::Value;
 use std::alloc::Global;
@@ -50,7 +51,7 @@ fn is_count_or_absent(value: &Value, key: &str) -> bool
     requires { IsSome (as_object (view value.now)) }
     ensures { result ≡ is_count_or_absent key.now (view value.now) }
 {
-    value.get(key).is_none() || need_u64(value, key, 1, GREATEST).is_ok()
+    value.get(key).is_none() || need_u64(value, key, 1, GREATEST_NUMBER).is_ok()
 }
 
 /// Whether a value is an object with a count for each slot or for all of them.

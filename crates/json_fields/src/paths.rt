@@ -1,19 +1,27 @@
-//! Paths of places in a JSON value.
+//! Paths in a JSON value.
 ghost use Rattle.std.specs.Prelude.{◌≡◌, ◌++◌, IfOk, OnOk};
 ghost use Rattle.json_fields.specs.Paths.{index};
 
 use flux_defs::Text;
 use std::alloc::{AllocError, Global};
+use text_forms::{push_bytes, push_decimal};
 
-/// Adds the place of a member of a list, as `[2]`.
-pub fn push_index(path: &mut Vec<u8>, at: u64) -> Result<(), AllocError>
+/// Adds the index of a member of a list, as `[2]`.
+fn push_index(path: &mut Vec<u8>, at: u64) -> Result<(), AllocError>
     ensures { OnOk result (path.new.items ≡ path.old.items ++ index at) }
 {
-    let mut buffer = itoa::Buffer::new();
-    path.extend_from_slice(b"[")?;
-    path.extend_from_slice(buffer.format(at).as_bytes())?;
-    path.extend_from_slice(b"]")?;
-    Ok(())
+    push_bytes(path, b"[")?;
+    push_decimal(path, at)?;
+    push_bytes(path, b"]")
+}
+
+/// The index of a member of a list, as `[2]`.
+pub fn index_path(alloc: Global, at: u64) -> Result<Text, AllocError>
+    ensures { IfOk result (λ path. path ≡ index at) }
+{
+    let mut path = Vec::new(alloc);
+    push_index(&mut path, at)?;
+    Ok(Text::of_vec(path))
 }
 
 /// The path of a member of the list at a path, with what stands behind it, as `resources[2].type`.
@@ -22,6 +30,6 @@ pub fn member_path(alloc: Global, list: &[u8], at: u64, rest: &str) -> Result<Te
 {
     let mut path = Vec::from_slice(alloc, list)?;
     push_index(&mut path, at)?;
-    path.extend_from_slice(rest.as_bytes())?;
+    push_bytes(&mut path, rest.as_bytes())?;
     Ok(Text::of_vec(path))
 }

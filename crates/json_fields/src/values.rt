@@ -2,7 +2,7 @@
 ghost use Rattle.std.specs.Prelude.{◌≡◌, option_map};
 ghost use Rattle.std.specs.Result.{result_map_both};
 ghost use Rattle.serde_json.specs.View.{view, items_view};
-ghost use Rattle.json_fields.specs.Values.{given, object_or_none, object_field, list_value, list_field, some_items, some_value, some_field};
+ghost use Rattle.json_fields.specs.Values.{given, object_value, object_or_none, object_field, list_value, list_field, some_items, some_value, some_field};
 
 use json_whole::FieldFault;
 use serde_json::Value;
@@ -31,17 +31,25 @@ pub fn object_or_none<'a>(value: &'a Value, key: &str) -> Result<Option<&'a Valu
     Ok(Some(found))
 }
 
+/// The object that a value is: Kind where it is none.
+pub fn object_value(value: &Value) -> Result<&Value, FieldFault>
+    ensures { result_map_both (λ v. view v.now) (λ e. e) result ≡ object_value (view value.now) }
+{
+    if value.is_object() {
+        Ok(value)
+    } else {
+        Err(FieldFault::Kind)
+    }
+}
+
 /// The object at a key: Missing where the key is absent, Kind where another value stands there.
 pub fn object_field<'a>(value: &'a Value, key: &str) -> Result<&'a Value, FieldFault>
     ensures { result_map_both (λ v. view v.now) (λ e. e) result ≡ object_field key.now (view value.now) }
 {
-    let Some(found) = value.get(key) else {
-        return Err(FieldFault::Missing);
-    };
-    if !found.is_object() {
-        return Err(FieldFault::Kind);
+    match value.get(key) {
+        Some(found) => object_value(found),
+        None => Err(FieldFault::Missing),
     }
-    Ok(found)
 }
 
 /// The list that a value is: Kind where it is none.

@@ -9,7 +9,7 @@ use Rattle.flux_defs.specs.declared.requests.Need.{Need, Vert, Vert', Pool, Spre
 use Rattle.flux_defs.specs.Graph.{HasKind, IsNode}
 use Rattle.flux_defs.specs.Needs.{IsOfNeed, HasNeedKind, IsSpread, AreApartKinds, HasNoSpread, IsValidNeed, AreValidNeeds, scaled, scaled_need}
 use Rattle.flux_laws.proofs.Rows.{valid_to_row, no_spread_to_row, some_to_row}
-use Rattle.sound_laws.proofs.Members.{all_append}
+use Rattle.list_laws.proofs.Lists.{all_append}
 use Rattle.need_shape.specs.declared.raw.RawNeed.{RawNeed, RawNeed', Row_of-RawNeed, end_of-RawNeed, more_of-RawNeed}
 use Rattle.need_shape.specs.declared.raw.ShapeFault.{ShapeFault}
 use Rattle.need_shape.specs.declared.raw.ShapeFault.TheVariants.{SameSiblings, NestedSiblings}

@@ -1,4 +1,5 @@
 -- What is wrong with request vertices: the first fault, in the order in which faults are told.
+use Rattle.flux_defs.specs.declared.limits.TheConstants.{GREATEST_NUMBER}
 use Rattle.std.specs.Prelude.{◌≡◌, ◌⊎◌, ℕ, ◌*◌, ◌^◌, Bool, true, false, ◌||◌, ◌==◌, nat_lt, List, [], ◌∷◌, if◌then◌else◌, Option, Some, None, slice_get, unwrap_or, codes}
 use Rattle.std.specs.List.{list_any}
 use Rattle.std.specs.Option.{option_or}
@@ -43,9 +44,9 @@ abbrev pub pairs_fault : Types → List Need → Option ShapeFault
 pairs_fault types [] = None
 pairs_fault types (a ∷ rest) = option_or (row_fault types a rest) (pairs_fault types rest)
 
--- whether a product of the count and an amount is past 2 ^ 46
+-- whether a product of the count and an amount is past the greatest number
 abbrev pub is_past : ℕ → List Need → Bool
-is_past count needs = list_any (λ need. nat_lt (2 ^ 46) (count * amount_of need)) needs
+is_past count needs = list_any (λ need. nat_lt GREATEST_NUMBER (count * amount_of need)) needs
 
 -- the fault, where this is so
 abbrev pub fault_where : Bool → ShapeFault → Option ShapeFault

@@ -1,5 +1,6 @@
 -- Request vertices (RFC 14): the types that they name, and which lists of them are requests.
 -- The request vertices in one appear here as a row (`end_of-RawNeed`, `more_of-RawNeed`), a list within a request vertex.
+use Rattle.flux_defs.specs.declared.limits.TheConstants.{GREATEST_NUMBER}
 use Rattle.std.specs.Prelude.{ℕ, ◌^◌, ◌≤◌, Bool, ◌||◌, List, [], ◌∷◌, ◌++◌, if◌then◌else◌, IsTrue, IsFalse, codes, bytes_eq}
 use Rattle.need_shape.specs.declared.raw.RawNeed.{RawNeed, RawNeed', Row_of-RawNeed, end_of-RawNeed, more_of-RawNeed}
 
@@ -26,10 +27,10 @@ IsSomeRow end_of-RawNeed = ⊥
 IsSomeRow (more_of-RawNeed raw rest) = Unit {0}
 
 abbrev mutual
-  -- A request: its count is from 1 to 2 ^ 46; a slot is in no slot, and something is asked for in it; and so for those in it.
+  -- A request: its count is from 1 to the greatest number; a slot is in no slot, and something is asked for in it; and so for those in it.
   pub IsRequest : Bool → RawNeed → Type 0
   IsRequest in_slot (RawNeed' kind count exclusive m with) =
-      (1 ≤ count) × (count ≤ 2 ^ 46) × (IsTrue (is_slot kind) → IsFalse in_slot × IsSomeRow with) × AreRequestsRow (is_slot kind || in_slot) with
+      (1 ≤ count) × (count ≤ GREATEST_NUMBER) × (IsTrue (is_slot kind) → IsFalse in_slot × IsSomeRow with) × AreRequestsRow (is_slot kind || in_slot) with
 
   pub AreRequestsRow : Bool → {m : _} → Row_of-RawNeed m → Type 0
   AreRequestsRow in_slot end_of-RawNeed = Unit {0}

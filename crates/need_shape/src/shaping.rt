@@ -1,6 +1,7 @@
 //! From request vertices to needs.
 ghost use Rattle.std.specs.Prelude.{◌≡◌, ◌<◌, ◌≤◌, ◌^◌, ◌*◌, ◌++◌, ◌∷◌, [], true, false, length, None, IfOk, IfErr, IfSome, IfNone, IsOk, OnOk};
 ghost use Rattle.flux_defs.specs.Needs.{scaled, scaled_need, AreValidNeeds};
+ghost use Rattle.flux_defs.specs.declared.limits.TheConstants.{GREATEST_NUMBER};
 ghost use Rattle.need_shape.specs.Requests.{AreRequests};
 ghost use Rattle.need_shape.specs.Types.{types_at, types_for};
 ghost use Rattle.need_shape.specs.declared.raw.RawNeed.{out-RawNeed};
@@ -12,13 +13,10 @@ use crate::raw::{RawNeed, ShapeFault};
 use crate::types::{
     add_types, graph_types, is_inner, is_slot, names_upper, number_of,
 };
-use flux_defs::{List, Need};
+use flux_defs::{GREATEST_NUMBER, List, Need};
 use resource_graph::Graph;
 use std::alloc::{AllocError, Global};
 use text_table::TextTable;
-
-/// The greatest count of a need.
-const MOST: u64 = 1 << 46;
 
 /// Where a request vertex stands: in a slot or not, and in a request for nodes, or for what nodes contain, or not.
 #[derive(Clone, Copy, Debug)]
@@ -57,11 +55,11 @@ fn scaled_need(count: u64, need: Need) -> Option<Need>
 
 /// The product, where it is not past the greatest count.
 fn product(count: u64, amount: u64) -> Option<u64>
-    ensures some { IfSome result (λ times. (times ≡ count * amount) × (count * amount ≤ 2 ^ 46)) }
-    ensures none { IfNone result (2 ^ 46 < count * amount) }
+    ensures some { IfSome result (λ times. (times ≡ count * amount) × (count * amount ≤ GREATEST_NUMBER)) }
+    ensures none { IfNone result (GREATEST_NUMBER < count * amount) }
 {
     let times = count.checked_mul(amount)?;
-    if times > MOST {
+    if times > GREATEST_NUMBER {
         return None;
     }
     Some(times)

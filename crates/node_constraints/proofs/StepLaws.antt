@@ -9,14 +9,9 @@ use Rattle.resource_graph.specs.NamedGraph.{NamedGraph}
 use Rattle.node_constraints.specs.Truth.{NodeFacts, facts_of, is_empty, some_true}
 use Rattle.node_constraints.specs.Narrowing.{where_true}
 use Rattle.node_constraints.proofs.FilterLaws.{filter_all, filter_twice, not_either}
+use Rattle.json_fields.proofs.Depths.{at_depth}
 
 -- ---- values
-
--- a value of a list is no deeper than the list
-pub at_depth : (vs : List Value) (k : ℕ) (x : Value) → k < length vs → depth (view (get_or vs k x)) ≤ items_depth (items_view vs)
-at_depth [] k x within = absurd (omega (arith, within))
-at_depth (v ∷ vs) zero x within = omega arith
-at_depth (v ∷ vs) (suc k) x within = let below = at_depth vs k x (omega (arith, within)) in omega (arith, below)
 
 pub is_object : (d : Data) (ms : Members) → as_object d ≡ Some ms → d ≡ object ms
 is_object null ms is = absurd (cc)

@@ -1,5 +1,5 @@
 //! The nodes that a constraint bars.
-ghost use Rattle.std.specs.Prelude.{◌≡◌, Ok, IfOk, IfErr};
+ghost use Rattle.std.specs.Prelude.{◌≡◌, [], Ok, IfOk, IfErr};
 ghost use Rattle.std.specs.List.{AllByRecursion};
 ghost use Rattle.serde_json.specs.View.{view};
 ghost use Rattle.flux_defs.specs.Graph.{IsNode};
@@ -9,7 +9,7 @@ ghost use Rattle.node_constraints.specs.Narrowing.{Finds};
 ghost use Rattle.node_constraints.specs.Bars.{barred_by, root, bars_of, IsFirstFault};
 
 use crate::faults::ConstraintFault;
-use crate::narrowing::narrow;
+use crate::narrowing::{behind, narrow};
 use crate::nodes::{nodes_of, others_of};
 use flux_defs::List;
 use resource_graph::Graph;
@@ -22,11 +22,13 @@ const ROOT: &[u8] = b"attributes.system.constraints";
 /// The nodes for which a constraint is false, or the fault in it.
 fn false_for(alloc: Global, graph: &Graph, constraint: &Value) -> Result<Vec<u32>, ConstraintFault>
     ensures bars { IfOk result (λ bars. bars.items ≡ barred_by graph.now (view constraint.now)) }
-    ensures found { Finds result (fault_at root (view constraint.now)) }
+    ensures found { Finds [] result (fault_at root (view constraint.now)) }
 {
     let nodes = nodes_of(alloc, graph)?;
     let mut fitting = Vec::from_slice(alloc, nodes.as_slice())?;
-    narrow(alloc, graph, constraint, ROOT, &mut fitting)?;
+    if let Err(fault) = narrow(alloc, graph, constraint, &mut fitting) {
+        return Err(behind(alloc, ROOT, fault));
+    }
     let bars = others_of(alloc, nodes.as_slice(), fitting.as_slice())?;
     Ok(bars)
 }

@@ -1,7 +1,8 @@
 //! The nodes for which a constraint is true, found for all nodes at once: one walk over the constraint narrows a list of
-//! nodes key by key, and finds the faults on its way. Where some or none of a list's constraints has to be true, a copy of
-//! the nodes that are still in question is narrowed, and what is left of it is taken away.
-ghost use Rattle.std.specs.Prelude.{◌≡◌, ◌++◌, ◌||◌, ◌==◌, Some, false, not, IfOk, OnOk};
+//! nodes key by key, and finds the faults on its way. A fault is told from the inside on, so that no path is made where
+//! nothing is wrong. Where some or none of a list's constraints has to be true, a copy of the nodes that are still in
+//! question is narrowed, and what is left of it is taken away.
+ghost use Rattle.std.specs.Prelude.{◌≡◌, ◌++◌, ◌||◌, ◌==◌, ℕ, List, Option, Some, false, not, IfOk, IsOk, OnOk};
 ghost use Rattle.std.specs.List.{list_any};
 ghost use Rattle.std.specs.Option.{option_map_or};
 ghost use Rattle.serde_json.specs.View.{view, items_view};
@@ -18,36 +19,69 @@ use crate::nodes::{name_of, properties_of, rank_of, take_away};
 use crate::texts::{are_texts, has_properties, is_listed, is_ranked, read_hostlists, read_idsets};
 use flux_defs::{List, Text};
 use idset_text::{Hosts, Range};
-use json_fields::member_path;
+use json_fields::index_path;
 use resource_graph::Graph;
 use serde_json::Value;
 use std::alloc::{AllocError, Global};
+use text_forms::push_bytes;
 
-/// The fault of the constraint at a path.
-fn fault_of(alloc: Global, path: &[u8]) -> ConstraintFault
-    ensures { Means (Some path.now) result }
+/// A fault that stands in the constraint itself, told from there on.
+fn fault_here(alloc: Global) -> ConstraintFault
+    ensures { (path : List ℕ) → Means path (Some path) result }
 {
-    match Text::of(alloc, path) {
+    ConstraintFault::Form {
+        path: Text::empty(alloc),
+    }
+}
+
+/// The bytes, and others behind them.
+fn joined(alloc: Global, front: &[u8], rest: &[u8]) -> Result<Text, AllocError>
+    ensures { IfOk result (λ text. text ≡ front.now ++ rest.now) }
+{
+    let mut text = Vec::from_slice(alloc, front)?;
+    push_bytes(&mut text, rest)?;
+    Ok(Text::of_vec(text))
+}
+
+/// A fault that was told from an inner place on, told from the one before this front of its path.
+pub(crate) fn behind(alloc: Global, front: &[u8], fault: ConstraintFault) -> ConstraintFault
+    ensures { (path : List ℕ) (meant : Option (List ℕ)) → Means (path ++ front.now) meant fault → Means path meant result }
+{
+    let ConstraintFault::Form { path: rest } = fault else {
+        return ConstraintFault::Memory;
+    };
+    match joined(alloc, front, rest.bytes()) {
         Ok(path) => ConstraintFault::Form { path },
         Err(_) => ConstraintFault::Memory,
     }
 }
 
-/// The path of the list at a key of the constraint at a path.
-fn list_path(alloc: Global, path: &[u8], key: &str) -> Result<Text, AllocError>
-    ensures { IfOk result (λ list. list ≡ list_path path.now key.now) }
+/// A fault of the member with this index, told from the list on.
+fn in_member(alloc: Global, at: u64, fault: ConstraintFault) -> ConstraintFault
+    ensures { (list : List ℕ) (meant : Option (List ℕ)) → Means (list ++ index at) meant fault → Means list meant result }
 {
-    let mut list = Vec::from_slice(alloc, path)?;
-    list.push(b'.')?;
-    list.extend_from_slice(key.as_bytes())?;
-    Ok(Text::of_vec(list))
+    match index_path(alloc, at) {
+        Ok(front) => behind(alloc, front.bytes(), fault),
+        Err(_) => ConstraintFault::Memory,
+    }
 }
 
-/// The path of a member of the list at a path.
-fn path_of(alloc: Global, list: &[u8], at: u64) -> Result<Text, AllocError>
-    ensures { IfOk result (λ path. path ≡ list.now ++ index at) }
+/// What was found in the list at a key, told from the constraint on.
+fn in_list(
+    alloc: Global,
+    key: &str,
+    narrowed: Result<(), ConstraintFault>,
+) -> Result<(), ConstraintFault>
+    ensures ok { IsOk result → IsOk narrowed }
+    ensures found { (path : List ℕ) (meant : Option (List ℕ)) → Finds (list_path path key.now) narrowed meant → Finds path result meant }
 {
-    member_path(alloc, list, at, "")
+    match narrowed {
+        Ok(()) => Ok(()),
+        Err(fault) => match joined(alloc, b".", key.as_bytes()) {
+            Ok(front) => Err(behind(alloc, front.bytes(), fault)),
+            Err(_) => Err(ConstraintFault::Memory),
+        },
+    }
 }
 
 /// A copy of the nodes.
@@ -69,14 +103,13 @@ fn narrow_by_properties(
     alloc: Global,
     graph: &Graph,
     values: &[Value],
-    path: &[u8],
     nodes: &mut Vec<u32>,
 ) -> Result<(), ConstraintFault>
     ensures kept { OnOk result (nodes.new.items ≡ where_true graph.now (λ n. each_text (has_property n.properties) (items_view values.now)) nodes.old.items) }
-    ensures found { Finds result (unless path.now (each_text is_text (items_view values.now))) }
+    ensures found { (path : List ℕ) → Finds path result (unless path (each_text is_text (items_view values.now))) }
 {
     if !are_texts(values) {
-        return Err(fault_of(alloc, path));
+        return Err(fault_here(alloc));
     }
     nodes.retain(|node| has_them(graph, *node, values));
     Ok(())
@@ -94,14 +127,13 @@ fn narrow_by_hosts(
     alloc: Global,
     graph: &Graph,
     values: &[Value],
-    path: &[u8],
     nodes: &mut Vec<u32>,
 ) -> Result<(), ConstraintFault>
     ensures kept { OnOk result (nodes.new.items ≡ where_true graph.now (λ n. some_text (is_listed n.name) (items_view values.now)) nodes.old.items) }
-    ensures found { Finds result (unless path.now (each_text is_hostlist (items_view values.now))) }
+    ensures found { (path : List ℕ) → Finds path result (unless path (each_text is_hostlist (items_view values.now))) }
 {
     let Some(lists) = read_hostlists(alloc, values)? else {
-        return Err(fault_of(alloc, path));
+        return Err(fault_here(alloc));
     };
     nodes.retain(|node| is_among_hosts(graph, *node, &lists));
     Ok(())
@@ -119,99 +151,97 @@ fn narrow_by_ranks(
     alloc: Global,
     graph: &Graph,
     values: &[Value],
-    path: &[u8],
     nodes: &mut Vec<u32>,
 ) -> Result<(), ConstraintFault>
     ensures kept { OnOk result (nodes.new.items ≡ where_true graph.now (λ n. some_text (is_ranked n.rank) (items_view values.now)) nodes.old.items) }
-    ensures found { Finds result (unless path.now (each_text is_idset (items_view values.now))) }
+    ensures found { (path : List ℕ) → Finds path result (unless path (each_text is_idset (items_view values.now))) }
 {
     let Some(sets) = read_idsets(alloc, values)? else {
-        return Err(fault_of(alloc, path));
+        return Err(fault_here(alloc));
     };
     nodes.retain(|node| is_among_ids(graph, *node, &sets));
     Ok(())
 }
 
-/// Leaves the nodes for which each constraint of the list at a path is true.
+/// Leaves the nodes for which each constraint of a list is true.
 #[cycle(narrowing)]
 fn narrow_by_each(
     alloc: Global,
     graph: &Graph,
     values: &[Value],
-    list: &[u8],
     nodes: &mut Vec<u32>,
 ) -> Result<(), ConstraintFault>
     ensures kept { OnOk result (nodes.new.items ≡ where_true graph.now (λ n. each_true n (items_view values.now)) nodes.old.items) }
-    ensures found { Finds result (items_fault list.now 0 (items_view values.now)) }
+    ensures found { (list : List ℕ) → Finds list result (items_fault list 0 (items_view values.now)) }
 {
     'values: for (at, value) in values.iter().enumerate() {
-        let path = path_of(alloc, list, at as u64)?;
-        narrow(alloc, graph, value, path.bytes(), nodes)?;
+        match narrow(alloc, graph, value, nodes) {
+            Ok(()) => {}
+            Err(fault) => return Err(in_member(alloc, at as u64, fault)),
+        }
     }
     Ok(())
 }
 
-/// Leaves the nodes for which no constraint of the list at a path is true.
+/// Leaves the nodes for which no constraint of a list is true.
 #[cycle(narrowing)]
 fn narrow_by_none(
     alloc: Global,
     graph: &Graph,
     values: &[Value],
-    list: &[u8],
     nodes: &mut Vec<u32>,
 ) -> Result<(), ConstraintFault>
     ensures kept { OnOk result (nodes.new.items ≡ where_true graph.now (λ n. not (some_true n (items_view values.now))) nodes.old.items) }
-    ensures found { Finds result (items_fault list.now 0 (items_view values.now)) }
+    ensures found { (list : List ℕ) → Finds list result (items_fault list 0 (items_view values.now)) }
 {
     'values: for (at, value) in values.iter().enumerate() {
-        let path = path_of(alloc, list, at as u64)?;
         let mut some = copy_of(alloc, nodes)?;
-        narrow(alloc, graph, value, path.bytes(), &mut some)?;
-        take_away(alloc, nodes, some.as_slice())?;
+        match narrow(alloc, graph, value, &mut some) {
+            Ok(()) => take_away(alloc, nodes, some.as_slice())?,
+            Err(fault) => return Err(in_member(alloc, at as u64, fault)),
+        }
     }
     Ok(())
 }
 
-/// Leaves the nodes for which some constraint of the list at a path is true, or all where there is none.
+/// Leaves the nodes for which some constraint of a list is true, or all where there is none.
 #[cycle(narrowing)]
 fn narrow_by_some(
     alloc: Global,
     graph: &Graph,
     values: &[Value],
-    list: &[u8],
     nodes: &mut Vec<u32>,
 ) -> Result<(), ConstraintFault>
     ensures kept { OnOk result (nodes.new.items ≡ where_true graph.now (λ n. is_empty (items_view values.now) || some_true n (items_view values.now)) nodes.old.items) }
-    ensures found { Finds result (items_fault list.now 0 (items_view values.now)) }
+    ensures found { (list : List ℕ) → Finds list result (items_fault list 0 (items_view values.now)) }
 {
     if values.is_empty() {
         return Ok(());
     }
     let mut others = copy_of(alloc, nodes)?;
-    narrow_by_none(alloc, graph, values, list, &mut others)?;
+    narrow_by_none(alloc, graph, values, &mut others)?;
     take_away(alloc, nodes, others.as_slice())?;
     Ok(())
 }
 
-/// Leaves the nodes for which some constraint of the list at a path is false.
+/// Leaves the nodes for which some constraint of a list is false.
 #[cycle(narrowing)]
 fn narrow_by_not(
     alloc: Global,
     graph: &Graph,
     values: &[Value],
-    list: &[u8],
     nodes: &mut Vec<u32>,
 ) -> Result<(), ConstraintFault>
     ensures kept { OnOk result (nodes.new.items ≡ where_true graph.now (λ n. not (each_true n (items_view values.now))) nodes.old.items) }
-    ensures found { Finds result (items_fault list.now 0 (items_view values.now)) }
+    ensures found { (list : List ℕ) → Finds list result (items_fault list 0 (items_view values.now)) }
 {
     let mut fitting = copy_of(alloc, nodes)?;
-    narrow_by_each(alloc, graph, values, list, &mut fitting)?;
+    narrow_by_each(alloc, graph, values, &mut fitting)?;
     take_away(alloc, nodes, fitting.as_slice())?;
     Ok(())
 }
 
-/// Leaves the nodes for which the list at a key of the constraint at a path is true.
+/// Leaves the nodes for which the list at a key of a constraint is true.
 #[cycle(narrowing)]
 fn narrow_by_list(
     alloc: Global,
@@ -219,62 +249,59 @@ fn narrow_by_list(
     known: Key,
     key: &str,
     values: &[Value],
-    path: &[u8],
     nodes: &mut Vec<u32>,
 ) -> Result<(), ConstraintFault>
     ensures kept { OnOk result (nodes.new.items ≡ where_true graph.now (λ n. list_is_true n known (items_view values.now) (each_true n (items_view values.now)) (some_true n (items_view values.now))) nodes.old.items) }
-    ensures found { Finds result (list_fault path.now known (items_view values.now) (items_fault (list_path path.now key.now) 0 (items_view values.now))) }
+    ensures found { (path : List ℕ) → Finds path result
+        (list_fault path known (items_view values.now) (items_fault (list_path path key.now) 0 (items_view values.now))) }
 {
-    let list = list_path(alloc, path, key)?;
     match known {
-        Key::Properties => narrow_by_properties(alloc, graph, values, path, nodes),
-        Key::Hostlist => narrow_by_hosts(alloc, graph, values, path, nodes),
-        Key::Ranks => narrow_by_ranks(alloc, graph, values, path, nodes),
-        Key::And => narrow_by_each(alloc, graph, values, list.bytes(), nodes),
-        Key::Or => narrow_by_some(alloc, graph, values, list.bytes(), nodes),
-        Key::Not => narrow_by_not(alloc, graph, values, list.bytes(), nodes),
+        Key::Properties => narrow_by_properties(alloc, graph, values, nodes),
+        Key::Hostlist => narrow_by_hosts(alloc, graph, values, nodes),
+        Key::Ranks => narrow_by_ranks(alloc, graph, values, nodes),
+        Key::And => in_list(alloc, key, narrow_by_each(alloc, graph, values, nodes)),
+        Key::Or => in_list(alloc, key, narrow_by_some(alloc, graph, values, nodes)),
+        Key::Not => in_list(alloc, key, narrow_by_not(alloc, graph, values, nodes)),
     }
 }
 
-/// Leaves the nodes for which a key of the constraint at a path is true.
+/// Leaves the nodes for which a key of a constraint is true.
 #[cycle(narrowing)]
 fn narrow_by_key(
     alloc: Global,
     graph: &Graph,
     key: &str,
     value: &Value,
-    path: &[u8],
     nodes: &mut Vec<u32>,
 ) -> Result<(), ConstraintFault>
     ensures kept { OnOk result (nodes.new.items ≡ where_true graph.now (λ n. key_is_true n (key_of key.now) (view value.now)) nodes.old.items) }
-    ensures found { Finds result (key_fault path.now key.now (key_of key.now) (view value.now)) }
+    ensures found { (path : List ℕ) → Finds path result (key_fault path key.now (key_of key.now) (view value.now)) }
 {
     let Some(known) = key_of(key) else {
-        return Err(fault_of(alloc, path));
+        return Err(fault_here(alloc));
     };
     let Some(values) = value.as_array() else {
-        return Err(fault_of(alloc, path));
+        return Err(fault_here(alloc));
     };
-    narrow_by_list(alloc, graph, known, key, values.as_slice(), path, nodes)
+    narrow_by_list(alloc, graph, known, key, values.as_slice(), nodes)
 }
 
-/// Leaves the nodes for which the constraint at a path is true, or finds the fault in it.
+/// Leaves the nodes for which a constraint is true, or finds the fault in it.
 #[cycle(narrowing)]
 pub(crate) fn narrow(
     alloc: Global,
     graph: &Graph,
     constraint: &Value,
-    path: &[u8],
     nodes: &mut Vec<u32>,
 ) -> Result<(), ConstraintFault>
     ensures kept { OnOk result (nodes.new.items ≡ where_true graph.now (λ n. is_true n (view constraint.now)) nodes.old.items) }
-    ensures found { Finds result (fault_at path.now (view constraint.now)) }
+    ensures found { (path : List ℕ) → Finds path result (fault_at path (view constraint.now)) }
 {
     let Some(members) = constraint.as_object() else {
-        return Err(fault_of(alloc, path));
+        return Err(fault_here(alloc));
     };
     'members: for (key, value) in members.iter() {
-        narrow_by_key(alloc, graph, key.as_str(), value, path, nodes)?;
+        narrow_by_key(alloc, graph, key.as_str(), value, nodes)?;
     }
     Ok(())
 }

@@ -7,14 +7,11 @@ use Rattle.flux_defs.specs.Graph.{ResourceGraph, parent_of, is_at_or_below, is_b
 use Rattle.flux_defs.specs.ValidGraph.{StandsInPreorder}
 use Rattle.graph_laws.proofs.Containment.{on_chain, at_or_below-opens, below_le, unequal_from, steps_of, up-None, up}
 use Rattle.graph_laws.proofs.Preorder.{parents_first}
+use Rattle.list_laws.proofs.Tests.{false_from}
 
 -- a number is at or below itself, in a graph with a vertex
 pub self_below : (g : ResourceGraph) → StandsInPreorder g → (v : ℕ) → is_at_or_below g.vertices v v ≡ true
 self_below g o v = at_or_below-opens g.vertices v v ∙ on_chain g.vertices 0 (length g.vertices) v (Some v) o.some refl
-
-not_true : (b : Bool) → (IsTrue b → ⊥) → b ≡ false
-not_true true f = absurd (f refl)
-not_true false f = refl
 
 -- a number past the graph has no parent, so it is below no other
 past_steps : (vertices : List Vertex) (v u n : ℕ) → length vertices ≤ v → v ≢ u → up vertices n (Some v) ≡ Some u → ⊥
@@ -25,7 +22,7 @@ past_steps vertices v u (suc n) past ne e =
     cc
 
 pub past_below : (g : ResourceGraph) → StandsInPreorder g → (v u : ℕ) → v ≢ u → (length g.vertices ≤ v) ⊎ (length g.vertices ≤ u) → is_at_or_below g.vertices v u ≡ false
-past_below g o v u ne past = not_true (is_at_or_below g.vertices v u) (refuted past)
+past_below g o v u ne past = false_from (is_at_or_below g.vertices v u) (refuted past)
   where
     refuted : (length g.vertices ≤ v) ⊎ (length g.vertices ≤ u) → IsTrue (is_at_or_below g.vertices v u) → ⊥
     refuted (inl lower) h = let s = steps_of g.vertices (parents_first g o) v u h in past_steps g.vertices v u s.0 lower ne s.1

@@ -5,12 +5,10 @@ use Rattle.std.proofs.lemmas.Bool.{and_parts}
 use Rattle.std.proofs.lemmas.Bool.Decides.{eqb_tells}
 use Rattle.std.proofs.lemmas.List.Sums.{sum_by_push}
 use Rattle.prune_filters.specs.declared.rules.Rule.{Rule}
-use Rattle.prune_filters.specs.Names.{is_type_byte, is_type_name, items_of}
+use Rattle.text_forms.specs.Cuts.{Lacks}
+use Rattle.text_forms.specs.Names.{is_name_byte}
+use Rattle.prune_filters.specs.Names.{is_type_name, items_of}
 use Rattle.prune_filters.specs.Filters.{Spells, IsRule, IsFirstFault, AreRulesOf}
-
--- no byte is this one
-abbrev pub Lacks : ℕ → List ℕ → Type 0
-Lacks byte bytes = AllByRecursion (λ b. b ≢ byte) bytes
 
 unequal : (b c : ℕ) → b ≢ c → nat_eq b c ≡ false
 unequal b c ne = elim (eqb_tells b c) [ inl same ↦ absurd (ne same.1) | inr differ ↦ differ.0 ]
@@ -28,15 +26,15 @@ items_cut (b ∷ bs) rest none =
     ap (λ test. cond test ([] ∷ items_of (bs ++ 44 ∷ rest)) (onto_first b (items_of (bs ++ 44 ∷ rest)))) (unequal b 44 none.0) ∙ ap (onto_first b) (items_cut bs rest none.1)
 
 -- a type's name has no colon
-no_colon_byte : (b : ℕ) → is_type_byte b ≡ true → b ≢ 58
-no_colon_byte b h e = true≢false (sym (subst (λ x. is_type_byte x ≡ true) e h))
+no_colon_byte : (b : ℕ) → is_name_byte b ≡ true → b ≢ 58
+no_colon_byte b h e = true≢false (sym (subst (λ x. is_name_byte x ≡ true) e h))
 
-no_colons : (bytes : List ℕ) → list_all is_type_byte bytes ≡ true → Lacks 58 bytes
+no_colons : (bytes : List ℕ) → list_all is_name_byte bytes ≡ true → Lacks 58 bytes
 no_colons [] h = tt
-no_colons (b ∷ bs) h = let p = and_parts (is_type_byte b) (list_all is_type_byte bs) h in (no_colon_byte b p.0, no_colons bs p.1)
+no_colons (b ∷ bs) h = let p = and_parts (is_name_byte b) (list_all is_name_byte bs) h in (no_colon_byte b p.0, no_colons bs p.1)
 
 pub no_colon : (name : List ℕ) → IsTrue (is_type_name name) → Lacks 58 name
-no_colon name h = no_colons name (and_parts (nat_lt 0 (length name) && nat_le (length name) 64) (list_all is_type_byte name) h).1
+no_colon name h = no_colons name (and_parts (nat_lt 0 (length name) && nat_le (length name) 64) (list_all is_name_byte name) h).1
 
 -- so an item without a colon is no rule
 has_colon : (a b : List ℕ) → Lacks 58 (a ++ 58 ∷ b) → ⊥

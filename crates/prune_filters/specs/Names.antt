@@ -1,15 +1,12 @@
 -- Names of types, and the items of a list with commas.
-use Rattle.std.specs.Prelude.{ℕ, ◌==◌, nat_lt, nat_le, Bool, ◌&&◌, ◌||◌, List, length}
-use Rattle.std.specs.List.{list_all, slice_split}
-use Rattle.std.specs.Char.{is_ascii_alphanumeric}
+use Rattle.std.specs.Prelude.{ℕ, ◌==◌, Bool, List}
+use Rattle.std.specs.List.{slice_split}
+use Rattle.flux_defs.specs.declared.limits.TheConstants.{MOST_TYPE_BYTES}
+use Rattle.text_forms.specs.Names.{is_name}
 
--- a letter, a digit, '_' (95), '-' (45) or '.' (46)
-abbrev pub is_type_byte : ℕ → Bool
-is_type_byte byte = is_ascii_alphanumeric byte || (byte == 95) || (byte == 45) || (byte == 46)
-
--- the name of a type: 1 to 64 of these
+-- the name of a type
 abbrev pub is_type_name : List ℕ → Bool
-is_type_name name = nat_lt 0 (length name) && nat_le (length name) 64 && list_all is_type_byte name
+is_type_name name = is_name MOST_TYPE_BYTES name
 
 -- what stands between the commas (44) of a text; of the empty text one empty item
 abbrev pub items_of : List ℕ → List (List ℕ)

@@ -1,11 +1,12 @@
 //! The rules of a text.
-ghost use Rattle.std.specs.Prelude.{◌≡◌, ◌↔◌, [], ◌∷◌, ◌++◌, IsTrue, IfOk, IfErr, OnOk, MatchOption};
+ghost use Rattle.std.specs.Prelude.{◌≡◌, ◌↔◌, IsTrue, IfOk, IfErr, MatchOption};
 ghost use Rattle.prune_filters.specs.Filters.{Spells, IsRule, AreRulesOf, IsFaultOf, IsKept};
 
-use crate::items::{cut_at, first_item, is_type_name};
-use flux_defs::{List, Text};
+use crate::items::first_item;
+use flux_defs::{List, MOST_TYPE_BYTES, Text};
 use std::alloc::{AllocError, Global};
 use std::marker::Model;
+use text_forms::{cut_at, is_name, push};
 use thiserror::Error;
 
 /// At each vertex of the type `high`, a total of the type `low` is kept; `ALL` stands for every type.
@@ -66,7 +67,7 @@ impl Rules {
             let Some(rule) = read_rule(alloc, item)? else {
                 return Err(FilterFault::Form { at });
             };
-            push_rule(&mut rules, rule)?;
+            push(&mut rules, rule)?;
             let Some(next) = more else {
                 return Ok(Rules {
                     rules: List::of_vec(rules),
@@ -95,21 +96,14 @@ fn read_rule(alloc: Global, item: &[u8]) -> Result<Option<Rule>, AllocError>
     let Some((high, low)) = cut_at(item, b':') else {
         return Ok(None);
     };
-    if !is_type_name(high) {
+    if !is_name(high, MOST_TYPE_BYTES) {
         return Ok(None);
     }
-    if !is_type_name(low) {
+    if !is_name(low, MOST_TYPE_BYTES) {
         return Ok(None);
     }
     Ok(Some(Rule {
         high: Text::of(alloc, high)?,
         low: Text::of(alloc, low)?,
     }))
-}
-
-fn push_rule(rules: &mut Vec<Rule>, rule: Rule) -> Result<(), AllocError>
-    ensures { OnOk result (rules.new.items ≡ rules.old.items ++ rule ∷ []) }
-{
-    rules.push(rule)?;
-    Ok(())
 }

@@ -5,9 +5,9 @@ use Rattle.std.proofs.lemmas.Bool.{and_parts}
 use Rattle.flux_defs.specs.declared.vertices.Vertex.{Vertex}
 use Rattle.flux_defs.specs.declared.claims.Job.{Job}
 use Rattle.resource_graph.specs.NamedGraph.{NamedGraph}
-use Rattle.graph_json.specs.Fields.{is_name}
+use Rattle.text_forms.specs.Names.{is_name}
 use Rattle.graph_json.specs.FileGraph.{HasFileNumbers, IsFileGraph}
-use Rattle.idset_text.specs.Hostlists.{is_name as is_host_name}
+use Rattle.idset_text.specs.Hostlists.{is_host_name}
 use Rattle.resource_set_r.specs.ReadBack.{HasIdNumbers, HasSmallQuantity, CanBeRead}
 
 names_named : (names : List (List ℕ)) → IsTrue (list_all (is_name 255) names) → AllByRecursion (λ name. IsTrue (is_host_name name)) names

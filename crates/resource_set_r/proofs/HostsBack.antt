@@ -11,11 +11,14 @@ use Rattle.flux_defs.specs.declared.vertices.Vertex.{Vertex}
 use Rattle.flux_defs.specs.Graph.{is_at_or_below}
 use Rattle.resource_graph.specs.NamedGraph.{NamedGraph}
 use Rattle.idset_text.specs.Idsets.{ids_from}
-use Rattle.idset_text.specs.Hostlists.{is_name_byte, is_name, prefix_of, digits_of, digits_place, continues, run_text, texts_from, hostlist_texts}
+use Rattle.idset_text.specs.Hostlists.{is_host_name, prefix_of, digits_of, digits_place, continues, run_text, texts_from, hostlist_texts}
+use Rattle.text_forms.specs.Names.{is_name_byte}
 use Rattle.resource_set_r.specs.Rows.{rank_of, node_above, rank_above, node_with, host_of, is_of_type, id_of_type}
 use Rattle.resource_set_r.specs.ReadBack.{HasIdNumbers}
 use Rattle.resource_set_r.proofs.Filtered.{find_some}
 use Rattle.resource_set_r.proofs.IdsBack.{Small}
+use Rattle.list_laws.proofs.Lists.{all_at}
+use Rattle.text_forms.proofs.Ascii.{name_byte_small}
 
 -- ---- ASCII
 
@@ -44,14 +47,11 @@ ascii_append : (a b : List ℕ) → AreAscii a → AreAscii b → AreAscii (a ++
 ascii_append [] b all more = more
 ascii_append (x ∷ a) b all more = (all.0, ascii_append a b all.1 more)
 
-ascii_byte : (b : ℕ) → is_name_byte b ≡ true → b < 128
-ascii_byte b h = grind (arith, nat_tests)
-
 ascii_bytes : (bytes : List ℕ) → list_all is_name_byte bytes ≡ true → AreAscii bytes
 ascii_bytes [] h = tt
-ascii_bytes (b ∷ bytes) h = let both = and_parts (is_name_byte b) (list_all is_name_byte bytes) h in (ascii_byte b both.0, ascii_bytes bytes both.1)
+ascii_bytes (b ∷ bytes) h = let both = and_parts (is_name_byte b) (list_all is_name_byte bytes) h in (name_byte_small b both.0, ascii_bytes bytes both.1)
 
-ascii_name : (name : List ℕ) → IsTrue (is_name name) → AreAscii name
+ascii_name : (name : List ℕ) → IsTrue (is_host_name name) → AreAscii name
 ascii_name name h = ascii_bytes name (and_parts _ _ h).1
 
 -- ---- hostlists of names
@@ -73,20 +73,15 @@ utf8_from many first last (next ∷ names) a b all =
     by true joined new = joined
     by false joined new = (ascii_utf8 (run_text many first last) (ascii_run many first last a b), new)
 
-ascii_names : (names : List (List ℕ)) → AllByRecursion (λ name. IsTrue (is_name name)) names → AllByRecursion AreAscii names
+ascii_names : (names : List (List ℕ)) → AllByRecursion (λ name. IsTrue (is_host_name name)) names → AllByRecursion AreAscii names
 ascii_names [] all = tt
 ascii_names (name ∷ names) all = (ascii_name name all.0, ascii_names names all.1)
 
-pub utf8_hostlists : (names : List (List ℕ)) → AllByRecursion (λ name. IsTrue (is_name name)) names → AllByRecursion IsUtf8 (hostlist_texts names)
+pub utf8_hostlists : (names : List (List ℕ)) → AllByRecursion (λ name. IsTrue (is_host_name name)) names → AllByRecursion IsUtf8 (hostlist_texts names)
 utf8_hostlists [] all = tt
 utf8_hostlists (name ∷ names) all = let first = ascii_name name all.0 in utf8_from false name name names first first (ascii_names names all.1)
 
 -- ---- what stands at a place
-
-all_at : {X : Type 0} (P : X → Type 0) (xs : List X) (k : ℕ) (x : X) → AllByRecursion P xs → slice_get xs k ≡ Some x → P x
-all_at P [] k x all e = absurd (cc)
-all_at P (y ∷ ys) zero x all e = let same : y ≡ x = cc in subst P same all.0
-all_at P (y ∷ ys) (suc k) x all e = all_at P ys k x all.1 e
 
 -- what passes is found
 found_some : (p : ℕ → Bool) (count start n : ℕ) → start ≤ n → n < start + count → p n ≡ true → find p (ids_from count start) ≡ None → ⊥
@@ -132,8 +127,8 @@ module _ (vertices : List Vertex) where
         by false g = cc
 
 -- a rank's node has a name, where all vertices have
-pub host_named : (g : NamedGraph) (rank n : ℕ) → length g.names ≡ length g.resources.vertices → AllByRecursion (λ name. IsTrue (is_name name)) g.names →
-    n < length g.resources.vertices → rank_of g.resources.vertices n ≡ Some rank → IsTrue (is_name (host_of g rank))
+pub host_named : (g : NamedGraph) (rank n : ℕ) → length g.names ≡ length g.resources.vertices → AllByRecursion (λ name. IsTrue (is_host_name name)) g.names →
+    n < length g.resources.vertices → rank_of g.resources.vertices n ≡ Some rank → IsTrue (is_host_name (host_of g rank))
 host_named g rank n named names lt is = by (node_with g.resources.vertices rank) refl
   where
     p : ℕ → Bool
@@ -142,12 +137,12 @@ host_named g rank n named names lt is = by (node_with g.resources.vertices rank)
     passes : p n ≡ true
     passes = ap (λ o. option_map_or (λ r. r == rank) o false) is ∙ equal_from rank rank refl
 
-    at : (v : ℕ) → v < length g.names → IsTrue (is_name (unwrap_or (slice_get g.names v) []))
+    at : (v : ℕ) → v < length g.names → IsTrue (is_host_name (unwrap_or (slice_get g.names v) []))
     at v within =
         let here = slice_get-get_or g.names v [] within in
-        subst (λ (o : Option (List ℕ)). IsTrue (is_name (unwrap_or o []))) (sym here) (all_at (λ name. IsTrue (is_name name)) g.names v _ names here)
+        subst (λ (o : Option (List ℕ)). IsTrue (is_host_name (unwrap_or o []))) (sym here) (all_at (λ name. IsTrue (is_host_name name)) g.names v _ names here)
 
-    by : (o : Option ℕ) → node_with g.resources.vertices rank ≡ o → IsTrue (is_name (option_map_or (λ v. unwrap_or (slice_get g.names v) []) o []))
+    by : (o : Option ℕ) → node_with g.resources.vertices rank ≡ o → IsTrue (is_host_name (option_map_or (λ v. unwrap_or (slice_get g.names v) []) o []))
     by None e = absurd (found_some p (length g.resources.vertices) 0 n (omega arith) (omega arith) passes e)
     by (Some v) e =
         let found = find_some p (length g.resources.vertices) 0 v e in

@@ -12,11 +12,11 @@ use Rattle.std.proofs.lemmas.List.Elements.{All-from_recursion}
 use Rattle.std.proofs.lemmas.Str.{IsUtf8-append, IsUtf8-nil, IsUtf8-from_ascii, is_utf8-from_IsUtf8}
 use Rattle.std.proofs.lemmas.Fmt.{IsAscii-decimal}
 use Rattle.json.proofs.Printed.Utf8.{IsUtf8-are_ascii}
-use Rattle.graph_json.specs.WrittenGraph.{readable}
+use Rattle.json_written.specs.Texts.{readable}
 use Rattle.idset_text.specs.declared.idsets.Range.{Range}
 use Rattle.idset_text.specs.Idsets.{ids_from, ids_between, is_within, ids_of, runs_of, range_text, runs_text, idset_text, Rises}
 use Rattle.idset_text.proofs.IdsetTexts.{idset_of-runs_text, runs_rise, ids_rise, ids_of-runs_of}
-use Rattle.resource_set_r.specs.declared.faults.Place.{Place}
+use Rattle.resource_set_r.specs.declared.faults.FieldPath.{FieldPath}
 use Rattle.resource_set_r.specs.declared.rows.Children.{Children}
 use Rattle.resource_set_r.specs.declared.rows.Element.{Element}
 use Rattle.resource_set_r.specs.Rows.{rising, is_same, with_rank, element_of, elements_from, elements}
@@ -24,6 +24,7 @@ use Rattle.resource_set_r.specs.ReadRows.{idset_read, idset_text_at, covers, IsR
 use Rattle.std.proofs.lemmas.Map.Keys.{IsStrictlyIncreasing-from_sorted, sorted_from_strictly_increasing}
 use Rattle.std.proofs.lemmas.List.Sums.{sum_by-cons, sum_by-append}
 use Rattle.resource_set_r.proofs.Rising.{sorted_front, sorted_rest}
+use Rattle.text_forms.proofs.Ascii.{utf8_decimal}
 
 abbrev pub Small : ℕ → Type 0
 Small n = n < 4294967295
@@ -34,9 +35,6 @@ pub record AreFine (ids : List ℕ) : Type 0 where
   pub small : AllByRecursion Small ids
 
 -- ---- one idset
-
-utf8_decimal : (n : ℕ) → n < 2 ^ 64 → IsUtf8 (decimal n)
-utf8_decimal n h = IsUtf8-from_ascii (decimal n) (IsAscii-decimal n h)
 
 utf8_range : (range : Range) → range.lo ≤ range.hi → range.hi < 4294967295 → IsUtf8 (range_text range)
 utf8_range range le small = by (range.lo == range.hi)
@@ -62,7 +60,7 @@ pub readable_utf8 : (text : List ℕ) → IsUtf8 text → readable text ≡ text
 readable_utf8 text u = ap (λ b. if b then text else []) (is_utf8-from_IsUtf8 text u)
 
 -- the text of ids is read as their runs
-pub text_back : (at : Place) (ids : List ℕ) → AreFine ids → idset_text_at at (readable (idset_text ids)) ≡ Ok (runs_of ids)
+pub text_back : (at : FieldPath) (ids : List ℕ) → AreFine ids → idset_text_at at (readable (idset_text ids)) ≡ Ok (runs_of ids)
 text_back at ids fine =
     ap (idset_text_at at) (readable_utf8 (idset_text ids) (utf8_idset ids fine)) ∙ ap (idset_read at) (idset_of-runs_text (runs_of ids) (runs_of_fine ids fine))
 

@@ -13,9 +13,9 @@ use Rattle.flux_defs.specs.declared.claims.Claim.TheVariants.{Take, Hold, Pass}
 use Rattle.flux_defs.specs.declared.claims.Job.{Job}
 use Rattle.flux_defs.specs.Jobs.{vertex_of}
 use Rattle.resource_graph.specs.NamedGraph.{NamedGraph, path_text}
-use Rattle.graph_json.proofs.JsonLaws.{IsPlain, ArePlain, HasPlain, is_below, read_compact}
-use Rattle.graph_json.proofs.PlainText.{plain-compact_text}
-use Rattle.graph_json.proofs.WrittenText.{IsClear, AreClear, HasClear, utf8_value, clear_readable}
+use Rattle.json_written.proofs.PlainLaws.{IsPlain, ArePlain, HasPlain, is_below, read_compact}
+use Rattle.json_written.proofs.PlainText.{plain-compact_text}
+use Rattle.json_written.proofs.ClearText.{IsClear, AreClear, HasClear, utf8_value, clear_readable}
 use Rattle.idset_text.specs.Idsets.{idset_text}
 use Rattle.resource_set_r.specs.declared.rows.Element.{Element}
 use Rattle.resource_set_r.specs.Rows.{elements_of, is_other}

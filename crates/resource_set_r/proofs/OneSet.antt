@@ -3,13 +3,13 @@ use Rattle.std.proofs.Common.{◌≡◌, refl, sym, ap, subst, ◌∙◌, ℕ, L
 use Rattle.serde_json.specs.Data.{Data}
 use Rattle.json_whole.specs.Whole.{value_of}
 use Rattle.flux_defs.specs.declared.claims.Job.{Job}
-use Rattle.graph_json.specs.Fields.{result_and_then}
+use Rattle.json_fields.specs.Values.{result_and_then}
 use Rattle.resource_graph.specs.NamedGraph.{NamedGraph}
 use Rattle.resource_set_r.specs.declared.faults.Misread.{Misread}
 use Rattle.resource_set_r.specs.declared.faults.Misread.TheVariants as misread
 use Rattle.resource_set_r.specs.declared.faults.RFault.{RFault}
 use Rattle.resource_set_r.specs.declared.faults.RFault.TheVariants as fault
-use Rattle.resource_set_r.specs.Misreads.{path_of}
+use Rattle.resource_set_r.specs.Misreads.{field_path}
 use Rattle.idset_text.specs.declared.idsets.Range.{Range}
 use Rattle.std.proofs.lemmas.Bool.{cases_order}
 use Rattle.resource_set_r.specs.declared.sets_read.RRow.{RRow}
@@ -134,9 +134,9 @@ module _ (d : Data) where
 
 -- the fault that tells of a misread
 abbrev fault_of : Misread → RFault
-fault_of (misread.Field at k) = fault.Field (path_of at) k
+fault_of (misread.Field at k) = fault.Field (field_path at) k
 fault_of misread.Version = fault.Version
-fault_of (misread.Idset at) = fault.Idset (path_of at)
+fault_of (misread.Idset at) = fault.Idset (field_path at)
 fault_of misread.Hosts = fault.Hosts
 fault_of (misread.RepeatedRank rank) = fault.RepeatedRank rank
 

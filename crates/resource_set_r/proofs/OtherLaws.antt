@@ -8,7 +8,7 @@ use Rattle.flux_defs.specs.declared.claims.Claim.{Claim}
 use Rattle.flux_defs.specs.Jobs.{vertex_of}
 use Rattle.serde_json.specs.Data.{Members}
 use Rattle.resource_graph.specs.NamedGraph.{NamedGraph}
-use Rattle.graph_json.specs.WrittenTokens.{member_tokens}
+use Rattle.json_written.specs.Tokens.{member_tokens}
 use Rattle.resource_set_r.specs.Rows.{is_other_than}
 use Rattle.resource_set_r.specs.WrittenR.{with_scheduling}
 use Rattle.resource_set_r.specs.WrittenRTokens.{scheduling_tokens}

@@ -6,16 +6,16 @@ use Rattle.std.proofs.lemmas.Bool.{le-ltb, eq-eqb}
 use Rattle.std.proofs.lemmas.Grind.{flat_map-append}
 use Rattle.serde_json.specs.Data.{number, string, object, unsigned, Members, no_members, member}
 use Rattle.serde_json.specs.Find.{get}
-use Rattle.graph_json.specs.Fields.{result_and_then}
-use Rattle.graph_json.specs.WrittenGraph.{readable}
+use Rattle.json_fields.specs.Values.{result_and_then}
+use Rattle.json_written.specs.Texts.{readable}
 use Rattle.resource_graph.specs.NamedGraph.{NamedGraph}
 use Rattle.flux_defs.specs.declared.claims.Claim.{Claim}
 use Rattle.idset_text.specs.declared.hostlists.Hosts.{Hosts}
 use Rattle.idset_text.specs.declared.idsets.Range.{Range}
 use Rattle.idset_text.specs.Idsets.{ids_between, ids_of, runs_of}
 use Rattle.idset_text.specs.Hostlists.{hostlist_of, names_of, own_names, AreHostlistsOf}
-use Rattle.resource_set_r.specs.declared.faults.Place.{Place}
-use Rattle.resource_set_r.specs.declared.faults.Place.TheVariants as place
+use Rattle.resource_set_r.specs.declared.faults.FieldPath.{FieldPath}
+use Rattle.resource_set_r.specs.declared.faults.FieldPath.TheVariants as field
 use Rattle.resource_set_r.specs.declared.faults.Misread.TheVariants as misread
 use Rattle.resource_set_r.specs.declared.rows.Children.{Children}
 use Rattle.resource_set_r.specs.declared.rows.Element.{Element}
@@ -28,12 +28,12 @@ use Rattle.resource_set_r.proofs.IdsBack.{AreFine, IsFine, text_back, ids_back, 
 
 -- ---- elements
 
-cores_back : (at : Place) (cores gpus : List ℕ) → AreFine cores → idset_or_none at (get (codes "core") (object (with_ids (codes "core") cores (with_ids (codes "gpu") gpus no_members)))) ≡ Ok (runs_of cores)
+cores_back : (at : FieldPath) (cores gpus : List ℕ) → AreFine cores → idset_or_none at (get (codes "core") (object (with_ids (codes "core") cores (with_ids (codes "gpu") gpus no_members)))) ≡ Ok (runs_of cores)
 cores_back at [] [] fine = refl
 cores_back at [] (gpu ∷ gpus) fine = refl
 cores_back at (core ∷ cores) gpus fine = text_back at (core ∷ cores) fine
 
-gpus_back : (at : Place) (cores gpus : List ℕ) → AreFine gpus → idset_or_none at (get (codes "gpu") (object (with_ids (codes "core") cores (with_ids (codes "gpu") gpus no_members)))) ≡ Ok (runs_of gpus)
+gpus_back : (at : FieldPath) (cores gpus : List ℕ) → AreFine gpus → idset_or_none at (get (codes "gpu") (object (with_ids (codes "core") cores (with_ids (codes "gpu") gpus no_members)))) ≡ Ok (runs_of gpus)
 gpus_back at [] [] fine = refl
 gpus_back at (core ∷ cores) [] fine = refl
 gpus_back at [] (gpu ∷ gpus) fine = text_back at (gpu ∷ gpus) fine
@@ -42,12 +42,12 @@ gpus_back at (core ∷ cores) (gpu ∷ gpus) fine = text_back at (gpu ∷ gpus) 
 children_back : (at : ℕ) (ranks : List Range) (c : Children) → AreFine c.cores → AreFine c.gpus → row_with at ranks (children_data c) ≡ Ok (record { ranks = ranks; cores = runs_of c.cores; gpus = runs_of c.gpus })
 children_back at ranks c cores gpus =
     let d = children_data c in
-    ap (λ r. result_and_then r (λ xs. result_and_then (idset_or_none (place.Gpu at) (get (codes "gpu") d)) (λ ys. Ok (record { ranks = ranks; cores = xs; gpus = ys })))) (cores_back (place.Core at) c.cores c.gpus cores)
-    ∙ ap (λ r. result_and_then r (λ ys. Ok (record { ranks = ranks; cores = runs_of c.cores; gpus = ys }))) (gpus_back (place.Gpu at) c.cores c.gpus gpus)
+    ap (λ r. result_and_then r (λ xs. result_and_then (idset_or_none (field.Gpu at) (get (codes "gpu") d)) (λ ys. Ok (record { ranks = ranks; cores = xs; gpus = ys })))) (cores_back (field.Core at) c.cores c.gpus cores)
+    ∙ ap (λ r. result_and_then r (λ ys. Ok (record { ranks = ranks; cores = runs_of c.cores; gpus = ys }))) (gpus_back (field.Gpu at) c.cores c.gpus gpus)
 
 element_back : (at : ℕ) (e : Element) → IsFine e → row_of at (element_data e) ≡ Ok (row_of_element e)
 element_back at e fine =
-    ap (λ r. result_and_then r (λ ranks. row_with at ranks (children_data e.children))) (text_back (place.Rank at) e.ranks fine.ranks)
+    ap (λ r. result_and_then r (λ ranks. row_with at ranks (children_data e.children))) (text_back (field.Rank at) e.ranks fine.ranks)
     ∙ children_back at (runs_of e.ranks) e.children fine.cores fine.gpus
 
 pub elements_back : (at : ℕ) (es : List Element) → AllByRecursion IsFine es → rows_from at (elements_data es) ≡ Ok (map row_of_element es)
@@ -90,7 +90,7 @@ hosts_back at (text ∷ texts) names utf8 are =
     let hosts = are.0 in
     let others = are.1 in
     let rest = hosts_back (suc at) texts others utf8.1 are.4 in
-    let one : host_value at (string (readable text)) ≡ Ok hosts = ap (λ t. hosts_read (place.Host at) (hostlist_of t)) (readable_utf8 text utf8.0) ∙ ap (hosts_read (place.Host at)) are.2 in
+    let one : host_value at (string (readable text)) ≡ Ok hosts = ap (λ t. hosts_read (field.Host at) (hostlist_of t)) (readable_utf8 text utf8.0) ∙ ap (hosts_read (field.Host at)) are.2 in
     record {
       hosts = hosts ++ rest.hosts;
       read = ap (λ r. result_and_then r (λ hs. result_map_both (λ more. hs ++ more) (λ m. m) (hosts_from (suc at) (texts_data texts)))) one ∙ ap (result_map_both (λ more. hosts ++ more) (λ m. m)) rest.read;
@@ -108,7 +108,7 @@ hosts_for_back texts rows hosts read same =
 
 -- ---- seconds, and the execution
 
-pub second_back : (at : Place) (n : ℕ) → n ≤ 2 ^ 46 → second_or_zero at (Some (number (unsigned n))) ≡ Ok n
+pub second_back : (at : FieldPath) (n : ℕ) → n ≤ 2 ^ 46 → second_or_zero at (Some (number (unsigned n))) ≡ Ok n
 second_back at n le = rw (le-ltb n 0 (omega arith), le-ltb (2 ^ 46) n le) refl
 
 pub execution_back : (ms : Members) (g : NamedGraph) (claims : List Claim) →

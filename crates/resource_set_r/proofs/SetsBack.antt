@@ -7,12 +7,12 @@ use Rattle.std.proofs.lemmas.List.Elements.{All-from_recursion}
 use Rattle.serde_json.specs.Find.{get}
 use Rattle.flux_defs.specs.declared.vertices.Vertex.{Vertex}
 use Rattle.flux_defs.specs.declared.claims.Job.{Job}
-use Rattle.graph_json.specs.Fields.{result_and_then}
+use Rattle.json_fields.specs.Values.{result_and_then}
 use Rattle.resource_graph.specs.NamedGraph.{NamedGraph}
 use Rattle.idset_text.specs.Idsets.{ids_of}
-use Rattle.idset_text.specs.Hostlists.{is_name, names_of, hostlist_texts, AreHostlistsOf}
+use Rattle.idset_text.specs.Hostlists.{is_host_name, names_of, hostlist_texts, AreHostlistsOf}
 use Rattle.idset_text.proofs.HostlistTexts.{texts_again}
-use Rattle.resource_set_r.specs.declared.faults.Place.TheVariants as place
+use Rattle.resource_set_r.specs.declared.faults.FieldPath.TheVariants as field
 use Rattle.resource_set_r.specs.declared.rows.Children.{Children}
 use Rattle.resource_set_r.specs.declared.rows.Element.{Element}
 use Rattle.resource_set_r.specs.declared.sets_read.RRow.{RRow}
@@ -64,15 +64,15 @@ module _ (g : NamedGraph) (job : Job) (can : CanBeRead g job) where
   fine : AllByRecursion IsFine es
   fine = elements_fine children (λ rank. (ids_fine (type_called g.resources (codes "core")) (part_of vertices (given vertices job.claims) rank), ids_fine (type_called g.resources (codes "gpu")) (part_of vertices (given vertices job.claims) rank))) ranks ranks_fine
 
-  named : AllByRecursion (λ name. IsTrue (is_name name)) names
+  named : AllByRecursion (λ name. IsTrue (is_host_name name)) names
   named =
-      all_mapped (λ name. IsTrue (is_name name)) (host_of g) ranks
-      (all_rising (λ rank. IsTrue (is_name (host_of g rank))) (filter_map (rank_above vertices) (given vertices job.claims))
-      (all_found (λ rank. IsTrue (is_name (host_of g rank))) (rank_above vertices) (given vertices job.claims) (λ v rank e.
+      all_mapped (λ name. IsTrue (is_host_name name)) (host_of g) ranks
+      (all_rising (λ rank. IsTrue (is_host_name (host_of g rank))) (filter_map (rank_above vertices) (given vertices job.claims))
+      (all_found (λ rank. IsTrue (is_host_name (host_of g rank))) (rank_above vertices) (given vertices job.claims) (λ v rank e.
       let above = ranked_above vertices v rank e in host_named g rank above.0 can.named can.names above.1 above.2)))
 
   again : AreHostlistsOf (hostlist_texts names) names
-  again = texts_again names (All-from_recursion (λ name. IsTrue (is_name name)) names named)
+  again = texts_again names (All-from_recursion (λ name. IsTrue (is_host_name name)) names named)
 
   back : HostsBack 0 (hostlist_texts names) names
   back = hosts_back 0 (hostlist_texts names) names (utf8_hostlists names named) again
@@ -97,8 +97,8 @@ module _ (g : NamedGraph) (job : Job) (can : CanBeRead g job) where
 
   seconds_read : seconds_of (execution_data g job) ≡ Ok (job.start, job.end)
   seconds_read =
-      ap (λ r. result_and_then r (λ start. result_and_then (second_or_zero place.Expiration (get (codes "expiration") (execution_data g job))) (λ end. Ok (start, end)))) (second_back place.Starttime job.start can.start)
-      ∙ ap (λ r. result_and_then r (λ end. Ok (job.start, end))) (second_back place.Expiration job.end can.end)
+      ap (λ r. result_and_then r (λ start. result_and_then (second_or_zero field.Expiration (get (codes "expiration") (execution_data g job))) (λ end. Ok (start, end)))) (second_back field.Starttime job.start can.start)
+      ∙ ap (λ r. result_and_then r (λ end. Ok (job.start, end))) (second_back field.Expiration job.end can.end)
 
   set_read : set_with rows (execution_data g job) ≡ Ok set
   set_read =

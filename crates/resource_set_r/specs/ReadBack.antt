@@ -7,7 +7,7 @@ use Rattle.flux_defs.specs.declared.claims.Claim.TheVariants.{Take, Hold, Pass}
 use Rattle.flux_defs.specs.declared.claims.Job.{Job}
 use Rattle.resource_graph.specs.NamedGraph.{NamedGraph}
 use Rattle.idset_text.specs.Idsets.{ids_of, runs_of}
-use Rattle.idset_text.specs.Hostlists.{is_name, names_of}
+use Rattle.idset_text.specs.Hostlists.{is_host_name, names_of}
 use Rattle.resource_set_r.specs.declared.rows.Element.{Element}
 use Rattle.resource_set_r.specs.declared.sets_read.RRow.{RRow}
 use Rattle.resource_set_r.specs.declared.sets_read.RSet.{RSet}
@@ -31,7 +31,7 @@ HasSmallQuantity (Pass v) = Unit {0}
 -- graph of a file; seconds are at most 2 ^ 46.
 pub record CanBeRead (g : NamedGraph) (job : Job) : Type 0 where
   pub named : length g.names ≡ length g.resources.vertices
-  pub names : AllByRecursion (λ name. IsTrue (is_name name)) g.names
+  pub names : AllByRecursion (λ name. IsTrue (is_host_name name)) g.names
   pub numbers : AllByRecursion HasIdNumbers g.resources.vertices
   pub quantities : AllByRecursion HasSmallQuantity job.claims
   pub start : job.start ≤ 2 ^ 46

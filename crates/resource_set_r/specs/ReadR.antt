@@ -6,12 +6,12 @@ use Rattle.serde_json.specs.Find.{get, as_str}
 use Rattle.json_whole.specs.Field.{text_or_kind, u64_of}
 use Rattle.json_whole.specs.Whole.{value_of}
 use Rattle.json_whole.specs.declared.fields.FieldFault.TheVariants.{Text}
-use Rattle.graph_json.specs.Fields.{result_and_then, list_value}
+use Rattle.json_fields.specs.Values.{result_and_then, list_value}
 use Rattle.idset_text.specs.declared.hostlists.Hosts.{Hosts}
 use Rattle.idset_text.specs.Idsets.{ids_of}
 use Rattle.idset_text.specs.Hostlists.{hostlist_of, names_of}
-use Rattle.resource_set_r.specs.declared.faults.Place.{Place}
-use Rattle.resource_set_r.specs.declared.faults.Place.TheVariants as place
+use Rattle.resource_set_r.specs.declared.faults.FieldPath.{FieldPath}
+use Rattle.resource_set_r.specs.declared.faults.FieldPath.TheVariants as field
 use Rattle.resource_set_r.specs.declared.faults.Misread.{Misread}
 use Rattle.resource_set_r.specs.declared.faults.Misread.TheVariants as misread
 use Rattle.resource_set_r.specs.declared.faults.RFault.{RFault}
@@ -20,19 +20,19 @@ use Rattle.resource_set_r.specs.declared.faults.ReadError.{ReadError}
 use Rattle.resource_set_r.specs.declared.faults.ReadError.TheVariants as error
 use Rattle.resource_set_r.specs.declared.sets_read.RRow.{RRow}
 use Rattle.resource_set_r.specs.declared.sets_read.RSet.{RSet}
-use Rattle.resource_set_r.specs.Misreads.{path_of, at_field}
+use Rattle.resource_set_r.specs.Misreads.{field_path, at_field}
 use Rattle.resource_set_r.specs.ReadRows.{execution_of, rows_in, ranges_in, IsRepeatedRank}
 
 -- ---- hosts
 
 -- what is read of a hostlist at a place
-abbrev pub hosts_read : Place → Result (List Hosts) ℕ → Result (List Hosts) Misread
+abbrev pub hosts_read : FieldPath → Result (List Hosts) ℕ → Result (List Hosts) Misread
 hosts_read at (Ok hosts) = Ok hosts
 hosts_read at (Err k) = Err (misread.Field at Text)
 
 -- the hosts that the value with this index is
 abbrev pub host_value : ℕ → Data → Result (List Hosts) Misread
-host_value at d = result_and_then (at_field (place.Host at) (text_or_kind (as_str d))) (λ text. hosts_read (place.Host at) (hostlist_of text))
+host_value at d = result_and_then (at_field (field.Host at) (text_or_kind (as_str d))) (λ text. hosts_read (field.Host at) (hostlist_of text))
 
 -- the hosts of a list from this index on
 abbrev pub hosts_from : ℕ → Items → Result (List Hosts) Misread
@@ -42,7 +42,7 @@ hosts_from at (item d ds) = result_and_then (host_value at d) (λ hosts. result_
 -- the list at `nodelist`, which is empty where there is none
 abbrev pub nodelist_or_none : Option Data → Result Items Misread
 nodelist_or_none None = Ok no_items
-nodelist_or_none (Some d) = at_field place.Nodelist (list_value d)
+nodelist_or_none (Some d) = at_field field.Nodelist (list_value d)
 
 -- a list that isn't empty has a host for each rank
 abbrev pub hosts_fit : Items → List RRow → List Hosts → Bool
@@ -60,7 +60,7 @@ hosts_in rows e = result_and_then (nodelist_or_none (get (codes "nodelist") e)) 
 -- ---- seconds
 
 -- a whole number up to 2 ^ 46, by default 0
-abbrev pub second_or_zero : Place → Option Data → Result ℕ Misread
+abbrev pub second_or_zero : FieldPath → Option Data → Result ℕ Misread
 second_or_zero at None = Ok 0
 second_or_zero at (Some d) = at_field at (u64_of 0 (2 ^ 46) (Some d))
 
@@ -69,8 +69,8 @@ second_or_zero at (Some d) = at_field at (u64_of 0 (2 ^ 46) (Some d))
 -- the start and the end
 abbrev pub seconds_of : Data → Result (ℕ × ℕ) Misread
 seconds_of e =
-    result_and_then (second_or_zero place.Starttime (get (codes "starttime") e)) (λ start.
-    result_and_then (second_or_zero place.Expiration (get (codes "expiration") e)) (λ end.
+    result_and_then (second_or_zero field.Starttime (get (codes "starttime") e)) (λ start.
+    result_and_then (second_or_zero field.Expiration (get (codes "expiration") e)) (λ end.
     Ok (start, end)))
 
 -- what is read behind these ranks
@@ -115,9 +115,9 @@ HasMisread bytes m = (d : Data) × (value_of bytes ≡ Some d) × IsMisreadOf d 
 -- Which fault the bytes have: what is looked at first is told first. Of want of memory nothing is said.
 abbrev pub IsFirstFault : List ℕ → RFault → Type 0
 IsFirstFault bytes fault.NotJson = value_of bytes ≡ None
-IsFirstFault bytes (fault.Field path f) = (at : Place) × (path ≡ path_of at) × HasMisread bytes (misread.Field at f)
+IsFirstFault bytes (fault.Field path f) = (at : FieldPath) × (path ≡ field_path at) × HasMisread bytes (misread.Field at f)
 IsFirstFault bytes fault.Version = HasMisread bytes misread.Version
-IsFirstFault bytes (fault.Idset path) = (at : Place) × (path ≡ path_of at) × HasMisread bytes (misread.Idset at)
+IsFirstFault bytes (fault.Idset path) = (at : FieldPath) × (path ≡ field_path at) × HasMisread bytes (misread.Idset at)
 IsFirstFault bytes fault.Hosts = HasMisread bytes misread.Hosts
 IsFirstFault bytes (fault.RepeatedRank rank) = HasMisread bytes (misread.RepeatedRank rank)
 IsFirstFault bytes fault.Memory = ⊤
@@ -127,9 +127,9 @@ IsFirstFault bytes fault.Memory = ⊤
 -- the fault tells of this misread, or of want of memory
 abbrev pub IsToldAs : Misread → RFault → Type 0
 IsToldAs m fault.NotJson = ⊥
-IsToldAs m (fault.Field path f) = (at : Place) × (path ≡ path_of at) × (m ≡ misread.Field at f)
+IsToldAs m (fault.Field path f) = (at : FieldPath) × (path ≡ field_path at) × (m ≡ misread.Field at f)
 IsToldAs m fault.Version = m ≡ misread.Version
-IsToldAs m (fault.Idset path) = (at : Place) × (path ≡ path_of at) × (m ≡ misread.Idset at)
+IsToldAs m (fault.Idset path) = (at : FieldPath) × (path ≡ field_path at) × (m ≡ misread.Idset at)
 IsToldAs m fault.Hosts = m ≡ misread.Hosts
 IsToldAs m (fault.RepeatedRank rank) = m ≡ misread.RepeatedRank rank
 IsToldAs m fault.Memory = ⊤

@@ -9,7 +9,7 @@ use Rattle.flux_defs.specs.declared.claims.Claim.TheVariants.{Take, Hold, Pass}
 use Rattle.flux_defs.specs.declared.claims.Job.{Job}
 use Rattle.flux_defs.specs.Jobs.{vertex_of}
 use Rattle.resource_graph.specs.NamedGraph.{NamedGraph, path_text}
-use Rattle.graph_json.specs.WrittenGraph.{readable}
+use Rattle.json_written.specs.Texts.{readable}
 use Rattle.idset_text.specs.Idsets.{idset_text}
 use Rattle.idset_text.specs.Hostlists.{hostlist_texts}
 use Rattle.resource_set_r.specs.declared.rows.Children.{Children}

@@ -1,15 +1,14 @@
 -- The tokens of the parts of R that may be left out.
 use Rattle.std.specs.Prelude.{ℕ, List, [], ◌∷◌, codes}
 use Rattle.json.specs.Token.{Token, key, string}
-use Rattle.serde_json.specs.Data.{object, array, member, no_members}
+use Rattle.serde_json.specs.Data.{object, array, member, no_members, number, unsigned}
 use Rattle.flux_defs.specs.declared.claims.Claim.{Claim}
 use Rattle.resource_graph.specs.NamedGraph.{NamedGraph}
-use Rattle.graph_json.specs.WrittenGraph.{readable}
-use Rattle.graph_json.specs.WrittenTokens.{value_tokens}
+use Rattle.json_written.specs.Texts.{readable}
+use Rattle.json_written.specs.Tokens.{value_tokens}
 use Rattle.idset_text.specs.Idsets.{idset_text}
 use Rattle.resource_set_r.specs.WrittenR.{claims_data}
 use Rattle.flux_defs.specs.declared.claims.Claim.TheVariants.{Take, Hold, Pass}
-use Rattle.serde_json.specs.Data.{number, unsigned}
 
 -- ids at a key
 abbrev pub ids_tokens : List ℕ → List ℕ → List Token

@@ -23,9 +23,9 @@ pub enum RFault {
     Memory,
 }
 
-/// A place of the value.
+/// A field of the value.
 #[derive(Clone, Copy, Debug, PartialEq, Eq)]
-pub(crate) enum Place {
+pub(crate) enum FieldPath {
     Whole,
     Version,
     Execution,
@@ -44,9 +44,9 @@ pub(crate) enum Place {
 /// What is wrong with a value.
 #[derive(Clone, Copy, Debug, PartialEq, Eq)]
 pub(crate) enum Misread {
-    Field { place: Place, fault: FieldFault },
+    Field { field: FieldPath, fault: FieldFault },
     Version,
-    Idset { place: Place },
+    Idset { field: FieldPath },
     Hosts,
     RepeatedRank { rank: u32 },
 }

@@ -4,143 +4,105 @@ ghost use Rattle.std.specs.Result.{result_map_both};
 ghost use Rattle.serde_json.specs.Find.{as_object, get, as_str};
 ghost use Rattle.serde_json.specs.View.{view, items_view};
 ghost use Rattle.json_whole.specs.Field.{text_or_kind, text_field};
-ghost use Rattle.graph_json.specs.Fields.{object_value, object_field, list_field, list_value};
-ghost use Rattle.graph_json.specs.Places.{index};
-ghost use Rattle.resource_set_r.specs.Misreads.{path_of, at_field};
+ghost use Rattle.json_fields.specs.Values.{object_value, object_field, list_field, list_value};
+ghost use Rattle.resource_set_r.specs.Misreads.{field_path, at_field};
 ghost use Rattle.resource_set_r.specs.ReadRows.{version_of, execution_of};
 ghost use Rattle.resource_set_r.specs.ReadR.{second_or_zero};
 
-use crate::faults::{Misread, Place};
-use flux_defs::Text;
-use graph_json::places::member_path;
-use graph_json::reading::list_of;
+use crate::faults::{FieldPath, Misread};
+use flux_defs::{GREATEST_NUMBER, Text};
+use json_fields::{list_field, list_value, member_path, object_field, object_value};
 use json_whole::{FieldFault, need_text, need_u64};
 use serde_json::Value;
 use std::alloc::{AllocError, Global};
 
-/// The greatest second.
-const GREATEST: u64 = 70_368_744_177_664;
+/// Where the elements of the resource set stand.
+const R_LITE: &[u8] = b"execution.R_lite";
+/// Where the hosts stand.
+const NODELIST: &[u8] = b"execution.nodelist";
 
-/// The path of what stands in an element of `R_lite`.
-fn row_path(alloc: Global, at: u64, rest: &str) -> Result<Text, AllocError>
-    ensures { IfOk result (λ path. path ≡ codes "execution.R_lite" ++ index at ++ rest.now) }
+/// The path of a field, from the whole text on.
+pub(crate) fn field_path(alloc: Global, field: FieldPath) -> Result<Text, AllocError>
+    ensures { IfOk result (λ path. path ≡ field_path field) }
 {
-    let path = member_path(alloc, "execution.R_lite", at, rest)?;
-    Ok(Text::of_vec(path))
-}
-
-/// The path of a place, from the whole text on.
-pub(crate) fn path_of(alloc: Global, place: Place) -> Result<Text, AllocError>
-    ensures { IfOk result (λ path. path ≡ path_of place) }
-{
-    match place {
-        Place::Whole => Text::of(alloc, b"."),
-        Place::Version => Text::of(alloc, b"version"),
-        Place::Execution => Text::of(alloc, b"execution"),
-        Place::RLite => Text::of(alloc, b"execution.R_lite"),
-        Place::Row { at } => row_path(alloc, at, ""),
-        Place::Rank { at } => row_path(alloc, at, ".rank"),
-        Place::Children { at } => row_path(alloc, at, ".children"),
-        Place::Core { at } => row_path(alloc, at, ".children.core"),
-        Place::Gpu { at } => row_path(alloc, at, ".children.gpu"),
-        Place::Nodelist => Text::of(alloc, b"execution.nodelist"),
-        Place::Host { at } => {
-            let path = member_path(alloc, "execution.nodelist", at, "")?;
-            Ok(Text::of_vec(path))
-        }
-        Place::Starttime => Text::of(alloc, b"execution.starttime"),
-        Place::Expiration => Text::of(alloc, b"execution.expiration"),
+    match field {
+        FieldPath::Whole => Text::of(alloc, b"."),
+        FieldPath::Version => Text::of(alloc, b"version"),
+        FieldPath::Execution => Text::of(alloc, b"execution"),
+        FieldPath::RLite => Text::of(alloc, R_LITE),
+        FieldPath::Row { at } => member_path(alloc, R_LITE, at, ""),
+        FieldPath::Rank { at } => member_path(alloc, R_LITE, at, ".rank"),
+        FieldPath::Children { at } => member_path(alloc, R_LITE, at, ".children"),
+        FieldPath::Core { at } => member_path(alloc, R_LITE, at, ".children.core"),
+        FieldPath::Gpu { at } => member_path(alloc, R_LITE, at, ".children.gpu"),
+        FieldPath::Nodelist => Text::of(alloc, NODELIST),
+        FieldPath::Host { at } => member_path(alloc, NODELIST, at, ""),
+        FieldPath::Starttime => Text::of(alloc, b"execution.starttime"),
+        FieldPath::Expiration => Text::of(alloc, b"execution.expiration"),
     }
 }
 
-/// What a field gives, or its fault at a place.
-pub(crate) fn at_field<T>(place: Place, field: Result<T, FieldFault>) -> Result<T, Misread>
-    ensures { result ≡ at_field place field }
+/// What a field gives, or its fault there.
+pub(crate) fn at_field<T>(field: FieldPath, field: Result<T, FieldFault>) -> Result<T, Misread>
+    ensures { result ≡ at_field field field }
 {
     match field {
         Ok(found) => Ok(found),
-        Err(fault) => Err(Misread::Field { place, fault }),
+        Err(fault) => Err(Misread::Field { field, fault }),
     }
 }
 
 /// A value that is an object.
-fn object_value(value: &Value) -> Result<&Value, FieldFault>
-    ensures { result_map_both (λ v. view v.now) (λ e. e) result ≡ object_value (view value.now) }
+pub(crate) fn object_of(value: &Value, field: FieldPath) -> Result<&Value, Misread>
+    ensures { result_map_both (λ v. view v.now) (λ e. e) result ≡ at_field field (object_value (view value.now)) }
 {
-    if value.is_object() {
-        Ok(value)
-    } else {
-        Err(FieldFault::Kind)
-    }
+    at_field(field, object_value(value))
 }
 
 /// The object at a key.
-fn object_field<'a>(value: &'a Value, key: &str) -> Result<&'a Value, FieldFault>
-    ensures { result_map_both (λ v. view v.now) (λ e. e) result ≡ object_field key.now (view value.now) }
+pub(crate) fn object_at<'a>(value: &'a Value, key: &str, field: FieldPath) -> Result<&'a Value, Misread>
+    ensures { result_map_both (λ v. view v.now) (λ e. e) result ≡ at_field field (object_field key.now (view value.now)) }
 {
-    match value.get(key) {
-        Some(found) => object_value(found),
-        None => Err(FieldFault::Missing),
-    }
-}
-
-/// A value that is an object.
-pub(crate) fn object_of(value: &Value, place: Place) -> Result<&Value, Misread>
-    ensures { result_map_both (λ v. view v.now) (λ e. e) result ≡ at_field place (object_value (view value.now)) }
-{
-    at_field(place, object_value(value))
-}
-
-/// The object at a key.
-pub(crate) fn object_at<'a>(value: &'a Value, key: &str, place: Place) -> Result<&'a Value, Misread>
-    ensures { result_map_both (λ v. view v.now) (λ e. e) result ≡ at_field place (object_field key.now (view value.now)) }
-{
-    at_field(place, object_field(value, key))
+    at_field(field, object_field(value, key))
 }
 
 /// The list at a key.
 pub(crate) fn list_at<'a>(
     value: &'a Value,
     key: &str,
-    place: Place,
+    field: FieldPath,
 ) -> Result<&'a Vec<Value>, Misread>
-    ensures { result_map_both (λ v. items_view v.now.items) (λ e. e) result ≡ at_field place (list_field key.now (view value.now)) }
+    ensures { result_map_both (λ v. items_view v.now.items) (λ e. e) result ≡ at_field field (list_field key.now (view value.now)) }
 {
-    at_field(place, list_of(value, key))
+    at_field(field, list_field(value, key))
 }
 
 /// A value that is a list.
-pub(crate) fn list_value(value: &Value, place: Place) -> Result<&Vec<Value>, Misread>
-    ensures { result_map_both (λ v. items_view v.now.items) (λ e. e) result ≡ at_field place (list_value (view value.now)) }
+pub(crate) fn list_of(value: &Value, field: FieldPath) -> Result<&Vec<Value>, Misread>
+    ensures { result_map_both (λ v. items_view v.now.items) (λ e. e) result ≡ at_field field (list_value (view value.now)) }
 {
-    match value.as_array() {
-        Some(list) => Ok(list),
-        None => Err(Misread::Field {
-            place,
-            fault: FieldFault::Kind,
-        }),
-    }
+    at_field(field, list_value(value))
 }
 
 /// A value that is a text.
-pub(crate) fn text_value(value: &Value, place: Place) -> Result<&str, Misread>
-    ensures { result_map_both (λ s. s.now) (λ e. e) result ≡ at_field place (text_or_kind (as_str (view value.now))) }
+pub(crate) fn text_value(value: &Value, field: FieldPath) -> Result<&str, Misread>
+    ensures { result_map_both (λ s. s.now) (λ e. e) result ≡ at_field field (text_or_kind (as_str (view value.now))) }
 {
     match value.as_str() {
         Some(text) => Ok(text),
         None => Err(Misread::Field {
-            place,
+            field,
             fault: FieldFault::Kind,
         }),
     }
 }
 
 /// The text at a key.
-pub(crate) fn text_at<'a>(value: &'a Value, key: &str, place: Place) -> Result<&'a str, Misread>
+pub(crate) fn text_at<'a>(value: &'a Value, key: &str, field: FieldPath) -> Result<&'a str, Misread>
     requires { IsSome (as_object (view value.now)) }
-    ensures { result_map_both (λ s. s.now) (λ e. e) result ≡ at_field place (text_field key.now (view value.now)) }
+    ensures { result_map_both (λ s. s.now) (λ e. e) result ≡ at_field field (text_field key.now (view value.now)) }
 {
-    at_field(place, need_text(value, key))
+    at_field(field, need_text(value, key))
 }
 
 /// The version, which is 1.
@@ -148,7 +110,7 @@ fn version_of(value: &Value) -> Result<u64, Misread>
     requires { IsSome (as_object (view value.now)) }
     ensures { result ≡ version_of (view value.now) }
 {
-    let version = at_field(Place::Version, need_u64(value, "version", 0, u64::MAX))?;
+    let version = at_field(FieldPath::Version, need_u64(value, "version", 0, u64::MAX))?;
     if version != 1 {
         return Err(Misread::Version);
     }
@@ -159,18 +121,18 @@ fn version_of(value: &Value) -> Result<u64, Misread>
 pub(crate) fn execution_of(value: &Value) -> Result<&Value, Misread>
     ensures { result_map_both (λ v. view v.now) (λ e. e) result ≡ execution_of (view value.now) }
 {
-    let whole = object_of(value, Place::Whole)?;
+    let whole = object_of(value, FieldPath::Whole)?;
     version_of(whole)?;
-    object_at(whole, "execution", Place::Execution)
+    object_at(whole, "execution", FieldPath::Execution)
 }
 
 /// The second at a key, by default 0.
-pub(crate) fn second_or_zero(value: &Value, key: &str, place: Place) -> Result<u64, Misread>
+pub(crate) fn second_or_zero(value: &Value, key: &str, field: FieldPath) -> Result<u64, Misread>
     requires { IsSome (as_object (view value.now)) }
-    ensures { result ≡ second_or_zero place (get key.now (view value.now)) }
+    ensures { result ≡ second_or_zero field (get key.now (view value.now)) }
 {
     if value.get(key).is_none() {
         return Ok(0);
     }
-    at_field(place, need_u64(value, key, 0, GREATEST))
+    at_field(field, need_u64(value, key, 0, GREATEST_NUMBER))
 }

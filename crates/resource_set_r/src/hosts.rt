@@ -8,8 +8,8 @@ ghost use Rattle.resource_set_r.specs.declared.sets_read.RRow.{RRow};
 ghost use Rattle.resource_set_r.specs.Misreads.{IsResultOf};
 ghost use Rattle.resource_set_r.specs.ReadR.{host_value, hosts_from, hosts_fit, hosts_for, hosts_in};
 
-use crate::faults::{Misread, Place, ReadError};
-use crate::fields::{list_value, text_value};
+use crate::faults::{Misread, FieldPath, ReadError};
+use crate::fields::{list_of, text_value};
 use flux_defs::List;
 use idset_text::{Hosts, Range, TextFault, read_hostlist};
 use json_whole::FieldFault;
@@ -20,14 +20,14 @@ use std::alloc::{AllocError, Global};
 fn host_value(alloc: Global, at: u64, value: &Value) -> Result<List<Hosts>, ReadError>
     ensures { IsResultOf result (host_value at (view value.now)) }
 {
-    let text = match text_value(value, Place::Host { at }) {
+    let text = match text_value(value, FieldPath::Host { at }) {
         Ok(text) => text,
         Err(misread) => return Err(ReadError::Misread(misread)),
     };
     match read_hostlist(alloc, text.as_bytes()) {
         Ok(hosts) => Ok(hosts),
         Err(TextFault::Form { .. }) => Err(ReadError::Misread(Misread::Field {
-            place: Place::Host { at },
+            field: FieldPath::Host { at },
             fault: FieldFault::Text,
         })),
         Err(TextFault::Memory) => Err(ReadError::Memory),
@@ -134,7 +134,7 @@ pub(crate) fn hosts_in(
     let Some(found) = execution.get("nodelist") else {
         return hosts_for(alloc, ranks, &[]);
     };
-    match list_value(found, Place::Nodelist) {
+    match list_of(found, FieldPath::Nodelist) {
         Ok(values) => hosts_for(alloc, ranks, values.as_slice()),
         Err(misread) => Err(ReadError::Misread(misread)),
     }

@@ -7,7 +7,7 @@ ghost use Rattle.serde_json.specs.View.{view, items_view};
 ghost use Rattle.resource_set_r.specs.Misreads.{IsResultOf};
 ghost use Rattle.resource_set_r.specs.ReadRows.{idset_text_at, idset_or_none, idset_field, row_with, row_in, row_of, rows_from, rows_in, ranges_in, overlap_from, IsRepeatedRank};
 
-use crate::faults::{Misread, Place, ReadError};
+use crate::faults::{Misread, FieldPath, ReadError};
 use crate::fields::{list_at, object_at, object_of, text_at, text_value};
 use crate::sets_read::RRow;
 use flux_defs::List;
@@ -16,12 +16,12 @@ use serde_json::Value;
 use std::alloc::{AllocError, Global};
 
 /// The idset that a text is.
-fn idset_text_at(alloc: Global, place: Place, text: &str) -> Result<List<Range>, ReadError>
-    ensures { IsResultOf result (idset_text_at place text.now) }
+fn idset_text_at(alloc: Global, field: FieldPath, text: &str) -> Result<List<Range>, ReadError>
+    ensures { IsResultOf result (idset_text_at field text.now) }
 {
     match read_idset(alloc, text.as_bytes()) {
         Ok(ranges) => Ok(ranges),
-        Err(TextFault::Form { .. }) => Err(ReadError::Misread(Misread::Idset { place })),
+        Err(TextFault::Form { .. }) => Err(ReadError::Misread(Misread::Idset { field })),
         Err(TextFault::Memory) => Err(ReadError::Memory),
     }
 }
@@ -31,15 +31,15 @@ fn idset_or_none(
     alloc: Global,
     value: &Value,
     key: &str,
-    place: Place,
+    field: FieldPath,
 ) -> Result<List<Range>, ReadError>
-    ensures { IsResultOf result (idset_or_none place (get key.now (view value.now))) }
+    ensures { IsResultOf result (idset_or_none field (get key.now (view value.now))) }
 {
     let Some(found) = value.get(key) else {
         return Ok(List::new(alloc));
     };
-    match text_value(found, place) {
-        Ok(text) => idset_text_at(alloc, place, text),
+    match text_value(found, field) {
+        Ok(text) => idset_text_at(alloc, field, text),
         Err(misread) => Err(ReadError::Misread(misread)),
     }
 }
@@ -49,13 +49,13 @@ fn idset_field(
     alloc: Global,
     value: &Value,
     key: &str,
-    place: Place,
+    field: FieldPath,
 ) -> Result<List<Range>, ReadError>
     requires { IsSome (as_object (view value.now)) }
-    ensures { IsResultOf result (idset_field place key.now (view value.now)) }
+    ensures { IsResultOf result (idset_field field key.now (view value.now)) }
 {
-    match text_at(value, key, place) {
-        Ok(text) => idset_text_at(alloc, place, text),
+    match text_at(value, key, field) {
+        Ok(text) => idset_text_at(alloc, field, text),
         Err(misread) => Err(ReadError::Misread(misread)),
     }
 }
@@ -64,11 +64,11 @@ fn idset_field(
 fn row_with(alloc: Global, at: u64, ranks: List<Range>, children: &Value) -> Result<RRow, ReadError>
     ensures { IsResultOf result (row_with at ranks (view children.now)) }
 {
-    let cores = match idset_or_none(alloc, children, "core", Place::Core { at }) {
+    let cores = match idset_or_none(alloc, children, "core", FieldPath::Core { at }) {
         Ok(cores) => cores,
         Err(fault) => return Err(fault),
     };
-    match idset_or_none(alloc, children, "gpu", Place::Gpu { at }) {
+    match idset_or_none(alloc, children, "gpu", FieldPath::Gpu { at }) {
         Ok(gpus) => Ok(RRow { ranks, cores, gpus }),
         Err(fault) => Err(fault),
     }
@@ -79,11 +79,11 @@ fn row_in(alloc: Global, at: u64, value: &Value) -> Result<RRow, ReadError>
     requires { IsSome (as_object (view value.now)) }
     ensures { IsResultOf result (row_in at (view value.now)) }
 {
-    let ranks = match idset_field(alloc, value, "rank", Place::Rank { at }) {
+    let ranks = match idset_field(alloc, value, "rank", FieldPath::Rank { at }) {
         Ok(ranks) => ranks,
         Err(fault) => return Err(fault),
     };
-    match object_at(value, "children", Place::Children { at }) {
+    match object_at(value, "children", FieldPath::Children { at }) {
         Ok(children) => row_with(alloc, at, ranks, children),
         Err(misread) => Err(ReadError::Misread(misread)),
     }
@@ -93,7 +93,7 @@ fn row_in(alloc: Global, at: u64, value: &Value) -> Result<RRow, ReadError>
 fn row_of(alloc: Global, at: u64, value: &Value) -> Result<RRow, ReadError>
     ensures { IsResultOf result (row_of at (view value.now)) }
 {
-    match object_of(value, Place::Row { at }) {
+    match object_of(value, FieldPath::Row { at }) {
         Ok(row) => row_in(alloc, at, row),
         Err(misread) => Err(ReadError::Misread(misread)),
     }
@@ -120,7 +120,7 @@ fn rows_from(alloc: Global, values: &[Value]) -> Result<List<RRow>, ReadError>
 pub(crate) fn rows_in(alloc: Global, execution: &Value) -> Result<List<RRow>, ReadError>
     ensures { IsResultOf result (rows_in (view execution.now)) }
 {
-    match list_at(execution, "R_lite", Place::RLite) {
+    match list_at(execution, "R_lite", FieldPath::RLite) {
         Ok(values) => rows_from(alloc, values.as_slice()),
         Err(misread) => Err(ReadError::Misread(misread)),
     }

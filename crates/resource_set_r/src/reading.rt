@@ -12,8 +12,8 @@ ghost use Rattle.resource_set_r.specs.Misreads.{IsResultOf};
 ghost use Rattle.resource_set_r.specs.ReadRows.{execution_of, ranges_in};
 ghost use Rattle.resource_set_r.specs.ReadR.{seconds_of, set_with, IsSetOf, IsErrorOf, IsToldAs, IsRText, IsFirstFault};
 
-use crate::faults::{Misread, Place, RFault, ReadError};
-use crate::fields::{execution_of, path_of, second_or_zero};
+use crate::faults::{Misread, FieldPath, RFault, ReadError};
+use crate::fields::{execution_of, field_path, second_or_zero};
 use crate::hosts::{hosts_in, rank_count};
 use crate::ranks::{ranges_in, repeated_rank, rows_in};
 use crate::sets_read::{RRow, RSet};
@@ -27,8 +27,8 @@ fn seconds_of(execution: &Value) -> Result<(u64, u64), Misread>
     requires { IsSome (as_object (view execution.now)) }
     ensures { result ≡ seconds_of (view execution.now) }
 {
-    let start = second_or_zero(execution, "starttime", Place::Starttime)?;
-    let end = second_or_zero(execution, "expiration", Place::Expiration)?;
+    let start = second_or_zero(execution, "starttime", FieldPath::Starttime)?;
+    let end = second_or_zero(execution, "expiration", FieldPath::Expiration)?;
     Ok((start, end))
 }
 
@@ -95,12 +95,12 @@ fn fault_of(alloc: Global, misread: Misread) -> RFault
     ensures { IsToldAs misread result }
 {
     match misread {
-        Misread::Field { place, fault } => match path_of(alloc, place) {
+        Misread::Field { field, fault } => match field_path(alloc, field) {
             Ok(path) => RFault::Field { path, fault },
             Err(_) => RFault::Memory,
         },
         Misread::Version => RFault::Version,
-        Misread::Idset { place } => match path_of(alloc, place) {
+        Misread::Idset { field } => match field_path(alloc, field) {
             Ok(path) => RFault::Idset { path },
             Err(_) => RFault::Memory,
         },

@@ -5,8 +5,8 @@ ghost use Rattle.std.specs.List.Sorted.{IsStrictlyIncreasing};
 ghost use Rattle.json.specs.Token.{key, string};
 ghost use Rattle.serde_json.specs.Data.{array, member, no_members, number, object, unsigned};
 ghost use Rattle.flux_defs.specs.Jobs.{vertex_of};
-ghost use Rattle.graph_json.specs.WrittenGraph.{readable};
-ghost use Rattle.graph_json.specs.WrittenTokens.{Adds, value_tokens, rest_tokens};
+ghost use Rattle.json_written.specs.Texts.{readable};
+ghost use Rattle.json_written.specs.Tokens.{Adds, value_tokens, rest_tokens};
 ghost use Rattle.idset_text.specs.Idsets.{idset_text};
 ghost use Rattle.resource_graph.specs.NamedGraph.{path_text};
 ghost use Rattle.resource_set_r.specs.Rows.{is_other_than, type_called, elements_of};
@@ -18,7 +18,7 @@ use crate::rows::{
     Children, Element, Types, elements_of, hosts_of, is_of_type, ranks_of, types_of,
 };
 use flux_defs::{Claim, Job, List, Text, Vertex};
-use graph_json::writing::{put_number, put_text, readable};
+use json_written::{put_number, put_text, readable};
 use idset_text::{write_hostlist, write_idset};
 use json::Writer;
 use resource_graph::Graph;

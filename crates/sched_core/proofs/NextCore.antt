@@ -3,7 +3,7 @@ use Rattle.std.proofs.Common.{◌≡◌, List, [], ◌∷◌, ◌++◌, sym, ◌
 use Rattle.flux_defs.specs.declared.journal.Entry.{Entry}
 use Rattle.flux_defs.specs.Scheduler.{Setting, IsProper, Replies, after, first_state}
 use Rattle.flux_defs.specs.Histories.{IsLegal, HasProperCommands}
-use Rattle.sound_laws.proofs.Members.{all_append}
+use Rattle.list_laws.proofs.Lists.{all_append}
 use Rattle.book_state.specs.Books.{KeepsSetting}
 use Rattle.sched_core.specs.declared.held.Site.{Site}
 use Rattle.sched_core.specs.declared.held.Kept.{Kept}

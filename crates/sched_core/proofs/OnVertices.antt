@@ -10,7 +10,7 @@ use Rattle.flux_defs.specs.Graph.{Scope, Everywhere, Beneath, IsIn}
 use Rattle.flux_defs.specs.Jobs.{vertex_of}
 use Rattle.flux_defs.specs.Fits.{Pick, Pieces, Piece, FitsRow, Fits}
 use Rattle.flux_laws.proofs.Rows.{fits_list}
-use Rattle.sound_laws.proofs.Members.{all_append}
+use Rattle.list_laws.proofs.Lists.{all_append}
 
 module _ (vertices : List Vertex) (ok : Claim → Type 0) where
   abbrev IsOn : Claim → Type 0

@@ -5,7 +5,7 @@ use Rattle.flux_defs.specs.declared.vertices.Vertex.{Vertex}
 use Rattle.flux_defs.specs.declared.journal.Entry.{Entry}
 use Rattle.flux_defs.specs.declared.journal.Line.{Line}
 use Rattle.flux_defs.specs.Scheduler.{IsProper}
-use Rattle.sched_core.specs.declared.playing.ClientLine.{ClientLine}
+use Rattle.flux_defs.specs.declared.journal.ClientLine.{ClientLine}
 use Rattle.sched_core.specs.Courses.{Course}
 
 -- each of the lines has a command that is proper for the graph

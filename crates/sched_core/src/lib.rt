@@ -13,5 +13,5 @@ pub mod scheduler;
 mod settling;
 mod verdict;
 
-pub use playing::{ClientLine, play, play_client};
+pub use playing::{play, play_client};
 pub use scheduler::Core;

@@ -5,16 +5,8 @@ ghost use Rattle.flux_defs.specs.Sound.{IsSoundThroughout};
 ghost use Rattle.sched_core.specs.Played.{AreProper, of_client, IsPlayed, IsPlayedInPart};
 
 use crate::scheduler::Core;
-use flux_defs::{Command, Line};
+use flux_defs::{ClientLine, Line};
 use std::alloc::AllocError;
-
-/// A line of the input: whose it is, its number from 1, and what it says.
-#[derive(Debug, Drop)]
-pub struct ClientLine {
-    pub client: u32,
-    pub line: u32,
-    pub command: Command,
-}
 
 /// Decides the lines in their order. The only error is want of memory; then only the first of them were decided.
 pub fn play(core: &mut Core, lines: Vec<ClientLine>) -> Result<(), AllocError>

@@ -7,7 +7,7 @@ use dfu_match::is_proper;
 use flux_defs::{Ask, Claim, Command, Entry, Line, List, Need, Reply};
 use prune_filters::Rules;
 use resource_graph::Graph;
-use sched_core::{ClientLine, Core, play, play_client};
+use sched_core::{Core, play, play_client};
 use std::alloc::{AllocError, Global};
 use std::sync::Arc;
 use std::test::Fail;

@@ -12,7 +12,7 @@ use Rattle.flux_defs.specs.Graph.{Scope, Beneath, is_pool_kind, is_pool}
 use Rattle.flux_defs.specs.Needs.{IsValidNeed, AreValidRow, AreValidNeeds}
 use Rattle.flux_defs.specs.Fits.{Pick, Pieces, Piece, FitsRow, Fits}
 use Rattle.flux_laws.proofs.Rows.{fits_list, valid_to_row}
-use Rattle.sound_laws.proofs.Members.{all_append}
+use Rattle.list_laws.proofs.Lists.{all_append}
 
 -- a take is of a pool, and at least 1
 abbrev pub TakesPool : List Vertex → Claim → Type 0

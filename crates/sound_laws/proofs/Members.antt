@@ -17,14 +17,3 @@ any_at test (y ∷ ys) x (suc k) lt e h = or_right (test y) (list_any test ys) (
 pub any_member : {X : Type 0} (test : X → Bool) (xs : List X) (x : X) → Contains xs x → IsTrue (test x) → IsTrue (list_any test xs)
 any_member test xs x (k, lt, e) h = any_at test xs x k lt e h
 
-pub all_append : {X : Type 0} (P : X → Type 0) (xs ys : List X) → AllByRecursion P xs → AllByRecursion P ys → AllByRecursion P (xs ++ ys)
-all_append P [] ys h k = k
-all_append P (x ∷ xs) ys h k = (h.0, all_append P xs ys h.1 k)
-
-pub all_filter : {X : Type 0} (P : X → Type 0) (keep : X → Bool) (xs : List X) → AllByRecursion P xs → AllByRecursion P (filter keep xs)
-all_filter P keep [] h = tt
-all_filter {X} P keep (x ∷ xs) h = by_test (keep x) (all_filter P keep xs h.1)
-  where
-    by_test : (b : Bool) → AllByRecursion P (filter keep xs) → AllByRecursion P (cond b (x ∷ filter keep xs) (filter keep xs))
-    by_test true rest = (h.0, rest)
-    by_test false rest = rest

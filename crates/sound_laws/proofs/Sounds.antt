@@ -17,7 +17,8 @@ use Rattle.flux_defs.specs.Available.{IsAvailable}
 use Rattle.flux_defs.specs.Sound.{AreSeparate, AreAllSeparate, KeepApart, AllKeepApart, IsSound}
 use Rattle.graph_laws.proofs.Containment.{not_to, unequal_from, equal_from}
 use Rattle.flux_laws.proofs.Aside.{of_member}
-use Rattle.sound_laws.proofs.Members.{each_member, any_member, all_append, all_filter}
+use Rattle.sound_laws.proofs.Members.{each_member, any_member}
+use Rattle.list_laws.proofs.Lists.{all_append, all_filter}
 use Rattle.sound_laws.proofs.Had.{IsHad}
 
 module _ (vertices : List Vertex) where

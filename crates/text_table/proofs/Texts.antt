@@ -1,7 +1,7 @@
 -- What a set of texts holds, as their bytes.
-use Rattle.std.proofs.Common.{◌≡◌, refl, ap, ◌∙◌, ℕ, ◌+◌, ◌≤◌, List, [], ◌∷◌, ◌++◌, length, Some, None, nat_lt, arith, Vec, Global, Bool, true, false, not, ◌||◌, cond, if◌then◌else◌, position}
+use Rattle.std.proofs.Common.{◌≡◌, refl, sym, ap, ◌∙◌, ℕ, suc, ◌+◌, ◌<◌, ◌≤◌, List, [], ◌∷◌, ◌++◌, length, Some, None, nat_lt, arith, Vec, Global, Bool, true, false, not, ◌||◌, cond, if◌then◌else◌, position}
 use Rattle.std.proofs.lemmas.List.{map-append, length-map}
-use Rattle.std.proofs.lemmas.Bool.{ltb-false}
+use Rattle.std.proofs.lemmas.Bool.{ltb-false, ltb-true}
 use Rattle.std.proofs.lemmas.List.Sums.{prefix_len-le-length}
 use Rattle.std.specs.List.{list_any, position_or_len}
 use Rattle.std.specs.Str.{bytes_eq}
@@ -33,3 +33,21 @@ at_the_end n len false e within none = let past : len ≤ n = ltb-false n len e 
 -- a text that has no number would get the next one
 pub next_place : (texts : List (List ℕ)) (q : List ℕ) → position (bytes_eq q) texts ≡ None → place_of texts q ≡ length texts
 next_place texts q none = at_the_end (place_of texts q) (length texts) (nat_lt (place_of texts q) (length texts)) refl (prefix_len-le-length _ texts) none
+
+was_found : (n len m : ℕ) (b : Bool) → nat_lt n len ≡ b → (if b then Some n else None) ≡ Some m → (n ≡ m) × (n < len)
+was_found n len m true e is = (let same : n ≡ m = cc in same, ltb-true n len e)
+was_found n len m false e is = absurd (cc)
+
+any_by : (b : Bool) (n len : ℕ) (any : Bool) → cond (not b) (1 + n) 0 < suc len → (n < len → any ≡ true) → (b || any) ≡ true
+any_by true n len any lt later = refl
+any_by false n len any lt later = later (omega (arith, lt))
+
+is_there : (q : List ℕ) (texts : List (List ℕ)) → place_of texts q < length texts → list_any (bytes_eq q) texts ≡ true
+is_there q [] lt = absurd (omega (arith, lt))
+is_there q (x ∷ xs) lt = any_by (bytes_eq q x) (place_of xs q) (length xs) (list_any (bytes_eq q) xs) lt (is_there q xs)
+
+-- a text that has a number is there
+pub found_text : (texts : List (List ℕ)) (q : List ℕ) (n : ℕ) → position (bytes_eq q) texts ≡ Some n → (texts ≡ with_text texts q) × (n ≡ place_of texts q)
+found_text texts q n is =
+    let found = was_found (place_of texts q) (length texts) n (nat_lt (place_of texts q) (length texts)) refl is in
+    (sym (ap (λ b. if b then texts else texts ++ q ∷ []) (is_there q texts found.1)), sym found.0)

@@ -49,12 +49,15 @@ impl TextTable {
         self.set.len()
     }
 
-    /// Adds the text where it is not there yet, and answers its number.
+    /// Adds the text where it is not there yet, and answers its number. A text that is there takes no memory.
     pub fn add(&mut self, alloc: Global, text: &[u8]) -> Result<usize, AllocError>
         ensures ok { OnOk result (self.new ≡ with_text self.old text.now) }
         ensures number { IfOk result (λ number. number ≡ place_of self.old text.now) }
         ensures err { OnErr result (self.new ≡ self.old) }
     {
+        if let Some(number) = self.number_of(text) {
+            return Ok(number);
+        }
         let (number, _) = self.set.insert_full(Vec::from_slice(alloc, text)?)?;
         Ok(number)
     }

@@ -1,5 +1,6 @@
 use Rattle.std.proofs.Common.{◌≡◌, ◌==◌, sym, ◌∙◌, ap, false, Some, Ok, length}
-use Rattle.fluxion_lines.specs.Words.{skipped, first_word, after_word, number_in}
+use Rattle.fluxion_lines.specs.Words.{skipped, first_word, after_word}
+use Rattle.text_forms.specs.Numbers.{number_in}
 use Rattle.fluxion_lines.specs.Commands.{is_none, asked}
 use Rattle.fluxion_lines.proofs.CommandLaws.{read_job, none_len}
 use Rattle.fluxion_lines.proofs.commands.job_and_ask.Goals as goal

@@ -2,7 +2,8 @@ use Rattle.std.proofs.Common.{◌≡◌, ◌⊎◌, inl, inr, ℕ, ◌<◌, ◌�
 use Rattle.flux_io.specs.Counts.{Rose}
 use Rattle.flux_io.specs.Stores.{file_of}
 use Rattle.fluxion_shell.specs.Forms.{Served, served_held}
-use Rattle.fluxion_shell.specs.Causes.{most_bytes, told_file, WhereTold, AppendsSome, AppendsFrontOfSome, HasFault, IsPastLimit, Shows, ShowsPrint}
+use Rattle.fluxion_shell.specs.Causes.{told_file, WhereTold, AppendsSome, AppendsFrontOfSome, HasFault, IsPastLimit, Shows, ShowsPrint}
+use Rattle.flux_defs.specs.declared.limits.TheConstants.{MOST_FILE_BYTES}
 use Rattle.fluxion_shell.specs.Outputs.{Answers, AnswersSoundly}
 use Rattle.fluxion_shell.proofs.TwoWords.{same_name, same_call, one_form, serve_name}
 use Rattle.fluxion_shell.proofs.Shown.{over_is_limit, over_is_no_graph, completes, completes_print}
@@ -48,7 +49,7 @@ returns-in-Some-clause-no_file g c = λ name is same.
 
 pub returns-in-Some-clause-graph_limit : goal.returns-in-Some-clause-graph_limit
 returns-in-Some-clause-graph_limit g c = λ name is same.
-    subst (λ (n : List ℕ). Rose (g.F.Files.refused c.args.files.now) (g.F.Files.refused c.serve.new.files) × IfSome (told_file (g.F.Files.told c.args.files.now) n) (λ file. most_bytes < length file)) (serve_name (map string_bytes c.args.words.now) (served_held c.in-Some.call) name c.in-Some.ensures is) (c.serve.ensures.graph_limit same)
+    subst (λ (n : List ℕ). Rose (g.F.Files.refused c.args.files.now) (g.F.Files.refused c.serve.new.files) × IfSome (told_file (g.F.Files.told c.args.files.now) n) (λ file. MOST_FILE_BYTES < length file)) (serve_name (map string_bytes c.args.words.now) (served_held c.in-Some.call) name c.in-Some.ensures is) (c.serve.ensures.graph_limit same)
 
 pub returns-in-Some-clause-graph : goal.returns-in-Some-clause-graph
 returns-in-Some-clause-graph g c = λ name is fault same.

@@ -3,7 +3,8 @@ use Rattle.fluxion_shell.specs.declared.status.Status.{Status}
 use Rattle.fluxion_shell.specs.declared.status.Status.TheVariants as status
 use Rattle.fluxion_shell.specs.Causes.{AppendsSome, AppendsFrontOfSome, IsPastLimit, ShowsInput, Shows, FailsWith}
 use Rattle.fluxion_lines.specs.Inputs.{over_in}
-use Rattle.fluxion_shell.specs.Outputs.{shipped, served_form, IsSoundOutput, Answers, AnswersSoundly}
+use Rattle.fluxion_shell.specs.Outputs.{served_form, IsSoundOutput, Answers, AnswersSoundly}
+use Rattle.flux_defs.specs.declared.limits.TheConstants.{SHIPPED}
 use Rattle.fluxion_shell.proofs.Shown.{shows_earlier, shows_long_input, shows_read, earlier_input, where_told, fails_limit, fails_graph, fails_limits, fails_shows, input_is_no_graph, over_is_limit, over_is_no_graph, over_is_one, size_limit, shows_over, front_of, no_fault}
 use Rattle.fluxion_shell.proofs.running.serve.Goals as goal
 
@@ -152,7 +153,7 @@ returns-in-Ok-write_all-clause-first g c =
     let name = c.args.name.now in
     let left = g.S.Source.left c.args.input.now in
     let loaded = c.in-Ok.ensures.loaded in
-    shows_read told name loaded.0 loaded.1 c.in-Ok.graph loaded.2 left c.in-Ok-read_all.lines status.Ok c.in-Ok-read_all.ensures.most c.in-Ok-read_all.ensures.whole (ap (over_in shipped c.in-Ok.graph served_form) (sym c.bytes.ensures) ∙ c.in-Ok-answer.ensures.within refl) (inl refl)
+    shows_read told name loaded.0 loaded.1 c.in-Ok.graph loaded.2 left c.in-Ok-read_all.lines status.Ok c.in-Ok-read_all.ensures.most c.in-Ok-read_all.ensures.whole (ap (over_in SHIPPED c.in-Ok.graph served_form) (sym c.bytes.ensures) ∙ c.in-Ok-answer.ensures.within refl) (inl refl)
 
 pub returns-in-Ok-write_all-clause-room : goal.returns-in-Ok-write_all-clause-room
 returns-in-Ok-write_all-clause-room g c =
@@ -185,7 +186,7 @@ returns-clause-first g c =
     let name = c.args.name.now in
     let left = g.S.Source.left c.args.input.now in
     let loaded = c.in-Ok.ensures.loaded in
-    shows_read told name loaded.0 loaded.1 c.in-Ok.graph loaded.2 left c.in-Ok-read_all.lines status.Write c.in-Ok-read_all.ensures.most c.in-Ok-read_all.ensures.whole (ap (over_in shipped c.in-Ok.graph served_form) (sym c.bytes.ensures) ∙ c.in-Ok-answer.ensures.within refl) (inr refl)
+    shows_read told name loaded.0 loaded.1 c.in-Ok.graph loaded.2 left c.in-Ok-read_all.lines status.Write c.in-Ok-read_all.ensures.most c.in-Ok-read_all.ensures.whole (ap (over_in SHIPPED c.in-Ok.graph served_form) (sym c.bytes.ensures) ∙ c.in-Ok-answer.ensures.within refl) (inr refl)
 
 pub returns-clause-room : goal.returns-clause-room
 returns-clause-room g c =
@@ -207,13 +208,13 @@ returns-in-Err-Over-clause-first g c =
     let name = c.args.name.now in
     let left = g.S.Source.left c.args.input.now in
     let loaded = c.in-Ok.ensures.loaded in
-    let past = ap (over_in shipped c.in-Ok.graph served_form) (sym c.bytes.ensures) ∙ c.answer.ensures.over c.in-Err-Over.over (c.in-Err-Over.is ∙ ap Err c.in-Err-Over.field-0-is) in
+    let past = ap (over_in SHIPPED c.in-Ok.graph served_form) (sym c.bytes.ensures) ∙ c.answer.ensures.over c.in-Err-Over.over (c.in-Err-Over.is ∙ ap Err c.in-Err-Over.field-0-is) in
     subst (λ (r : Status). Shows r told name left) (sym c.limit_of.ensures)
     (shows_over told name loaded.0 loaded.1 c.in-Ok.graph loaded.2 left c.in-Ok-read_all.lines c.in-Err-Over.over c.in-Ok-read_all.ensures.most c.in-Ok-read_all.ensures.whole past)
 
 pub returns-in-Err-Over-clause-line_limit : goal.returns-in-Err-Over-clause-line_limit
 returns-in-Err-Over-clause-line_limit g c = λ over by_size same.
-    let past = ap (over_in shipped c.in-Ok.graph served_form) (sym c.bytes.ensures) ∙ c.answer.ensures.over c.in-Err-Over.over (c.in-Err-Over.is ∙ ap Err c.in-Err-Over.field-0-is) in
+    let past = ap (over_in SHIPPED c.in-Ok.graph served_form) (sym c.bytes.ensures) ∙ c.answer.ensures.over c.in-Err-Over.over (c.in-Err-Over.is ∙ ap Err c.in-Err-Over.field-0-is) in
     size_limit (g.S.Source.left c.args.input.now) c.in-Ok-read_all.lines c.in-Ok.graph over c.in-Ok-read_all.ensures.whole by_size
     (past ∙ ap Some (over_is_one c.in-Err-Over.over over (sym c.limit_of.ensures ∙ same)))
 
@@ -221,6 +222,6 @@ pub returns-in-Err-Over-clause-past_limit : goal.returns-in-Err-Over-clause-past
 returns-in-Err-Over-clause-past_limit g c = λ over same.
     let told = g.F.Files.told c.args.files.now in
     let loaded = c.in-Ok.ensures.loaded in
-    let past = ap (over_in shipped c.in-Ok.graph served_form) (sym c.bytes.ensures) ∙ c.answer.ensures.over c.in-Err-Over.over (c.in-Err-Over.is ∙ ap Err c.in-Err-Over.field-0-is) in
+    let past = ap (over_in SHIPPED c.in-Ok.graph served_form) (sym c.bytes.ensures) ∙ c.answer.ensures.over c.in-Err-Over.over (c.in-Err-Over.is ∙ ap Err c.in-Err-Over.field-0-is) in
     where_told told c.args.name.now loaded.0 loaded.1 (g.S.Source.left c.args.input.now) c.in-Ok-read_all.lines (λ file lines. IsPastLimit file lines over) c.in-Ok-read_all.ensures.whole
     (c.in-Ok.graph, loaded.2, past ∙ ap Some (over_is_one c.in-Err-Over.over over (sym c.limit_of.ensures ∙ same)))

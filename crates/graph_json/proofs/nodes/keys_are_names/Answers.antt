@@ -4,8 +4,8 @@ use Rattle.std.proofs.lemmas.Iterator.Search.{all_from_yields_List}
 use Rattle.std.proofs.lemmas.Iterator.Consumers.{YieldsList-from_rest}
 use Rattle.serde_json.specs.View.{members_view}
 use Rattle.serde_json.proofs.Views.{Entry}
-use Rattle.graph_json.specs.Fields.{is_name}
-use Rattle.graph_json.specs.Nodes.{keys_of}
+use Rattle.text_forms.specs.Names.{is_name}
+use Rattle.json_fields.specs.Values.{keys_of}
 use Rattle.graph_json.proofs.nodes.keys_are_names.Goals as goal
 
 by_entries : (es : List Entry) → list_all (λ k. is_name 255 (string_bytes k)) (map (λ e. e.0) es) ≡ list_all (is_name 255) (keys_of (members_view es))

@@ -1,6 +1,7 @@
 use Rattle.std.proofs.Common.{◌≡◌, map, drop, fold}
 use Rattle.graph_json.specs.Nodes.{node_held}
-use Rattle.graph_json.specs.RawLists.{with_text, kinds_of}
+use Rattle.graph_json.specs.RawLists.{kinds_of}
+use Rattle.text_table.specs.Tables.{with_text}
 use Rattle.graph_json.proofs.raw_lists.kind_table.Given as goal
 
 abbrev pub invariant-nodes : goal.invariant-nodes

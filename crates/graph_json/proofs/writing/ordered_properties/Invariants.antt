@@ -3,7 +3,7 @@ use Rattle.std.specs.Ordering.{nat_cmp}
 use Rattle.std.specs.Cmp.Lexicographic.{slice_cmp}
 use Rattle.std.specs.BTreeSet.{insert_key}
 use Rattle.graph_json.specs.Nodes.{in_order}
-use Rattle.graph_json.specs.WrittenGraph.{readable}
+use Rattle.json_written.specs.Texts.{readable}
 use Rattle.graph_json.proofs.writing.ordered_properties.Given as goal
 
 abbrev pub invariant-texts : goal.invariant-texts

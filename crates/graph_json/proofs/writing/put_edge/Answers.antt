@@ -1,4 +1,4 @@
-use Rattle.graph_json.proofs.WriterLaws.{wrote, and_then}
+use Rattle.json_written.proofs.WriterLaws.{wrote, and_then}
 use Rattle.graph_json.proofs.writing.put_edge.Goals as goal
 
 pub returns : goal.returns

@@ -1,6 +1,6 @@
 use Rattle.std.proofs.Common.{◌≡◌, ◌++◌, drop}
 use Rattle.graph_json.specs.WrittenGraph.{edges_data}
-use Rattle.graph_json.specs.WrittenTokens.{rest_tokens}
+use Rattle.json_written.specs.Tokens.{rest_tokens}
 use Rattle.graph_json.proofs.writing.put_edges.Given as goal
 
 abbrev pub invariant-edges : goal.invariant-edges

@@ -3,18 +3,15 @@ use Rattle.std.specs.Option.{option_map_or}
 use Rattle.flux_defs.specs.declared.vertices.Vertex.{Vertex}
 use Rattle.resource_graph.specs.NamedGraph.{NamedGraph}
 use Rattle.graph_json.specs.WrittenGraph.{node_data, nodes_data}
-use Rattle.graph_json.specs.WrittenTokens.{value_tokens, rest_tokens, node_tokens}
+use Rattle.graph_json.specs.WrittenTokens.{node_tokens}
+use Rattle.json_written.specs.Tokens.{value_tokens, rest_tokens}
+use Rattle.list_laws.proofs.Lists.{drop_here}
 use Rattle.graph_json.proofs.writing.put_nodes.Goals as goal
 
 past : {A : Type 0} (xs : List A) (k : ℕ) → k < length xs → slice_get xs k ≡ None → ⊥
 past [] k within e = absurd (omega arith)
 past (x ∷ xs) zero within e = cc
 past (x ∷ xs) (suc k) within e = past xs k (omega arith) e
-
-drop_item : {A : Type 0} (xs : List A) (k : ℕ) (x : A) → slice_get xs k ≡ Some x → drop k xs ≡ x ∷ drop (k + 1) xs
-drop_item [] k x e = cc
-drop_item (y ∷ ys) zero x e = let same : y ≡ x = cc in ap (λ z. z ∷ ys) same
-drop_item (y ∷ ys) (suc k) x e = let next : suc (k + 1) ≡ suc k + 1 = omega arith in drop_item ys k x e ∙ ap (λ n. x ∷ drop n (y ∷ ys)) next
 
 -- the tokens of one vertex, and then those of the others
 one_node : (g : NamedGraph) (v : ℕ) (xs : List Vertex) → v < length xs
@@ -23,7 +20,7 @@ one_node g v xs within = by (slice_get xs v) refl
   where
     here : (x : Vertex) → slice_get xs v ≡ Some x → value_tokens (node_data g v x) ++ rest_tokens (nodes_data g (v + 1) (drop (v + 1) xs)) ≡ rest_tokens (nodes_data g v (drop v xs))
     here x at =
-        let split : drop v xs ≡ x ∷ drop (v + 1) xs = drop_item xs v x at in
+        let split : drop v xs ≡ x ∷ drop (v + 1) xs = drop_here xs v x at in
         let next : v + 1 ≡ suc v = omega arith in
         let whole : value_tokens (node_data g v x) ++ rest_tokens (nodes_data g (suc v) (drop (v + 1) xs)) ≡ rest_tokens (nodes_data g v (drop v xs)) = ap (λ ys. rest_tokens (nodes_data g v ys)) (sym split) in
         ap (λ n. value_tokens (node_data g v x) ++ rest_tokens (nodes_data g n (drop (v + 1) xs))) next ∙ whole

@@ -1,8 +1,9 @@
 use Rattle.std.proofs.Common.{◌≡◌, refl, ap, subst, ◌∙◌, ℕ, List, [], ◌∷◌, ◌++◌, map, codes}
 use Rattle.json.specs.Token.{Token, end_object}
 use Rattle.graph_json.specs.WrittenGraph.{keys_object}
-use Rattle.graph_json.specs.WrittenTokens.{Adds, keys_tokens, member_tokens}
-use Rattle.graph_json.proofs.WriterLaws.{wrote, and_then}
+use Rattle.graph_json.specs.WrittenTokens.{keys_tokens}
+use Rattle.json_written.specs.Tokens.{Adds, member_tokens}
+use Rattle.json_written.proofs.WriterLaws.{wrote, and_then}
 use Rattle.graph_json.proofs.writing.put_properties.Goals as goal
 
 closed : (keys : List (List ℕ)) → keys_tokens keys ++ end_object ∷ [] ≡ member_tokens (keys_object keys)

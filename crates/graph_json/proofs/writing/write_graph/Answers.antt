@@ -2,8 +2,8 @@ use Rattle.std.proofs.Common.{ap, ◌∙◌, ◌++◌}
 use Rattle.json.specs.Print.{print}
 use Rattle.serde_json.proofs.Texts.{print-outline}
 use Rattle.graph_json.specs.WrittenGraph.{lists_data, graph_data, graph_text}
-use Rattle.graph_json.specs.WrittenTokens.{Adds, value_tokens}
-use Rattle.graph_json.proofs.WriterLaws.{wrote, and_then}
+use Rattle.json_written.specs.Tokens.{Adds, value_tokens}
+use Rattle.json_written.proofs.WriterLaws.{wrote, and_then}
 use Rattle.graph_json.proofs.writing.write_graph.Goals as goal
 
 pub returns : goal.returns

@@ -9,9 +9,11 @@ use Rattle.need_shape.specs.Requests.{is_slot, AreRequests}
 use Rattle.jobspec_v1.specs.declared.faults.SpecFault.{SpecFault}
 use Rattle.jobspec_v1.specs.declared.headers.VertexKey.TheVariants as key
 use Rattle.jobspec_v1.specs.Faults.{IsFirstFault, vertex_path}
-use Rattle.jobspec_v1.specs.Requests.{requests_of, labels_with, said_held, behind, Requested}
+use Rattle.jobspec_v1.specs.Requests.{requests_of, labels_with, said_held, behind}
+use Rattle.jobspec_v1.specs.declared.requests.Requested.{Requested}
 use Rattle.jobspec_v1.proofs.SaidLaws.{said_is}
-use Rattle.jobspec_v1.proofs.RequestLaws.{at_depth, is_request, pushed, next_read, one_read, one_told}
+use Rattle.jobspec_v1.proofs.RequestLaws.{is_request, pushed, next_read, one_read, one_told}
+use Rattle.json_fields.proofs.Depths.{at_depth}
 use Rattle.jobspec_v1.proofs.requests.+requests.Goals as goal
 
 pub read_request-read_requests-requires : goal.read_request-read_requests-requires
@@ -69,7 +71,7 @@ read_requests-values-preserved t c =
     let here : drop c.values.at vs ≡ x ∷ drop (c.values.at + 1) vs = drop_more vs c.values.at x (omega arith) ∙ ap (λ y. y ∷ drop (c.values.at + 1) vs) (sym c.index-values-at.is) in
     let next = next_read c.values.needs.items (view x) (items_view (drop (c.values.at + 1) vs)) c.args.in_slot c.args.list.now c.values.at c.values.labels (record { needs = c.in-Ok.need ∷ []; labels = c.read_request.new.labels }) c.in-Ok.ensures.read in
     let here_read = ap (λ ys. result_map_both (behind c.values.needs.items) (λ f. f) (requests_of (items_view ys) c.args.in_slot c.args.list.now c.values.at c.values.labels)) (sym here) in
-    let more = c.in_ok-push_request-in-Ok.ensures in
+    let more = c.in_ok-push-in-Ok.ensures.ok in
     record {
       read = ap (λ ns. result_map_both (behind ns) (λ f. f) (requests_of (items_view (drop (c.values.at + 1) vs)) c.args.in_slot c.args.list.now (c.values.at + 1) c.read_request.new.labels)) more
           ∙ (next ∙ (here_read ∙ c.values.invariant.read));

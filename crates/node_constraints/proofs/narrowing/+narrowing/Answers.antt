@@ -10,13 +10,13 @@ use Rattle.node_constraints.specs.Faults.{fault_at, keys_fault, key_fault, items
 use Rattle.node_constraints.specs.Narrowing.{where_true}
 use Rattle.node_constraints.proofs.FilterLaws.{filter_all, others_of_others}
 use Rattle.node_constraints.proofs.FaultLaws.{later_is}
-use Rattle.node_constraints.proofs.StepLaws.{at_depth, is_object, narrowed_twice, neither_left, none_given, some_given}
+use Rattle.node_constraints.proofs.StepLaws.{is_object, narrowed_twice, neither_left, none_given, some_given}
+use Rattle.json_fields.proofs.Depths.{at_depth}
 use Rattle.node_constraints.proofs.narrowing.+narrowing.Goals as goal
 
 pub narrow-members-preserved : goal.narrow-members-preserved
 narrow-members-preserved t c =
     let g = c.args.graph.now in
-    let path = c.args.path.now in
     let e : Entry = (c.in-Some-2.key.now, c.in-Some-2.value.now) in
     let left = c.next.new.self in
     let steps : c.members.key-iterator ≡ e ∷ left = c.in-Some-2.ensures.steps in
@@ -28,9 +28,9 @@ narrow-members-preserved t c =
           ∙ (narrowed_twice g (λ n. key_is_true n (key_of text) (view e.1)) (λ n. each_key n (members_view left)) old
           ∙ (ap (λ k. where_true g (λ n. key_is_true n (key_of k) (view e.1) && each_key n (members_view left)) old) name
           ∙ (ap (λ es. where_true g (λ n. each_key n (members_view es)) old) (sym steps) ∙ c.members.invariant.kept)));
-      found = sym (later_is (key_fault path text (key_of text) (view e.1)) (keys_fault path (members_view left)) c.in_ok-narrow_by_key.ensures.found)
+      found = λ path. sym (later_is (key_fault path text (key_of text) (view e.1)) (keys_fault path (members_view left)) (c.in_ok-narrow_by_key.ensures.found path))
           ∙ (ap (λ k. option_or (key_fault path k (key_of k) (view e.1)) (keys_fault path (members_view left))) name
-          ∙ (ap (λ es. keys_fault path (members_view es)) (sym steps) ∙ c.members.invariant.found));
+          ∙ (ap (λ es. keys_fault path (members_view es)) (sym steps) ∙ c.members.invariant.found path));
       less =
           let here : members_depth (members_view c.members.key-iterator) ≡ max (depth (view e.1)) (members_depth (members_view left)) = ap (λ es. members_depth (members_view es)) steps in
           omega (arith, here, c.members.invariant.less);
@@ -59,20 +59,17 @@ pub narrow_by_each-values-preserved : goal.narrow_by_each-values-preserved
 narrow_by_each-values-preserved t c =
     let g = c.args.graph.now in
     let vs = c.args.values.now in
-    let list = c.args.list.now in
     let at = c.values.at in
     let x = c.index-values-at.result in
     let old = c.values.nodes.items in
     let rest = items_view (drop (at + 1) vs) in
     let here : drop at vs ≡ x ∷ drop (at + 1) vs = drop_more vs at x (omega arith) ∙ ap (λ y. y ∷ drop (at + 1) vs) (sym c.index-values-at.is) in
-    let path : c.bytes.result.now ≡ list ++ index at = c.bytes.ensures ∙ c.in_ok-path.ensures in
     record {
-      kept = ap (where_true g (λ n. each_true n rest)) c.in_ok-narrow.ensures.kept
+      kept = ap (where_true g (λ n. each_true n rest)) c.in-Ok.ensures.kept
           ∙ (narrowed_twice g (λ n. is_true n (view x)) (λ n. each_true n rest) old
           ∙ (ap (λ ys. where_true g (λ n. each_true n (items_view ys)) old) (sym here) ∙ c.values.invariant.kept));
-      found = sym (later_is (fault_at c.bytes.result.now (view x)) (items_fault list (at + 1) rest) c.in_ok-narrow.ensures.found)
-          ∙ (ap (λ p. option_or (fault_at p (view x)) (items_fault list (at + 1) rest)) path
-          ∙ (ap (λ ys. items_fault list at (items_view ys)) (sym here) ∙ c.values.invariant.found));
+      found = λ list. sym (later_is (fault_at (list ++ index at) (view x)) (items_fault list (at + 1) rest) (c.in-Ok.ensures.found (list ++ index at)))
+          ∙ (ap (λ ys. items_fault list at (items_view ys)) (sym here) ∙ c.values.invariant.found list);
     }
 
 pub narrow_by_each-returns-clause-kept : goal.narrow_by_each-returns-clause-kept
@@ -92,21 +89,18 @@ pub narrow_by_none-values-preserved : goal.narrow_by_none-values-preserved
 narrow_by_none-values-preserved t c =
     let g = c.args.graph.now in
     let vs = c.args.values.now in
-    let list = c.args.list.now in
     let at = c.values.at in
     let x = c.index-values-at.result in
     let old = c.values.nodes.items in
     let rest = items_view (drop (at + 1) vs) in
     let here : drop at vs ≡ x ∷ drop (at + 1) vs = drop_more vs at x (omega arith) ∙ ap (λ y. y ∷ drop (at + 1) vs) (sym c.index-values-at.is) in
-    let path : c.bytes.result.now ≡ list ++ index at = c.bytes.ensures ∙ c.in_ok-path.ensures in
-    let taken = c.in_ok-take_away.ensures (λ v. is_true (facts_of g v) (view x)) (c.as_slice.ensures.value ∙ (c.in_ok-narrow.ensures.kept ∙ ap (where_true g (λ n. is_true n (view x))) c.in_ok-some.ensures)) in
+    let taken = c.in_ok-take_away.ensures (λ v. is_true (facts_of g v) (view x)) (c.as_slice.ensures.value ∙ (c.in-Ok.ensures.kept ∙ ap (where_true g (λ n. is_true n (view x))) c.in_ok-some.ensures)) in
     record {
       kept = ap (where_true g (λ n. not (some_true n rest))) taken
           ∙ (neither_left g (λ n. is_true n (view x)) (λ n. some_true n rest) old
           ∙ (ap (λ ys. where_true g (λ n. not (some_true n (items_view ys))) old) (sym here) ∙ c.values.invariant.kept));
-      found = sym (later_is (fault_at c.bytes.result.now (view x)) (items_fault list (at + 1) rest) c.in_ok-narrow.ensures.found)
-          ∙ (ap (λ p. option_or (fault_at p (view x)) (items_fault list (at + 1) rest)) path
-          ∙ (ap (λ ys. items_fault list at (items_view ys)) (sym here) ∙ c.values.invariant.found));
+      found = λ list. sym (later_is (fault_at (list ++ index at) (view x)) (items_fault list (at + 1) rest) (c.in-Ok.ensures.found (list ++ index at)))
+          ∙ (ap (λ ys. items_fault list at (items_view ys)) (sym here) ∙ c.values.invariant.found list);
     }
 
 pub narrow_by_none-returns-clause-kept : goal.narrow_by_none-returns-clause-kept

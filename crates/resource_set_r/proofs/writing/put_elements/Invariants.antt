@@ -1,5 +1,5 @@
 use Rattle.std.proofs.Common.{◌≡◌, ◌++◌, drop}
-use Rattle.graph_json.specs.WrittenTokens.{rest_tokens}
+use Rattle.json_written.specs.Tokens.{rest_tokens}
 use Rattle.resource_set_r.specs.WrittenR.{elements_data}
 use Rattle.resource_set_r.proofs.writing.put_elements.Given as goal
 

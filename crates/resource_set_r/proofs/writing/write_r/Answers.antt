@@ -6,8 +6,8 @@ use Rattle.serde_json.specs.Data.{member, no_members, number, unsigned}
 use Rattle.serde_json.proofs.Texts.{print-outline}
 use Rattle.flux_defs.specs.declared.claims.Claim.{Claim}
 use Rattle.flux_defs.specs.Jobs.{vertex_of}
-use Rattle.graph_json.specs.WrittenTokens.{Adds, value_tokens, member_tokens}
-use Rattle.graph_json.proofs.WriterLaws.{wrote, and_then}
+use Rattle.json_written.specs.Tokens.{Adds, value_tokens, member_tokens}
+use Rattle.json_written.proofs.WriterLaws.{wrote, and_then}
 use Rattle.resource_set_r.specs.Rows.{is_other_than, is_other, elements_of, type_called}
 use Rattle.resource_set_r.specs.WrittenR.{execution_of, execution_data, nodelist, r_data, r_text}
 use Rattle.resource_set_r.specs.WrittenRTokens.{scheduling_tokens}
@@ -48,7 +48,7 @@ returns c =
     subst (λ (cs : List Claim). Adds c.put_execution.new.writer c.put_others.new.writer (scheduling_tokens g cs)) others c.in_ok-put_others.ensures in
     let last = member (codes "version") (number (unsigned 1)) no_members in
     let rest : Adds c.put_execution.new.writer c.end_object.new.self (scheduling_tokens g (filter (is_other g.resources) job.claims) ++ member_tokens last) =
-    and_then scheduling (and_then c.in_ok-put_number.ensures (wrote c.in_ok-end_object.ensures)) in
+    and_then scheduling (and_then c.in_ok-put_number.ensures.ok (wrote c.in_ok-end_object.ensures)) in
     let rest_is = subst (λ (ts : List Token). Adds c.put_execution.new.writer c.end_object.new.self ts) (sym (scheduling_split g (filter (is_other g.resources) job.claims) last)) rest in
     let all : Adds c.new-writer.result c.end_object.new.self (value_tokens (r_data g job)) =
     and_then (wrote c.in_ok-begin_object.ensures) (and_then (wrote c.in_ok-key.ensures) (and_then execution rest_is)) in

@@ -1,0 +1,4 @@
+pub mod WriterLaws
+pub mod PlainLaws
+pub mod PlainText
+pub mod ClearText

@@ -1,0 +1,2 @@
+//! Laws of lists and tests that several proofs rest on.
+#![tactic(auto)]
