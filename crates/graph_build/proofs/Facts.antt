@@ -125,8 +125,43 @@ facts g names (few, (few_kinds, (parents, (known, (root, (alone, (ends, (shallow
 }
 
 pub faultless : (g : ResourceGraph) (names : List (List ℕ)) → Facts g names → IsFaultless g names
-faultless g names f =
-    (λ n over. (let le = f.few in let is = over.0 in let more = over.1 in omega arith),
-    (λ n over. (let le = f.few_kinds in let is = over.0 in let more = over.1 in omega arith),
-    (f.parents, (f.known, (λ n none. none.1 f.root.0 f.root.1, (f.alone, (f.ends, (f.shallow, (f.unnested, (f.unreserved, (f.leaves, (f.whole, (f.most,
-    (λ v loose. loose.1 (f.housed v loose.0), (f.identified, (f.ids, (f.names_apart, (f.ranks, tt))))))))))))))))))
+faultless g names f = (
+  λ n over. (let le = f.few in let is = over.0 in let more = over.1 in omega arith),
+  (
+    λ n over. (let le = f.few_kinds in let is = over.0 in let more = over.1 in omega arith),
+    (
+      f.parents,
+      (
+        f.known,
+        (
+          λ n none. none.1 f.root.0 f.root.1,
+          (
+            f.alone,
+            (
+              f.ends,
+              (
+                f.shallow,
+                (
+                  f.unnested,
+                  (
+                    f.unreserved,
+                    (
+                      f.leaves,
+                      (
+                        f.whole,
+                        (
+                          f.most,
+                          (λ v loose. loose.1 (f.housed v loose.0), (f.identified, (f.ids, (f.names_apart, (f.ranks, tt))))),
+                        ),
+                      ),
+                    ),
+                  ),
+                ),
+              ),
+            ),
+          ),
+        ),
+      ),
+    ),
+  ),
+)

@@ -48,11 +48,7 @@ fn build_faultless(
 /// their first vertices, those without one dropped. Where no node has a rank they get 0, 1, 2 and so on in preorder;
 /// the rank of a vertex that is no node is dropped. Or else the first fault of the list, in the order of `GraphFault`,
 /// with the least index at which it holds. Near-linear in the vertices.
-pub fn build(
-    alloc: Global,
-    kinds: List<Text>,
-    raw: List<RawVertex>,
-) -> Result<Graph, GraphFault>
+pub fn build(alloc: Global, kinds: List<Text>, raw: List<RawVertex>) -> Result<Graph, GraphFault>
     requires apart { KindsApart kinds }
     ensures built { IfOk result (λ graph. IsBuiltFrom kinds raw graph) }
     ensures faultless { OnOk result (IsFaultless (raw_graph kinds raw) (raw_names raw)) }

@@ -183,9 +183,8 @@ fn first_unranked(kinds: &[Text], vertices: &[Vertex]) -> Option<usize>
     ensures first { IsFirstOf (IsUnranked (graph_in kinds.now vertices.now)) result }
     ensures within { IfSome result (λ v. v < length vertices.now) }
 {
-    vertices
-        .iter()
-        .position(|vertex| vertex.rank.is_none() && is_called(kinds, vertex.kind, b"node"))
+    vertices.iter().position(|vertex| vertex.rank.is_none()
+        && is_called(kinds, vertex.kind, b"node"))
 }
 
 /// Where some node has a rank, the first node without one or with that of an earlier node.

@@ -86,7 +86,5 @@ pub(crate) fn first_unnamed(kinds: &[Text], vertices: &[Vertex]) -> Option<usize
     ensures first { IsFirstOf (HasNoId (graph_in kinds.now vertices.now)) result }
     ensures within { IfSome result (λ v. v < length vertices.now) }
 {
-    vertices
-        .iter()
-        .position(|vertex| vertex.id.is_none() && is_device(kinds, vertex.kind))
+    vertices.iter().position(|vertex| vertex.id.is_none() && is_device(kinds, vertex.kind))
 }

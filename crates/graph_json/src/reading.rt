@@ -18,14 +18,14 @@ ghost use Rattle.graph_json.specs.GraphText.{IsValueOf, IsGraphText, IsFirstFaul
 
 use crate::edges::{EdgeFault, join_edges};
 use crate::faults::ReadFault;
+use crate::field_paths::{FieldPath, FileMisfit, path_text};
 use crate::ids::id_table;
 use crate::nodes::{NodeFields, NodesFault, nodes_of};
-use crate::field_paths::{FieldPath, FileMisfit, path_text};
 use crate::raw_lists::{kind_table, table_texts, vertices_of};
 use flux_defs::MOST_VERTICES;
+use graph_build::{GraphFault, build};
 use json_fields::{at_field, list_field, object_field, object_value};
 use json_whole::{ValueFault, read_value};
-use graph_build::{GraphFault, build};
 use resource_graph::Graph;
 use serde_json::Value;
 use std::alloc::{AllocError, Global};

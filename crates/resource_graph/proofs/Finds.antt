@@ -45,4 +45,3 @@ finds_position {X} p xs found e = subst (IsFirstOf (Passes p xs)) (sym e) (at (l
 pub finds_same : (P Q : ℕ → Type 0) (found : Option ℕ) → ((v : ℕ) → P v → Q v) → ((v : ℕ) → Q v → P v) → IsFirstOf P found → IsFirstOf Q found
 finds_same P Q None f g none = λ v q. none v (g v q)
 finds_same P Q (Some v) f g first = (f v first.0, λ u lt q. first.1 u lt (g u q))
-

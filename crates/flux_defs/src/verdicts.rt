@@ -1,12 +1,12 @@
 //! What a search finds.
-
-use earliest_search::Found;
+use crate::claims::Claim;
+use crate::lists::List;
 
 /// What the scheduler would reply, room for the claims left aside.
 #[derive(Debug, Drop)]
 pub enum Verdict {
-    /// A start and the claims there.
-    Found(Found),
+    /// A start, in seconds, and the claims there.
+    Found { start: u64, claims: List<Claim> },
     /// Nothing fits: now, or at any start before the horizon.
     NoFit,
     /// The graph without jobs could not serve it.
