@@ -11,10 +11,6 @@ is_node_at vertices v = option_map_or (λ x. is_some x.rank) (slice_get vertices
 abbrev pub AreNodesOf : List Vertex → List ℕ → Type 0
 AreNodesOf vertices barred = (i : ℕ) → i < length barred → is_node_at vertices (slice_index barred i) ≡ true
 
--- each number of the list is less than each later one
-abbrev pub RisesStrictly : List ℕ → Type 0
-RisesStrictly list = (i j : ℕ) → i < j → j < length list → slice_index list i < slice_index list j
-
 -- u is the least number of the list from `from` on
 pub record IsLeastFrom (list : List ℕ) (from u : ℕ) : Type 0 where
   pub there : (i : ℕ) × (i < length list) × (slice_index list i ≡ u)
@@ -22,5 +18,5 @@ pub record IsLeastFrom (list : List ℕ) (from u : ℕ) : Type 0 where
   pub least : (i : ℕ) → i < length list → from ≤ slice_index list i → u ≤ slice_index list i
 
 -- the least number of the list from `from` on, and none exactly where all are less
-abbrev pub FindsLeast : List ℕ → ℕ → Option ℕ → Type 0
-FindsLeast list from found = MatchOption found ((i : ℕ) → i < length list → slice_index list i < from) (IsLeastFrom list from)
+abbrev pub IsLeastOrNone : List ℕ → ℕ → Option ℕ → Type 0
+IsLeastOrNone list from found = MatchOption found ((i : ℕ) → i < length list → slice_index list i < from) (IsLeastFrom list from)

@@ -1,12 +1,15 @@
 //! A rising list of numbers.
-ghost use Rattle.dfu_match.specs.Bars.{RisesStrictly, FindsLeast};
+ghost use Rattle.std.specs.List.Sorted.{IsStrictlyIncreasing};
+ghost use Rattle.dfu_match.specs.Bars.{IsLeastOrNone};
+
+use resource_graph::rising::place_of;
 
 /// The least number of a rising list from `from` on.
 pub(crate) fn least_from(list: &[u32], from: u32) -> Option<u32>
-    requires { RisesStrictly list.now }
-    ensures { FindsLeast list.now from result }
+    requires { IsStrictlyIncreasing list.now }
+    ensures { IsLeastOrNone list.now from result }
 {
-    let index = list.partition_point(|number| *number < from);
+    let index = place_of(list, from);
     if index == list.len() {
         return None;
     }

@@ -3,13 +3,13 @@ ghost use Rattle.std.specs.Prelude.{◌≡◌, ◌+◌, ◌*◌, ◌<◌, ◌≤
 ghost use Rattle.flux_defs.specs.declared.vertices.Vertex.{Vertex};
 ghost use Rattle.flux_defs.specs.declared.claims.Claim.{Claim};
 ghost use Rattle.flux_defs.specs.declared.claims.Job.{Job};
-ghost use Rattle.flux_defs.specs.Graph.{Scope, Beneath, IsIn};
+ghost use Rattle.flux_defs.specs.Graph.{Scope, IsIn};
 ghost use Rattle.flux_defs.specs.Needs.{IsOfNeed, IsValidNeed, AreValidNeeds};
 ghost use Rattle.flux_defs.specs.Lowest.{CanServe};
 ghost use Rattle.match_laws.specs.Offers.{IsGreatest, SomeGroup, SomeFits};
 ghost use Rattle.dfu_match.specs.Searches.{open_to, scope_of, IsScope, MayAsk, MayScale};
 
-use crate::scopes::{amount_of, kind_of, span_of};
+use crate::scopes::{kind_of, span_of};
 use crate::search::{Search, admits, free};
 use flux_defs::{FreeView, List, Need, Steps};
 use std::sync::ledger::Ledger;
@@ -74,47 +74,41 @@ pub(crate) fn serves<F: FreeView, L: Ledger>(
             if !admits(s, *hold, vertex, steps) {
                 return 0;
             }
-            copies(s, needs, vertex, 1, steps)
+            copies(s, needs, Some(vertex), 1, steps)
         }
         Need::Pool { .. } => u128::from(free(s, vertex, steps)).min(most) as u64,
         Need::Spread { needs, .. } => {
             if !admits(s, false, vertex, steps) {
                 return 0;
             }
-            copies(s, needs, vertex, most as u64, steps)
+            copies(s, needs, Some(vertex), most as u64, steps)
         }
     }
 }
 
-/// The greatest number of copies of the needs that fit below the vertex, at most so many: each need bounds it by what it
+/// The greatest number of copies of the needs that fit in the scope, at most so many: each need bounds it by what it
 /// can be filled with.
 #[cycle(counting)]
 pub(crate) fn copies<F: FreeView, L: Ledger>(
     s: &Search<F>,
     needs: &List<Need>,
-    vertex: u32,
+    scope: Option<u32>,
     most: u64,
     steps: &mut Steps<L>,
 ) -> u64
-    requires vertex { vertex < length s.now.graph.now.resources.vertices }
+    requires scope { IsScope s.now.graph.now.resources.vertices scope }
     requires valid { AreValidNeeds s.now.graph.now.resources.vertices needs.now }
     requires may { MayScale most needs.now }
     ensures within { result ≤ most }
     ensures greatest { (jobs : List Job) → F.stands_for s.now.view.now jobs →
         (let vs : List Vertex = s.now.graph.now.resources.vertices in
         let ok : Claim → Type 0 = open_to vs jobs s.now.barred.now s.now.window in
-        IsGreatest (SomeFits vs ok (Beneath vertex) needs.now) most result) }
+        IsGreatest (SomeFits vs ok (scope_of scope) needs.now) most result) }
 {
     let mut best = most;
     for need in needs.items() {
-        let amount = amount_of(need);
-        let reached = reach(
-            s,
-            need,
-            Some(vertex),
-            u128::from(best) * u128::from(amount),
-            steps,
-        );
+        let amount = need.amount();
+        let reached = reach(s, need, scope, u128::from(best) * u128::from(amount), steps);
         best = whole_times(reached, amount, best);
         if best == 0 {
             return 0;

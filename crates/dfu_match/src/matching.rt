@@ -1,15 +1,40 @@
-//! The match of an ask.
-ghost use Rattle.std.specs.Prelude.{◌≡◌, ◌<◌, List, IfOk, MatchOption};
+//! The match of an ask, and whether it has one.
+ghost use Rattle.std.specs.Prelude.{◌≡◌, ◌<◌, ◌↔◌, IsTrue, List, IfOk, MatchOption};
 ghost use Rattle.flux_defs.specs.declared.claims.Job.{Job};
 ghost use Rattle.flux_defs.specs.Needs.{IsProperAsk};
 ghost use Rattle.flux_defs.specs.Asks.{SomeFit, IsLowestFirst};
 
+use crate::counting::copies;
 use crate::search::Search;
 use crate::writing::write_needs;
 use flux_defs::{Ask, Claim, FreeView, List, Steps, Window};
 use resource_graph::Graph;
 use std::alloc::{AllocError, Global};
 use std::sync::ledger::Ledger;
+
+/// Whether some claims of the ask fit over the window, in seconds, where `view` tells what is free of the graph. It takes
+/// no memory.
+pub fn some_fit<F: FreeView, L: Ledger>(
+    graph: &Graph,
+    view: &F,
+    ask: &Ask,
+    window: Window,
+    steps: &mut Steps<L>,
+) -> bool
+    requires over { F.graph view.now ≡ graph.now.resources.vertices }
+    requires proper { IsProperAsk graph.now.resources.vertices ask.now }
+    requires opens { window.from < window.to }
+    ensures { (jobs : List Job) → F.stands_for view.now jobs →
+        (IsTrue result ↔ SomeFit graph.now.resources.vertices jobs ask.now window) }
+{
+    let search = Search {
+        graph,
+        view,
+        barred: &ask.barred,
+        window,
+    };
+    copies(&search, &ask.needs, None, 1, steps) > 0
+}
 
 /// The lowest-first claims of the ask over the window, in seconds, where `view` tells what is free of the graph; `None`
 /// exactly where no claims fit (RFC 14's request over RFC 4's graph). The only error is want of memory.

@@ -3,8 +3,8 @@ ghost use Rattle.std.specs.Prelude.{◌≡◌, ℕ, ◌↔◌, IsTrue};
 ghost use Rattle.std.specs.List.{AllByRecursion};
 ghost use Rattle.flux_defs.specs.Graph.{IsNode};
 ghost use Rattle.flux_defs.specs.Needs.{IsSpread, HasNoSpread, AreApartKinds, IsValidNeed, AreValidNeeds, AreRisingFrom, IsProperAsk};
-ghost use Rattle.dfu_match.specs.Kinds.{IsOnlyKind};
 
+use crate::scopes::kind_of;
 use flux_defs::{Ask, List, Need};
 use resource_graph::Graph;
 
@@ -113,15 +113,14 @@ fn is_apart_from(graph: &Graph, need: &Need, others: &[Need]) -> bool
 fn are_apart(graph: &Graph, need: &Need, other: &Need) -> bool
     ensures { IsTrue result ↔ AreApartKinds graph.now.resources.vertices need.now other.now }
 {
-    // this call tells that the graph is valid
-    let _valid = graph.vertices();
+    graph.is_valid();
     if are_spreads(need, other) {
         return false;
     }
-    let Some(kind) = only_kind(graph, need) else {
+    let Some(kind) = kind_of(graph, need) else {
         return true;
     };
-    let Some(other_kind) = only_kind(graph, other) else {
+    let Some(other_kind) = kind_of(graph, other) else {
         return true;
     };
     if kind == other_kind {
@@ -145,19 +144,6 @@ fn is_spread(need: &Need) -> bool
     match need {
         Need::Spread { .. } => true,
         Need::Vert { .. } | Need::Pool { .. } => false,
-    }
-}
-
-/// The kind that the need has, and no other; none where it is a spread and the graph has no nodes.
-fn only_kind(graph: &Graph, need: &Need) -> Option<u32>
-    ensures { IsOnlyKind graph.now.resources.vertices need.now result }
-{
-    // this call tells that the graph is valid
-    let _valid = graph.vertices();
-    match need {
-        Need::Vert { kind, .. } => Some(*kind),
-        Need::Pool { kind, .. } => Some(*kind),
-        Need::Spread { .. } => graph.kind_of(b"node"),
     }
 }
 

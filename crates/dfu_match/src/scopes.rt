@@ -1,7 +1,7 @@
 //! Which vertices a need is looked for among.
 ghost use Rattle.std.specs.Prelude.{◌≡◌, ◌≤◌, length};
-ghost use Rattle.flux_defs.specs.Needs.{amount_of};
 ghost use Rattle.dfu_match.specs.Searches.{scope_of, IsScope, Covers, IsKindOfNeed};
+ghost use Rattle.dfu_match.specs.Kinds.{IsOnlyKind};
 
 use flux_defs::Need;
 use resource_graph::Graph;
@@ -19,8 +19,7 @@ pub(crate) fn span_of(graph: &Graph, scope: Option<u32>) -> Span
     ensures covers { Covers graph.now.resources.vertices (scope_of scope) result.from result.to }
     ensures within { result.to ≤ length graph.now.resources.vertices }
 {
-    // this call tells that the graph is valid
-    let _valid = graph.vertices();
+    graph.is_valid();
     match scope {
         None => Span {
             from: 0,
@@ -35,24 +34,13 @@ pub(crate) fn span_of(graph: &Graph, scope: Option<u32>) -> Span
 
 /// The kind of the need's vertices, that of nodes for a spread; none where the graph has no nodes.
 pub(crate) fn kind_of(graph: &Graph, need: &Need) -> Option<u32>
-    ensures { IsKindOfNeed graph.now.resources.vertices need.now result }
+    ensures of_need { IsKindOfNeed graph.now.resources.vertices need.now result }
+    ensures only { IsOnlyKind graph.now.resources.vertices need.now result }
 {
-    // this call tells that the graph is valid
-    let _valid = graph.vertices();
+    graph.is_valid();
     match need {
         Need::Vert { kind, .. } => Some(*kind),
         Need::Pool { kind, .. } => Some(*kind),
         Need::Spread { .. } => graph.kind_of(b"node"),
-    }
-}
-
-/// The need's count or quantity.
-pub(crate) fn amount_of(need: &Need) -> u64
-    ensures { result ≡ amount_of need.now }
-{
-    match need {
-        Need::Vert { count, .. } => *count,
-        Need::Pool { quantity, .. } => *quantity,
-        Need::Spread { count, .. } => *count,
     }
 }

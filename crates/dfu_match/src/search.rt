@@ -7,7 +7,8 @@ ghost use Rattle.flux_defs.specs.Graph.{is_at_or_below};
 ghost use Rattle.flux_defs.specs.Closed.{IsClosedIn, IsTouchedIn};
 ghost use Rattle.flux_defs.specs.Free.{IsFreeIn};
 ghost use Rattle.dfu_match.specs.Searches.{meets, open_to, claim_on};
-ghost use Rattle.dfu_match.specs.Bars.{AreNodesOf, RisesStrictly};
+ghost use Rattle.std.specs.List.Sorted.{IsStrictlyIncreasing};
+ghost use Rattle.dfu_match.specs.Bars.{AreNodesOf};
 
 use crate::bars::least_from;
 use flux_defs::{FreeView, List, Steps, Window};
@@ -23,7 +24,7 @@ pub(crate) struct Search<'a, F: FreeView> {
     pub(crate) window: Window,
     ghost over: { F.graph view.now ≡ graph.now.resources.vertices },
     ghost opens: { window.from < window.to },
-    ghost rising: { RisesStrictly barred.now },
+    ghost rising: { IsStrictlyIncreasing barred.now },
     ghost nodes: { AreNodesOf graph.now.resources.vertices barred.now },
 }
 
@@ -32,8 +33,7 @@ fn bars_over<F: FreeView>(s: &Search<F>, vertex: u32) -> bool
     requires { vertex < length s.now.graph.now.resources.vertices }
     ensures { result ≡ list_any (is_at_or_below s.now.graph.now.resources.vertices vertex) s.now.barred.now }
 {
-    // this call tells that the graph is valid
-    let _valid = s.graph.vertices();
+    s.graph.is_valid();
     match s.graph.node_of(vertex) {
         None => false,
         Some(node) => match least_from(s.barred.items(), node) {
@@ -48,8 +48,7 @@ fn bars_below<F: FreeView>(s: &Search<F>, vertex: u32) -> bool
     requires { vertex < length s.now.graph.now.resources.vertices }
     ensures { result ≡ list_any (λ u. is_at_or_below s.now.graph.now.resources.vertices u vertex) s.now.barred.now }
 {
-    // this call tells that the graph is valid
-    let _valid = s.graph.vertices();
+    s.graph.is_valid();
     match least_from(s.barred.items(), vertex) {
         None => false,
         Some(lower) => lower < s.graph.past(vertex),

@@ -10,7 +10,7 @@ ghost use Rattle.match_laws.specs.Offers.{Extends, Offers, SomeGroup, SomeFits, 
 ghost use Rattle.dfu_match.specs.Searches.{open_to, scope_of, IsScope, MayAsk, MayScale, MayScaleNeed};
 
 use crate::counting::{copies, serves};
-use crate::scopes::{amount_of, kind_of, span_of};
+use crate::scopes::{kind_of, span_of};
 use crate::search::{Search, admits};
 use flux_defs::{Claim, FreeView, List, Need, Steps};
 use std::alloc::AllocError;
@@ -72,7 +72,7 @@ fn write_group<F: FreeView, L: Ledger>(
     let Some(kind) = kind_of(s.graph, need) else {
         return Ok(false);
     };
-    let mut missing = u128::from(k) * u128::from(amount_of(need));
+    let mut missing = u128::from(k) * u128::from(need.amount());
     let span = span_of(s.graph, scope);
     let mut at = span.from;
     while missing > 0 {
@@ -115,7 +115,7 @@ fn offer<F: FreeView, L: Ledger>(
                 return Ok(0);
             }
             if *hold {
-                if copies(s, needs, vertex, 1, steps) == 0 {
+                if copies(s, needs, Some(vertex), 1, steps) == 0 {
                     return Ok(0);
                 }
                 write_claim(out, Claim::Hold { vertex })?;

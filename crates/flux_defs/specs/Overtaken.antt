@@ -16,7 +16,8 @@ use Rattle.flux_defs.specs.Available.{IsAvailable}
 use Rattle.flux_defs.specs.Asks.{window_of}
 use Rattle.flux_defs.specs.Scheduler.{Setting}
 use Rattle.flux_defs.specs.Histories.{state_at}
-use Rattle.flux_defs.specs.Verdicts.{Verdict, Found, NoFit}
+use Rattle.flux_defs.specs.declared.verdicts.Verdict.{Verdict}
+use Rattle.flux_defs.specs.declared.verdicts.Verdict.TheVariants.{Found, NoFit}
 
 -- a command, how many entries of the journal were searched, and what was found there
 pub record Candidate : Type 0 where

@@ -8,37 +8,37 @@ use Rattle.flux_defs.specs.declared.journal.Command.{Command}
 use Rattle.flux_defs.specs.declared.journal.Command.TheVariants as command
 use Rattle.flux_defs.specs.declared.journal.Reply.{Reply}
 use Rattle.flux_defs.specs.declared.journal.Reply.TheVariants as reply
+use Rattle.flux_defs.specs.declared.verdicts.Verdict.{Verdict}
+use Rattle.flux_defs.specs.declared.verdicts.Verdict.TheVariants.{Found, NoFit, Unsat, Sat, Long, Known}
 use Rattle.flux_defs.specs.Asks.{window_of, CountsWithin, SomeFit, IsLowestFirst, IsStart, IsEarliest, IsSatisfiable}
 use Rattle.flux_defs.specs.Scheduler.{Setting, State, Where, Unless, accepted_reply}
-
--- claims from a start; nothing fits; the graph could not serve it, or could; it would end past the horizon; its id is used
-pub data Verdict : Type 0 where
-  Found : (start : ℕ) (claims : List Claim) → Verdict
-  NoFit : Verdict
-  Unsat : Verdict
-  Sat : Verdict
-  Long : Verdict
-  Known : Verdict
 
 -- the lowest-first claims at the start
 abbrev pub FoundAt : Setting → State → Ask → ℕ → Verdict → Type 0
 FoundAt g s ask start v =
     (claims : List Claim) × IsLowestFirst g.graph.vertices s.jobs ask (window_of g.horizon ask start) claims × (v ≡ Found start claims)
 
+-- what is found of an ask at the present moment alone
+abbrev pub FindsNow : Setting → State → Ask → Verdict → Type 0
+FindsNow g s ask =
+    Unless (SomeFit g.graph.vertices s.jobs ask (window_of g.horizon ask s.moment)) NoFit (FoundAt g s ask s.moment)
+
+-- what is found of an ask at its earliest start
+abbrev pub FindsEarliest : Setting → State → Ask → Verdict → Type 0
+FindsEarliest g s ask =
+    Unless ((t : ℕ) × (s.moment ≤ t) × IsStart g.graph.vertices s.jobs g.horizon ask t) NoFit
+    (λ v. (t : ℕ) × IsEarliest g.graph.vertices s.jobs g.horizon ask s.moment t × FoundAt g s ask t v)
+
+-- what is found of an ask for a job of this id, by what is found at the starts that it may have
+abbrev pub FindsJob : Setting → State → ℕ → Ask → (Verdict → Type 0) → Verdict → Type 0
+FindsJob g s id ask AtStarts =
+    Where (Contains s.used id) Known
+    (Unless (IsSatisfiable g.graph.vertices ask) Unsat (Unless (CountsWithin g.horizon ask s.moment) Long AtStarts))
+
 -- what a search of the state finds of a command: allocate, reserve and satisfy alone are searched for
 abbrev pub Finds : Setting → State → Command → Verdict → Type 0
-Finds g s (command.Allocate id ask) =
-    Where (Contains s.used id) Known
-    (Unless (IsSatisfiable g.graph.vertices ask) Unsat
-    (Unless (CountsWithin g.horizon ask s.moment) Long
-    (Unless (SomeFit g.graph.vertices s.jobs ask (window_of g.horizon ask s.moment)) NoFit
-    (FoundAt g s ask s.moment))))
-Finds g s (command.Reserve id ask) =
-    Where (Contains s.used id) Known
-    (Unless (IsSatisfiable g.graph.vertices ask) Unsat
-    (Unless (CountsWithin g.horizon ask s.moment) Long
-    (Unless ((t : ℕ) × (s.moment ≤ t) × IsStart g.graph.vertices s.jobs g.horizon ask t) NoFit
-    (λ v. (t : ℕ) × IsEarliest g.graph.vertices s.jobs g.horizon ask s.moment t × FoundAt g s ask t v))))
+Finds g s (command.Allocate id ask) = FindsJob g s id ask (FindsNow g s ask)
+Finds g s (command.Reserve id ask) = FindsJob g s id ask (FindsEarliest g s ask)
 Finds g s (command.Satisfy ask) = Unless (IsSatisfiable g.graph.vertices ask) Unsat (λ v. v ≡ Sat)
 Finds g s c = λ v. ⊥
 

@@ -1,5 +1,6 @@
 //! What a job has of the graph, and when.
 ghost use Rattle.std.specs.Prelude.{◌≡◌, IfOk};
+ghost use Rattle.flux_defs.specs.Jobs.{vertex_of};
 
 use crate::lists::List;
 use std::alloc::{AllocError, Global};
@@ -13,6 +14,19 @@ pub enum Claim {
     Hold { vertex: u32 },
     /// The vertex shared with other jobs.
     Pass { vertex: u32 },
+}
+
+impl Claim {
+    /// The vertex that it is on.
+    pub fn vertex(&self) -> u32
+        ensures { result ≡ vertex_of self.now }
+    {
+        match self {
+            Claim::Take { vertex, .. } => *vertex,
+            Claim::Hold { vertex } => *vertex,
+            Claim::Pass { vertex } => *vertex,
+        }
+    }
 }
 
 /// The seconds from `from` on and before `to`.

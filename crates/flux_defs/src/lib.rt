@@ -10,6 +10,7 @@ pub mod lists;
 pub mod requests;
 pub mod steps;
 pub mod texts;
+pub mod verdicts;
 pub mod vertices;
 pub mod views;
 
@@ -17,13 +18,14 @@ pub use claims::{Claim, Job, Window};
 pub use gates::{Gate, OpenGate, Place};
 pub use journal::{ClientLine, Command, Entry, Line, Phase, Reply, Script};
 pub use limits::{
-    GREATEST_NUMBER, LATEST_HORIZON, Limits, MOST_FILE_BYTES, MOST_NAME_BYTES, MOST_TYPE_BYTES, MOST_TYPES, MOST_VERTICES,
-    SHIPPED,
+    GREATEST_NUMBER, LATEST_HORIZON, Limits, MOST_FILE_BYTES, MOST_NAME_BYTES, MOST_TYPE_BYTES,
+    MOST_TYPES, MOST_VERTICES, SHIPPED,
 };
 pub use lists::List;
 pub use requests::{Ask, Need};
 pub use steps::Steps;
 pub use texts::Text;
+pub use verdicts::Verdict;
 pub use vertices::Vertex;
 pub use views::{FreeView, NoJobs};
 

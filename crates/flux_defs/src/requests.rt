@@ -1,5 +1,6 @@
 //! What a jobspec asks for, as needs.
 ghost use Rattle.std.specs.Prelude.{◌≡◌, IfOk};
+ghost use Rattle.flux_defs.specs.Needs.{amount_of};
 
 use crate::lists::List;
 use std::alloc::{AllocError, Global};
@@ -25,6 +26,19 @@ pub enum Need {
         count: u64,
         needs: List<Need>,
     },
+}
+
+impl Need {
+    /// Its count or quantity.
+    pub fn amount(&self) -> u64
+        ensures { result ≡ amount_of self.now }
+    {
+        match self {
+            Need::Vert { count, .. } => *count,
+            Need::Pool { quantity, .. } => *quantity,
+            Need::Spread { count, .. } => *count,
+        }
+    }
 }
 
 /// A request: its needs, its duration in seconds (0 sets no limit) and the nodes that it must not touch, rising.

@@ -1,8 +1,8 @@
 -- The number and the line that a run ends with.
 use Rattle.std.specs.Prelude.{ℕ, List, [], ◌++◌, codes, decimal}
 use Rattle.json_fields.specs.Words.{field_word}
-use Rattle.resource_graph.specs.declared.raw.GraphFault.{GraphFault}
-use Rattle.resource_graph.specs.declared.raw.GraphFault.TheVariants as graph_fault
+use Rattle.graph_build.specs.declared.raw.GraphFault.{GraphFault}
+use Rattle.graph_build.specs.declared.raw.GraphFault.TheVariants as graph_fault
 use Rattle.graph_json.specs.declared.faults.ReadFault.{ReadFault}
 use Rattle.graph_json.specs.declared.faults.ReadFault.TheVariants as fault
 use Rattle.fluxion_shell.specs.declared.status.Status.{Status}

@@ -1,6 +1,5 @@
 //! The text that answers an input over a graph.
 ghost use Rattle.std.specs.Prelude.{◌≡◌, ◌++◌, ◌∷◌, [], Some, None, map, IsOk, IsErrOf, IfOk, OnOk};
-ghost use Rattle.resource_graph.specs.NamedGraph.{IsWhole};
 ghost use Rattle.fluxion_lines.specs.declared.input.Over.{Over};
 ghost use Rattle.fluxion_lines.specs.Inputs.{over_in};
 ghost use Rattle.sched_core.specs.Played.{AreProper};
@@ -15,13 +14,6 @@ use resource_graph::Graph;
 use sched_core::{Core, play};
 use std::alloc::{AllocError, Global};
 use std::sync::Arc;
-
-/// Every graph is valid; nothing is done.
-fn graph_is_valid(graph: &Graph)
-    ensures { IsWhole graph.now }
-{
-    let _ = graph.vertices();
-}
 
 /// The text of the history that answers lines in their order.
 fn played(
@@ -52,7 +44,7 @@ pub fn answer(alloc: Global, graph: Graph, horizon: u64, input: &[u8]) -> Result
     ensures over { (over : Over) → IsErrOf result (InputFault.Over over) →
         over_in SHIPPED graph served_form input.now ≡ Some over }
 {
-    graph_is_valid(&graph);
+    graph.is_valid();
     let limits = Limits::shipped();
     let Input { clients, lines } = match read_lines(alloc, &graph, Form::Rfc14, input, &limits) {
         Ok(read) => read,

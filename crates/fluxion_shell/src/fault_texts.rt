@@ -2,9 +2,9 @@
 ghost use Rattle.std.specs.Prelude.{◌≡◌, ◌++◌, decimal, OnOk};
 ghost use Rattle.fluxion_shell.specs.Ends.{graph_words, fault_words};
 
+use graph_build::GraphFault;
 use graph_json::ReadFault;
 use json_fields::field_word;
-use resource_graph::GraphFault;
 use std::alloc::AllocError;
 use text_forms::{push_bytes, push_decimal};
 

@@ -8,11 +8,11 @@ use Rattle.std.proofs.lemmas.List.Sums.{AllPass-from_list_all, count_by-le-lengt
 use Rattle.std.proofs.lemmas.Option.{slice_get-map, slice_get-get_or, slice_get_within, get_or_from_slice_get}
 use Rattle.flux_defs.specs.declared.vertices.Vertex.{Vertex}
 use Rattle.resource_graph.specs.NamedGraph.{NamedGraph}
-use Rattle.resource_graph.specs.Raw.{IsBuiltFrom, IsRenumbered, shape_of, rank_of, is_node_of, some_ranked, nodes_among}
-use Rattle.resource_graph.specs.declared.raw.RawVertex.{RawVertex}
-use Rattle.resource_graph.proofs.ArrangeLaws.{place_at, place_in}
+use Rattle.graph_build.specs.Raw.{IsBuiltFrom, IsRenumbered, shape_of, rank_of, is_node_of, some_ranked, nodes_among}
+use Rattle.graph_build.specs.declared.raw.RawVertex.{RawVertex}
+use Rattle.graph_build.proofs.ArrangeLaws.{place_at, place_in}
 use Rattle.resource_graph.proofs.LineLaws.{no_vertex}
-use Rattle.resource_graph.proofs.ValidLaws.{value_of}
+use Rattle.resource_graph.proofs.Values.{value_of}
 use Rattle.graph_json.specs.Fields.{is_unit}
 use Rattle.text_forms.specs.Names.{is_name}
 use Rattle.graph_json.specs.Nodes.{FileNode}

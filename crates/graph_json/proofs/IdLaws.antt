@@ -7,7 +7,7 @@ use Rattle.std.proofs.lemmas.Option.{slice_get_within, slice_get_past, get_or_fr
 use Rattle.std.specs.List.{IsDistinct}
 use Rattle.std.specs.Option.{option_map_or}
 use Rattle.std.specs.Str.{bytes_eq}
-use Rattle.resource_graph.specs.Told.{IsLeastBad}
+use Rattle.resource_graph.specs.Finds.{IsLeast}
 use Rattle.graph_json.specs.Edges.{is_among}
 use Rattle.graph_json.specs.Ids.{IsRepeated, IsSetOf, IsSetTo}
 use Rattle.graph_json.proofs.Sets.{distinct-more, distinct-nil}
@@ -32,7 +32,7 @@ module _ (list : List (List ℕ)) where
     each = below_more (λ v. IsRepeated list v → ⊥) k set.each (λ repeated. true≢false (sym repeated ∙ repeats_by k x here ∙ ap (λ ys. is_among ys x) (sym set.kept) ∙ absent));
   }
 
-  pub set-repeated : (k : ℕ) (x : List ℕ) (old : List (List ℕ)) → IsSetTo list k old → slice_get list k ≡ Some x → is_among old x ≡ true → IsLeastBad (IsRepeated list) k
+  pub set-repeated : (k : ℕ) (x : List ℕ) (old : List (List ℕ)) → IsSetTo list k old → slice_get list k ≡ Some x → is_among old x ≡ true → IsLeast (IsRepeated list) k
   set-repeated k x old set here there = (repeats_by k x here ∙ ap (λ ys. is_among ys x) (sym set.kept) ∙ there, set.each)
 
   past_none : (v : ℕ) → length list ≤ v → IsRepeated list v → ⊥

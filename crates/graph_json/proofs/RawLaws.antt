@@ -7,7 +7,7 @@ use Rattle.std.proofs.lemmas.Option.{slice_get_within, slice_get-map, get_or_fro
 use Rattle.std.specs.Cmp.Lexicographic.{nat_list_eq_equiv}
 use Rattle.std.specs.List.{IsDistinct, find, fold}
 use Rattle.std.specs.Str.{bytes_eq}
-use Rattle.resource_graph.specs.Raw.{KindsApart}
+use Rattle.graph_build.specs.Raw.{KindsApart}
 use Rattle.graph_json.specs.Nodes.{FileNode}
 use Rattle.graph_json.specs.Edges.{FileEdge, is_among, parent_of, parents_of, place_of}
 use Rattle.graph_json.specs.Ids.{ids_of}

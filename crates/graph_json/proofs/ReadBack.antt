@@ -13,15 +13,15 @@ use Rattle.flux_defs.specs.declared.vertices.Vertex.{Vertex}
 use Rattle.flux_defs.specs.Graph.{HasKind}
 use Rattle.flux_defs.specs.ValidGraph.{NumbersKinds}
 use Rattle.resource_graph.specs.NamedGraph.{NamedGraph, IsWhole}
-use Rattle.resource_graph.specs.Raw.{IsBuiltFrom, raw_graph, raw_names}
-use Rattle.resource_graph.specs.Faults.{IsFaultless}
-use Rattle.resource_graph.specs.OwnList.{own_vertex, own_list}
-use Rattle.resource_graph.specs.declared.raw.RawVertex.{RawVertex}
+use Rattle.graph_build.specs.Raw.{IsBuiltFrom, raw_graph, raw_names}
+use Rattle.graph_build.specs.Table.{IsFaultless}
+use Rattle.graph_build.specs.OwnList.{own_vertex, own_list}
+use Rattle.graph_build.specs.declared.raw.RawVertex.{RawVertex}
 use Rattle.resource_graph.proofs.LineLaws.{no_vertex, parent_read}
-use Rattle.resource_graph.proofs.OneGraph.{same_items}
-use Rattle.resource_graph.proofs.OwnGraph.{built_from_itself, own_faultless, own_at}
+use Rattle.graph_build.proofs.OneGraph.{same_items}
+use Rattle.graph_build.proofs.OwnGraph.{built_from_itself, own_faultless, own_at}
 use Rattle.resource_graph.proofs.Queries.{parents_known}
-use Rattle.resource_graph.proofs.ValidLaws.{value_of}
+use Rattle.resource_graph.proofs.Values.{value_of}
 use Rattle.graph_json.specs.Nodes.{FileNode}
 use Rattle.graph_json.specs.Edges.{FileEdge, counted, is_among, is_wrong, IsWrongEdge, place_of, parent_of}
 use Rattle.graph_json.specs.Ids.{ids_of, IsRepeated}

@@ -2,10 +2,10 @@
 use Rattle.std.proofs.Common.{◌≡◌, sym, ap, subst, refl, ◌∙◌, ℕ, List, Some, None, Ok, Err, Result, IfOk, IfErr, MatchResult, ◌⊎◌, inl, inr}
 use Rattle.serde_json.specs.Data.{Data}
 use Rattle.resource_graph.specs.NamedGraph.{NamedGraph}
-use Rattle.resource_graph.specs.Raw.{IsBuiltFrom, raw_graph, raw_names}
-use Rattle.resource_graph.specs.Told.{Tells as IsFirstGraphFault}
-use Rattle.resource_graph.proofs.OneGraph.{one_graph}
-use Rattle.resource_graph.proofs.ToldLaws.{nothing_told}
+use Rattle.graph_build.specs.Raw.{IsBuiltFrom, raw_graph, raw_names}
+use Rattle.graph_build.specs.Table.{IsFirstFault as IsFirstGraphFault}
+use Rattle.graph_build.proofs.OneGraph.{one_graph}
+use Rattle.graph_build.proofs.RowLaws.{nothing_told}
 use Rattle.graph_json.specs.Nodes.{FileNode, nodes_of}
 use Rattle.graph_json.specs.Edges.{edges_of, IsWrongEdge, IsFirstWrong}
 use Rattle.graph_json.specs.Ids.{ids_of, IsRepeated}

@@ -3,11 +3,12 @@ use Rattle.std.specs.Prelude.{◌≡◌, ◌≢◌, ◌⊎◌, ℕ, List, Some, 
 use Rattle.json_whole.specs.Whole.{value_of}
 use Rattle.serde_json.specs.Data.{Data}
 use Rattle.resource_graph.specs.NamedGraph.{NamedGraph}
-use Rattle.resource_graph.specs.Raw.{IsBuiltFrom, raw_graph, raw_names}
-use Rattle.resource_graph.specs.Faults.{IsFaultless}
-use Rattle.resource_graph.specs.Told.{IsLeastBad, Nowhere, Tells as IsFirstGraphFault}
-use Rattle.resource_graph.specs.declared.raw.RawVertex.{RawVertex}
-use Rattle.resource_graph.specs.declared.raw.GraphFault.TheVariants.{Memory as NoRoom}
+use Rattle.graph_build.specs.Raw.{IsBuiltFrom, raw_graph, raw_names}
+use Rattle.graph_build.specs.Table.{IsFaultless}
+use Rattle.graph_build.specs.Table.{IsFirstFault as IsFirstGraphFault}
+use Rattle.resource_graph.specs.Finds.{IsLeast, Nowhere}
+use Rattle.graph_build.specs.declared.raw.RawVertex.{RawVertex}
+use Rattle.graph_build.specs.declared.raw.GraphFault.TheVariants.{Memory as NoRoom}
 use Rattle.graph_json.specs.FieldPaths.{path_text, FileMisfit}
 use Rattle.graph_json.specs.Edges.{counted, IsWrongEdge, IsFirstWrong}
 use Rattle.graph_json.specs.Ids.{ids_of, IsRepeated}
@@ -60,7 +61,7 @@ IsFirstFault bytes NotJson = value_of bytes ≡ None
 IsFirstFault bytes (Field path fault) = (m : FileMisfit) × (path ≡ path_text m.field) × (fault ≡ m.fault)
     × (HasMisfit bytes m ⊎ HasUnfitEdge bytes m)
 IsFirstFault bytes (DuplicateNode at) = (file : GraphFile) × Says bytes file
-    × IsLeastBad (IsRepeated (ids_of file.nodes)) at
+    × IsLeast (IsRepeated (ids_of file.nodes)) at
 IsFirstFault bytes (Edge at) = (file : GraphFile) × Says bytes file × HasDistinctIds file
     × IsFirstWrong (ids_of file.nodes) file.edges (Wrong at)
 IsFirstFault bytes (Graph fault) = (file : GraphFile) × Says bytes file × HasRightEdges file

@@ -1,7 +1,7 @@
 -- The raw vertices that the nodes and edges of a graph file are.
 use Rattle.std.specs.Prelude.{ℕ, List, [], ◌∷◌, map, Option, unwrap_or}
 use Rattle.std.specs.List.{fold}
-use Rattle.resource_graph.specs.declared.raw.RawVertex.{RawVertex}
+use Rattle.graph_build.specs.declared.raw.RawVertex.{RawVertex}
 use Rattle.text_table.specs.Tables.{with_text}
 use Rattle.graph_json.specs.Nodes.{FileNode}
 use Rattle.graph_json.specs.Edges.{FileEdge, parent_of, place_of}

@@ -1,7 +1,7 @@
 //! Why bytes are no graph file.
 use flux_defs::Text;
+use graph_build::GraphFault;
 use json_whole::FieldFault;
-use resource_graph::GraphFault;
 use std::alloc::AllocError;
 
 /// Why bytes are no graph file: the first of these that holds, in the order of the file.

@@ -3,7 +3,7 @@ ghost use Rattle.std.specs.Prelude.{◌≡◌, ◌<◌, [], ◌∷◌, ◌++◌,
 ghost use Rattle.graph_json.specs.Nodes.{node_held, id_bytes};
 ghost use Rattle.graph_json.specs.Edges.{is_among};
 ghost use Rattle.graph_json.specs.Ids.{ids_of, IsRepeated, IsSetOf};
-ghost use Rattle.resource_graph.specs.Told.{IsLeastBad};
+ghost use Rattle.resource_graph.specs.Finds.{IsLeast};
 
 use crate::fields::NodeId;
 use crate::nodes::NodeFields;
@@ -40,7 +40,7 @@ pub(crate) fn id_table(
     alloc: Global,
     nodes: &[NodeFields],
 ) -> Result<Result<TextTable, u64>, AllocError>
-    ensures { IfOk result (λ table. MatchResult table (IsSetOf (ids_of (map node_held nodes.now))) (IsLeastBad (IsRepeated (ids_of (map node_held nodes.now))))) }
+    ensures { IfOk result (λ table. MatchResult table (IsSetOf (ids_of (map node_held nodes.now))) (IsLeast (IsRepeated (ids_of (map node_held nodes.now))))) }
 {
     let mut table = TextTable::with_capacity(alloc, nodes.len())?;
     'nodes: for (at, node) in nodes.iter().enumerate() {

@@ -14,7 +14,7 @@ ghost use Rattle.serde_json.specs.View.{items_view, members_view};
 use crate::edges::place_of_text;
 use crate::nodes::{NodeFields, Properties};
 use flux_defs::{List, Text};
-use resource_graph::RawVertex;
+use graph_build::RawVertex;
 use serde_json::{Map, Value};
 use std::alloc::{AllocError, Global};
 use std::collections::BTreeSet;

@@ -5,9 +5,9 @@ ghost use Rattle.std.specs.Str.{bytes_eq};
 ghost use Rattle.std.specs.Result.{result_map_both};
 ghost use Rattle.serde_json.specs.Find.{as_object};
 ghost use Rattle.serde_json.specs.View.{view, items_view};
-ghost use Rattle.resource_graph.specs.Faults.{IsFaultless};
+ghost use Rattle.graph_build.specs.Table.{IsFaultless};
 ghost use Rattle.resource_graph.specs.NamedGraph.{NamedGraph};
-ghost use Rattle.resource_graph.specs.Raw.{IsBuiltFrom, raw_graph, raw_names};
+ghost use Rattle.graph_build.specs.Raw.{IsBuiltFrom, raw_graph, raw_names};
 ghost use Rattle.json_fields.specs.Values.{object_field, list_field};
 ghost use Rattle.graph_json.specs.Nodes.{node_held};
 ghost use Rattle.graph_json.specs.Edges.{FileEdge, parents_of};
@@ -18,14 +18,15 @@ ghost use Rattle.graph_json.specs.GraphText.{IsValueOf, IsGraphText, IsFirstFaul
 
 use crate::edges::{EdgeFault, join_edges};
 use crate::faults::ReadFault;
+use crate::field_paths::{FieldPath, FileMisfit, path_text};
 use crate::ids::id_table;
 use crate::nodes::{NodeFields, NodesFault, nodes_of};
-use crate::field_paths::{FieldPath, FileMisfit, path_text};
 use crate::raw_lists::{kind_table, table_texts, vertices_of};
 use flux_defs::MOST_VERTICES;
+use graph_build::{GraphFault, build};
 use json_fields::{at_field, list_field, object_field, object_value};
 use json_whole::{ValueFault, read_value};
-use resource_graph::{Graph, GraphFault};
+use resource_graph::Graph;
 use serde_json::Value;
 use std::alloc::{AllocError, Global};
 
@@ -116,7 +117,7 @@ fn graph_from(
     let kinds = kind_table(alloc, nodes)?;
     let names = table_texts(alloc, &kinds)?;
     let raw = vertices_of(alloc, &kinds, nodes, parents)?;
-    match Graph::build(alloc, names, raw) {
+    match build(alloc, names, raw) {
         Ok(graph) => Ok(graph),
         Err(fault) => {
             if is_memory(&fault) {

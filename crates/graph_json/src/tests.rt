@@ -1,7 +1,7 @@
 //! Graph files as bytes.
 use crate::{ReadFault, read_graph, write_graph};
+use graph_build::GraphFault;
 use json_whole::FieldFault;
-use resource_graph::GraphFault;
 use std::alloc::{AllocError, Global};
 use std::str;
 use std::test::Fail;

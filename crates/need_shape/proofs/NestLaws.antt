@@ -8,7 +8,7 @@ use Rattle.std.proofs.lemmas.Bool.{eqb-true, eq-eqb}
 use Rattle.flux_defs.specs.declared.vertices.Vertex.{Vertex}
 use Rattle.flux_defs.specs.Graph.{HasKind}
 use Rattle.resource_graph.specs.Tables.{Nests}
-use Rattle.resource_graph.proofs.OwnLaws.{fact_within}
+use Rattle.resource_graph.proofs.Values.{fact_within}
 use Rattle.resource_graph.proofs.Queries.{same_tests}
 use Rattle.need_shape.specs.Types.{has_kind, contains_kind}
 

@@ -11,7 +11,7 @@ ghost use Rattle.need_shape.specs.Faults.{IsFirstFault, fault_of, members_fault_
 use crate::pairs::pairs_fault;
 use crate::raw::{RawNeed, ShapeFault};
 use crate::types::{
-    add_types, graph_is_valid, graph_types, is_inner, is_slot, names_upper, number_of,
+    add_types, graph_types, is_inner, is_slot, names_upper, number_of,
 };
 use flux_defs::{GREATEST_NUMBER, List, Need};
 use resource_graph::Graph;
@@ -276,7 +276,7 @@ pub fn shape(
         (list_fault (types_for graph.now.resources request.now) outside request.now)) }
     ensures valid { IfOk result (AreValidNeeds graph.now.resources.vertices) }
 {
-    graph_is_valid(graph);
+    graph.is_valid();
     let mut table = graph_types(alloc, graph)?;
     add_types(alloc, &mut table, request)?;
     if table.len() > u32::MAX as usize {

@@ -1,7 +1,6 @@
 //! The types of a graph and of a request: their numbers, and which contain which.
 ghost use Rattle.std.specs.Prelude.{◌≡◌, ◌<◌, ◌^◌, length, bytes_eq, codes, IfOk, OnOk};
 ghost use Rattle.std.specs.List.{list_any};
-ghost use Rattle.resource_graph.specs.NamedGraph.{IsWhole};
 ghost use Rattle.text_table.specs.Tables.{place_of, with_texts};
 ghost use Rattle.need_shape.specs.Requests.{is_slot, types_of, types_in};
 ghost use Rattle.need_shape.specs.Types.{types_at, contains_kind, is_inner, is_upper};
@@ -19,18 +18,11 @@ pub(crate) fn is_slot(kind: &[u8]) -> bool
     kind == b"slot".as_slice()
 }
 
-/// Every graph is valid; nothing is done.
-pub(crate) fn graph_is_valid(graph: &Graph)
-    ensures { IsWhole graph.now }
-{
-    let _ = graph.vertices();
-}
-
 /// A table of the graph's types.
 pub(crate) fn graph_types(alloc: Global, graph: &Graph) -> Result<TextTable, AllocError>
     ensures { IfOk result (λ table. table ≡ graph.now.resources.kinds) }
 {
-    graph_is_valid(graph);
+    graph.is_valid();
     let mut table = TextTable::new(alloc);
     let mut kind = 0;
     while let Some(name) = graph.kind_name(kind) {

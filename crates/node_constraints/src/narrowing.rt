@@ -15,7 +15,7 @@ ghost use Rattle.node_constraints.specs.Narrowing.{where_true, Means, Finds};
 
 use crate::faults::ConstraintFault;
 use crate::keys::{Key, key_of};
-use crate::nodes::{name_of, properties_of, rank_of, take_away};
+use crate::nodes::{properties_of, take_away};
 use crate::texts::{are_texts, has_properties, is_listed, is_ranked, read_hostlists, read_idsets};
 use flux_defs::{List, Text};
 use idset_text::{Hosts, Range};
@@ -122,7 +122,7 @@ fn narrow_by_properties(
 fn is_among_hosts(graph: &Graph, node: u32, lists: &List<List<Hosts>>) -> bool
     ensures { result ≡ list_any (λ hosts. is_among (names_of hosts) (facts_of graph.now node).name) lists.now }
 {
-    is_listed(lists.items(), name_of(graph, node))
+    is_listed(lists.items(), graph.name_at(node))
 }
 
 /// Leaves the nodes for which the texts at `hostlist` are true.
@@ -146,7 +146,7 @@ fn narrow_by_hosts(
 fn is_among_ids(graph: &Graph, node: u32, sets: &List<List<Range>>) -> bool
     ensures { result ≡ option_map_or (λ r. list_any (λ ranges. list_any (λ id. id == r) (ids_of ranges)) sets.now) (facts_of graph.now node).rank false }
 {
-    is_ranked(sets.items(), rank_of(graph, node))
+    is_ranked(sets.items(), graph.rank_at(node))
 }
 
 /// Leaves the nodes for which the texts at `ranks` are true.

@@ -8,24 +8,6 @@ use flux_defs::Text;
 use resource_graph::Graph;
 use std::alloc::{AllocError, Global};
 
-/// What a vertex is called; past the last one nothing.
-pub(crate) fn name_of(graph: &Graph, vertex: u32) -> &[u8]
-    ensures { result.now ≡ (facts_of graph.now vertex).name }
-{
-    match graph.vertices().get(vertex as usize) {
-        Some(_) => graph.name_of(vertex).bytes(),
-        None => &[],
-    }
-}
-
-/// The rank of a vertex, where it is a node.
-pub(crate) fn rank_of(graph: &Graph, vertex: u32) -> Option<u32>
-    ensures { result ≡ (facts_of graph.now vertex).rank }
-{
-    let found = graph.vertices().get(vertex as usize)?;
-    found.rank
-}
-
 /// The properties of a vertex; past the last one none.
 pub(crate) fn properties_of(graph: &Graph, vertex: u32) -> &[Text]
     ensures { result.now ≡ (facts_of graph.now vertex).properties }
@@ -42,7 +24,7 @@ pub(crate) fn nodes_of(alloc: Global, graph: &Graph) -> Result<Vec<u32>, AllocEr
 {
     let mut nodes = Vec::new(alloc);
     'vertices: for vertex in 0..graph.len() {
-        if rank_of(graph, vertex).is_some() {
+        if graph.rank_at(vertex).is_some() {
             nodes.push(vertex)?;
         }
     }

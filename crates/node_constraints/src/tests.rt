@@ -3,7 +3,8 @@ ghost use Rattle.std.specs.Prelude.{◌≡◌, ◌∷◌, [], codes, IfOk};
 
 use crate::{ConstraintFault, barred};
 use flux_defs::{List, Text};
-use resource_graph::{Graph, RawVertex};
+use graph_build::{RawVertex, build};
+use resource_graph::Graph;
 use serde_json::Value;
 use std::alloc::{AllocError, Global};
 use std::test::Fail;
@@ -59,7 +60,7 @@ fn four_nodes(alloc: Global) -> Result<Graph, Fail> {
         raw.push(vertex(alloc, 1, name, Some(rank), property, Some(0))?)?;
         raw.push(vertex(alloc, 2, "core0", None, "", Some(number))?)?;
     }
-    match Graph::build(alloc, kinds(alloc)?, List::of_vec(raw)) {
+    match build(alloc, kinds(alloc)?, List::of_vec(raw)) {
         Ok(graph) => Ok(graph),
         Err(_) => Err(Fail::from("no graph")),
     }

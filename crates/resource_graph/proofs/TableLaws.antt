@@ -101,7 +101,7 @@ lists_all vertices kinds most lists to all = record {
   each = λ k list e. let l = to.each k list e in record {
     only = l.only;
     all = λ v has. l.all v (let within : v < length vertices = kind_within vertices k v has in omega arith) has;
-    rising = l.rising;
+    rising = λ k within. l.rising k (k + 1) (omega arith) within;
   };
 }
   where

@@ -5,10 +5,4 @@ pub mod Preorder
 pub mod Holds
 pub mod Keeps
 pub mod Made
-pub mod Faults
-pub mod Raw
-pub mod Arranged
-pub mod Checks
-pub mod Told
-pub mod Keys
-pub mod OwnList
+pub mod Finds

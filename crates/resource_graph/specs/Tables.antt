@@ -1,8 +1,10 @@
 -- What the queries of a graph answer, and what its tables hold.
-use Rattle.std.specs.Prelude.{◌≡◌, ◌≢◌, ℕ, ◌<◌, ◌≤◌, List, length, Option, Some, MatchOption, slice_get, slice_index, IsTrue}
+use Rattle.std.specs.Prelude.{◌≡◌, ◌≢◌, ℕ, ◌<◌, ◌≤◌, List, length, Option, Some, MatchOption, [], option_and_then, unwrap_or, slice_get, slice_index, IsTrue}
+use Rattle.std.specs.List.Sorted.{IsStrictlyIncreasing}
 use Rattle.flux_defs.specs.declared.vertices.Vertex.{Vertex}
 use Rattle.flux_defs.specs.Graph.{ResourceGraph, is_at_or_below, is_below, HasKind, IsNode}
 use Rattle.flux_defs.specs.ValidGraph.{HasRank}
+use Rattle.resource_graph.specs.NamedGraph.{NamedGraph}
 
 -- `after` is the number after the last vertex at or below v: exactly the vertices from v on and before it are at or below v
 pub record IsPast (vertices : List Vertex) (v after : ℕ) : Type 0 where
@@ -19,6 +21,14 @@ IsNodeOf vertices v found =
 -- the node of this rank, and none exactly where no node has it
 abbrev pub IsRanked : ResourceGraph → ℕ → Option ℕ → Type 0
 IsRanked g rank found = MatchOption found ((v : ℕ) → HasRank g rank v → ⊥) (λ v. HasRank g rank v)
+
+-- the vertex's rank, where it is a node; none past the last vertex
+abbrev pub rank_at : List Vertex → ℕ → Option ℕ
+rank_at vertices v = option_and_then (λ x. x.rank) (slice_get vertices v)
+
+-- what the vertex is called; nothing past the last vertex
+abbrev pub name_at : NamedGraph → ℕ → List ℕ
+name_at g v = unwrap_or (slice_get g.names v) []
 
 -- the type that is called so, and none exactly where no type is
 abbrev pub IsNamedKind : ResourceGraph → List ℕ → Option ℕ → Type 0
@@ -38,10 +48,6 @@ pub record IsNextOfKind (vertices : List Vertex) (kind from to v : ℕ) : Type 0
 -- no vertex of the kind stands from `from` on and before `to`
 abbrev pub HasNoneOfKind : List Vertex → ℕ → ℕ → ℕ → Type 0
 HasNoneOfKind vertices kind from to = (u : ℕ) → HasKind vertices kind u → from ≤ u → u < to → ⊥
-
--- each number of the list is less than each later one
-abbrev pub Rises : List ℕ → Type 0
-Rises list = (i j : ℕ) → i < j → j < length list → slice_index list i < slice_index list j
 
 -- the numbers before the place are less than `from`, and those from it on are not
 pub record IsPlaceOf (list : List ℕ) (from place : ℕ) : Type 0 where
@@ -64,7 +70,7 @@ HasNoneIn list from to = (i : ℕ) → i < length list → from ≤ slice_index 
 pub record ListsKind (vertices : List Vertex) (kind : ℕ) (list : List ℕ) : Type 0 where
   pub only : (i : ℕ) → i < length list → HasKind vertices kind (slice_index list i)
   pub all : (v : ℕ) → HasKind vertices kind v → (i : ℕ) × (i < length list) × (slice_index list i ≡ v)
-  pub rising : Rises list
+  pub rising : IsStrictlyIncreasing list
 
 -- the first place of the text, and none exactly where it stands at no place
 abbrev pub IsFirstPlace : List (List ℕ) → List ℕ → Option ℕ → Type 0

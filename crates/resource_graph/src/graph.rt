@@ -6,9 +6,11 @@ ghost use Rattle.flux_defs.specs.Graph.{is_below, is_pool_kind};
 ghost use Rattle.resource_graph.specs.Lines.{AllBelow};
 ghost use Rattle.resource_graph.specs.NamedGraph.{IsWhole, name_step, path_text};
 ghost use Rattle.resource_graph.specs.Made.{named_graph};
-ghost use Rattle.resource_graph.specs.Tables.{IsPast, IsNodeOf, IsRanked, IsNamedKind, Nests, IsNextOfKind, HasNoneOfKind, Rises, IsNextIn, HasNoneIn, IsPlaceOf, IsFirstPlace};
+ghost use Rattle.resource_graph.specs.Tables.{IsPast, IsNodeOf, IsRanked, IsNamedKind, Nests, IsNextOfKind, HasNoneOfKind, IsNextIn, HasNoneIn, IsFirstPlace, rank_at, name_at};
+ghost use Rattle.std.specs.List.Sorted.{IsStrictlyIncreasing};
 
 use crate::lines::line_up;
+use crate::rising::place_of;
 use crate::tables::{list_table, nested_table, node_table, past_table, pool_table, rank_table};
 use flux_defs::{List, Text, Vertex};
 use std::alloc::{AllocError, Global};
@@ -47,7 +49,7 @@ impl Model for Graph {
 
 /// By the vertex's number, its texts.
 #[derive(Debug, Drop)]
-pub(crate) struct Texts {
+pub struct Texts {
     pub names: List<Text>,
     pub bases: List<Text>,
     pub units: List<Text>,
@@ -55,8 +57,9 @@ pub(crate) struct Texts {
 }
 
 impl Graph {
-    /// The graph of these types, vertices and texts.
-    pub(crate) fn with_tables(
+    /// The graph of these types, vertices and texts, which are a valid graph: types by their first vertices, vertices in
+    /// preorder. Near-linear in the vertices; the only error is want of memory.
+    pub fn of(
         alloc: Global,
         kinds: List<Text>,
         vertices: List<Vertex>,
@@ -99,6 +102,13 @@ impl Graph {
         ensures valid { IsWhole self.now }
     {
         &self.vertices
+    }
+
+    /// A law: every graph is valid. It does nothing.
+    pub fn is_valid(&self)
+        ensures { IsWhole self.now }
+    {
+        let _ = &self.vertices;
     }
 
     /// How many vertices it has.
@@ -184,6 +194,23 @@ impl Graph {
         self.ranked.get(&rank).copied()
     }
 
+    /// The rank of the vertex, where it is a node; none past the last vertex.
+    pub fn rank_at(&self, vertex: u32) -> Option<u32>
+        ensures { result ≡ rank_at self.now.resources.vertices vertex }
+    {
+        self.vertices.get(vertex as usize)?.rank
+    }
+
+    /// What the vertex is called; past the last vertex nothing.
+    pub fn name_at(&self, vertex: u32) -> &[u8]
+        ensures { result.now ≡ name_at self.now vertex }
+    {
+        match self.names.get(vertex as usize) {
+            Some(name) => name.bytes(),
+            None => &[],
+        }
+    }
+
     /// What the vertex is called.
     pub fn name_of(&self, vertex: u32) -> &Text
         requires { vertex < length self.now.resources.vertices }
@@ -242,7 +269,7 @@ fn path_along(alloc: Global, names: &[Text], line: &[u32]) -> Result<Text, Alloc
 }
 
 /// The first place of the text.
-pub(crate) fn text_at(texts: &[Text], wanted: &[u8]) -> Option<usize>
+pub fn text_at(texts: &[Text], wanted: &[u8]) -> Option<usize>
     ensures found { IsFirstPlace texts.now wanted.now result }
 {
     for (place, text) in texts.iter().enumerate() {
@@ -255,7 +282,7 @@ pub(crate) fn text_at(texts: &[Text], wanted: &[u8]) -> Option<usize>
 
 /// The least number of a rising list from `from` on and before `to`.
 fn next_in(list: &[u32], from: u32, to: u32) -> Option<u32>
-    requires { Rises list.now }
+    requires { IsStrictlyIncreasing list.now }
     ensures { MatchOption result (HasNoneIn list.now from to) (λ v. IsNextIn list.now from to v) }
 {
     let place = place_of(list, from);
@@ -267,12 +294,4 @@ fn next_in(list: &[u32], from: u32, to: u32) -> Option<u32>
         return None;
     }
     Some(v)
-}
-
-/// How many numbers of a rising list are less than `from`.
-fn place_of(list: &[u32], from: u32) -> usize
-    requires { Rises list.now }
-    ensures { IsPlaceOf list.now from result }
-{
-    list.partition_point(|v| *v < from)
 }

@@ -6,11 +6,7 @@ use flux_defs::Vertex;
 use std::alloc::{AllocError, Global};
 
 /// The vertex and those above it, up to the root.
-pub(crate) fn line_up(
-    alloc: Global,
-    vertices: &[Vertex],
-    vertex: u32,
-) -> Result<Vec<u32>, AllocError>
+pub fn line_up(alloc: Global, vertices: &[Vertex], vertex: u32) -> Result<Vec<u32>, AllocError>
     requires known { KnowsParents vertices.now }
     requires vertex_in { vertex < length vertices.now }
     requires short { length (line_of vertices.now vertex) ≤ 16 }

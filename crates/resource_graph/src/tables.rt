@@ -116,11 +116,7 @@ pub(crate) fn rank_table(
 }
 
 /// By type, whether it is a pool type.
-pub(crate) fn pool_table(
-    alloc: Global,
-    vertices: &[Vertex],
-    kinds: usize,
-) -> Result<Vec<bool>, AllocError>
+pub fn pool_table(alloc: Global, vertices: &[Vertex], kinds: usize) -> Result<Vec<bool>, AllocError>
     requires known { KnowsKinds vertices.now kinds }
     ensures pools { IfOk result (λ pools. HasPools vertices.now pools.items) }
     ensures whole { IfOk result (λ pools. length pools.items ≡ kinds) }

@@ -12,9 +12,9 @@ use Rattle.flux_defs.specs.ValidGraph.{IsValidGraph, HasRank}
 use Rattle.graph_laws.proofs.Containment.{ParentsFirst, up, up-None, steps_of, below_le, below_from, line, equal_to, equal_from}
 use Rattle.graph_laws.proofs.Preorder.{parents_first}
 use Rattle.resource_graph.specs.Tables.{IsPast, IsNodeOf, IsNamedKind}
-use Rattle.resource_graph.specs.Checks.{FindsFirst}
-use Rattle.resource_graph.proofs.ValidLaws.{value_of, from_value}
-use Rattle.resource_graph.proofs.CheckLaws.{Passes, finds_position}
+use Rattle.resource_graph.specs.Finds.{IsFirstOf}
+use Rattle.resource_graph.proofs.Values.{value_of, from_value}
+use Rattle.resource_graph.proofs.Finds.{Passes, finds_position}
 use Rattle.resource_set_r.specs.Rows.{rank_of, node_above, rank_above, is_in_rank, node_with, type_called}
 use Rattle.resource_set_r.proofs.Filtered.{find_only, find_none, find_some}
 
@@ -189,7 +189,7 @@ module _ (g : ResourceGraph) (names : List (List ℕ)) (valid : IsValidGraph g n
       passes : (k : ℕ) → slice_get g.kinds k ≡ Some name → Passes (bytes_eq name) g.kinds k
       passes k e = from_value (slice_get g.kinds k) (λ x. bytes_eq name x ≡ true) name e ((bytes_eq-Decides name name).1 refl)
 
-      by : (o : Option ℕ) → type_called g name ≡ o → (found : Option ℕ) → IsNamedKind g name found → FindsFirst (Passes (bytes_eq name) g.kinds) o → type_called g name ≡ found
+      by : (o : Option ℕ) → type_called g name ≡ o → (found : Option ℕ) → IsNamedKind g name found → IsFirstOf (Passes (bytes_eq name) g.kinds) o → type_called g name ≡ found
       by None e None h f = e
       by None e (Some k) h f = absurd (f k (passes k h))
       by (Some j) e None h f = absurd (h j (at j f.0))

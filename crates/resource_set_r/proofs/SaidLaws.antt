@@ -15,9 +15,9 @@ use Rattle.flux_defs.specs.Jobs.{vertex_of, holds_over, is_on_or_below}
 use Rattle.flux_defs.specs.ValidGraph.{IsValidGraph, HasType, HasId, HasRank}
 use Rattle.graph_laws.proofs.Containment.{ParentsFirst, below_self, line, equal_to, equal_from}
 use Rattle.graph_laws.proofs.Preorder.{parents_first}
-use Rattle.resource_graph.specs.Checks.{FindsFirst}
-use Rattle.resource_graph.proofs.ValidLaws.{value_of}
-use Rattle.resource_graph.proofs.CheckLaws.{Passes, finds_position}
+use Rattle.resource_graph.specs.Finds.{IsFirstOf}
+use Rattle.resource_graph.proofs.Values.{value_of}
+use Rattle.resource_graph.proofs.Finds.{Passes, finds_position}
 use Rattle.resource_set_r.specs.Rows.{numbers, is_given_by, given_by, given, rank_of, node_above, rank_above, is_in_rank, ranks_in, type_called, is_of_type, id_of_type, part_of, ids_among}
 use Rattle.resource_set_r.specs.Said.{IsShared, IsChild, AreRanksOfClaims, AreIdsOfClaims}
 use Rattle.resource_set_r.proofs.Members.{Stands, contains_stands, stands_contains, of_rising, in_rising, of_filter, in_filter, of_filter_map, in_filter_map, of_flat_map, in_flat_map, of_ids, in_ids, of_any, in_any}
@@ -106,7 +106,7 @@ module _ (g : ResourceGraph) (names : List (List ℕ)) (valid : IsValidGraph g n
     where
       named : (k : ℕ) → type_called g name ≡ Some k → slice_get g.kinds k ≡ Some name
       named k e =
-          let found = subst (λ (o : Option ℕ). FindsFirst (Passes (bytes_eq name) g.kinds) o) e (finds_position (bytes_eq name) g.kinds (type_called g name) refl) in
+          let found = subst (λ (o : Option ℕ). IsFirstOf (Passes (bytes_eq name) g.kinds) o) e (finds_position (bytes_eq name) g.kinds (type_called g name) refl) in
           let x = value_of (slice_get g.kinds k) (λ x. bytes_eq name x ≡ true) found.0 in
           x.1 ∙ ap Some (sym ((bytes_eq-Decides name x.0).0 x.2))
 

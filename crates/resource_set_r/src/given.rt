@@ -3,7 +3,6 @@ ghost use Rattle.std.specs.Prelude.{◌≡◌, IfOk, OnOk};
 ghost use Rattle.std.specs.List.{fold};
 ghost use Rattle.std.specs.Ordering.{nat_cmp};
 ghost use Rattle.std.specs.BTreeSet.{insert_key};
-ghost use Rattle.flux_defs.specs.Jobs.{vertex_of};
 ghost use Rattle.resource_set_r.specs.Rows.{given_by, given};
 
 use crate::sets::{add, add_all, numbers_of};
@@ -12,22 +11,11 @@ use resource_graph::Graph;
 use std::alloc::{AllocError, Global};
 use std::collections::BTreeSet;
 
-/// The vertex that a claim is on.
-pub(crate) fn vertex_of(claim: &Claim) -> u32
-    ensures { result ≡ vertex_of claim.now }
-{
-    match claim {
-        Claim::Take { vertex, .. } => *vertex,
-        Claim::Hold { vertex } => *vertex,
-        Claim::Pass { vertex } => *vertex,
-    }
-}
-
 /// Adds what a claim gives.
 fn add_given(set: &mut BTreeSet<u32>, graph: &Graph, claim: &Claim) -> Result<(), AllocError>
     ensures { OnOk result (set.new.keys ≡ fold (insert_key nat_cmp) set.old.keys (given_by graph.now.resources.vertices claim.now)) }
 {
-    let vertex = vertex_of(claim);
+    let vertex = claim.vertex();
     if vertex as usize >= graph.vertices().len() {
         return Ok(());
     }

@@ -4,11 +4,12 @@ ghost use Rattle.std.specs.List.{All, filter_map};
 ghost use Rattle.std.specs.List.Sorted.{IsStrictlyIncreasing};
 ghost use Rattle.resource_graph.specs.Tables.{IsPlaceOf};
 ghost use Rattle.resource_set_r.specs.WrittenR.{RisesWithin};
-ghost use Rattle.resource_set_r.specs.Rows.{host_of, type_called, element_of, rising, rank_of, rank_above, is_of_type, id_of_type, ids_among, children_in, part_of, is_same, with_rank, elements_from, elements};
+ghost use Rattle.resource_set_r.specs.Rows.{host_of, type_called, element_of, rising, rank_above, is_of_type, id_of_type, ids_among, children_in, part_of, is_same, with_rank, elements_from, elements};
 
 use crate::sets::{add, numbers_of};
 use flux_defs::{List, Text, Vertex};
 use resource_graph::Graph;
+use resource_graph::rising::place_of;
 use std::alloc::{AllocError, Global};
 use std::collections::BTreeSet;
 
@@ -35,17 +36,7 @@ fn rank_above(graph: &Graph, vertex: u32) -> Option<u32>
         return None;
     }
     match graph.node_of(vertex) {
-        Some(node) => rank_of(vertices.items(), node),
-        None => None,
-    }
-}
-
-/// The rank of a vertex.
-fn rank_of(vertices: &[Vertex], vertex: u32) -> Option<u32>
-    ensures { result ≡ rank_of vertices.now vertex }
-{
-    match vertices.get(vertex as usize) {
-        Some(x) => x.rank,
+        Some(node) => graph.rank_at(node),
         None => None,
     }
 }
@@ -63,20 +54,12 @@ pub(crate) fn ranks_of(alloc: Global, graph: &Graph, given: &[u32]) -> Result<Li
     numbers_of(alloc, &mut set)
 }
 
-/// How many numbers of a rising list are less than `from`.
-fn place_of(list: &[u32], from: u32) -> usize
-    requires { IsStrictlyIncreasing list.now }
-    ensures { IsPlaceOf list.now from result }
-{
-    list.partition_point(|v| *v < from)
-}
-
 /// The part of the rising vertices that is of the node of a rank.
 fn part_of<'a>(graph: &Graph, given: &'a [u32], rank: u32) -> &'a [u32]
     requires { IsStrictlyIncreasing given.now }
     ensures { result.now ≡ part_of graph.now.resources.vertices given.now rank }
 {
-    let _vertices = graph.vertices();
+    graph.is_valid();
     match graph.node_of_rank(rank) {
         Some(node) => &given[place_of(given, node)..place_of(given, graph.past(node))],
         None => &[],
@@ -128,23 +111,13 @@ fn is_same(a: &Children, b: &Children) -> bool
     a.cores.items() == b.cores.items() && a.gpus.items() == b.gpus.items()
 }
 
-/// What the vertex is called, and nothing past the graph.
-fn name_at(graph: &Graph, vertex: u32) -> &[u8]
-    ensures { result.now ≡ unwrap_or (slice_get graph.now.names vertex) [] }
-{
-    if vertex as usize >= graph.vertices().len() {
-        return &[];
-    }
-    graph.name_of(vertex).bytes()
-}
-
 /// What the node of a rank is called.
 fn host_of(graph: &Graph, rank: u32) -> &[u8]
     ensures { result.now ≡ host_of graph.now rank }
 {
-    let _vertices = graph.vertices();
+    graph.is_valid();
     match graph.node_of_rank(rank) {
-        Some(node) => name_at(graph, node),
+        Some(node) => graph.name_at(node),
         None => &[],
     }
 }
@@ -189,7 +162,7 @@ pub(crate) fn types_of(graph: &Graph) -> Types
 fn type_called(graph: &Graph, name: &[u8]) -> Option<u32>
     ensures { result ≡ type_called graph.now.resources name.now }
 {
-    let _vertices = graph.vertices();
+    graph.is_valid();
     graph.kind_of(name)
 }
 

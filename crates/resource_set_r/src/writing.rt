@@ -13,14 +13,14 @@ ghost use Rattle.resource_set_r.specs.Rows.{is_other_than, type_called, elements
 ghost use Rattle.resource_set_r.specs.WrittenR.{children_data, element_data, elements_data, texts_data, mode_of, claim_data, claims_data, execution_of, nodelist, r_text, RisesWithin};
 ghost use Rattle.resource_set_r.specs.WrittenRTokens.{ids_tokens, quantity_tokens, scheduling_tokens};
 
-use crate::given::{given_of, vertex_of};
+use crate::given::given_of;
 use crate::rows::{
     Children, Element, Types, elements_of, hosts_of, is_of_type, ranks_of, types_of,
 };
 use flux_defs::{Claim, Job, List, Text, Vertex};
-use json_written::{put_number, put_text, readable};
 use idset_text::{write_hostlist, write_idset};
 use json::Writer;
+use json_written::{put_number, put_text, readable};
 use resource_graph::Graph;
 use std::alloc::{AllocError, Global};
 
@@ -158,7 +158,7 @@ fn put_claim(
 {
     writer.begin_object()?;
     put_text(writer, "mode", mode_of(claim))?;
-    put_path(alloc, writer, graph, vertex_of(claim))?;
+    put_path(alloc, writer, graph, claim.vertex())?;
     put_quantity(writer, claim)?;
     writer.end_object()?;
     Ok(())
@@ -220,7 +220,7 @@ fn put_others(
 fn is_other(vertices: &[Vertex], types: Types, claim: Claim) -> bool
     ensures { result ≡ is_other_than vertices.now types.node types.core types.gpu claim }
 {
-    let vertex = vertex_of(&claim);
+    let vertex = claim.vertex();
     if vertex as usize >= vertices.len() {
         return false;
     }

@@ -5,10 +5,14 @@ use Rattle.flux_defs.specs.declared.requests.Ask.{Ask}
 use Rattle.flux_defs.specs.declared.journal.Command.TheVariants as command
 use Rattle.flux_defs.specs.declared.journal.Reply.{Reply}
 use Rattle.flux_defs.specs.declared.journal.Reply.TheVariants as reply
-use Rattle.flux_defs.specs.Asks.{window_of, IsLowestFirst}
+use Rattle.flux_defs.specs.Asks.{window_of, CountsWithin, IsLowestFirst}
 use Rattle.flux_defs.specs.Scheduler.{Setting, State, Where, Replies, AcceptedOrFull, accepted_reply}
-use Rattle.flux_defs.specs.Verdicts.{Verdict, Found, Finds, YieldsJob, job_of}
-use Rattle.sched_core.specs.Answered.{IsOfJob, Answers}
+use Rattle.flux_defs.specs.declared.verdicts.Verdict.{Verdict}
+use Rattle.flux_defs.specs.declared.verdicts.Verdict.TheVariants.{Found}
+use Rattle.flux_defs.specs.Verdicts.{FindsNow, FindsEarliest, FindsJob, YieldsJob, job_of}
+use Rattle.sched_core.specs.declared.finding.Starts.{Starts}
+use Rattle.sched_core.specs.declared.finding.Starts.TheVariants as starts
+use Rattle.sched_core.specs.Answered.{FindsAt, command_of, none_at, IsOfJob, Answers}
 
 pub given_found : (g : Setting) (s : State) (id : ℕ) (ask : Ask) (start : ℕ) (claims : List Claim) (none r : Reply) (m k : ℕ) → s.moment ≡ m → s.claim_count ≡ k →
     Where (g.claim_limit < k + length claims) reply.Full (λ x. x ≡ accepted_reply m (job_of g id ask start claims)) r → YieldsJob g s id ask none (Found start claims) r
@@ -24,7 +28,7 @@ module _ (g : Setting) (s : State) (id : ℕ) (ask : Ask) where
   by : (none : Reply) (v w : Verdict) (r : Reply) → v ≡ w → Answers g s id ask none v r → Answers g s id ask none w r
   by none v w r e h = subst (λ (x : Verdict). Answers g s id ask none x r) e h
 
-  pub now_decided : (v : Verdict) (r : Reply) → Finds g s (command.Allocate id ask) v → Answers g s id ask reply.Busy v r → Replies g s (command.Allocate id ask) r
+  now_decided : (v : Verdict) (r : Reply) → FindsJob g s id ask (FindsNow g s ask) v → Answers g s id ask reply.Busy v r → Replies g s (command.Allocate id ask) r
   now_decided v r (inl (used, e)) h = inl (used, by reply.Busy v _ r e h)
   now_decided v r (inr (n, inl (un, e))) h = inr (n, inl (un, by reply.Busy v _ r e h))
   now_decided v r (inr (n, inr (sat, inl (long, e)))) h = inr (n, inr (sat, inl (long, by reply.Busy v _ r e h)))
@@ -32,7 +36,7 @@ module _ (g : Setting) (s : State) (id : ℕ) (ask : Ask) where
   now_decided v r (inr (n, inr (sat, inr (k, inr (fit, (claims, low, e)))))) h =
       inr (n, inr (sat, inr (k, inr (fit, accepts s.moment claims reply.Busy r low (by reply.Busy v _ r e h)))))
 
-  pub start_decided : (v : Verdict) (r : Reply) → Finds g s (command.Reserve id ask) v → Answers g s id ask reply.NoStart v r → Replies g s (command.Reserve id ask) r
+  start_decided : (v : Verdict) (r : Reply) → FindsJob g s id ask (FindsEarliest g s ask) v → Answers g s id ask reply.NoStart v r → Replies g s (command.Reserve id ask) r
   start_decided v r (inl (used, e)) h = inl (used, by reply.NoStart v _ r e h)
   start_decided v r (inr (n, inl (un, e))) h = inr (n, inl (un, by reply.NoStart v _ r e h))
   start_decided v r (inr (n, inr (sat, inl (long, e)))) h = inr (n, inr (sat, inl (long, by reply.NoStart v _ r e h)))
@@ -40,20 +44,22 @@ module _ (g : Setting) (s : State) (id : ℕ) (ask : Ask) where
   start_decided v r (inr (n, inr (sat, inr (k, inr (some, (t, early, (claims, low, e))))))) h =
       inr (n, inr (sat, inr (k, inr (some, (t, early, accepts t claims reply.NoStart r low (by reply.NoStart v _ r e h))))))
 
+  pub decided : (at : Starts) (v : Verdict) (r : Reply) → FindsJob g s id ask (FindsAt at g s ask) v → Answers g s id ask (none_at at) v r → Replies g s (command_of at id ask) r
+  decided starts.Now v r finds h = now_decided v r finds h
+  decided starts.Earliest v r finds h = start_decided v r finds h
+
   -- a start that was found has a window that counts
-  of_job : (v w : Verdict) → v ≡ w → IsOfJob g.horizon ask w → IsOfJob g.horizon ask v
-  of_job v w e h = subst (IsOfJob g.horizon ask) (sym e) h
+  of_same : (v w : Verdict) → v ≡ w → IsOfJob g.horizon ask w → IsOfJob g.horizon ask v
+  of_same v w e h = subst (IsOfJob g.horizon ask) (sym e) h
 
-  pub now_of_job : (v : Verdict) → Finds g s (command.Allocate id ask) v → IsOfJob g.horizon ask v
-  now_of_job v (inl (used, e)) = of_job v _ e tt
-  now_of_job v (inr (n, inl (un, e))) = of_job v _ e tt
-  now_of_job v (inr (n, inr (sat, inl (long, e)))) = of_job v _ e tt
-  now_of_job v (inr (n, inr (sat, inr (k, inl (none, e))))) = of_job v _ e tt
-  now_of_job v (inr (n, inr (sat, inr (k, inr (fit, (claims, low, e)))))) = of_job v _ e k
+  of_start : (at : Starts) (v : Verdict) → CountsWithin g.horizon ask s.moment → FindsAt at g s ask v → IsOfJob g.horizon ask v
+  of_start starts.Now v k (inl (none, e)) = of_same v _ e tt
+  of_start starts.Now v k (inr (fit, (claims, low, e))) = of_same v _ e k
+  of_start starts.Earliest v k (inl (none, e)) = of_same v _ e tt
+  of_start starts.Earliest v k (inr (some, (t, early, (claims, low, e)))) = of_same v _ e early.starts.0
 
-  pub start_of_job : (v : Verdict) → Finds g s (command.Reserve id ask) v → IsOfJob g.horizon ask v
-  start_of_job v (inl (used, e)) = of_job v _ e tt
-  start_of_job v (inr (n, inl (un, e))) = of_job v _ e tt
-  start_of_job v (inr (n, inr (sat, inl (long, e)))) = of_job v _ e tt
-  start_of_job v (inr (n, inr (sat, inr (k, inl (none, e))))) = of_job v _ e tt
-  start_of_job v (inr (n, inr (sat, inr (k, inr (some, (t, early, (claims, low, e))))))) = of_job v _ e early.starts.0
+  pub of_job : (at : Starts) (v : Verdict) → FindsJob g s id ask (FindsAt at g s ask) v → IsOfJob g.horizon ask v
+  of_job at v (inl (used, e)) = of_same v _ e tt
+  of_job at v (inr (n, inl (un, e))) = of_same v _ e tt
+  of_job at v (inr (n, inr (sat, inl (long, e)))) = of_same v _ e tt
+  of_job at v (inr (n, inr (sat, inr (k, found)))) = of_start at v k found

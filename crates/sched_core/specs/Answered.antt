@@ -7,32 +7,39 @@ use Rattle.flux_defs.specs.declared.journal.Reply.{Reply}
 use Rattle.flux_defs.specs.declared.journal.Reply.TheVariants as reply
 use Rattle.flux_defs.specs.Asks.{CountsWithin}
 use Rattle.flux_defs.specs.Scheduler.{Setting, State, Replies, job_with}
-use Rattle.flux_defs.specs.Verdicts as verdicts
+use Rattle.flux_defs.specs.declared.verdicts.Verdict.{Verdict}
+use Rattle.flux_defs.specs.declared.verdicts.Verdict.TheVariants as verdict
+use Rattle.flux_defs.specs.Verdicts.{FindsNow, FindsEarliest, YieldsJob}
 use Rattle.book_state.specs.declared.held.BookState.{BookState}
 use Rattle.book_state.specs.Books.{MayAdd}
-use Rattle.sched_core.specs.declared.verdict.Verdict.{Verdict}
-use Rattle.sched_core.specs.declared.verdict.Verdict.TheVariants as own
+use Rattle.sched_core.specs.declared.finding.Starts.{Starts}
+use Rattle.sched_core.specs.declared.finding.Starts.TheVariants as starts
 use Rattle.sched_core.specs.Courses.{Course, state_of}
 
--- what was found, as the definitions have it
-abbrev pub verdict_of : Verdict → verdicts.Verdict
-verdict_of (own.Found found) = verdicts.Found found.start found.claims
-verdict_of own.NoFit = verdicts.NoFit
-verdict_of own.Unsat = verdicts.Unsat
-verdict_of own.Sat = verdicts.Sat
-verdict_of own.Long = verdicts.Long
-verdict_of own.Known = verdicts.Known
+-- what is found of an ask at the starts that it may have
+abbrev pub FindsAt : Starts → Setting → State → Ask → Verdict → Type 0
+FindsAt starts.Now g s ask = FindsNow g s ask
+FindsAt starts.Earliest g s ask = FindsEarliest g s ask
+
+-- the command that asks for a job at these starts, and its reply where nothing fits
+abbrev pub command_of : Starts → ℕ → Ask → Command
+command_of starts.Now id ask = command.Allocate id ask
+command_of starts.Earliest id ask = command.Reserve id ask
+
+abbrev pub none_at : Starts → Reply
+none_at starts.Now = reply.Busy
+none_at starts.Earliest = reply.NoStart
 
 -- a verdict on an allocate or a reserve: a start that was found has a window that counts
-abbrev pub IsOfJob : ℕ → Ask → verdicts.Verdict → Type 0
-IsOfJob horizon ask (verdicts.Found start claims) = CountsWithin horizon ask start
-IsOfJob horizon ask verdicts.Sat = ⊥
+abbrev pub IsOfJob : ℕ → Ask → Verdict → Type 0
+IsOfJob horizon ask (verdict.Found start claims) = CountsWithin horizon ask start
+IsOfJob horizon ask verdict.Sat = ⊥
 IsOfJob horizon ask v = Unit {0}
 
 -- the reply to an allocate or a reserve by what was found in this very state; `none` is the reply where nothing fits
-abbrev pub Answers : Setting → State → ℕ → Ask → Reply → verdicts.Verdict → Reply → Type 0
-Answers g s id ask none verdicts.Known = λ r. r ≡ reply.Exists
-Answers g s id ask none v = verdicts.YieldsJob g s id ask none v
+abbrev pub Answers : Setting → State → ℕ → Ask → Reply → Verdict → Reply → Type 0
+Answers g s id ask none verdict.Known = λ r. r ≡ reply.Exists
+Answers g s id ask none v = YieldsJob g s id ask none v
 
 -- a command that cancels a job which is there
 abbrev pub Cancels : State → Command → Type 0

@@ -1,38 +1,39 @@
 //! What a search of the present state finds of a command.
 ghost use Rattle.std.specs.Prelude.{◌≡◌, ℕ, ◌↔◌, IsTrue, List, IfOk, Contains};
-ghost use Rattle.flux_defs.specs.declared.journal.Command.TheVariants as command;
 ghost use Rattle.flux_defs.specs.declared.journal.Entry.{Entry};
 ghost use Rattle.flux_defs.specs.Needs.{IsProperAsk};
-ghost use Rattle.flux_defs.specs.Asks.{IsSatisfiable};
-ghost use Rattle.flux_defs.specs.Verdicts.{Finds};
+ghost use Rattle.flux_defs.specs.Asks.{CountsWithin, IsSatisfiable};
+ghost use Rattle.flux_defs.specs.Verdicts.{FindsNow, FindsEarliest, FindsJob};
 ghost use Rattle.prune_filters.specs.declared.rules.Rule.{Rule};
 ghost use Rattle.book_state.specs.Books.{vertices_of};
 ghost use Rattle.sched_core.specs.Courses.{left_by, setting_of, IsBookOf};
-ghost use Rattle.sched_core.specs.Answered.{verdict_of};
+ghost use Rattle.sched_core.specs.Answered.{FindsAt};
 
-use crate::verdict::Verdict;
 use book_state::BookState;
-use dfu_match::match_at;
+use dfu_match::{match_at, some_fit};
 use earliest_search::{Found, counts, earliest, window_at};
-use flux_defs::{Ask, NoJobs, Steps, Window};
+use flux_defs::{Ask, NoJobs, Steps, Verdict, Window};
 use resource_graph::Graph;
 use std::alloc::{AllocError, Global};
 use std::sync::ledger::Ledger;
 
+/// The starts that an ask for a job may have.
+#[derive(Clone, Copy)]
+pub(crate) enum Starts {
+    /// The present moment alone: an allocate.
+    Now,
+    /// The earliest from the present moment on: a reserve.
+    Earliest,
+}
+
 /// Whether some claims fit the graph with no jobs.
-pub(crate) fn is_satisfiable<L: Ledger>(
-    alloc: Global,
-    graph: &Graph,
-    ask: &Ask,
-    steps: &mut Steps<L>,
-) -> Result<bool, AllocError>
+pub(crate) fn is_satisfiable<L: Ledger>(graph: &Graph, ask: &Ask, steps: &mut Steps<L>) -> bool
     requires { IsProperAsk graph.now.resources.vertices ask.now }
-    ensures { IfOk result (λ yes. IsTrue yes ↔ IsSatisfiable graph.now.resources.vertices ask.now) }
+    ensures { IsTrue result ↔ IsSatisfiable graph.now.resources.vertices ask.now }
 {
     let empty = NoJobs::over(graph.vertices());
     let moment = Window { from: 0, to: 1 };
-    let found = match_at(alloc, graph, &empty, ask, moment, steps)?;
-    Ok(found.is_some())
+    some_fit(graph, &empty, ask, moment, steps)
 }
 
 /// Whether a job of this id was ever accepted.
@@ -42,65 +43,102 @@ fn is_used<L: Ledger>(book: &BookState, id: u64, steps: &mut Steps<L>) -> bool
     book.find(id, steps).is_some()
 }
 
-/// What is found of an allocate.
-pub(crate) fn find_now<L: Ledger>(
+/// What is found of the ask at the present moment.
+fn find_now<L: Ledger>(
     alloc: Global,
     graph: &Graph,
     horizon: u64,
     book: &BookState,
-    id: u64,
     ask: &Ask,
+    moment: u64,
     steps: &mut Steps<L>,
 ) -> Result<Verdict, AllocError>
     requires over { vertices_of book.now ≡ graph.now.resources.vertices }
     requires proper { IsProperAsk graph.now.resources.vertices ask.now }
-    ensures { IfOk result (λ v. (rules : List Rule) (limit : ℕ) (journal : List Entry) → IsBookOf journal book.now →
-        Finds (setting_of graph.now.resources rules horizon limit) (left_by journal) (command.Allocate id ask.now) (verdict_of v)) }
+    requires counts { CountsWithin horizon ask.now moment }
+    ensures { IfOk result (λ v. (rules : List Rule) (limit : ℕ) (journal : List Entry) → IsBookOf journal book.now → moment ≡ (left_by journal).moment →
+        FindsNow (setting_of graph.now.resources rules horizon limit) (left_by journal) ask.now v) }
 {
-    if is_used(book, id, steps) {
-        return Ok(Verdict::Known);
-    }
-    if !is_satisfiable(alloc, graph, ask, steps)? {
-        return Ok(Verdict::Unsat);
-    }
-    let start = book.now();
-    if !counts(horizon, ask, start) {
-        return Ok(Verdict::Long);
-    }
-    let window = window_at(horizon, ask, start);
+    let window = window_at(horizon, ask, moment);
     match match_at(alloc, graph, book, ask, window, steps)? {
         None => Ok(Verdict::NoFit),
-        Some(claims) => Ok(Verdict::Found(Found { start, claims })),
+        Some(claims) => Ok(Verdict::Found {
+            start: moment,
+            claims,
+        }),
     }
 }
 
-/// What is found of a reserve.
-pub(crate) fn find_start<L: Ledger>(
+/// What is found of the ask at its earliest start.
+fn find_earliest<L: Ledger>(
+    alloc: Global,
+    graph: &Graph,
+    horizon: u64,
+    book: &BookState,
+    ask: &Ask,
+    moment: u64,
+    steps: &mut Steps<L>,
+) -> Result<Verdict, AllocError>
+    requires over { vertices_of book.now ≡ graph.now.resources.vertices }
+    requires proper { IsProperAsk graph.now.resources.vertices ask.now }
+    ensures { IfOk result (λ v. (rules : List Rule) (limit : ℕ) (journal : List Entry) → IsBookOf journal book.now → moment ≡ (left_by journal).moment →
+        FindsEarliest (setting_of graph.now.resources rules horizon limit) (left_by journal) ask.now v) }
+{
+    match earliest(alloc, graph, book, ask, moment, horizon, steps)? {
+        None => Ok(Verdict::NoFit),
+        Some(Found { start, claims }) => Ok(Verdict::Found { start, claims }),
+    }
+}
+
+/// What is found of the ask at the starts that it may have.
+fn find_at<L: Ledger>(
+    alloc: Global,
+    graph: &Graph,
+    horizon: u64,
+    book: &BookState,
+    ask: &Ask,
+    moment: u64,
+    starts: Starts,
+    steps: &mut Steps<L>,
+) -> Result<Verdict, AllocError>
+    requires over { vertices_of book.now ≡ graph.now.resources.vertices }
+    requires proper { IsProperAsk graph.now.resources.vertices ask.now }
+    requires counts { CountsWithin horizon ask.now moment }
+    ensures { IfOk result (λ v. (rules : List Rule) (limit : ℕ) (journal : List Entry) → IsBookOf journal book.now → moment ≡ (left_by journal).moment →
+        FindsAt starts (setting_of graph.now.resources rules horizon limit) (left_by journal) ask.now v) }
+{
+    match starts {
+        Starts::Now => find_now(alloc, graph, horizon, book, ask, moment, steps),
+        Starts::Earliest => find_earliest(alloc, graph, horizon, book, ask, moment, steps),
+    }
+}
+
+/// What is found of an ask for a job.
+pub(crate) fn find_job<L: Ledger>(
     alloc: Global,
     graph: &Graph,
     horizon: u64,
     book: &BookState,
     id: u64,
     ask: &Ask,
+    starts: Starts,
     steps: &mut Steps<L>,
 ) -> Result<Verdict, AllocError>
     requires over { vertices_of book.now ≡ graph.now.resources.vertices }
     requires proper { IsProperAsk graph.now.resources.vertices ask.now }
     ensures { IfOk result (λ v. (rules : List Rule) (limit : ℕ) (journal : List Entry) → IsBookOf journal book.now →
-        Finds (setting_of graph.now.resources rules horizon limit) (left_by journal) (command.Reserve id ask.now) (verdict_of v)) }
+        FindsJob (setting_of graph.now.resources rules horizon limit) (left_by journal) id ask.now
+        (FindsAt starts (setting_of graph.now.resources rules horizon limit) (left_by journal) ask.now) v) }
 {
     if is_used(book, id, steps) {
         return Ok(Verdict::Known);
     }
-    if !is_satisfiable(alloc, graph, ask, steps)? {
+    if !is_satisfiable(graph, ask, steps) {
         return Ok(Verdict::Unsat);
     }
     let moment = book.now();
     if !counts(horizon, ask, moment) {
         return Ok(Verdict::Long);
     }
-    match earliest(alloc, graph, book, ask, moment, horizon, steps)? {
-        None => Ok(Verdict::NoFit),
-        Some(found) => Ok(Verdict::Found(found)),
-    }
+    find_at(alloc, graph, horizon, book, ask, moment, starts, steps)
 }

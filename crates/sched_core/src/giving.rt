@@ -7,11 +7,10 @@ ghost use Rattle.flux_defs.specs.Scheduler.{State, Where, accepted_reply};
 ghost use Rattle.flux_defs.specs.Verdicts.{job_of};
 ghost use Rattle.prune_filters.specs.declared.rules.Rule.{Rule};
 ghost use Rattle.sched_core.specs.Courses.{setting_of};
-ghost use Rattle.sched_core.specs.Answered.{verdict_of, IsOfJob, Answers};
+ghost use Rattle.sched_core.specs.Answered.{IsOfJob, Answers};
 
-use crate::verdict::Verdict;
-use earliest_search::{Found, window_at};
-use flux_defs::{Ask, Job, Reply};
+use earliest_search::window_at;
+use flux_defs::{Ask, Claim, Job, List, Reply, Verdict};
 
 /// How far a scheduler has come: the present moment, and how many claims the accepted jobs had; and its bounds of both.
 #[derive(Clone, Copy)]
@@ -23,13 +22,12 @@ pub(crate) struct Reached {
 }
 
 /// The job that was found is accepted, unless there is no room for its claims.
-fn accept(reached: Reached, id: u64, ask: &Ask, found: Found) -> Reply
-    requires { CountsWithin reached.horizon ask.now found.start }
+fn accept(reached: Reached, id: u64, ask: &Ask, start: u64, claims: List<Claim>) -> Reply
+    requires { CountsWithin reached.horizon ask.now start }
     ensures { (graph : ResourceGraph) (rules : List Rule) →
-        Where (reached.claim_limit < reached.claim_count + length found.claims) reply.Full
-        (λ r. r ≡ accepted_reply reached.moment (job_of (setting_of graph rules reached.horizon reached.claim_limit) id ask.now found.start found.claims)) result }
+        Where (reached.claim_limit < reached.claim_count + length claims) reply.Full
+        (λ r. r ≡ accepted_reply reached.moment (job_of (setting_of graph rules reached.horizon reached.claim_limit) id ask.now start claims)) result }
 {
-    let Found { start, claims } = found;
     if u128::from(reached.claim_count) + claims.len() as u128 > u128::from(reached.claim_limit) {
         return Reply::Full;
     }
@@ -49,12 +47,12 @@ fn accept(reached: Reached, id: u64, ask: &Ask, found: Found) -> Reply
 
 /// The reply to an allocate or a reserve by what was found now; `none` is the reply where nothing fits.
 pub(crate) fn give(reached: Reached, id: u64, ask: &Ask, none: Reply, verdict: Verdict) -> Reply
-    requires { IsOfJob reached.horizon ask.now (verdict_of verdict) }
+    requires { IsOfJob reached.horizon ask.now verdict }
     ensures { (graph : ResourceGraph) (rules : List Rule) (s : State) → s.moment ≡ reached.moment → s.claim_count ≡ reached.claim_count →
-        Answers (setting_of graph rules reached.horizon reached.claim_limit) s id ask.now none (verdict_of verdict) result }
+        Answers (setting_of graph rules reached.horizon reached.claim_limit) s id ask.now none verdict result }
 {
     match verdict {
-        Verdict::Found(found) => accept(reached, id, ask, found),
+        Verdict::Found { start, claims } => accept(reached, id, ask, start, claims),
         Verdict::NoFit => none,
         Verdict::Unsat => Reply::Unsatisfiable,
         Verdict::Long => Reply::TooLong,

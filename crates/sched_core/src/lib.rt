@@ -11,7 +11,6 @@ pub mod playing;
 mod replying;
 pub mod scheduler;
 mod settling;
-mod verdict;
 
 pub use playing::{play, play_client};
 pub use scheduler::Core;

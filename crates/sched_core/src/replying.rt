@@ -2,10 +2,12 @@
 ghost use Rattle.std.specs.Prelude.{◌≡◌, IfOk};
 ghost use Rattle.flux_defs.specs.declared.journal.Command.TheVariants as command;
 ghost use Rattle.flux_defs.specs.Needs.{IsProperAsk};
-ghost use Rattle.flux_defs.specs.Scheduler.{IsProper, Replies};
+ghost use Rattle.flux_defs.specs.Scheduler.{State, IsProper, Replies};
+ghost use Rattle.sched_core.specs.declared.held.Kept.{Kept};
 ghost use Rattle.sched_core.specs.Courses.{left_by, journal_in, vertices_at, setting_in, IsCore};
+ghost use Rattle.sched_core.specs.Answered.{command_of, none_at};
 
-use crate::finding::{find_now, find_start, is_satisfiable};
+use crate::finding::{Starts, find_job, is_satisfiable};
 use crate::giving::{Reached, give};
 use crate::held::{Kept, Site};
 use crate::settling::{advance, cancel, info};
@@ -28,66 +30,51 @@ fn reached(site: &Site, kept: &Kept) -> Reached
     }
 }
 
-fn allocate<L: Ledger>(
+/// The reply where nothing fits at the starts.
+fn none_at(starts: Starts) -> Reply
+    ensures { result ≡ none_at starts }
+{
+    match starts {
+        Starts::Now => Reply::Busy,
+        Starts::Earliest => Reply::NoStart,
+    }
+}
+
+/// The reply to an allocate or a reserve.
+fn job_reply<L: Ledger>(
     site: &Site,
     kept: &Kept,
     id: u64,
     ask: &Ask,
+    starts: Starts,
     steps: &mut Steps<L>,
 ) -> Result<Reply, AllocError>
     requires core { IsCore site.now kept.now }
     requires proper { IsProperAsk (vertices_at site.now) ask.now }
-    ensures { IfOk result (Replies (setting_in site.now kept.now) (left_by (journal_in kept.now)) (command.Allocate id ask.now)) }
+    ensures { IfOk result (Replies (setting_in site.now kept.now) (left_by (journal_in kept.now)) (command_of starts id ask.now)) }
 {
-    let verdict = find_now(
+    let verdict = find_job(
         site.alloc,
         &site.graph,
         site.horizon,
         &kept.book,
         id,
         ask,
+        starts,
         steps,
     )?;
-    Ok(give(reached(site, kept), id, ask, Reply::Busy, verdict))
+    Ok(give(reached(site, kept), id, ask, none_at(starts), verdict))
 }
 
-fn reserve<L: Ledger>(
-    site: &Site,
-    kept: &Kept,
-    id: u64,
-    ask: &Ask,
-    steps: &mut Steps<L>,
-) -> Result<Reply, AllocError>
-    requires core { IsCore site.now kept.now }
+/// The reply to a satisfy.
+fn satisfy<L: Ledger>(site: &Site, ask: &Ask, steps: &mut Steps<L>) -> Reply
     requires proper { IsProperAsk (vertices_at site.now) ask.now }
-    ensures { IfOk result (Replies (setting_in site.now kept.now) (left_by (journal_in kept.now)) (command.Reserve id ask.now)) }
+    ensures { (kept : Kept) (s : State) → Replies (setting_in site.now kept) s (command.Satisfy ask.now) result }
 {
-    let verdict = find_start(
-        site.alloc,
-        &site.graph,
-        site.horizon,
-        &kept.book,
-        id,
-        ask,
-        steps,
-    )?;
-    Ok(give(reached(site, kept), id, ask, Reply::NoStart, verdict))
-}
-
-fn satisfy<L: Ledger>(
-    site: &Site,
-    kept: &Kept,
-    ask: &Ask,
-    steps: &mut Steps<L>,
-) -> Result<Reply, AllocError>
-    requires proper { IsProperAsk (vertices_at site.now) ask.now }
-    ensures { IfOk result (Replies (setting_in site.now kept.now) (left_by (journal_in kept.now)) (command.Satisfy ask.now)) }
-{
-    let _ = kept;
-    if is_satisfiable(site.alloc, &site.graph, ask, steps)? {
-        Ok(Reply::Satisfiable)
+    if is_satisfiable(&site.graph, ask, steps) {
+        Reply::Satisfiable
     } else {
-        Ok(Reply::Unsatisfiable)
+        Reply::Unsatisfiable
     }
 }
 
@@ -103,9 +90,9 @@ pub(crate) fn reply<L: Ledger>(
     ensures { IfOk result (Replies (setting_in site.now kept.now) (left_by (journal_in kept.now)) command.now) }
 {
     match command {
-        Command::Allocate { job, ask } => allocate(site, kept, *job, ask, steps),
-        Command::Reserve { job, ask } => reserve(site, kept, *job, ask, steps),
-        Command::Satisfy { ask } => satisfy(site, kept, ask, steps),
+        Command::Allocate { job, ask } => job_reply(site, kept, *job, ask, Starts::Now, steps),
+        Command::Reserve { job, ask } => job_reply(site, kept, *job, ask, Starts::Earliest, steps),
+        Command::Satisfy { ask } => Ok(satisfy(site, ask, steps)),
         Command::Cancel { job } => Ok(cancel(kept, *job, steps)),
         Command::Info { job } => Ok(info(kept, *job, steps)),
         Command::Advance { to } => Ok(advance(site, kept, *to)),

@@ -54,7 +54,7 @@ impl Core {
         ensures { IfOk result (λ core. core ≡ empty_course (arc_value graph).resources rules horizon claims) }
     {
         // this call tells that the graph is valid
-        let _valid = graph.vertices();
+        graph.is_valid();
         let book = BookState::new(alloc, Arc::try_clone(&graph)?, rules, horizon)?;
         Ok(Core {
             site: Site {

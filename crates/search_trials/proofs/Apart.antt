@@ -1,7 +1,7 @@
 -- Texts that differ.
 use Rattle.std.proofs.Common.{◌≡◌, ◌≢◌, ◌<◌, ◌+◌, ◌↔◌, ◌∙◌, ℕ, zero, suc, length, get_or, drop, drop-cons, add-one, subst, true, List, [], ◌∷◌, Some, slice_get, refl, sym, ap, true≢false, IsTrue}
 use Rattle.std.specs.List.{AllByRecursion}
-use Rattle.resource_graph.specs.Raw.{KindsApart}
+use Rattle.graph_build.specs.Raw.{KindsApart}
 
 -- any two of the texts differ
 abbrev pub Differ : List (List ℕ) → Type 0

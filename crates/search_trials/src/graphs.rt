@@ -1,10 +1,11 @@
 //! Small graphs.
 ghost use Rattle.std.specs.Prelude.{◌≡◌, ◌≢◌, ◌↔◌, IsTrue};
 ghost use Rattle.std.specs.List.{AllByRecursion};
-ghost use Rattle.resource_graph.specs.Raw.{KindsApart};
+ghost use Rattle.graph_build.specs.Raw.{KindsApart};
 
 use flux_defs::{List, Text};
-use resource_graph::{Graph, RawVertex};
+use graph_build::{RawVertex, build};
+use resource_graph::Graph;
 use std::alloc::{AllocError, Global};
 use std::test::Fail;
 
@@ -106,7 +107,7 @@ fn graph_of(alloc: Global, parts: &[Part]) -> Result<Graph, Fail> {
         return Err(Fail::from("two types are called the same"));
     }
     let raw = raw_of(alloc, parts)?;
-    match Graph::build(alloc, types, raw) {
+    match build(alloc, types, raw) {
         Ok(graph) => Ok(graph),
         Err(_) => Err(Fail::from("no graph")),
     }

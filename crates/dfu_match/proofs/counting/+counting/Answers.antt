@@ -24,7 +24,7 @@ copies-reach-reached-requires g t c κs h =
     let need = c.need-item.result in
     let split : drop i items ≡ need ∷ drop (i + 1) items = laws.item_split items i need c.loop-need-test.true c.need-item.is in
     let valid : AreValidNeeds c.args.s.now.graph.now.resources.vertices items = rw c.items-need-items.ensures c.requires.valid in
-    let small : amount_of need < 2 ^ 64 = rw (← c.amount_of-amount.ensures) c.amount_of-amount.type_inv in
+    let small : amount_of need < 2 ^ 64 = rw (← c.amount-amount.ensures) c.amount-amount.type_inv in
     let size : the_size need ≤ most the_size c.args.needs.now = size_item c.args.needs.now i need (drop (i + 1) items) (rw (← c.items-need-items.ensures) split) in (
       omega (arith, size, c.decreases),
       (
@@ -32,10 +32,10 @@ copies-reach-reached-requires g t c κs h =
         (
           search rules,
           (
-            c.requires.vertex,
+            c.requires.scope,
             (
               laws.valid_at c.args.s.now.graph.now.resources.vertices items i need (drop (i + 1) items) split valid,
-              rw (c.from.ensures, c.from-in-loop-need.ensures, c.amount_of-amount.ensures)
+              rw (c.from.ensures, c.from-in-loop-need.ensures, c.amount-amount.ensures)
                   (laws.may_ask_at c.args.most c.loop-need.best items i need (drop (i + 1) items) c.loop-need.invariant.within split small (rw c.items-need-items.ensures c.requires.may)),
             ),
           ),
@@ -50,7 +50,7 @@ copies-whole_times-best-requires-clause-some g t c =
     let need = c.need-item.result in
     let split : drop i items ≡ need ∷ drop (i + 1) items = laws.item_split items i need c.loop-need-test.true c.need-item.is in
     let valid : AreValidNeeds c.args.s.now.graph.now.resources.vertices items = rw c.items-need-items.ensures c.requires.valid in
-    rw c.amount_of-amount.ensures (laws.amount_some c.args.s.now.graph.now.resources.vertices need (laws.valid_at c.args.s.now.graph.now.resources.vertices items i need (drop (i + 1) items) split valid))
+    rw c.amount-amount.ensures (laws.amount_some c.args.s.now.graph.now.resources.vertices need (laws.valid_at c.args.s.now.graph.now.resources.vertices items i need (drop (i + 1) items) split valid))
 
 pub copies-returns-then-best-eq0-clause-greatest : goal.copies-returns-then-best-eq0-clause-greatest
 copies-returns-then-best-eq0-clause-greatest g t c = λ jobs stands.
@@ -60,10 +60,10 @@ copies-returns-then-best-eq0-clause-greatest g t c = λ jobs stands.
     let i = c.loop-need.need-index in
     let need = c.need-item.result in
     let split : drop i items ≡ need ∷ drop (i + 1) items = laws.item_split items i need c.loop-need-test.true c.need-item.is in
-    let greatest = rw (c.from.ensures, c.from-in-loop-need.ensures, c.amount_of-amount.ensures) at (c.reach-reached.ensures.greatest jobs stands) in
-    let high = rw c.amount_of-amount.ensures at c.whole_times-best.ensures.high in
-    laws.copies_none vs ok (Beneath c.args.vertex) items c.args.needs.now c.args.most c.whole_times-best.result c.items-need-items.ensures c.if-best-eq0.true
-    (laws.full_next vs ok (takes_less _ _) (Beneath c.args.vertex) items i need (drop (i + 1) items) c.args.most c.loop-need.best c.reach-reached.result c.whole_times-best.result split greatest high
+    let greatest = rw (c.from.ensures, c.from-in-loop-need.ensures, c.amount-amount.ensures) at (c.reach-reached.ensures.greatest jobs stands) in
+    let high = rw c.amount-amount.ensures at c.whole_times-best.ensures.high in
+    laws.copies_none vs ok (scope_of c.args.scope) items c.args.needs.now c.args.most c.whole_times-best.result c.items-need-items.ensures c.if-best-eq0.true
+    (laws.full_next vs ok (takes_less _ _) (scope_of c.args.scope) items i need (drop (i + 1) items) c.args.most c.loop-need.best c.reach-reached.result c.whole_times-best.result split greatest high
     c.whole_times-best.ensures.within (c.loop-need.invariant.full jobs stands))
 
 pub copies-loop-need-preserved : goal.copies-loop-need-preserved
@@ -73,19 +73,19 @@ copies-loop-need-preserved g t c =
     let i = c.loop-need.need-index in
     let need = c.need-item.result in
     let split : drop i items ≡ need ∷ drop (i + 1) items = laws.item_split items i need c.loop-need-test.true c.need-item.is in
-    let low = rw c.amount_of-amount.ensures at c.whole_times-best.ensures.low in
-    let high = rw c.amount_of-amount.ensures at c.whole_times-best.ensures.high in
+    let low = rw c.amount-amount.ensures at c.whole_times-best.ensures.low in
+    let high = rw c.amount-amount.ensures at c.whole_times-best.ensures.high in
     record {
       within = (let few = c.whole_times-best.ensures.within in let before = c.loop-need.invariant.within in omega arith);
       enough = λ jobs stands.
           let ok : Claim → Type 0 = open_to vs jobs c.args.s.now.barred.now c.args.s.now.window in
-          let greatest = rw (c.from.ensures, c.from-in-loop-need.ensures, c.amount_of-amount.ensures) at (c.reach-reached.ensures.greatest jobs stands) in
-          laws.enough_next vs ok (takes_less _ _) (Beneath c.args.vertex) items i need (drop (i + 1) items) c.loop-need.best c.reach-reached.result c.whole_times-best.result split greatest low
+          let greatest = rw (c.from.ensures, c.from-in-loop-need.ensures, c.amount-amount.ensures) at (c.reach-reached.ensures.greatest jobs stands) in
+          laws.enough_next vs ok (takes_less _ _) (scope_of c.args.scope) items i need (drop (i + 1) items) c.loop-need.best c.reach-reached.result c.whole_times-best.result split greatest low
           c.whole_times-best.ensures.within (c.loop-need.invariant.enough jobs stands);
       full = λ jobs stands.
           let ok : Claim → Type 0 = open_to vs jobs c.args.s.now.barred.now c.args.s.now.window in
-          let greatest = rw (c.from.ensures, c.from-in-loop-need.ensures, c.amount_of-amount.ensures) at (c.reach-reached.ensures.greatest jobs stands) in
-          laws.full_next vs ok (takes_less _ _) (Beneath c.args.vertex) items i need (drop (i + 1) items) c.args.most c.loop-need.best c.reach-reached.result c.whole_times-best.result split greatest high
+          let greatest = rw (c.from.ensures, c.from-in-loop-need.ensures, c.amount-amount.ensures) at (c.reach-reached.ensures.greatest jobs stands) in
+          laws.full_next vs ok (takes_less _ _) (scope_of c.args.scope) items i need (drop (i + 1) items) c.args.most c.loop-need.best c.reach-reached.result c.whole_times-best.result split greatest high
           c.whole_times-best.ensures.within (c.loop-need.invariant.full jobs stands);
     }
 
@@ -94,7 +94,7 @@ copies-returns-clause-greatest g t c = λ jobs stands.
     let vs = c.args.s.now.graph.now.resources.vertices in
     let ok : Claim → Type 0 = open_to vs jobs c.args.s.now.barred.now c.args.s.now.window in
     let items : List Need = c.items-need-items.result.now in
-    laws.copies_end vs ok (Beneath c.args.vertex) items c.args.needs.now (drop c.loop-need.need-index items) c.args.most c.loop-need.best c.items-need-items.ensures
+    laws.copies_end vs ok (scope_of c.args.scope) items c.args.needs.now (drop c.loop-need.need-index items) c.args.most c.loop-need.best c.items-need-items.ensures
     (drop_all c.loop-need.need-index items c.loop-need-test.false) c.loop-need.invariant.within (c.loop-need.invariant.enough jobs stands) (c.loop-need.invariant.full jobs stands)
 
 pub reach-returns-in_default-clause-greatest : goal.reach-returns-in_default-clause-greatest
@@ -103,7 +103,7 @@ reach-returns-in_default-clause-greatest g t c = λ jobs stands.
     let ok : Claim → Type 0 = open_to vs jobs c.args.s.now.barred.now c.args.s.now.window in
     let scope = scope_of c.args.scope in
     let need = c.args.need.now in
-    let never = none_at_all vs ok scope need c.in_default.ensures in
+    let never = none_at_all vs ok scope need c.in_default.ensures.of_need in
     greatest_along _ _ c.args.most 0 (group_from vs ok scope need) (group_to vs ok scope need)
     (reached_end _ (serves_less vs ok (takes_less _ _) scope need) c.args.most 0 0 (λ v q lo some can. never v q can)
     (reached_start _ (serves_less vs ok (takes_less _ _) scope need) c.args.most 0 (λ v q lo hi some can. never v q can)))
@@ -127,7 +127,7 @@ reach-returns-in_default-next_of_kind-clause-greatest g t c = λ jobs stands.
     let ok : Claim → Type 0 = open_to vs jobs c.args.s.now.barred.now c.args.s.now.window in
     let scope = scope_of c.args.scope in
     let need = c.args.need.now in
-    let of_kind = rw c.in-Some.is at c.kind_of.ensures in
+    let of_kind = rw c.in-Some.is at c.kind_of.ensures.of_need in
     greatest_along _ _ c.args.most c.loop-reached.reached (group_from vs ok scope need) (group_to vs ok scope need)
     (reached_end _ (serves_less vs ok (takes_less _ _) scope need) c.args.most c.loop-reached.at c.loop-reached.reached
     (none_after vs ok scope need c.in-Some.kind c.span_of-span.result.from c.loop-reached.at c.span_of-span.result.to c.span_of-span.ensures.covers of_kind c.in_default-next_of_kind.ensures)
@@ -137,7 +137,7 @@ pub reach-loop-reached-preserved : goal.reach-loop-reached-preserved
 reach-loop-reached-preserved g t c =
     let vs = c.args.s.now.graph.now.resources.vertices in
     let need = c.args.need.now in
-    let of_kind = rw c.in-Some.is at c.kind_of.ensures in
+    let of_kind = rw c.in-Some.is at c.kind_of.ensures.of_need in
     let next = rw c.in-Some-next_of_kind.is at c.next_of_kind.ensures in
     let low = next.low in
     let is = found vs (λ claim. ⊥) (scope_of c.args.scope) need c.in-Some.kind c.span_of-span.result.from c.loop-reached.at c.span_of-span.result.to c.in-Some-next_of_kind.vertex c.span_of-span.ensures.covers

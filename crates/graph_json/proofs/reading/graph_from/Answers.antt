@@ -1,9 +1,9 @@
 use Rattle.std.proofs.Common.{◌≡◌, sym, ap, subst, ◌∙◌, arith, true≢false, ℕ, List, length, map, Option, slice_get}
 use Rattle.std.proofs.lemmas.List.{length-map}
-use Rattle.resource_graph.specs.Raw.{IsBuiltFrom, KindsApart, raw_graph, raw_names}
-use Rattle.resource_graph.specs.Faults.{IsFaultless}
-use Rattle.resource_graph.specs.Told.{Tells}
-use Rattle.resource_graph.specs.declared.raw.RawVertex.{RawVertex}
+use Rattle.graph_build.specs.Raw.{IsBuiltFrom, KindsApart, raw_graph, raw_names}
+use Rattle.graph_build.specs.Table.{IsFaultless}
+use Rattle.graph_build.specs.Table.{IsFirstFault}
+use Rattle.graph_build.specs.declared.raw.RawVertex.{RawVertex}
 use Rattle.graph_json.specs.Nodes.{FileNode, node_held}
 use Rattle.graph_json.specs.Edges.{FileEdge, parent_of, parents_of}
 use Rattle.graph_json.specs.Ids.{ids_of}
@@ -49,8 +49,8 @@ returns c = record {
       let nodes = map node_held c.args.nodes.now in
       let kinds : c.in_ok-names.names ≡ kinds_of nodes = c.in_ok-names.ensures ∙ c.in_ok-kinds.ensures in
       let raw = made nodes edges c.in_ok-kinds.kinds c.args.parents.now c.in_ok-raw.raw c.in_ok-kinds.ensures parents c.in_ok-raw.ensures in (
-        subst (λ ks. Tells (raw_graph ks (vertices_of nodes edges)) (raw_names (vertices_of nodes edges)) c.in-Err.fault) kinds
-            (subst (λ rs. Tells (raw_graph c.in_ok-names.names rs) (raw_names rs) c.in-Err.fault) raw c.in-Err.ensures.told),
+        subst (λ ks. IsFirstFault (raw_graph ks (vertices_of nodes edges)) (raw_names (vertices_of nodes edges)) c.in-Err.fault) kinds
+            (subst (λ rs. IsFirstFault (raw_graph c.in_ok-names.names rs) (raw_names rs) c.in-Err.fault) raw c.in-Err.ensures.told),
         λ memory. true≢false (sym (c.is_memory.ensures.1 memory) ∙ c.if-is_memory.false),
       );
 }

@@ -5,10 +5,10 @@ use Rattle.serde_json.specs.View.{view, items_view}
 use Rattle.graph_json.specs.Nodes.{FileNode, node_held, nodes_of}
 use Rattle.graph_json.specs.Edges.{FileEdge, edges_of, counted, parents_of, IsFirstWrong, IsWrongEdge}
 use Rattle.graph_json.specs.Ids.{ids_of, IsRepeated, IsSetOf}
-use Rattle.resource_graph.specs.Told.{IsLeastBad, Nowhere}
+use Rattle.resource_graph.specs.Finds.{IsLeast, Nowhere}
 use Rattle.resource_graph.specs.NamedGraph.{NamedGraph}
-use Rattle.resource_graph.specs.Faults.{IsFaultless}
-use Rattle.resource_graph.specs.Raw.{IsBuiltFrom, raw_graph, raw_names}
+use Rattle.graph_build.specs.Table.{IsFaultless}
+use Rattle.graph_build.specs.Raw.{IsBuiltFrom, raw_graph, raw_names}
 use Rattle.graph_json.specs.declared.faults.ReadFault.{ReadFault}
 use Rattle.graph_json.specs.RawLists.{kinds_of, vertices_of}
 use Rattle.graph_json.specs.GraphFile.{FileLists, GraphFile, lists_held, lists_of}
@@ -26,7 +26,7 @@ returns-in-Err-2-clause-fault c bytes is =
     let lists = lists_held c.in-Ok.lists in
     let ids = ids_of (map node_held held) in
     let read = ap (λ xs. Ok (map node_held xs)) c.as_slice-held.ensures.value ∙ c.in-Ok-nodes_of.ensures.read ∙ ap (λ vs. nodes_of 0 (items_view vs)) c.as_slice.ensures.value in
-    let least = matched_err (IsSetOf ids) (IsLeastBad (IsRepeated ids)) c.in_ok-ids.field-0 c.in-Err-2.at c.in-Err-2.is c.in_ok-ids.ensures in
+    let least = matched_err (IsSetOf ids) (IsLeast (IsRepeated ids)) c.in_ok-ids.field-0 c.in-Err-2.at c.in-Err-2.is c.in_ok-ids.ensures in
     (file_with lists (map node_held held), (view c.args.value.now, is, file-read (view c.args.value.now) lists (map node_held held) c.in-Ok.ensures read), least)
 
 pub returns-in-Err-join_edges-clause-fault : goal.returns-in-Err-join_edges-clause-fault
@@ -35,7 +35,7 @@ returns-in-Err-join_edges-clause-fault c bytes is =
     let lists = lists_held c.in-Ok.lists in
     let ids = ids_of (map node_held held) in
     let read = ap (λ xs. Ok (map node_held xs)) c.as_slice-held.ensures.value ∙ c.in-Ok-nodes_of.ensures.read ∙ ap (λ vs. nodes_of 0 (items_view vs)) c.as_slice.ensures.value in
-    let set = matched_ok (IsSetOf ids) (IsLeastBad (IsRepeated ids)) c.in_ok-ids.field-0 c.in-Ok-2.ids c.in-Ok-2.is c.in_ok-ids.ensures in
+    let set = matched_ok (IsSetOf ids) (IsLeast (IsRepeated ids)) c.in_ok-ids.field-0 c.in-Ok-2.ids c.in-Ok-2.is c.in_ok-ids.ensures in
     let first = subst (λ vs. IsFirstWrong ids (edges_of 0 (items_view vs)) c.in-Err-join_edges.fault) c.as_slice-2.ensures.value
     (subst (λ found. IsFirstWrong found (edges_of 0 (items_view c.as_slice-2.result.now)) c.in-Err-join_edges.fault) set.kept c.in-Err-join_edges.ensures.wrong) in
     told_edge bytes (file_with lists (map node_held held)) (view c.args.value.now, is, file-read (view c.args.value.now) lists (map node_held held) c.in-Ok.ensures read) set.each c.in-Err-join_edges.fault c.edge_fault.result first c.edge_fault.ensures
@@ -45,7 +45,7 @@ graph_from-requires c =
     let held = c.as_slice-held.result.now in
     let lists = lists_held c.in-Ok.lists in
     let ids = ids_of (map node_held held) in
-    let set = matched_ok (IsSetOf ids) (IsLeastBad (IsRepeated ids)) c.in_ok-ids.field-0 c.in-Ok-2.ids c.in-Ok-2.is c.in_ok-ids.ensures in
+    let set = matched_ok (IsSetOf ids) (IsLeast (IsRepeated ids)) c.in_ok-ids.field-0 c.in-Ok-2.ids c.in-Ok-2.is c.in_ok-ids.ensures in
     let joined : c.join_edges.new.parents ≡ parents_of ids (counted (edges_of 0 lists.edges)) = c.in-Ok-join_edges.ensures.joined ∙ ap (λ found. parents_of found (counted (edges_of 0 (items_view c.as_slice-2.result.now)))) set.kept ∙ ap (λ vs. parents_of ids (counted (edges_of 0 (items_view vs)))) c.as_slice-2.ensures.value in
     let v = c.as_slice-3.ensures.value in
     (counted (edges_of 0 lists.edges), v ∙ written c.in_ok-parents.parents.len c.join_edges.new.parents c.in_ok-parents.parents.items (omega arith) (omega arith) ∙ joined)
@@ -78,7 +78,7 @@ returns-clause-graph c =
     let lists = lists_held c.in-Ok.lists in
     let ids = ids_of (map node_held held) in
     let read = ap (λ xs. Ok (map node_held xs)) c.as_slice-held.ensures.value ∙ c.in-Ok-nodes_of.ensures.read ∙ ap (λ vs. nodes_of 0 (items_view vs)) c.as_slice.ensures.value in
-    let set = matched_ok (IsSetOf ids) (IsLeastBad (IsRepeated ids)) c.in_ok-ids.field-0 c.in-Ok-2.ids c.in-Ok-2.is c.in_ok-ids.ensures in
+    let set = matched_ok (IsSetOf ids) (IsLeast (IsRepeated ids)) c.in_ok-ids.field-0 c.in-Ok-2.ids c.in-Ok-2.is c.in_ok-ids.ensures in
     let joined : c.join_edges.new.parents ≡ parents_of ids (counted (edges_of 0 lists.edges)) = c.in-Ok-join_edges.ensures.joined ∙ ap (λ found. parents_of found (counted (edges_of 0 (items_view c.as_slice-2.result.now)))) set.kept ∙ ap (λ vs. parents_of ids (counted (edges_of 0 (items_view vs)))) c.as_slice-2.ensures.value in
     let same = c.as_slice-3.ensures.value ∙ written c.in_ok-parents.parents.len c.join_edges.new.parents c.in_ok-parents.parents.items (omega arith) (omega arith) ∙ joined in
     let right = subst (λ vs. Nowhere (IsWrongEdge ids (edges_of 0 (items_view vs)))) c.as_slice-2.ensures.value (subst (λ found. Nowhere (IsWrongEdge found (edges_of 0 (items_view c.as_slice-2.result.now)))) set.kept c.in-Ok-join_edges.ensures.right) in
@@ -90,7 +90,7 @@ returns-clause-fault c =
     let lists = lists_held c.in-Ok.lists in
     let ids = ids_of (map node_held held) in
     let read = ap (λ xs. Ok (map node_held xs)) c.as_slice-held.ensures.value ∙ c.in-Ok-nodes_of.ensures.read ∙ ap (λ vs. nodes_of 0 (items_view vs)) c.as_slice.ensures.value in
-    let set = matched_ok (IsSetOf ids) (IsLeastBad (IsRepeated ids)) c.in_ok-ids.field-0 c.in-Ok-2.ids c.in-Ok-2.is c.in_ok-ids.ensures in
+    let set = matched_ok (IsSetOf ids) (IsLeast (IsRepeated ids)) c.in_ok-ids.field-0 c.in-Ok-2.ids c.in-Ok-2.is c.in_ok-ids.ensures in
     let joined : c.join_edges.new.parents ≡ parents_of ids (counted (edges_of 0 lists.edges)) = c.in-Ok-join_edges.ensures.joined ∙ ap (λ found. parents_of found (counted (edges_of 0 (items_view c.as_slice-2.result.now)))) set.kept ∙ ap (λ vs. parents_of ids (counted (edges_of 0 (items_view vs)))) c.as_slice-2.ensures.value in
     let same = c.as_slice-3.ensures.value ∙ written c.in_ok-parents.parents.len c.join_edges.new.parents c.in_ok-parents.parents.items (omega arith) (omega arith) ∙ joined in
     let right = subst (λ vs. Nowhere (IsWrongEdge ids (edges_of 0 (items_view vs)))) c.as_slice-2.ensures.value (subst (λ found. Nowhere (IsWrongEdge found (edges_of 0 (items_view c.as_slice-2.result.now)))) set.kept c.in-Ok-join_edges.ensures.right) in

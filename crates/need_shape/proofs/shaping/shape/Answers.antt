@@ -22,4 +22,4 @@ returns-clause-valid c =
     let at : types_at g c.add_types.new.table ≡ types = ap (types_at g) table in
     where_ok (AreValidNeeds g.resources.vertices) (needs_in types outside request) c.shape_list.result
     (subst (λ (t : Types). IfOk c.shape_list.result (λ n. n ≡ needs_in t outside request)) at c.shape_list.ensures.needs)
-    (λ ok. valid_list g.resources.vertices types.names (nodes_kind g.resources g.names (types_in request) c.graph_is_valid.ensures.valid) outside request c.requires (ap (λ (t : Types). list_fault t outside request) (sym at) ∙ c.shape_list.ensures.fine ok))
+    (λ ok. valid_list g.resources.vertices types.names (nodes_kind g.resources g.names (types_in request) c.is_valid.ensures.valid) outside request c.requires (ap (λ (t : Types). list_fault t outside request) (sym at) ∙ c.shape_list.ensures.fine ok))

@@ -11,7 +11,7 @@ loop-name-preserved c =
       within = here kinds c.loop-name.kind c.in-Some.name.now at;
       so_far =
           c.in_ok-add.ensures.ok ∙ (ap (with_text c.loop-name.table) c.bytes.ensures ∙ (ap (λ (ts : List (List ℕ)). with_text ts c.in-Some.name.now) c.loop-name.invariant.so_far
-          ∙ next_text kinds c.loop-name.kind c.in-Some.name.now c.graph_is_valid.ensures.valid.kinds.apart at));
+          ∙ next_text kinds c.loop-name.kind c.in-Some.name.now c.is_valid.ensures.valid.kinds.apart at));
     }
 
 pub returns : goal.returns

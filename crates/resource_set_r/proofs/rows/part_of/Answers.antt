@@ -10,7 +10,7 @@ pub returns-in-Some : goal.returns-in-Some
 returns-in-Some c =
     let g = c.args.graph.now.resources in
     let names = c.args.graph.now.names in
-    let valid = c.vertices-vertices.ensures.valid.valid in
+    let valid = c.is_valid.ensures.valid in
     let rank = c.args.rank in
     let n = c.in-Some.node in
     let has = subst (λ (o : Option ℕ). IsRanked g rank o) c.in-Some.is c.node_of_rank.ensures in
@@ -36,6 +36,6 @@ pub returns-in-None : goal.returns-in-None
 returns-in-None c =
     let g = c.args.graph.now.resources in
     let names = c.args.graph.now.names in
-    let valid = c.vertices-vertices.ensures.valid.valid in
+    let valid = c.is_valid.ensures.valid in
     let none = subst (λ (o : Option ℕ). IsRanked g c.args.rank o) c.in-None.is c.node_of_rank.ensures in
     sym (filter_fails (is_in_rank g.vertices c.args.rank) c.args.given.now (λ i lt. in_no_rank g names valid c.args.rank none (get_or c.args.given.now i 0)))

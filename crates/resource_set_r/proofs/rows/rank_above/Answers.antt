@@ -15,7 +15,7 @@ pub returns-in-Some : goal.returns-in-Some
 returns-in-Some c =
     let g = c.args.graph.now in
     let at : IsNodeOf g.resources.vertices c.args.vertex (Some c.in-Some.node) = subst (λ (o : Option ℕ). IsNodeOf g.resources.vertices c.args.vertex o) c.in-Some.is c.node_of.ensures in
-    let rank : c.rank_of.result ≡ rank_of g.resources.vertices c.in-Some.node = c.rank_of.ensures ∙ ap (λ vs. rank_of vs c.in-Some.node) (c.items.ensures ∙ c.vertices-vertices.ensures.value) in
+    let rank : c.rank_at.result ≡ rank_of g.resources.vertices c.in-Some.node = c.rank_at.ensures in
     rank ∙ sym (ap (option_and_then (rank_of g.resources.vertices)) (node_above_found g.resources g.names c.vertices-vertices.ensures.valid.valid c.args.vertex (Some c.in-Some.node) at))
 
 pub returns-in-None : goal.returns-in-None

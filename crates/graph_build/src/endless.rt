@@ -1,0 +1,44 @@
+//! The first vertex whose chain of parents never ends, or ends too late.
+ghost use Rattle.std.specs.Prelude.{◌≡◌, ◌<◌, ◌≤◌, ℕ, suc, IfOk, IfSome, Some, is_some, length, position};
+ghost use Rattle.flux_defs.specs.Graph.{chain};
+ghost use Rattle.graph_build.specs.Faults.{NeverEnds, IsDeep};
+ghost use Rattle.resource_graph.specs.Lines.{KnowsParents};
+ghost use Rattle.resource_graph.specs.Preorder.{plain};
+ghost use Rattle.resource_graph.specs.Finds.{IsFirstOf};
+
+use crate::climbs::climbs;
+use flux_defs::Vertex;
+use std::alloc::{AllocError, Global};
+
+/// The first vertex whose chain of parents is longer than the graph.
+pub(crate) fn first_endless(alloc: Global, vertices: &[Vertex]) -> Result<Option<usize>, AllocError>
+    requires few { length vertices.now ≤ 65536 }
+    requires known { KnowsParents vertices.now }
+    ensures first { IfOk result (IsFirstOf (NeverEnds (plain vertices.now))) }
+    ensures within { IfOk result (λ found. IfSome found (λ v. v < length vertices.now)) }
+{
+    let reached = climbs(alloc, vertices, vertices.len())?;
+    let found = first_reached(reached.as_slice());
+    Ok(found)
+}
+
+/// The first vertex with more than 16 vertices from the root to it.
+pub(crate) fn first_deep(alloc: Global, vertices: &[Vertex]) -> Result<Option<usize>, AllocError>
+    requires few { length vertices.now ≤ 65536 }
+    requires known { KnowsParents vertices.now }
+    requires ends { (v : ℕ) → NeverEnds (plain vertices.now) v → ⊥ }
+    ensures first { IfOk result (IsFirstOf (IsDeep (plain vertices.now))) }
+    ensures within { IfOk result (λ found. IfSome found (λ v. v < length vertices.now)) }
+{
+    let reached = climbs(alloc, vertices, 16)?;
+    let found = first_reached(reached.as_slice());
+    Ok(found)
+}
+
+/// The first climb that came to a vertex.
+fn first_reached(reached: &[Option<u32>]) -> Option<usize>
+    ensures first { result ≡ position (λ o. is_some o) reached.now }
+    ensures within { IfSome result (λ v. v < length reached.now) }
+{
+    reached.iter().position(|vertex| vertex.is_some())
+}

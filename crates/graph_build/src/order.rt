@@ -1,0 +1,45 @@
+//! Preorder.
+ghost use Rattle.std.specs.Prelude.{◌≡◌, ℕ, ◌<◌, ◌≤◌, length, slice_get, Some, IfOk};
+ghost use Rattle.graph_build.specs.Orders.{IsRooted, IsPreorderOf, HasPaths, HasEnds, NoneIsEmpty};
+
+use flux_defs::Vertex;
+use resource_graph::lines::line_up;
+use std::alloc::{AllocError, Global};
+
+/// The places of the vertices in preorder, siblings by their places in the list.
+pub(crate) fn preorder_of(alloc: Global, vertices: &[Vertex]) -> Result<Vec<u32>, AllocError>
+    requires few { length vertices.now ≤ 65536 }
+    requires rooted { IsRooted vertices.now }
+    ensures { IfOk result (λ order. IsPreorderOf vertices.now order.items) }
+{
+    let mut paths = path_table(alloc, vertices)?;
+    paths.sort()?;
+    ends_of(alloc, paths.as_slice())
+}
+
+/// Each vertex's line from the root down.
+fn path_table(alloc: Global, vertices: &[Vertex]) -> Result<Vec<Vec<u32>>, AllocError>
+    requires few { length vertices.now ≤ 65536 }
+    requires rooted { IsRooted vertices.now }
+    ensures { IfOk result (λ paths. HasPaths vertices.now (length vertices.now) paths.items) }
+{
+    let mut paths = Vec::with_capacity(alloc, vertices.len())?;
+    for v in 0..vertices.len() {
+        let mut path = line_up(alloc, vertices, v as u32)?;
+        path.reverse();
+        paths.push(path)?;
+    }
+    Ok(paths)
+}
+
+/// The last number of each list.
+fn ends_of(alloc: Global, lists: &[Vec<u32>]) -> Result<Vec<u32>, AllocError>
+    requires { NoneIsEmpty lists.now }
+    ensures { IfOk result (λ ends. HasEnds lists.now (length lists.now) ends.items) }
+{
+    let mut ends = Vec::with_capacity(alloc, lists.len())?;
+    for list in lists {
+        ends.push(list[list.len() - 1])?;
+    }
+    Ok(ends)
+}

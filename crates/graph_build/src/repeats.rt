@@ -1,0 +1,37 @@
+//! The first place whose key an earlier place has.
+ghost use Rattle.std.specs.Prelude.{◌≡◌, ◌<◌, IfOk, IfSome, length};
+ghost use Rattle.resource_graph.specs.Finds.{IsFirstOf};
+ghost use Rattle.graph_build.specs.Keys.{IsRepeated, lesser};
+
+use std::alloc::{AllocError, Global};
+use std::collections::BTreeSet;
+
+/// The first place whose key an earlier place has. A place without a key takes no part.
+pub(crate) fn first_repeated<K: Ord + Copy>(
+    alloc: Global,
+    keys: &[Option<K>],
+) -> Result<Option<usize>, AllocError>
+    ensures first { IfOk result (IsFirstOf (IsRepeated K.cmp keys.now)) }
+    ensures within { IfOk result (λ found. IfSome found (λ v. v < length keys.now)) }
+{
+    let mut seen = BTreeSet::new(alloc);
+    for place in 0..keys.len() {
+        if let Some(key) = keys[place] {
+            if !seen.insert(key)? {
+                return Ok(Some(place));
+            }
+        }
+    }
+    Ok(None)
+}
+
+/// The lesser of two places, of which either may be missing.
+pub(crate) fn lesser(one: Option<usize>, other: Option<usize>) -> Option<usize>
+    ensures { result ≡ lesser one other }
+{
+    match (one, other) {
+        (Some(a), Some(b)) => Some(a.min(b)),
+        (Some(a), None) => Some(a),
+        (None, b) => b,
+    }
+}

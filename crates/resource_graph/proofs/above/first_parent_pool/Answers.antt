@@ -1,4 +1,0 @@
-use Rattle.resource_graph.proofs.above.first_parent_pool.Goals as goal
-
-pub returns-clause-first : goal.returns-clause-first
-returns-clause-first c = c.first_pool.ensures.first

@@ -1,8 +1,0 @@
-use Rattle.std.proofs.Common.{◌≡◌, ◌≢◌, ℕ, ◌<◌, Some}
-use Rattle.std.specs.Prelude.{slice_get}
-use Rattle.resource_graph.specs.Faults.{IsNodeType}
-use Rattle.resource_graph.specs.Checks.{graph_in}
-use Rattle.resource_graph.proofs.above.house_of.Given as goal
-
-abbrev pub invariant-loop-above : goal.invariant-loop-above
-invariant-loop-above l = (i u : ℕ) → i < l.above-index → slice_get l.line i ≡ Some u → u ≢ l.v → IsNodeType (graph_in l.kinds l.vertices) u → ⊥

@@ -1,5 +1,0 @@
-use Rattle.resource_graph.proofs.KindLaws.{Numbering}
-use Rattle.resource_graph.proofs.arrange.numbered_kinds.Given as goal
-
-abbrev pub invariant-loop-place : goal.invariant-loop-place
-invariant-loop-place l = Numbering l.kinds l.vertices l.order l.place-index l.numbering

@@ -1,6 +1,0 @@
-use Rattle.std.proofs.Common.{◌≡◌, false, take}
-use Rattle.resource_graph.specs.Raw.{some_ranked}
-use Rattle.resource_graph.proofs.arrange.ranks_given.Given as goal
-
-abbrev pub invariant-loop-vertex : goal.invariant-loop-vertex
-invariant-loop-vertex l = some_ranked l.kinds (take l.vertex-index l.vertices) ≡ false

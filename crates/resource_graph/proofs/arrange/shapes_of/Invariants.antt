@@ -1,6 +1,0 @@
-use Rattle.std.proofs.Common.{◌≡◌, map, take}
-use Rattle.resource_graph.specs.Raw.{shape_of}
-use Rattle.resource_graph.proofs.arrange.shapes_of.Given as goal
-
-abbrev pub invariant-loop-vertex : goal.invariant-loop-vertex
-invariant-loop-vertex l = l.shapes.items ≡ map shape_of (take l.vertex-index l.raw)

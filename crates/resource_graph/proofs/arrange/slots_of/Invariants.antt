@@ -1,5 +1,0 @@
-use Rattle.std.proofs.Common.{◌≡◌, map, Some}
-use Rattle.resource_graph.proofs.arrange.slots_of.Given as goal
-
-abbrev pub invariant-loop-vertex : goal.invariant-loop-vertex
-invariant-loop-vertex l = l.slots.items ≡ map (λ r. Some r) l.yielded

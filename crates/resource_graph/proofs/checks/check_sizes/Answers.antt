@@ -1,6 +1,0 @@
-use Rattle.resource_graph.specs.Checks.{graph_in}
-use Rattle.resource_graph.proofs.ToldLaws.{parents_clear}
-use Rattle.resource_graph.proofs.checks.check_sizes.Goals as goal
-
-pub first_parent_pool-requires-clause-parents : goal.first_parent_pool-requires-clause-parents
-first_parent_pool-requires-clause-parents c = parents_clear (graph_in c.args.kinds.now c.args.vertices.now) c.requires.0.0.0.0.0.0

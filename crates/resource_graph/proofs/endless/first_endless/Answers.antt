@@ -1,8 +1,0 @@
-use Rattle.std.proofs.Common.{[], length, sym, subst}
-use Rattle.resource_graph.specs.Checks.{HasClimbs}
-use Rattle.resource_graph.proofs.EndLaws.{finds_endless}
-use Rattle.resource_graph.proofs.endless.first_endless.Goals as goal
-
-pub returns-clause-first : goal.returns-clause-first
-returns-clause-first c = finds_endless [] c.args.vertices.now c.as_slice.result.now c.first_reached-found.result
-    (subst (HasClimbs c.args.vertices.now (length c.args.vertices.now)) (sym c.as_slice.ensures.value) c.in_ok-reached.ensures) c.first_reached-found.ensures.first

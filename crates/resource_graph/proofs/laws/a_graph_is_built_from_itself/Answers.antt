@@ -1,5 +1,0 @@
-use Rattle.resource_graph.proofs.OwnGraph.{built_from_itself, own_faultless}
-use Rattle.resource_graph.proofs.laws.a_graph_is_built_from_itself.Goals as goal
-
-pub returns : goal.returns
-returns c = record { built = built_from_itself; faultless = own_faultless }

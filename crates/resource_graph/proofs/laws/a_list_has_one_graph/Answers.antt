@@ -1,5 +1,0 @@
-use Rattle.resource_graph.proofs.OneGraph.{one_graph}
-use Rattle.resource_graph.proofs.laws.a_list_has_one_graph.Goals as goal
-
-pub returns : goal.returns
-returns c kinds raw g h a b = one_graph kinds raw g h a b

@@ -1,5 +1,0 @@
-use Rattle.resource_graph.specs.Lines.{HasEnds}
-use Rattle.resource_graph.proofs.order.ends_of.Given as goal
-
-abbrev pub invariant-loop-list : goal.invariant-loop-list
-invariant-loop-list l = HasEnds l.lists l.list-index l.ends.items

@@ -1,7 +1,0 @@
-use Rattle.std.proofs.Common.{ℕ, ◌<◌}
-use Rattle.resource_graph.specs.Faults.{IsSized}
-use Rattle.resource_graph.specs.Checks.{graph_in}
-use Rattle.resource_graph.proofs.own.first_sized.Given as goal
-
-abbrev pub invariant-loop-v : goal.invariant-loop-v
-invariant-loop-v l = (u : ℕ) → u < l.v → IsSized (graph_in l.kinds l.vertices) u → ⊥

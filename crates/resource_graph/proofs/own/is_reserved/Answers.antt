@@ -1,6 +1,0 @@
-use Rattle.std.specs.Prelude.{codes}
-use Rattle.resource_graph.proofs.OwnLaws.{type_test}
-use Rattle.resource_graph.proofs.own.is_reserved.Goals as goal
-
-pub returns : goal.returns
-returns c = type_test c.args.kinds.now c.args.vertices.now c.args.v (codes "slot") c.is_called.result c.requires c.is_called.ensures
