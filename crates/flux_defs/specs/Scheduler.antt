@@ -103,7 +103,12 @@ Replies g s (command.Invalid why) = λ r. r ≡ reply.Invalid
 -- the state with one more accepted job
 abbrev pub with_job : State → Job → State
 with_job s job =
-    record { moment = s.moment; jobs = s.jobs ++ job ∷ []; used = s.used ++ job.id ∷ []; claim_count = s.claim_count + length job.claims }
+    record {
+      moment = s.moment;
+      jobs = s.jobs ++ job ∷ [];
+      used = s.used ++ job.id ∷ [];
+      claim_count = s.claim_count + length job.claims;
+    }
 
 -- the jobs that are left once the one of this id is cancelled
 abbrev pub without_job : ℕ → List Job → List Job
