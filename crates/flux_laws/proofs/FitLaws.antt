@@ -113,7 +113,7 @@ module _ (vertices : List Vertex) (ok : Claim → Type 0) where
           let f = group_fills piece ((k + 1) * amount_of need) fit.0 fit.3 in
           let g = filled_group piece (k * amount_of need)
           (can_fill_less (SomePiece piece) (serves_less scope need) 0 ((k + 1) * amount_of need) (k * amount_of need)
-              (omega arith) f) in
+          (omega arith) f) in
           let r = row_less k scope rest fit.1 fit.4 in
           (g.0 ++ r.0, (g.0, r.0, refl, g.1, r.1))
 
@@ -132,7 +132,7 @@ module _ (vertices : List Vertex) (ok : Claim → Type 0) where
       lowest_row_once k scope end_of-Need a b g h = g ∙ sym h
       lowest_row_once k scope (more_of-Need need rest) a b g h =
           let same : g.0 ≡ h.0 = fills_once (CanServe vertices ok scope need) (serves_less scope need) 0
-              (k * amount_of need) g.0 h.0 g.4 h.4 in
+          (k * amount_of need) g.0 h.0 g.4 h.4 in
           let group : g.1 ≡ h.1 = pieces_once (LowestPiece vertices ok need) (piece_once need) g.0 g.1 h.1 g.5
           (subst (λ (ps : List Pick). Pieces (LowestPiece vertices ok need) ps h.1) (sym same) h.5) in
           let others : g.2 ≡ h.2 = lowest_row_once k scope rest g.2 h.2 g.6 h.6 in

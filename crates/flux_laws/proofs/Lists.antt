@@ -17,11 +17,11 @@ module _ (vertices : List Vertex) (ok : Claim → Type 0) where
   lowest_list_fits k scope needs claims low =
       let row = transport⁻¹ (ap (λ (h : List Claim → Type 0). h claims) (lowest_list vertices ok needs k scope)) low in
       transport (ap (λ (h : List Claim → Type 0). h claims) (fits_list vertices ok needs k scope))
-          (lowest_row_fits vertices ok k scope (hidden-the_row-Need-0 needs) claims row)
+      (lowest_row_fits vertices ok k scope (hidden-the_row-Need-0 needs) claims row)
 
   pub lowest_list_once : TakesLess ok → (k : ℕ) (scope : Scope) (needs : List Need) (a b : List Claim) →
       Lowest vertices ok k scope needs a → Lowest vertices ok k scope needs b → a ≡ b
   lowest_list_once less k scope needs a b x y =
       let row = λ (cs : List Claim) (l : Lowest vertices ok k scope needs cs). transport⁻¹
-          (ap (λ (h : List Claim → Type 0). h cs) (lowest_list vertices ok needs k scope)) l in
+      (ap (λ (h : List Claim → Type 0). h cs) (lowest_list vertices ok needs k scope)) l in
       lowest_row_once vertices ok less k scope (hidden-the_row-Need-0 needs) a b (row a x) (row b y)

@@ -24,7 +24,7 @@ module _ (vertices : List Vertex) (ok : Claim → Type 0) where
       (hidden-the_row-Need-0 needs) in row ≡ Fits vertices ok k scope needs)
   fits_list needs k scope = λ i claims.
       (fits_row k scope (hidden-the_row-Need-0 needs) claims
-          ∙ ap (λ ns. Fits vertices ok k scope ns claims) (items_hidden-the_row-Need-0 needs)) i
+      ∙ ap (λ ns. Fits vertices ok k scope ns claims) (items_hidden-the_row-Need-0 needs)) i
 
   lowest_row : {n : _} (k : ℕ) (scope : Scope) (row : Row_of-Need n) (claims : List Claim) →
       LowestRow vertices ok k scope row claims ≡ Lowest vertices ok k scope (items-the_row-Need _ row) claims
@@ -32,7 +32,7 @@ module _ (vertices : List Vertex) (ok : Claim → Type 0) where
   lowest_row k scope (more_of-Need need rest) claims = λ i.
       (picks : List Pick) × (group : List Claim) × (others : List Claim) × (claims ≡ group ++ others)
       × FillsFrom (CanServe vertices ok scope need) 0 (k * amount_of need) picks
-          × Pieces (LowestPiece vertices ok need) picks group
+      × Pieces (LowestPiece vertices ok need) picks group
       × lowest_row k scope rest others i
 
   pub lowest_list : (needs : List Need) (k : ℕ) (scope : Scope) →
@@ -40,7 +40,7 @@ module _ (vertices : List Vertex) (ok : Claim → Type 0) where
       (hidden-the_row-Need-0 needs) in row ≡ Lowest vertices ok k scope needs)
   lowest_list needs k scope = λ i claims.
       (lowest_row k scope (hidden-the_row-Need-0 needs) claims
-          ∙ ap (λ ns. Lowest vertices ok k scope ns claims) (items_hidden-the_row-Need-0 needs)) i
+      ∙ ap (λ ns. Lowest vertices ok k scope ns claims) (items_hidden-the_row-Need-0 needs)) i
 
   -- what vertex v of a need of vertices writes, by the list of inner needs
   abbrev pub VertPiece : Scope → ℕ → Bool → List Need → ℕ → ℕ → List Claim → Type 0
@@ -63,7 +63,7 @@ module _ (vertices : List Vertex) (ok : Claim → Type 0) where
       Piece vertices ok scope (Spread count needs) v q claims ≡ SpreadPiece scope needs v q claims
   piece_Spread scope count needs v q claims =
       ap (λ (inner : List Claim → Type 0). IsIn vertices scope v × IsNode vertices v
-          × SharedPiece vertices ok v inner claims) (fits_list needs q (Beneath v))
+      × SharedPiece vertices ok v inner claims) (fits_list needs q (Beneath v))
 
   pub lowest_Vert : (kind count : ℕ) (hold : Bool) (needs : List Need) (v q : ℕ) (claims : List Claim) →
       LowestPiece vertices ok (Vert kind count hold needs) v q claims ≡ MatchBool hold (claims ≡ Hold v ∷ []) (FollowsPass vertices ok v (Lowest vertices ok 1 (Beneath v) needs) claims)

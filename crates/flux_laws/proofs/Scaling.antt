@@ -17,7 +17,7 @@ module _ (vertices : List Vertex) (ok : Claim → Type 0) where
 
   group_scaled : (k : ℕ) (scope : Scope) (need : Need) (group : List Claim) →
       Group (k * amount_of need) (Piece vertices ok scope need) group ≡ Group (1 * amount_of (scaled_need k need))
-          (Piece vertices ok scope (scaled_need k need)) group
+      (Piece vertices ok scope (scaled_need k need)) group
   group_scaled k scope (Vert' kind count hold m needs) group = ap
       (λ n. Group n (Piece vertices ok scope (Vert' kind count hold m needs)) group) (one_time (k * count))
   group_scaled k scope (Pool kind quantity) group = ap
@@ -38,7 +38,7 @@ module _ (vertices : List Vertex) (ok : Claim → Type 0) where
       (fewer : List Claim) × Fits vertices ok k scope needs fewer
   fits_less less k scope needs claims fit =
       let row = transport⁻¹ (ap (λ (h : List Claim → Type 0). h claims)
-          (fits_list vertices ok needs (k + 1) scope)) fit in
+      (fits_list vertices ok needs (k + 1) scope)) fit in
       let r = row_less vertices ok less k scope (hidden-the_row-Need-0 needs) claims row in
       (r.0, transport (ap (λ (h : List Claim → Type 0). h r.0) (fits_list vertices ok needs k scope)) r.1)
 

@@ -26,7 +26,7 @@ pub sound_output : (g : NamedGraph) (horizon : ℕ) (input text : List ℕ) →
 sound_output g horizon input text played =
     let IsTold : ClientLine → Type 0 = λ x. (ls : List Line) × HasLines (script_of g served_form input) x.client ls × Contains ls (record { line = x.line; command = x.command }) in
     let answers : AllByRecursion IsTold (map line_of played.history) = subst (AllByRecursion IsTold)
-        (sym played.lines-are) (told g served_form input) in
+    (sym played.lines-are) (told g served_form input) in
     record {
       output = record {
         rules = played.rules;

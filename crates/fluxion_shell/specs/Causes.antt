@@ -119,12 +119,12 @@ FailsWith told name faults faults_now refused refused_now status.Ok = ⊥
 FailsWith told name faults faults_now refused refused_now status.Usage = ⊥
 FailsWith told name faults faults_now refused refused_now (status.Graph fault) =
     (fault ≢ read_fault.Memory) × IfSome told
-        (λ files. (bytes : List ℕ) × (file_of files name ≡ Some bytes) × (length bytes ≤ MOST_FILE_BYTES)
-        × HasFault bytes fault)
+    (λ files. (bytes : List ℕ) × (file_of files name ≡ Some bytes) × (length bytes ≤ MOST_FILE_BYTES)
+    × HasFault bytes fault)
 FailsWith told name faults faults_now refused refused_now status.Read = Rose faults faults_now
 FailsWith told name faults faults_now refused refused_now status.Write = ⊥
 FailsWith told name faults faults_now refused refused_now status.Memory = Unit {0}
 FailsWith told name faults faults_now refused refused_now (status.Limit limited) =
     (limited ≡ past_graph) × Rose refused refused_now
-        × IfSome told (λ files. (bytes : List ℕ) × (file_of files name ≡ Some bytes) × (MOST_FILE_BYTES < length bytes))
+    × IfSome told (λ files. (bytes : List ℕ) × (file_of files name ≡ Some bytes) × (MOST_FILE_BYTES < length bytes))
 FailsWith told name faults faults_now refused refused_now status.NoGraphFile = Rose refused refused_now × IfSome told (λ files. file_of files name ≡ None)

@@ -88,7 +88,7 @@ no_fault_told bytes g (Edge at) (file, says, right, built, fine) (other, said, d
 no_fault_told bytes g (Graph fault) (file, says, right, built, fine) (other, said, right-too, told, not) =
     absurd (not (nothing_told (raw_graph (kinds_of file.nodes) (raw_of file)) (raw_names (raw_of file)) fault fine
     (subst (λ (f : GraphFile). IsFirstGraphFault (raw_graph (kinds_of f.nodes) (raw_of f)) (raw_names (raw_of f)) fault)
-        (same_file bytes other file said says) told)))
+    (same_file bytes other file said says) told)))
 no_fault_told bytes g Memory text told = refl
 
 -- bytes that are a graph file of a graph are read as that graph, or memory is wanting

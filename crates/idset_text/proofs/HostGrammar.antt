@@ -325,8 +325,11 @@ fine_prefix : (prefix : List ℕ) → (eqb (length prefix) 0 || is_host_name pre
     ⊎ IsTrue (is_host_name prefix)
 fine_prefix [] e = inl refl
 fine_prefix (byte ∷ prefix) e = elim
-    (or_cases (eqb (length (byte ∷ prefix)) 0) (is_host_name (byte ∷ prefix)) e) [ inl none ↦ absurd
-    (omega (arith, eqb-true (length (byte ∷ prefix)) 0 none)) | inr is ↦ inr is ]
+    (or_cases (eqb (length (byte ∷ prefix)) 0) (is_host_name (byte ∷ prefix)) e) [
+      | inl none ↦ absurd
+          (omega (arith, eqb-true (length (byte ∷ prefix)) 0 none))
+      | inr is ↦ inr is
+    ]
 
 -- what a list that was read is
 record WasList (prefix list : List ℕ) (hosts : List Hosts) : Type 0 where

@@ -377,4 +377,4 @@ texts_again [] h = refl
 texts_again (name ∷ names) h =
     let is : is_host_name name ≡ true = All-head (λ n. IsTrue (is_host_name n)) name names h in
     texts_read names false name name (name ∷ []) is is (All-tail (λ n. IsTrue (is_host_name n)) name names h)
-        (refl, refl)
+    (refl, refl)

@@ -135,7 +135,7 @@ IsPiece prefix piece (Many own lo hi width) = (own ≡ prefix) × (first : List 
 abbrev pub IsHostItem : List ℕ → List Hosts → Type 0
 IsHostItem item hosts = (IsTrue (is_host_name item) × (hosts ≡ One item ∷ []))
     ⊎ ((prefix : List ℕ) × (piece : List ℕ) × (others : List (List ℕ)) × ((prefix ≡ []) ⊎ IsTrue (is_host_name prefix))
-        × AllZip (IsPiece prefix) (piece ∷ others) hosts
+    × AllZip (IsPiece prefix) (piece ∷ others) hosts
     × (item ≡ prefix ++ 91 ∷ (join_with_byte 44 (piece ∷ others) ++ 93 ∷ [])))
 
 -- the hosts are those of the items, in order

@@ -32,13 +32,23 @@ module _ (vertices : List Vertex) (ok more : Claim → Type 0) (along : (c : Cla
     row_more : {m : _} (k : ℕ) (scope : Scope) (row : Row_of-Need m) (claims : List Claim) →
         FitsRow vertices ok k scope row claims → FitsRow vertices more k scope row claims
     row_more k scope end_of-Need claims f = f
-    row_more k scope (more_of-Need need rest) claims f =
-        (f.0, f.1, f.2, group_map (Piece vertices ok scope need) (Piece vertices more scope need)
-            (piece_more scope need) (k * amount_of need) f.0 f.3, row_more k scope rest f.1 f.4)
+    row_more k scope (more_of-Need need rest) claims f = (
+      f.0,
+      f.1,
+      f.2,
+      group_map (Piece vertices ok scope need) (Piece vertices more scope need)
+          (piece_more scope need) (k * amount_of need) f.0 f.3,
+      row_more k scope rest f.1 f.4,
+    )
 
   pub fits_more : (k : ℕ) (scope : Scope) (needs : List Need) (claims : List Claim) →
       Fits vertices ok k scope needs claims → Fits vertices more k scope needs claims
   fits_more k scope [] claims f = f
-  fits_more k scope (need ∷ rest) claims f =
-      (f.0, f.1, f.2, group_map (Piece vertices ok scope need) (Piece vertices more scope need) (piece_more scope need)
-          (k * amount_of need) f.0 f.3, fits_more k scope rest f.1 f.4)
+  fits_more k scope (need ∷ rest) claims f = (
+    f.0,
+    f.1,
+    f.2,
+    group_map (Piece vertices ok scope need) (Piece vertices more scope need) (piece_more scope need)
+        (k * amount_of need) f.0 f.3,
+    fits_more k scope rest f.1 f.4,
+  )

@@ -72,7 +72,7 @@ module _ (vertices : List Vertex) (ok : Claim → Type 0) where
       SomeGroup vertices ok scope need m
   group_less less scope need n m le g =
       group_from scope need m (can_fill_less (CanServe vertices ok scope need)
-          (serves_less vertices ok less scope need) 0 n m le (group_to scope need n g))
+      (serves_less vertices ok less scope need) 0 n m le (group_to scope need n g))
 
   -- a group of nothing
   pub group_zero : (scope : Scope) (need : Need) (n : ℕ) → n ≡ 0 → SomeGroup vertices ok scope need n
@@ -86,7 +86,7 @@ module _ (vertices : List Vertex) (ok : Claim → Type 0) where
   group_at k scope [] (suc i) need rest e f = absurd (cc)
   group_at k scope (n ∷ ns) zero need rest e f =
       let same : n ≡ need = cc in subst (λ (x : Need). SomeGroup vertices ok scope x (k * amount_of x)) same
-          (f.1.0, f.1.3)
+      (f.1.0, f.1.3)
   group_at k scope (n ∷ ns) (suc i) need rest e f = group_at k scope ns i need rest e (f.1.1, f.1.4)
 
   -- one more lowest-first group
@@ -106,13 +106,13 @@ module _ (vertices : List Vertex) (ok : Claim → Type 0) where
   completes_next k scope needs left rest need claims group e g c others low =
       subst (Lowest vertices ok k scope needs) (sym (append_assoc claims group others))
       (c (group ++ others) (subst (λ (ns : List Need). Lowest vertices ok k scope ns (group ++ others)) (sym e)
-          (lowest_more k scope need rest group others g low)))
+      (lowest_more k scope need rest group others g low)))
 
   pub completes_end : (k : ℕ) (scope : Scope) (needs left : List Need) (claims : List Claim) → left ≡ [] →
       Completes k scope needs left claims → Lowest vertices ok k scope needs claims
   completes_end k scope needs left claims e c =
       subst (Lowest vertices ok k scope needs) (append-nil claims)
-          (c [] (subst (λ (ns : List Need). Lowest vertices ok k scope ns []) (sym e) refl))
+      (c [] (subst (λ (ns : List Need). Lowest vertices ok k scope ns []) (sym e) refl))
 
   -- what serves is a vertex of the need, in the scope
   pub server : (scope : Scope) (need : Need) (v q : ℕ) → CanServe vertices ok scope need v q → IsOfNeed vertices need v
@@ -138,9 +138,11 @@ module _ (vertices : List Vertex) (ok : Claim → Type 0) where
   pub serves_copies : (scope : Scope) (count : ℕ) (needs : List Need) (v q : ℕ) → IsIn vertices scope v →
       IsNode vertices v → ok (Pass v) → SomeFits vertices ok (Beneath v) needs q →
       CanServe vertices ok scope (Spread count needs) v q
-  serves_copies scope count needs v q within is may f =
-      (Pass v ∷ f.0, transport⁻¹ (piece_Spread vertices ok scope count needs v q (Pass v ∷ f.0))
-          (within, is, (f.0, refl, may, f.1)))
+  serves_copies scope count needs v q within is may f = (
+    Pass v ∷ f.0,
+    transport⁻¹ (piece_Spread vertices ok scope count needs v q (Pass v ∷ f.0))
+        (within, is, (f.0, refl, may, f.1)),
+  )
 
   pub copies_serve : (scope : Scope) (count : ℕ) (needs : List Need) (v q : ℕ) →
       CanServe vertices ok scope (Spread count needs) v q → ok (Pass v) × SomeFits vertices ok (Beneath v) needs q

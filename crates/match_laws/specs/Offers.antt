@@ -37,7 +37,7 @@ module _ (vertices : List Vertex) (ok : Claim → Type 0) where
   abbrev pub LowestGroup : Scope → Need → ℕ → List Claim → Type 0
   LowestGroup scope need amount claims =
       (picks : List Pick) × FillsFrom (CanServe vertices ok scope need) 0 amount picks
-          × Pieces (LowestPiece vertices ok need) picks claims
+      × Pieces (LowestPiece vertices ok need) picks claims
 
   -- the claims meet one of a need of vertices by vertex v, which is held or shared
   abbrev pub VertexClaims : Bool → List Need → ℕ → List Claim → Type 0

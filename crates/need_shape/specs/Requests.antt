@@ -32,7 +32,7 @@ abbrev mutual
   pub IsRequest : Bool → RawNeed → Type 0
   IsRequest in_slot (RawNeed' kind count exclusive m with) =
       (1 ≤ count) × (count ≤ GREATEST_NUMBER) × (IsTrue (is_slot kind) → IsFalse in_slot × IsSomeRow with)
-          × AreRequestsRow (is_slot kind || in_slot) with
+      × AreRequestsRow (is_slot kind || in_slot) with
 
   pub AreRequestsRow : Bool → {m : _} → Row_of-RawNeed m → Type 0
   AreRequestsRow in_slot end_of-RawNeed = Unit {0}

@@ -10,9 +10,7 @@ ghost use Rattle.need_shape.specs.Faults.{IsFirstFault, fault_of, members_fault_
 
 use crate::pairs::pairs_fault;
 use crate::raw::{RawNeed, ShapeFault};
-use crate::types::{
-    add_types, graph_types, is_inner, is_slot, names_upper, number_of,
-};
+use crate::types::{add_types, graph_types, is_inner, is_slot, names_upper, number_of};
 use flux_defs::{GREATEST_NUMBER, List, Need};
 use resource_graph::Graph;
 use std::alloc::{AllocError, Global};

@@ -257,7 +257,7 @@ fn narrow_by_list(
     ensures kept { OnOk result (nodes.new.items ≡ where_true graph.now (λ n. list_is_true n known (items_view values.now) (each_true n (items_view values.now)) (some_true n (items_view values.now))) nodes.old.items) }
     ensures found { (path : List ℕ) → Finds path result
         (list_fault path known (items_view values.now)
-            (items_fault (list_path path key.now) 0 (items_view values.now))) }
+        (items_fault (list_path path key.now) 0 (items_view values.now))) }
 {
     match known {
         Key::Properties => narrow_by_properties(alloc, graph, values, nodes),

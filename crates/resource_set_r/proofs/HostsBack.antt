@@ -133,7 +133,7 @@ module _ (vertices : List Vertex) where
 pub host_named : (g : NamedGraph) (rank n : ℕ) → length g.names ≡ length g.resources.vertices →
     AllByRecursion (λ name. IsTrue (is_host_name name)) g.names →
     n < length g.resources.vertices → rank_of g.resources.vertices n ≡ Some rank →
-        IsTrue (is_host_name (host_of g rank))
+    IsTrue (is_host_name (host_of g rank))
 host_named g rank n named names lt is = by (node_with g.resources.vertices rank) refl
   where
     p : ℕ → Bool
@@ -146,7 +146,7 @@ host_named g rank n named names lt is = by (node_with g.resources.vertices rank)
     at v within =
         let here = slice_get-get_or g.names v [] within in
         subst (λ (o : Option (List ℕ)). IsTrue (is_host_name (unwrap_or o []))) (sym here)
-            (all_at (λ name. IsTrue (is_host_name name)) g.names v _ names here)
+        (all_at (λ name. IsTrue (is_host_name name)) g.names v _ names here)
 
     by : (o : Option ℕ) → node_with g.resources.vertices rank ≡ o →
         IsTrue (is_host_name (option_map_or (λ v. unwrap_or (slice_get g.names v) []) o []))

@@ -47,14 +47,14 @@ children_back : (at : ℕ) (ranks : List Range) (c : Children) → AreFine c.cor
 children_back at ranks c cores gpus =
     let d = children_data c in
     ap (λ r. result_and_then r (λ xs. result_and_then (idset_or_none (field.Gpu at) (get (codes "gpu") d))
-        (λ ys. Ok (record { ranks = ranks; cores = xs; gpus = ys })))) (cores_back (field.Core at) c.cores c.gpus cores)
+    (λ ys. Ok (record { ranks = ranks; cores = xs; gpus = ys })))) (cores_back (field.Core at) c.cores c.gpus cores)
     ∙ ap (λ r. result_and_then r (λ ys. Ok (record { ranks = ranks; cores = runs_of c.cores; gpus = ys })))
-        (gpus_back (field.Gpu at) c.cores c.gpus gpus)
+    (gpus_back (field.Gpu at) c.cores c.gpus gpus)
 
 element_back : (at : ℕ) (e : Element) → IsFine e → row_of at (element_data e) ≡ Ok (row_of_element e)
 element_back at e fine =
     ap (λ r. result_and_then r (λ ranks. row_with at ranks (children_data e.children)))
-        (text_back (field.Rank at) e.ranks fine.ranks)
+    (text_back (field.Rank at) e.ranks fine.ranks)
     ∙ children_back at (runs_of e.ranks) e.children fine.cores fine.gpus
 
 pub elements_back : (at : ℕ) (es : List Element) → AllByRecursion IsFine es → rows_from at (elements_data es) ≡ Ok (map row_of_element es)
@@ -98,7 +98,7 @@ hosts_back at (text ∷ texts) names utf8 are =
     let others = are.1 in
     let rest = hosts_back (suc at) texts others utf8.1 are.4 in
     let one : host_value at (string (readable text)) ≡ Ok hosts = ap (λ t. hosts_read (field.Host at) (hostlist_of t))
-        (readable_utf8 text utf8.0) ∙ ap (hosts_read (field.Host at)) are.2 in
+    (readable_utf8 text utf8.0) ∙ ap (hosts_read (field.Host at)) are.2 in
     record {
       hosts = hosts ++ rest.hosts;
       read = ap (λ r. result_and_then r (λ hs. result_map_both (λ more. hs ++ more) (λ m. m) (hosts_from (suc at) (texts_data texts)))) one ∙ ap (result_map_both (λ more. hosts ++ more) (λ m. m)) rest.read;

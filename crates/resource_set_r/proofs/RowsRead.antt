@@ -62,18 +62,18 @@ row_ordered : (at : ℕ) (d : Data) (row : RRow) → row_of at d ≡ Ok row → 
 row_ordered at d row e =
     let o = then_ok (at_field (field.Row at) (object_value d)) (row_in at) row e in
     let ranks = then_ok (idset_field (field.Rank at) (codes "rank") o.0)
-        (λ ranks. result_and_then (at_field (field.Children at) (object_field (codes "children") o.0))
-        (row_with at ranks)) row o.2 in
+    (λ ranks. result_and_then (at_field (field.Children at) (object_field (codes "children") o.0))
+    (row_with at ranks)) row o.2 in
     let children = then_ok (at_field (field.Children at) (object_field (codes "children") o.0))
-        (row_with at ranks.0) row ranks.2 in
+    (row_with at ranks.0) row ranks.2 in
     let cores = then_ok (idset_or_none (field.Core at) (get (codes "core") children.0))
-        (λ cores. result_and_then (idset_or_none (field.Gpu at) (get (codes "gpu") children.0))
-        (λ gpus. Ok (record { ranks = ranks.0; cores = cores; gpus = gpus }))) row children.2 in
+    (λ cores. result_and_then (idset_or_none (field.Gpu at) (get (codes "gpu") children.0))
+    (λ gpus. Ok (record { ranks = ranks.0; cores = cores; gpus = gpus }))) row children.2 in
     let gpus = then_ok (idset_or_none (field.Gpu at) (get (codes "gpu") children.0))
-        (λ gpus. Ok (record { ranks = ranks.0; cores = cores.0; gpus = gpus })) row cores.2 in
+    (λ gpus. Ok (record { ranks = ranks.0; cores = cores.0; gpus = gpus })) row cores.2 in
     let same : ranks.0 ≡ row.ranks = ok_ranks ranks.0 cores.0 gpus.0 row gpus.2 in
     subst (λ (rs : List Range). AllByRecursion Ordered rs) same
-        (idset_ordered (field.Rank at) (codes "rank") o.0 ranks.0 ranks.1)
+    (idset_ordered (field.Rank at) (codes "rank") o.0 ranks.0 ranks.1)
 
 all_joined : (xs ys : List Range) → AllByRecursion Ordered xs → AllByRecursion Ordered ys → AllByRecursion Ordered (xs ++ ys)
 all_joined [] ys a b = b
@@ -83,7 +83,7 @@ rows_ordered : (at : ℕ) (ds : Items) (rows : List RRow) → rows_from at ds �
 rows_ordered at no_items rows e = let same : [] ≡ rows = cc in subst (λ (rs : List RRow). AllByRecursion Ordered (ranges_in rs)) same tt
 rows_ordered at (item d ds) rows e =
     let first = then_ok (row_of at d)
-        (λ row. result_map_both (λ rows. row ∷ rows) (λ m. m) (rows_from (suc at) ds)) rows e in
+    (λ row. result_map_both (λ rows. row ∷ rows) (λ m. m) (rows_from (suc at) ds)) rows e in
     let others = mapped_ok (rows_from (suc at) ds) (λ rows. first.0 ∷ rows) rows first.2 in
     subst (λ (rs : List RRow). AllByRecursion Ordered (ranges_in rs)) others.2
     (all_joined first.0.ranks (ranges_in others.0) (row_ordered at d first.0 first.1) (rows_ordered (suc at) ds others.0 others.1))

@@ -60,7 +60,11 @@ pub(crate) fn object_of(value: &Value, field: FieldPath) -> Result<&Value, Misre
 }
 
 /// The object at a key.
-pub(crate) fn object_at<'a>(value: &'a Value, key: &str, field: FieldPath) -> Result<&'a Value, Misread>
+pub(crate) fn object_at<'a>(
+    value: &'a Value,
+    key: &str,
+    field: FieldPath,
+) -> Result<&'a Value, Misread>
     ensures { result_map_both (λ v. view v.now) (λ e. e) result ≡ at_field field
         (object_field key.now (view value.now)) }
 {

@@ -8,7 +8,7 @@ ghost use Rattle.resource_set_r.specs.declared.sets_read.RRow.{RRow};
 ghost use Rattle.resource_set_r.specs.Misreads.{IsResultOf};
 ghost use Rattle.resource_set_r.specs.ReadR.{host_value, hosts_from, hosts_fit, hosts_for, hosts_in};
 
-use crate::faults::{Misread, FieldPath, ReadError};
+use crate::faults::{FieldPath, Misread, ReadError};
 use crate::fields::{list_of, text_value};
 use flux_defs::List;
 use idset_text::{Hosts, Range, TextFault, read_hostlist};

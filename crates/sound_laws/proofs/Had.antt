@@ -56,7 +56,7 @@ module _ (vertices : List Vertex) (ok : Claim → Type 0) where
     row_had k scope (more_of-Need need rest) valid cs f =
         subst (AllByRecursion IsHad) (sym f.2)
         (all_append IsHad f.0 f.1 (pieces_had (Piece vertices ok scope need)
-            (piece_had scope need valid.0) f.3.0 f.0 f.3.2 f.3.4) (row_had k scope rest valid.2 f.1 f.4))
+        (piece_had scope need valid.0) f.3.0 f.0 f.3.2 f.3.4) (row_had k scope rest valid.2 f.1 f.4))
 
   pub fits_had : (k : ℕ) (scope : Scope) (needs : List Need) → AreValidNeeds vertices needs → (claims : List Claim) →
       Fits vertices ok k scope needs claims → AllByRecursion IsHad claims

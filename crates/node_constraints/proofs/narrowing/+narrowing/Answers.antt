@@ -97,8 +97,8 @@ narrow_by_none-values-preserved t c =
     let rest = items_view (drop (at + 1) vs) in
     let here : drop at vs ≡ x ∷ drop (at + 1) vs = drop_more vs at x (omega arith) ∙ ap (λ y. y ∷ drop (at + 1) vs) (sym c.index-values-at.is) in
     let taken = c.in_ok-take_away-in-Ok.ensures (λ v. is_true (facts_of g v) (view x))
-        (c.as_slice.ensures.value ∙ (c.in-Ok.ensures.kept
-        ∙ ap (where_true g (λ n. is_true n (view x))) c.in_ok-some.ensures)) in
+    (c.as_slice.ensures.value ∙ (c.in-Ok.ensures.kept
+    ∙ ap (where_true g (λ n. is_true n (view x))) c.in_ok-some.ensures)) in
     record {
       kept = ap (where_true g (λ n. not (some_true n rest))) taken
           ∙ (neither_left g (λ n. is_true n (view x)) (λ n. some_true n rest) old

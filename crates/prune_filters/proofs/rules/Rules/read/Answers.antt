@@ -14,7 +14,7 @@ returns-in_default-more-clause-read c =
     let last = rw c.in_default-more.is at c.first_item.ensures.items in
     let rule = rw c.in-Some.is at c.in_ok-rule.ensures in
     rw (c.of_vec.ensures, c.in_ok-push.ensures.ok)
-        (read_last c.args.text.now c.items.rest.now c.first_item.result.0.now c.items.at c.items.rules.items c.in-Some.rule c.items.invariant.read last rule)
+    (read_last c.args.text.now c.items.rest.now c.first_item.result.0.now c.items.at c.items.rules.items c.in-Some.rule c.items.invariant.read last rule)
 
 pub items-preserved : goal.items-preserved
 items-preserved c =
