@@ -43,10 +43,3 @@ nothing_told g names fault fine (inr first) = absurd (no_first (table g names) f
 
 pub parents_clear : (g : ResourceGraph) → Nowhere (HasUnknownParent g) → KnowsParents g.vertices
 parents_clear g clear v p e = elim (cases_lt p (length g.vertices)) [ inl less ↦ less | inr past ↦ absurd (clear v (p, e, past)) ]
-
-pub lines_clear : (g : ResourceGraph) → Nowhere (IsDeep g) → (v : ℕ) → v < length g.vertices → length (line_of g.vertices v) ≤ 16
-lines_clear g clear v lt = elim (cases_lt 16 (length (line_of g.vertices v))) [ inl over ↦ absurd (clear v (lt, over)) | inr le ↦ le ]
-
--- the least number of which it is true is the first of its row
-pub here : (fault : ℕ → GraphFault) (Holds : ℕ → Type 0) (rows : List Row) (v : ℕ) → IsLeast Holds v → IsFirstRow (row fault Holds ∷ rows) (fault v)
-here fault Holds rows v least = inl (v, refl, least)

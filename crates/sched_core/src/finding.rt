@@ -11,7 +11,7 @@ ghost use Rattle.sched_core.specs.Answered.{FindsAt};
 
 use book_state::BookState;
 use dfu_match::{match_at, some_fit};
-use earliest_search::{Found, counts, earliest, window_at};
+use earliest_search::{counts, earliest, window_at};
 use flux_defs::{Ask, NoJobs, Steps, Verdict, Window};
 use resource_graph::Graph;
 use std::alloc::{AllocError, Global};
@@ -86,7 +86,10 @@ fn find_earliest<L: Ledger>(
 {
     match earliest(alloc, graph, book, ask, moment, horizon, steps)? {
         None => Ok(Verdict::NoFit),
-        Some(Found { start, claims }) => Ok(Verdict::Found { start, claims }),
+        Some(found) => Ok(Verdict::Found {
+            start: found.start,
+            claims: found.claims,
+        }),
     }
 }
 
