@@ -39,7 +39,7 @@ HasKind vertices kind v = IsSomeAnd (slice_get vertices v) (λ x. x.kind ≡ kin
 abbrev pub IsNode : List Vertex → ℕ → Type 0
 IsNode vertices v = IsSomeAnd (slice_get vertices v) (λ x. is_some x.rank ≡ true)
 
--- how many units v has
+-- how many units v has; none past the graph
 abbrev pub size_of : List Vertex → ℕ → ℕ
 size_of vertices v = option_map_or (λ x. x.size) (slice_get vertices v) 0
 

@@ -28,7 +28,7 @@ holds_over vertices v (Pass u) = false
 abbrev pub is_on_or_below : List Vertex → ℕ → Claim → Bool
 is_on_or_below vertices v c = is_at_or_below vertices (vertex_of c) v
 
--- how many units of v the claim takes
+-- how many units of v the claim takes; a claim that is no take of v takes none
 abbrev pub take_of : ℕ → Claim → ℕ
 take_of v (Take u q) = if u == v then q else 0
 take_of v (Hold u) = 0

@@ -33,12 +33,13 @@ IsOfNeed vertices (Spread' count m needs) v = IsNode vertices v
 abbrev pub IsNodeKind : List Vertex → ℕ → Type 0
 IsNodeKind vertices kind = (v : ℕ) × IsNode vertices v × HasKind vertices kind v
 
--- the need has this kind
+-- the need has this kind; a spread has that of nodes
 abbrev pub HasNeedKind : List Vertex → Need → ℕ → Type 0
 HasNeedKind vertices (Vert' kind count hold m needs) k = kind ≡ k
 HasNeedKind vertices (Pool kind quantity) k = kind ≡ k
 HasNeedKind vertices (Spread' count m needs) k = IsNodeKind vertices k
 
+-- the need is a spread
 abbrev pub IsSpread : Need → Type 0
 IsSpread (Vert' kind count hold m needs) = ⊥
 IsSpread (Pool kind quantity) = ⊥
@@ -51,10 +52,12 @@ pub record AreApartKinds (vertices : List Vertex) (a b : Need) : Type 0 where
   pub nests : (v u : ℕ) → IsOfNeed vertices a v → IsOfNeed vertices b u → IsTrue (is_below vertices u v) → ⊥
   pub nested : (v u : ℕ) → IsOfNeed vertices a v → IsOfNeed vertices b u → IsTrue (is_below vertices v u) → ⊥
 
+-- the need is well apart from each need of a row
 abbrev pub AreApartKindsRow : List Vertex → Need → {m : _} → Row_of-Need m → Type 0
 AreApartKindsRow vertices a end_of-Need = Unit {0}
 AreApartKindsRow vertices a (more_of-Need b rest) = AreApartKinds vertices a b × AreApartKindsRow vertices a rest
 
+-- the row has at least one need
 abbrev pub IsSomeRow : {m : _} → Row_of-Need m → Type 0
 IsSomeRow end_of-Need = ⊥
 IsSomeRow (more_of-Need need rest) = Unit {0}
@@ -66,6 +69,7 @@ abbrev mutual
   HasNoSpread (Pool kind quantity) = Unit {0}
   HasNoSpread (Spread' count m needs) = ⊥
 
+  -- no need of the row holds a spread, at any depth
   pub HaveNoSpreadRow : {m : _} → Row_of-Need m → Type 0
   HaveNoSpreadRow end_of-Need = Unit {0}
   HaveNoSpreadRow (more_of-Need need rest) = HasNoSpread need × HaveNoSpreadRow rest
@@ -88,7 +92,7 @@ abbrev pub AreValidNeeds : List Vertex → List Need → Type 0
 AreValidNeeds vertices [] = Unit {0}
 AreValidNeeds vertices (need ∷ rest) = IsValidNeed vertices need × AllByRecursion (AreApartKinds vertices need) rest × AreValidNeeds vertices rest
 
--- the numbers rise
+-- the numbers rise, each above the one before, from a least one on
 abbrev pub AreRisingFrom : ℕ → List ℕ → Type 0
 AreRisingFrom low [] = Unit {0}
 AreRisingFrom low (v ∷ vs) = (low ≤ v) × AreRisingFrom (suc v) vs

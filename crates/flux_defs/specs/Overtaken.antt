@@ -39,6 +39,7 @@ HasEntry history at e = slice_get history at ≡ Some e
 abbrev pub Frees : List Entry → ℕ → Type 0
 Frees history at = (e : Entry) × HasEntry history at e × (e.reply ≡ reply.Cancelled)
 
+-- the command is an allocate
 abbrev pub IsAllocate : Command → Type 0
 IsAllocate (command.Allocate id ask) = Unit {0}
 IsAllocate c = ⊥
@@ -106,12 +107,14 @@ CanBeOvertaken (Found start claims) = Unit {0}
 CanBeOvertaken NoFit = Unit {0}
 CanBeOvertaken v = ⊥
 
--- The candidate is overtaken in the history: the first of the three kinds that holds, with the least entry.
+-- The candidate is overtaken in the history: the first of the three kinds that holds, in the order of the cases of
+-- `Cause`, with the least entry.
 abbrev pub IsOvertakenBy : Setting → List Entry → Candidate → Cause → Type 0
 IsOvertakenBy g history c (Freed at) = IsFirstFrom (Frees history) c.place at
 IsOvertakenBy g history c (Late at) = NoneFrom (Frees history) c.place × IsFirstFrom (Delays c history) c.place at
 IsOvertakenBy g history c (Taken at index) =
     NoneFrom (Frees history) c.place × NoneFrom (Delays c history) c.place × IsTakenFor g history c.place c.command c.verdict at index
 
+-- the candidate can be overtaken, and this is the cause
 abbrev pub IsOvertaken : Setting → List Entry → Candidate → Cause → Type 0
 IsOvertaken g history c cause = CanBeOvertaken c.verdict × IsOvertakenBy g history c cause

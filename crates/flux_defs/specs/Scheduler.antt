@@ -30,6 +30,7 @@ pub record State : Type 0 where
   pub used : List ℕ
   pub claim_count : ℕ
 
+-- moment 0, no jobs, no ids, no claims
 abbrev pub first_state : State
 first_state = record { moment = 0; jobs = []; used = []; claim_count = 0 }
 
@@ -69,9 +70,11 @@ AcceptedOrFull g s id ask start r =
 abbrev pub job_with : ℕ → List Job → Option Job
 job_with id jobs = find (λ job. job.id == id) jobs
 
+-- planned before the start, running from the start on and before the end, ended from the end on
 abbrev pub phase_at : ℕ → Job → Phase
 phase_at m job = if nat_lt m job.start then Planned else if nat_lt m job.end then Running else Ended
 
+-- the reply to info: phase, start and end
 abbrev pub info_at : ℕ → Job → Reply
 info_at m job = reply.Info (phase_at m job) job.start job.end
 
@@ -100,12 +103,18 @@ Replies g s (command.Invalid why) = λ r. r ≡ reply.Invalid
 -- the state with one more accepted job
 abbrev pub with_job : State → Job → State
 with_job s job =
-    record { moment = s.moment; jobs = s.jobs ++ job ∷ []; used = s.used ++ job.id ∷ []; claim_count = s.claim_count + length job.claims }
+    record {
+      moment = s.moment;
+      jobs = s.jobs ++ job ∷ [];
+      used = s.used ++ job.id ∷ [];
+      claim_count = s.claim_count + length job.claims;
+    }
 
 -- the jobs that are left once the one of this id is cancelled
 abbrev pub without_job : ℕ → List Job → List Job
 without_job id jobs = filter (λ job. not (job.id == id)) jobs
 
+-- the state after an accepted cancel
 abbrev pub after_cancel : State → Command → State
 after_cancel s (command.Cancel id) = record s { jobs = without_job id s.jobs }
 after_cancel s c = s

@@ -34,7 +34,7 @@ abbrev pub AllKeepApart : List Vertex → List Job → Type 0
 AllKeepApart vertices [] = Unit {0}
 AllKeepApart vertices (job ∷ jobs) = AllByRecursion (KeepApart vertices job) jobs × AllKeepApart vertices jobs
 
--- The jobs are sound together: at every moment the live takes of each vertex sum to at most its size; no other live job
+-- No vertex is oversubscribed: at every moment the live takes of each vertex sum to at most its size; no other live job
 -- has a claim on a held vertex or below it; and within one job the claims are separate.
 pub record IsSound (vertices : List Vertex) (jobs : List Job) : Type 0 where
   pub takes : (m v : ℕ) → taken_at jobs m v ≤ size_of vertices v

@@ -1,5 +1,5 @@
 -- Which graphs are valid (RFC 4, in this project's profile): a conjunction over single vertices and pairs of them.
-use Rattle.std.specs.Prelude.{◌≡◌, ◌≢◌, ℕ, suc, ◌^◌, ◌<◌, ◌≤◌, ◌⊎◌, ◌↔◌, false, List, length, Some, None, slice_get, codes, IsTrue, IsSome}
+use Rattle.std.specs.Prelude.{◌≡◌, ◌≢◌, ℕ, suc, ◌<◌, ◌≤◌, ◌⊎◌, ◌↔◌, false, List, length, Some, None, slice_get, codes, IsTrue, IsSome}
 use Rattle.std.specs.Option.{IsSomeAnd}
 use Rattle.flux_defs.specs.declared.vertices.Vertex.{Vertex}
 use Rattle.flux_defs.specs.declared.limits.TheConstants.{GREATEST_NUMBER, MOST_TYPES, MOST_VERTICES}

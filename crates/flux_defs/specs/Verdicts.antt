@@ -49,7 +49,8 @@ job_of g id ask start claims = record { id = id; start = start; end = (window_of
 -- the reply to an allocate or a reserve whose id is new, by its verdict; `none` is the reply where nothing fits
 abbrev pub YieldsJob : Setting → State → ℕ → Ask → Reply → Verdict → Reply → Type 0
 YieldsJob g s id ask none (Found start claims) =
-    Where (g.claim_limit < s.claim_count + length claims) reply.Full (λ r. r ≡ accepted_reply s.moment (job_of g id ask start claims))
+    Where (g.claim_limit < s.claim_count + length claims) reply.Full
+    (λ r. r ≡ accepted_reply s.moment (job_of g id ask start claims))
 YieldsJob g s id ask none NoFit = λ r. r ≡ none
 YieldsJob g s id ask none Unsat = λ r. r ≡ reply.Unsatisfiable
 YieldsJob g s id ask none Long = λ r. r ≡ reply.TooLong

@@ -28,6 +28,3 @@ pub use texts::Text;
 pub use verdicts::Verdict;
 pub use vertices::Vertex;
 pub use views::{FreeView, NoJobs};
-
-#[cfg(test)]
-mod tests;

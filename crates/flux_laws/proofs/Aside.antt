@@ -37,29 +37,39 @@ module _ (vertices : List Vertex) (first : ParentsFirst vertices) (unnested : No
 
   -- of two valid siblings
   pub siblings_aside : (a b : Need) → ((v u : ℕ) → IsOfNeed vertices a v → IsOfNeed vertices b u → groups.AreDisjoint vertices first unnested v u) →
-      IsValidNeed vertices a → IsValidNeed vertices b → (ok : Claim → Type 0) (scope : Scope) (n m : ℕ) (cs ds : List Claim) →
+      IsValidNeed vertices a → IsValidNeed vertices b →
+      (ok : Claim → Type 0) (scope : Scope) (n m : ℕ) (cs ds : List Claim) →
       Group n (Piece vertices ok scope a) cs → Group m (Piece vertices ok scope b) ds → AreAside vertices cs ds
   siblings_aside a b apart va vb ok scope n m cs ds ga gb c d hc hd =
-      let ra = groups.pieces_apart vertices first unnested ok scope a (groups.piece_apart vertices first unnested ok scope a va) ga.0 cs ga.1 ga.4 in
-      let rb = groups.pieces_apart vertices first unnested ok scope b (groups.piece_apart vertices first unnested ok scope b vb) gb.0 ds gb.1 gb.4 in
-      let x = of_member (groups.RootedIn vertices first unnested scope (groups.IsOfPicks vertices first unnested ok a ga.0)) cs c ra.1 hc in
-      let y = of_member (groups.RootedIn vertices first unnested scope (groups.IsOfPicks vertices first unnested ok b gb.0)) ds d rb.1 hd in
+      let ra = groups.pieces_apart vertices first unnested ok scope a
+      (groups.piece_apart vertices first unnested ok scope a va) ga.0 cs ga.1 ga.4 in
+      let rb = groups.pieces_apart vertices first unnested ok scope b
+      (groups.piece_apart vertices first unnested ok scope b vb) gb.0 ds gb.1 gb.4 in
+      let x = of_member (groups.RootedIn vertices first unnested scope
+      (groups.IsOfPicks vertices first unnested ok a ga.0)) cs c ra.1 hc in
+      let y = of_member (groups.RootedIn vertices first unnested scope
+      (groups.IsOfPicks vertices first unnested ok b gb.0)) ds d rb.1 hd in
       aside x.0 y.0 c d (apart x.0 y.0 x.1.0.0 y.1.0.0) x.2 y.2
 
   -- of two vertices of a valid need
-  pub picks_aside : (need : Need) → IsValidNeed vertices need → (ok : Claim → Type 0) (scope : Scope) (v u q r : ℕ) (cs ds : List Claim) → v ≢ u →
+  pub picks_aside : (need : Need) → IsValidNeed vertices need →
+      (ok : Claim → Type 0) (scope : Scope) (v u q r : ℕ) (cs ds : List Claim) → v ≢ u →
       Piece vertices ok scope need v q cs → Piece vertices ok scope need u r ds → AreAside vertices cs ds
   picks_aside need valid ok scope v u q r cs ds ne pc pd c d hc hd =
       let vc = groups.piece_vertex vertices first unnested ok scope need v q cs pc in
       let vd = groups.piece_vertex vertices first unnested ok scope need u r ds pd in
-      let x = of_member (groups.Under vertices first unnested v) cs c (groups.piece_apart vertices first unnested ok scope need valid v q cs pc).1 hc in
-      let y = of_member (groups.Under vertices first unnested u) ds d (groups.piece_apart vertices first unnested ok scope need valid u r ds pd).1 hd in
+      let x = of_member (groups.Under vertices first unnested v) cs c
+      (groups.piece_apart vertices first unnested ok scope need valid v q cs pc).1 hc in
+      let y = of_member (groups.Under vertices first unnested u) ds d
+      (groups.piece_apart vertices first unnested ok scope need valid u r ds pd).1 hd in
       aside v u c d (groups.picks_disjoint vertices first unnested need v u ne vc.0 vd.0) x y
 
   -- claims that fit are separate
-  pub fits_separate : (ok : Claim → Type 0) (k : ℕ) (scope : Scope) (needs : List Need) → AreValidNeeds vertices needs → (claims : List Claim) → Fits vertices ok k scope needs claims → AreAllSeparate vertices claims
+  pub fits_separate : (ok : Claim → Type 0) (k : ℕ) (scope : Scope) (needs : List Need) → AreValidNeeds vertices needs →
+      (claims : List Claim) → Fits vertices ok k scope needs claims → AreAllSeparate vertices claims
   fits_separate ok k scope needs valid claims fit =
-      (groups.row_apart vertices first unnested ok k scope (hidden-the_row-Need-0 needs) (valid_to_row vertices needs valid) claims
+      (groups.row_apart vertices first unnested ok k scope (hidden-the_row-Need-0 needs)
+      (valid_to_row vertices needs valid) claims
       (transport⁻¹ (ap (λ (h : List Claim → Type 0). h claims) (fits_list vertices ok needs k scope)) fit)).0
 
 -- two needs of a valid list are well apart, in one order or the other
@@ -68,7 +78,8 @@ pub valid_pair : (vertices : List Vertex) (needs : List Need) (i j : ℕ) (a b :
 valid_pair vertices [] i j a b valid lt ea eb = absurd (cc)
 valid_pair vertices (need ∷ rest) i zero a b valid lt ea eb = absurd (omega arith)
 valid_pair vertices (need ∷ rest) zero (suc j) a b valid lt ea eb =
-    let same : need ≡ a = cc in subst (λ (n : Need). AreApartKinds vertices n b) same (all_at (AreApartKinds vertices need) rest j b valid.1 eb)
+    let same : need ≡ a = cc in subst (λ (n : Need). AreApartKinds vertices n b) same
+    (all_at (AreApartKinds vertices need) rest j b valid.1 eb)
 valid_pair vertices (need ∷ rest) (suc i) (suc j) a b valid lt ea eb = valid_pair vertices rest i j a b valid.2 (omega arith) ea eb
 
 pub valid_at : (vertices : List Vertex) (needs : List Need) (i : ℕ) (a : Need) → AreValidNeeds vertices needs → slice_get needs i ≡ Some a → IsValidNeed vertices a
@@ -92,13 +103,18 @@ module _ (g : ResourceGraph) (names : List (List ℕ)) (valid : IsValidGraph g n
       ]
 
   pub groups_aside : (needs : List Need) → AreValidNeeds g.vertices needs → (i j : ℕ) (a b : Need) → i ≢ j → slice_get needs i ≡ Some a → slice_get needs j ≡ Some b →
-      (ok : Claim → Type 0) (scope : Scope) (n m : ℕ) (cs ds : List Claim) → Group n (Piece g.vertices ok scope a) cs → Group m (Piece g.vertices ok scope b) ds → AreAside g.vertices cs ds
+      (ok : Claim → Type 0) (scope : Scope) (n m : ℕ) (cs ds : List Claim) → Group n (Piece g.vertices ok scope a) cs →
+      Group m (Piece g.vertices ok scope b) ds → AreAside g.vertices cs ds
   groups_aside needs vs i j a b ne ea eb ok scope n m cs ds =
-      siblings_aside g.vertices first' unnested' a b (disjoint needs i j a b vs ne ea eb) (valid_at g.vertices needs i a vs ea) (valid_at g.vertices needs j b vs eb) ok scope n m cs ds
+      siblings_aside g.vertices first' unnested' a b (disjoint needs i j a b vs ne ea eb)
+      (valid_at g.vertices needs i a vs ea) (valid_at g.vertices needs j b vs eb) ok scope n m cs ds
 
-  pub pieces_aside : (need : Need) → IsValidNeed g.vertices need → (ok : Claim → Type 0) (scope : Scope) (v u q r : ℕ) (cs ds : List Claim) → v ≢ u →
+  pub pieces_aside : (need : Need) → IsValidNeed g.vertices need →
+      (ok : Claim → Type 0) (scope : Scope) (v u q r : ℕ) (cs ds : List Claim) → v ≢ u →
       Piece g.vertices ok scope need v q cs → Piece g.vertices ok scope need u r ds → AreAside g.vertices cs ds
   pieces_aside = picks_aside g.vertices first' unnested'
 
-  pub separate_fits : (ok : Claim → Type 0) (k : ℕ) (scope : Scope) (needs : List Need) → AreValidNeeds g.vertices needs → (claims : List Claim) → Fits g.vertices ok k scope needs claims → AreAllSeparate g.vertices claims
+  pub separate_fits : (ok : Claim → Type 0) (k : ℕ) (scope : Scope) (needs : List Need) →
+      AreValidNeeds g.vertices needs → (claims : List Claim) → Fits g.vertices ok k scope needs claims →
+      AreAllSeparate g.vertices claims
   separate_fits = fits_separate g.vertices first' unnested'

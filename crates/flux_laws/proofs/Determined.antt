@@ -68,8 +68,10 @@ module _ (g : Setting) (s : State) where
   accepted_once : (id : ℕ) (ask : Ask) (start : ℕ) (r t : Reply) → AcceptedOrFull g s id ask start r → AcceptedOrFull g s id ask start t → r ≡ t
   accepted_once id ask start r t (a, x, h) (b, y, k) =
       let same : a ≡ b = job_once id start ask a b x y in
-      let Next = λ (j : Job). Where (g.claim_limit < s.claim_count + length j.claims) reply.Full (λ u. u ≡ accepted_reply s.moment j) t in
-      (where_once (g.claim_limit < s.claim_count + length a.claims) reply.Full (λ u. u ≡ accepted_reply s.moment a) (one (accepted_reply s.moment a))).once r t h (subst Next (sym same) k)
+      let Next = λ (j : Job). Where (g.claim_limit < s.claim_count + length j.claims) reply.Full
+      (λ u. u ≡ accepted_reply s.moment j) t in
+      (where_once (g.claim_limit < s.claim_count + length a.claims) reply.Full (λ u. u ≡ accepted_reply s.moment a)
+      (one (accepted_reply s.moment a))).once r t h (subst Next (sym same) k)
 
   reserved_once : (id : ℕ) (ask : Ask) (r t : Reply) → ((n : ℕ) × IsEarliest g.graph.vertices s.jobs g.horizon ask s.moment n × AcceptedOrFull g s id ask n r) →
       ((n : ℕ) × IsEarliest g.graph.vertices s.jobs g.horizon ask s.moment n × AcceptedOrFull g s id ask n t) → r ≡ t

@@ -170,9 +170,13 @@ module _ (can : ℕ → ℕ → Type 0) (down : IsDownward can) where
         | inr ge ↦ elim (cases_lt q.0 p.0) [ inl gt ↦ absurd (f.1 q.0 g.0 gt (lower q.0 1 q.1 (omega arith) g.2 g.4)) | inr le ↦ omega arith ]
       ] in
       let amount : p.1 ≡ q.1 = elim (cases_lt p.1 q.1) [
-        | inl lt ↦ (let most : q.1 ≤ n = g.3 in absurd (f.5 (omega arith) (subst (λ (v : ℕ). can v (p.1 + 1)) (sym scope) (lower q.0 (p.1 + 1) q.1 (omega arith) (omega arith) g.4))))
+        | inl lt ↦ (let most : q.1 ≤ n = g.3 in absurd
+            (f.5 (omega arith) (subst (λ (v : ℕ). can v (p.1 + 1)) (sym scope)
+            (lower q.0 (p.1 + 1) q.1 (omega arith) (omega arith) g.4))))
         | inr ge ↦ elim (cases_lt q.1 p.1) [
-          | inl gt ↦ (let most : p.1 ≤ n = f.3 in absurd (g.5 (omega arith) (subst (λ (v : ℕ). can v (q.1 + 1)) scope (lower p.0 (q.1 + 1) p.1 (omega arith) (omega arith) f.4))))
+          | inl gt ↦ (let most : p.1 ≤ n = f.3 in absurd
+              (g.5 (omega arith) (subst (λ (v : ℕ). can v (q.1 + 1)) scope
+              (lower p.0 (q.1 + 1) p.1 (omega arith) (omega arith) f.4))))
           | inr le ↦ omega arith
         ]
       ] in

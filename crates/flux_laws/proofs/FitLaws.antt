@@ -60,7 +60,8 @@ pieces_once piece once (p ∷ ps) a b g h =
 module _ (vertices : List Vertex) (ok : Claim → Type 0) where
   -- lowest-first claims fit
   mutual
-    pub lowest_piece : (scope : Scope) (need : Need) (v q : ℕ) (claims : List Claim) → CanServe vertices ok scope need v q → LowestPiece vertices ok need v q claims →
+    pub lowest_piece : (scope : Scope) (need : Need) (v q : ℕ) (claims : List Claim) →
+        CanServe vertices ok scope need v q → LowestPiece vertices ok need v q claims →
         Piece vertices ok scope need v q claims
     lowest_piece scope (Vert' kind count true m needs) v q claims can low =
         let p = can.1 in (p.0, p.1, p.2, (low, p.3.1, p.3.2))
@@ -70,7 +71,8 @@ module _ (vertices : List Vertex) (ok : Claim → Type 0) where
     lowest_piece scope (Spread' count m needs) v q claims can low =
         let p = can.1 in (p.0, p.1, (low.0, low.1, p.2.2, lowest_row_fits q (Beneath v) needs low.0 low.2))
 
-    pub lowest_row_fits : {m : _} (k : ℕ) (scope : Scope) (row : Row_of-Need m) (claims : List Claim) → LowestRow vertices ok k scope row claims →
+    pub lowest_row_fits : {m : _} (k : ℕ) (scope : Scope) (row : Row_of-Need m) (claims : List Claim) →
+        LowestRow vertices ok k scope row claims →
         FitsRow vertices ok k scope row claims
     lowest_row_fits k scope end_of-Need claims low = low
     lowest_row_fits k scope (more_of-Need need rest) claims low =
@@ -83,7 +85,8 @@ module _ (vertices : List Vertex) (ok : Claim → Type 0) where
             f.0,
             serve_some (CanServe vertices ok scope need) 0 low.0 f.1,
             f.2,
-            pieces_along 0 (LowestPiece vertices ok need) (Piece vertices ok scope need) (lowest_piece scope need) low.0 low.1 f.1 low.5,
+            pieces_along 0 (LowestPiece vertices ok need) (Piece vertices ok scope need)
+                (lowest_piece scope need) low.0 low.1 f.1 low.5,
           ),
           lowest_row_fits k scope rest low.2 low.6,
         )
@@ -92,7 +95,8 @@ module _ (vertices : List Vertex) (ok : Claim → Type 0) where
     -- a fit of k + 1 copies contains one of k
     mutual
       pub serves_less : (scope : Scope) (need : Need) → IsDownward (CanServe vertices ok scope need)
-      serves_less scope (Vert' kind count hold m needs) v q some can = let one : q + 1 ≡ 1 = can.1.0 in absurd (omega arith)
+      serves_less scope (Vert' kind count hold m needs) v q some can = let one : q + 1 ≡ 1 = can.1.0 in absurd
+          (omega arith)
       serves_less scope (Pool kind quantity) v q some can =
           let p = can.1 in (Take v q ∷ [], (p.0, p.1, refl, less v q p.3))
       serves_less scope (Spread' count m needs) v q some can =
@@ -100,14 +104,16 @@ module _ (vertices : List Vertex) (ok : Claim → Type 0) where
           let r = row_less q (Beneath v) needs p.2.0 p.2.3 in
           (Pass v ∷ r.0, (p.0, p.1, (r.0, refl, p.2.2, r.1)))
 
-      pub row_less : {m : _} (k : ℕ) (scope : Scope) (row : Row_of-Need m) (claims : List Claim) → FitsRow vertices ok (k + 1) scope row claims →
+      pub row_less : {m : _} (k : ℕ) (scope : Scope) (row : Row_of-Need m) (claims : List Claim) →
+          FitsRow vertices ok (k + 1) scope row claims →
           (fewer : List Claim) × FitsRow vertices ok k scope row fewer
       row_less k scope end_of-Need claims fit = ([], refl)
       row_less k scope (more_of-Need need rest) claims fit =
           let piece = Piece vertices ok scope need in
           let f = group_fills piece ((k + 1) * amount_of need) fit.0 fit.3 in
           let g = filled_group piece (k * amount_of need)
-          (can_fill_less (SomePiece piece) (serves_less scope need) 0 ((k + 1) * amount_of need) (k * amount_of need) (omega arith) f) in
+          (can_fill_less (SomePiece piece) (serves_less scope need) 0 ((k + 1) * amount_of need) (k * amount_of need)
+          (omega arith) f) in
           let r = row_less k scope rest fit.1 fit.4 in
           (g.0 ++ r.0, (g.0, r.0, refl, g.1, r.1))
 
@@ -121,10 +127,12 @@ module _ (vertices : List Vertex) (ok : Claim → Type 0) where
       piece_once (Spread' count m needs) v q a b g h =
           g.1 ∙ ap (λ x. Pass v ∷ x) (lowest_row_once q (Beneath v) needs g.0 h.0 g.2 h.2) ∙ sym h.1
 
-      pub lowest_row_once : {m : _} (k : ℕ) (scope : Scope) (row : Row_of-Need m) (a b : List Claim) → LowestRow vertices ok k scope row a → LowestRow vertices ok k scope row b → a ≡ b
+      pub lowest_row_once : {m : _} (k : ℕ) (scope : Scope) (row : Row_of-Need m) (a b : List Claim) →
+          LowestRow vertices ok k scope row a → LowestRow vertices ok k scope row b → a ≡ b
       lowest_row_once k scope end_of-Need a b g h = g ∙ sym h
       lowest_row_once k scope (more_of-Need need rest) a b g h =
-          let same : g.0 ≡ h.0 = fills_once (CanServe vertices ok scope need) (serves_less scope need) 0 (k * amount_of need) g.0 h.0 g.4 h.4 in
+          let same : g.0 ≡ h.0 = fills_once (CanServe vertices ok scope need) (serves_less scope need) 0
+          (k * amount_of need) g.0 h.0 g.4 h.4 in
           let group : g.1 ≡ h.1 = pieces_once (LowestPiece vertices ok need) (piece_once need) g.0 g.1 h.1 g.5
           (subst (λ (ps : List Pick). Pieces (LowestPiece vertices ok need) ps h.1) (sym same) h.5) in
           let others : g.2 ≡ h.2 = lowest_row_once k scope rest g.2 h.2 g.6 h.6 in

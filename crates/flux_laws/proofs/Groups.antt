@@ -122,7 +122,8 @@ module _ (vertices : List Vertex) (first : ParentsFirst vertices) (unnested : No
   IsRootOf row u = (need : Need) (v : ℕ) → AreApartKindsRow vertices need row → IsOfNeed vertices need v → AreDisjoint v u
 
   module _ (ok : Claim → Type 0) where
-    pub piece_vertex : (scope : Scope) (need : Need) (v q : ℕ) (cs : List Claim) → Piece vertices ok scope need v q cs → IsOfNeed vertices need v × IsIn vertices scope v
+    pub piece_vertex : (scope : Scope) (need : Need) (v q : ℕ) (cs : List Claim) → Piece vertices ok scope need v q cs →
+        IsOfNeed vertices need v × IsIn vertices scope v
     piece_vertex scope (Vert' kind count hold m needs) v q cs p = (p.2, p.1)
     piece_vertex scope (Pool kind quantity) v q cs p = (p.1, p.0)
     piece_vertex scope (Spread' count m needs) v q cs p = (p.1, p.0)
@@ -145,44 +146,61 @@ module _ (vertices : List Vertex) (first : ParentsFirst vertices) (unnested : No
     IsOfPicks need ps u = IsOfNeed vertices need u × ((v : ℕ) → NoneFor v ps → u ≢ v)
 
     -- a group of one need
-    pub pieces_apart : (scope : Scope) (need : Need) → ((v q : ℕ) (cs : List Claim) → Piece vertices ok scope need v q cs → IsPieceOf v cs) →
-        (ps : List Pick) (cs : List Claim) → AreDistinct ps → Pieces (Piece vertices ok scope need) ps cs → AreAllSeparate vertices cs × AllByRecursion (RootedIn scope (IsOfPicks need ps)) cs
-    pieces_apart scope need piece [] cs d g = subst (λ (xs : List Claim). AreAllSeparate vertices xs × AllByRecursion (RootedIn scope (IsOfPicks need [])) xs) (sym g) (tt, tt)
+    pub pieces_apart : (scope : Scope) (need : Need) →
+        ((v q : ℕ) (cs : List Claim) → Piece vertices ok scope need v q cs → IsPieceOf v cs) →
+        (ps : List Pick) (cs : List Claim) → AreDistinct ps → Pieces (Piece vertices ok scope need) ps cs →
+        AreAllSeparate vertices cs × AllByRecursion (RootedIn scope (IsOfPicks need ps)) cs
+    pieces_apart scope need piece [] cs d g = subst
+        (λ (xs : List Claim). AreAllSeparate vertices xs × AllByRecursion (RootedIn scope (IsOfPicks need [])) xs)
+        (sym g) (tt, tt)
     pieces_apart scope need piece (p ∷ ps) cs d g =
         let k = piece_vertex scope need p.0 p.1 g.0 g.3 in
         let a = piece p.0 p.1 g.0 g.3 in
         let r = pieces_apart scope need piece ps g.1 d.1 g.4 in
-        subst (λ (xs : List Claim). AreAllSeparate vertices xs × AllByRecursion (RootedIn scope (IsOfPicks need (p ∷ ps))) xs) (sym g.2) (
+        subst (λ (xs : List Claim). AreAllSeparate vertices xs
+        × AllByRecursion (RootedIn scope (IsOfPicks need (p ∷ ps))) xs) (sym g.2) (
           separate_append g.0 g.1 (λ u. u ≡ p.0) (IsOfPicks need ps)
               (λ u w e h. subst (λ (x : ℕ). AreDisjoint x w) (sym e) (picks_disjoint need p.0 w (λ same. h.1 p.0 d.0 (sym same)) k.0 h.0))
               (all_along (Under p.0) (UnderSome (λ u. u ≡ p.0)) (λ c h. (p.0, refl, h)) g.0 a.1)
-              (all_along (RootedIn scope (IsOfPicks need ps)) (UnderSome (IsOfPicks need ps)) (λ c h. (h.0, h.1.0, h.2)) g.1 r.1)
+              (all_along (RootedIn scope (IsOfPicks need ps)) (UnderSome (IsOfPicks need ps))
+              (λ c h. (h.0, h.1.0, h.2)) g.1 r.1)
               a.0 r.0,
           all_append (RootedIn scope (IsOfPicks need (p ∷ ps))) g.0 g.1
-              (all_along (Under p.0) (RootedIn scope (IsOfPicks need (p ∷ ps))) (λ c h. (p.0, ((k.0, λ v n. n.0), k.1), h)) g.0 a.1)
-              (all_along (RootedIn scope (IsOfPicks need ps)) (RootedIn scope (IsOfPicks need (p ∷ ps))) (λ c h. (h.0, ((h.1.0.0, λ v n. h.1.0.1 v n.1), h.1.1), h.2)) g.1 r.1),
+              (all_along (Under p.0) (RootedIn scope (IsOfPicks need (p ∷ ps)))
+              (λ c h. (p.0, ((k.0, λ v n. n.0), k.1), h)) g.0 a.1)
+              (all_along (RootedIn scope (IsOfPicks need ps)) (RootedIn scope (IsOfPicks need (p ∷ ps)))
+              (λ c h. (h.0, ((h.1.0.0, λ v n. h.1.0.1 v n.1), h.1.1), h.2)) g.1 r.1),
         )
 
     mutual
-      pub piece_apart : (scope : Scope) (need : Need) → IsValidNeed vertices need → (v q : ℕ) (cs : List Claim) → Piece vertices ok scope need v q cs → IsPieceOf v cs
+      pub piece_apart : (scope : Scope) (need : Need) → IsValidNeed vertices need → (v q : ℕ) (cs : List Claim) →
+          Piece vertices ok scope need v q cs → IsPieceOf v cs
       piece_apart scope (Vert' kind count true m needs) s v q cs p = one v (Hold v) cs refl p.3.0 (in_graph scope v p.1)
       piece_apart scope (Vert' kind count false m needs) s v q cs p =
-          let r = row_apart 1 (Beneath v) needs s.2 p.3.0 p.3.3 in passed v p.3.0 cs (IsRootOf needs) p.3.1 (in_graph scope v p.1) r.0 r.1
+          let r = row_apart 1 (Beneath v) needs s.2 p.3.0 p.3.3 in passed v p.3.0 cs (IsRootOf needs) p.3.1
+          (in_graph scope v p.1) r.0 r.1
       piece_apart scope (Pool kind quantity) s v q cs p = one v (Take v q) cs refl p.2 (in_graph scope v p.0)
       piece_apart scope (Spread' count m needs) s v q cs p =
-          let r = row_apart q (Beneath v) needs s.3 p.2.0 p.2.3 in passed v p.2.0 cs (IsRootOf needs) p.2.1 (in_graph scope v p.0) r.0 r.1
+          let r = row_apart q (Beneath v) needs s.3 p.2.0 p.2.3 in passed v p.2.0 cs (IsRootOf needs) p.2.1
+          (in_graph scope v p.0) r.0 r.1
 
       -- the claims of a fit are separate, and each is under a vertex of one of the needs
-      pub row_apart : {m : _} (k : ℕ) (scope : Scope) (row : Row_of-Need m) → AreValidRow vertices row → (cs : List Claim) → FitsRow vertices ok k scope row cs →
+      pub row_apart : {m : _} (k : ℕ) (scope : Scope) (row : Row_of-Need m) → AreValidRow vertices row →
+          (cs : List Claim) → FitsRow vertices ok k scope row cs →
           AreAllSeparate vertices cs × AllByRecursion (RootedIn scope (IsRootOf row)) cs
-      row_apart k scope end_of-Need s cs f = subst (λ (xs : List Claim). AreAllSeparate vertices xs × AllByRecursion (RootedIn scope (IsRootOf end_of-Need)) xs) (sym f) (tt, tt)
+      row_apart k scope end_of-Need s cs f = subst
+          (λ (xs : List Claim). AreAllSeparate vertices xs × AllByRecursion (RootedIn scope (IsRootOf end_of-Need)) xs)
+          (sym f) (tt, tt)
       row_apart k scope (more_of-Need need rest) s cs f =
           let g = pieces_apart scope need (piece_apart scope need s.0) f.3.0 f.0 f.3.1 f.3.4 in
           let r = row_apart k scope rest s.2 f.1 f.4 in
-          subst (λ (xs : List Claim). AreAllSeparate vertices xs × AllByRecursion (RootedIn scope (IsRootOf (more_of-Need need rest))) xs) (sym f.2) (
+          subst (λ (xs : List Claim). AreAllSeparate vertices xs
+          × AllByRecursion (RootedIn scope (IsRootOf (more_of-Need need rest))) xs) (sym f.2) (
             separate_append f.0 f.1 (IsOfNeed vertices need) (IsRootOf rest) (λ a b h i. i need a s.1 h)
-                (all_along (RootedIn scope (IsOfPicks need f.3.0)) (UnderSome (IsOfNeed vertices need)) (λ c h. (h.0, h.1.0.0, h.2)) f.0 g.1)
-                (all_along (RootedIn scope (IsRootOf rest)) (UnderSome (IsRootOf rest)) (λ c h. (h.0, h.1.0, h.2)) f.1 r.1)
+                (all_along (RootedIn scope (IsOfPicks need f.3.0)) (UnderSome (IsOfNeed vertices need))
+                (λ c h. (h.0, h.1.0.0, h.2)) f.0 g.1)
+                (all_along (RootedIn scope (IsRootOf rest)) (UnderSome (IsRootOf rest))
+                (λ c h. (h.0, h.1.0, h.2)) f.1 r.1)
                 g.0 r.0,
             all_append (RootedIn scope (IsRootOf (more_of-Need need rest))) f.0 f.1
                 (all_along (RootedIn scope (IsOfPicks need f.3.0)) (RootedIn scope (IsRootOf (more_of-Need need rest)))

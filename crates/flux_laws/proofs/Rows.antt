@@ -12,26 +12,35 @@ use Rattle.flux_defs.specs.Fits.{Pick, Pieces, Group, Piece, FitsRow, Fits, Held
 use Rattle.flux_defs.specs.Lowest.{FillsFrom, CanServe, FollowsPass, LowestPiece, LowestRow, Lowest}
 
 module _ (vertices : List Vertex) (ok : Claim → Type 0) where
-  fits_row : {n : _} (k : ℕ) (scope : Scope) (row : Row_of-Need n) (claims : List Claim) → FitsRow vertices ok k scope row claims ≡ Fits vertices ok k scope (items-the_row-Need _ row) claims
+  fits_row : {n : _} (k : ℕ) (scope : Scope) (row : Row_of-Need n) (claims : List Claim) →
+      FitsRow vertices ok k scope row claims ≡ Fits vertices ok k scope (items-the_row-Need _ row) claims
   fits_row k scope end_of-Need claims = refl
   fits_row k scope (more_of-Need need rest) claims = λ i.
       (group : List Claim) × (others : List Claim) × (claims ≡ group ++ others)
       × Group (k * amount_of need) (Piece vertices ok scope need) group × fits_row k scope rest others i
 
-  pub fits_list : (needs : List Need) (k : ℕ) (scope : Scope) → (let row : List Claim → Type 0 = FitsRow vertices ok k scope (hidden-the_row-Need-0 needs) in row ≡ Fits vertices ok k scope needs)
+  pub fits_list : (needs : List Need) (k : ℕ) (scope : Scope) →
+      (let row : List Claim → Type 0 = FitsRow vertices ok k scope
+      (hidden-the_row-Need-0 needs) in row ≡ Fits vertices ok k scope needs)
   fits_list needs k scope = λ i claims.
-      (fits_row k scope (hidden-the_row-Need-0 needs) claims ∙ ap (λ ns. Fits vertices ok k scope ns claims) (items_hidden-the_row-Need-0 needs)) i
+      (fits_row k scope (hidden-the_row-Need-0 needs) claims
+      ∙ ap (λ ns. Fits vertices ok k scope ns claims) (items_hidden-the_row-Need-0 needs)) i
 
-  lowest_row : {n : _} (k : ℕ) (scope : Scope) (row : Row_of-Need n) (claims : List Claim) → LowestRow vertices ok k scope row claims ≡ Lowest vertices ok k scope (items-the_row-Need _ row) claims
+  lowest_row : {n : _} (k : ℕ) (scope : Scope) (row : Row_of-Need n) (claims : List Claim) →
+      LowestRow vertices ok k scope row claims ≡ Lowest vertices ok k scope (items-the_row-Need _ row) claims
   lowest_row k scope end_of-Need claims = refl
   lowest_row k scope (more_of-Need need rest) claims = λ i.
       (picks : List Pick) × (group : List Claim) × (others : List Claim) × (claims ≡ group ++ others)
-      × FillsFrom (CanServe vertices ok scope need) 0 (k * amount_of need) picks × Pieces (LowestPiece vertices ok need) picks group
+      × FillsFrom (CanServe vertices ok scope need) 0 (k * amount_of need) picks
+      × Pieces (LowestPiece vertices ok need) picks group
       × lowest_row k scope rest others i
 
-  pub lowest_list : (needs : List Need) (k : ℕ) (scope : Scope) → (let row : List Claim → Type 0 = LowestRow vertices ok k scope (hidden-the_row-Need-0 needs) in row ≡ Lowest vertices ok k scope needs)
+  pub lowest_list : (needs : List Need) (k : ℕ) (scope : Scope) →
+      (let row : List Claim → Type 0 = LowestRow vertices ok k scope
+      (hidden-the_row-Need-0 needs) in row ≡ Lowest vertices ok k scope needs)
   lowest_list needs k scope = λ i claims.
-      (lowest_row k scope (hidden-the_row-Need-0 needs) claims ∙ ap (λ ns. Lowest vertices ok k scope ns claims) (items_hidden-the_row-Need-0 needs)) i
+      (lowest_row k scope (hidden-the_row-Need-0 needs) claims
+      ∙ ap (λ ns. Lowest vertices ok k scope ns claims) (items_hidden-the_row-Need-0 needs)) i
 
   -- what vertex v of a need of vertices writes, by the list of inner needs
   abbrev pub VertPiece : Scope → ℕ → Bool → List Need → ℕ → ℕ → List Claim → Type 0
@@ -41,7 +50,8 @@ module _ (vertices : List Vertex) (ok : Claim → Type 0) where
 
   -- the same of a spread
   abbrev pub SpreadPiece : Scope → List Need → ℕ → ℕ → List Claim → Type 0
-  SpreadPiece scope needs v q claims = IsIn vertices scope v × IsNode vertices v × SharedPiece vertices ok v (Fits vertices ok q (Beneath v) needs) claims
+  SpreadPiece scope needs v q claims = IsIn vertices scope v × IsNode vertices v
+      × SharedPiece vertices ok v (Fits vertices ok q (Beneath v) needs) claims
 
   pub piece_Vert : (scope : Scope) (kind count : ℕ) (hold : Bool) (needs : List Need) (v q : ℕ) (claims : List Claim) →
       Piece vertices ok scope (Vert kind count hold needs) v q claims ≡ VertPiece scope kind hold needs v q claims
@@ -52,7 +62,8 @@ module _ (vertices : List Vertex) (ok : Claim → Type 0) where
   pub piece_Spread : (scope : Scope) (count : ℕ) (needs : List Need) (v q : ℕ) (claims : List Claim) →
       Piece vertices ok scope (Spread count needs) v q claims ≡ SpreadPiece scope needs v q claims
   piece_Spread scope count needs v q claims =
-      ap (λ (inner : List Claim → Type 0). IsIn vertices scope v × IsNode vertices v × SharedPiece vertices ok v inner claims) (fits_list needs q (Beneath v))
+      ap (λ (inner : List Claim → Type 0). IsIn vertices scope v × IsNode vertices v
+      × SharedPiece vertices ok v inner claims) (fits_list needs q (Beneath v))
 
   pub lowest_Vert : (kind count : ℕ) (hold : Bool) (needs : List Need) (v q : ℕ) (claims : List Claim) →
       LowestPiece vertices ok (Vert kind count hold needs) v q claims ≡ MatchBool hold (claims ≡ Hold v ∷ []) (FollowsPass vertices ok v (Lowest vertices ok 1 (Beneath v) needs) claims)

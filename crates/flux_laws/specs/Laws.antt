@@ -37,7 +37,8 @@ LowestFits = (vertices : List Vertex) (jobs : List Job) (ask : Ask) (w : Window)
 -- A fit with the multiplier k is a fit of the needs scaled by k.
 abbrev pub MultiplyingIsScaling : Type 0
 MultiplyingIsScaling = (s : Scene) (w : Window) (k : ℕ) (scope : Scope) (needs : List Need) (claims : List Claim) →
-    Fits s.vertices (IsAvailable s w) k scope needs claims ↔ Fits s.vertices (IsAvailable s w) 1 scope (scaled k needs) claims
+    Fits s.vertices (IsAvailable s w) k scope needs claims ↔ Fits s.vertices (IsAvailable s w) 1 scope
+    (scaled k needs) claims
 
 -- Where claims fit the needs scaled by k + 1, some claims fit them scaled by k.
 abbrev pub FewerCopiesFit : Type 0
@@ -55,13 +56,15 @@ abbrev pub GroupsAreAside : Type 0
 GroupsAreAside = (g : ResourceGraph) (names : List (List ℕ)) → IsValidGraph g names → (needs : List Need) → AreValidNeeds g.vertices needs →
     (i j : ℕ) (a b : Need) → i ≢ j → slice_get needs i ≡ Some a → slice_get needs j ≡ Some b →
     (s : Scene) (w : Window) (scope : Scope) (n m : ℕ) (cs ds : List Claim) →
-    Group n (Piece g.vertices (IsAvailable s w) scope a) cs → Group m (Piece g.vertices (IsAvailable s w) scope b) ds → AreAside g.vertices cs ds
+    Group n (Piece g.vertices (IsAvailable s w) scope a) cs → Group m (Piece g.vertices (IsAvailable s w) scope b) ds →
+    AreAside g.vertices cs ds
 
 -- The pieces of two different vertices of one valid need are aside of each other.
 abbrev pub PiecesAreAside : Type 0
 PiecesAreAside = (g : ResourceGraph) (names : List (List ℕ)) → IsValidGraph g names → (need : Need) → IsValidNeed g.vertices need →
     (s : Scene) (w : Window) (scope : Scope) (v u q r : ℕ) (cs ds : List Claim) → v ≢ u →
-    Piece g.vertices (IsAvailable s w) scope need v q cs → Piece g.vertices (IsAvailable s w) scope need u r ds → AreAside g.vertices cs ds
+    Piece g.vertices (IsAvailable s w) scope need v q cs → Piece g.vertices (IsAvailable s w) scope need u r ds →
+    AreAside g.vertices cs ds
 
 -- So no vertex has two claims of a fit, and none lies below what another holds.
 abbrev pub FitsAreSeparate : Type 0

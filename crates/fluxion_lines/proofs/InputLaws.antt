@@ -111,7 +111,8 @@ pub told_of : {P Q : Over → Type 0} (fault : InputFault) → (fault ≡ input_
 told_of fault (inl memory) f = inl memory
 told_of fault (inr told) f = inr (told.0, told.1, f told.0 told.2)
 
-pub proper_push : (vertices : List Vertex) (done : List ClientLine) (line : ClientLine) → AllByRecursion (λ x. IsProper vertices x.command) done → IsProper vertices line.command →
+pub proper_push : (vertices : List Vertex) (done : List ClientLine) (line : ClientLine) →
+    AllByRecursion (λ x. IsProper vertices x.command) done → IsProper vertices line.command →
     AllByRecursion (λ x. IsProper vertices x.command) (done ++ line ∷ [])
 proper_push vertices [] line all one = (one, tt)
 proper_push vertices (x ∷ xs) line all one = (all.0, proper_push vertices xs line all.1 one)

@@ -21,15 +21,18 @@ byte_more b rest line lines none h = ap (λ t. if t then [] ∷ lines_of rest el
 
 ended : (raw more : List ℕ) → Lacks 10 raw → lines_of (raw ++ (10 ∷ more)) ≡ raw ∷ lines_of more
 ended [] more none = refl
-ended (b ∷ raw) more none = byte_more b (raw ++ (10 ∷ more)) raw (lines_of more) (no_feed b raw none) (ended raw more none.1)
+ended (b ∷ raw) more none = byte_more b (raw ++ (10 ∷ more)) raw (lines_of more) (no_feed b raw none)
+    (ended raw more none.1)
 
 last : (raw : List ℕ) → Lacks 10 raw → 0 < length raw → lines_of raw ≡ raw ∷ []
 last [] none some = absurd (omega arith)
 last (b ∷ []) none some = ap (λ t. if t then [] ∷ [] else with_byte b []) (no_feed b [] none)
-last (b ∷ c ∷ raw) none some = byte_more b (c ∷ raw) (c ∷ raw) [] (no_feed b (c ∷ raw) none) (last (c ∷ raw) none.1 (omega arith))
+last (b ∷ c ∷ raw) none some = byte_more b (c ∷ raw) (c ∷ raw) [] (no_feed b (c ∷ raw) none)
+    (last (c ∷ raw) none.1 (omega arith))
 
 -- the bytes' lines are the first one and those of what follows it
-pub first_line : (raw more bytes : List ℕ) → Lacks 10 raw → BeginsWithLine raw more bytes → lines_of bytes ≡ raw ∷ lines_of more
+pub first_line : (raw more bytes : List ℕ) → Lacks 10 raw → BeginsWithLine raw more bytes →
+    lines_of bytes ≡ raw ∷ lines_of more
 first_line raw more bytes none (inl e) = ap lines_of e ∙ ended raw more none
 first_line raw more bytes none (inr (e, some, ended)) = ap lines_of e ∙ (last raw none some ∙ ap (λ m. raw ∷ lines_of m) (sym ended))
 

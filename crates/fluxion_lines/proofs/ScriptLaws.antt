@@ -63,7 +63,8 @@ rises g form clients at [] = tt
 rises g form clients at (raw ∷ raws) = (omega arith, rises g form (with_text clients (client_in raw)) (at + 1) raws)
 
 -- no line of a client has a lesser number
-none_by : (c : ℕ) (b : Bool) (n : ℕ) (l : ClientLine) (held : List Line) → n < l.line → has_number held n ≡ false → has_number (cond b (line_held l ∷ held) held) n ≡ false
+none_by : (c : ℕ) (b : Bool) (n : ℕ) (l : ClientLine) (held : List Line) → n < l.line → has_number held n ≡ false →
+    has_number (cond b (line_held l ∷ held) held) n ≡ false
 none_by c true n l held lt none = ap (λ t. t || has_number held n) (ne_eqb l.line n (λ same. omega (arith, same, lt))) ∙ none
 none_by c false n l held lt none = none
 
@@ -73,7 +74,8 @@ mapped_filter c true l ls = refl
 mapped_filter c false l ls = refl
 
 -- one line more
-by_more : (c : ℕ) (l : ClientLine) (ls : List ClientLine) → lines_by c (l ∷ ls) ≡ cond (l.client == c) (line_held l ∷ lines_by c ls) (lines_by c ls)
+by_more : (c : ℕ) (l : ClientLine) (ls : List ClientLine) →
+    lines_by c (l ∷ ls) ≡ cond (l.client == c) (line_held l ∷ lines_by c ls) (lines_by c ls)
 by_more c l ls = mapped_filter c (l.client == c) l ls
 
 none_before : (c n at : ℕ) (ls : List ClientLine) → RiseFrom at ls → n < at → has_number (lines_by c ls) n ≡ false
@@ -84,11 +86,13 @@ none_before c n at (l ∷ ls) rise lt =
     ∙ none_by c (l.client == c) n l (lines_by c ls) (omega (arith, low, lt)) (none_before c n (l.line + 1) ls rise.1 (omega (arith, low, lt)))
 
 -- a client's lines have exactly its numbers
-head_by : (b : Bool) (l : ClientLine) (held : List Line) → has_number held l.line ≡ false → has_number (cond b (line_held l ∷ held) held) l.line ≡ b
+head_by : (b : Bool) (l : ClientLine) (held : List Line) → has_number held l.line ≡ false →
+    has_number (cond b (line_held l ∷ held) held) l.line ≡ b
 head_by true l held none = ap (λ t. t || has_number held l.line) (same_eq l.line)
 head_by false l held none = none
 
-tail_by : (b : Bool) (l x : ClientLine) (held : List Line) → l.line < x.line → has_number (cond b (line_held l ∷ held) held) x.line ≡ has_number held x.line
+tail_by : (b : Bool) (l x : ClientLine) (held : List Line) → l.line < x.line →
+    has_number (cond b (line_held l ∷ held) held) x.line ≡ has_number held x.line
 tail_by true l x held lt = ap (λ t. t || has_number held x.line) (ne_eqb l.line x.line (λ same. omega (arith, same, lt)))
 tail_by false l x held lt = refl
 
@@ -96,7 +100,8 @@ past : (at : ℕ) (ls : List ClientLine) → RiseFrom at ls → AllByRecursion (
 past at [] rise = tt
 past at (l ∷ ls) rise = let low = rise.0 in (low, all_and ls (λ x p q. omega (arith, low, p)) (past (l.line + 1) ls rise.1) (past (l.line + 1) ls rise.1))
 
-own_numbers : (c at : ℕ) (ls : List ClientLine) → RiseFrom at ls → AllByRecursion (λ l. has_number (lines_by c ls) l.line ≡ (l.client == c)) ls
+own_numbers : (c at : ℕ) (ls : List ClientLine) → RiseFrom at ls →
+    AllByRecursion (λ l. has_number (lines_by c ls) l.line ≡ (l.client == c)) ls
 own_numbers c at [] rise = tt
 own_numbers c at (l ∷ ls) rise =
     let more = by_more c l ls in
@@ -105,24 +110,28 @@ own_numbers c at (l ∷ ls) rise =
       all_and ls (λ x low own. ap (λ held. has_number held x.line) more ∙ (tail_by (l.client == c) l x (lines_by c ls) (omega (arith, low)) ∙ own)) later (own_numbers c (l.line + 1) ls rise.1),
     )
 
-filtered_by : (b : Bool) (n : ℕ) (l : ClientLine) (rest : List ℕ) (ls : List ClientLine) → rest ≡ map (λ x. x.line) (map line_held ls) →
+filtered_by : (b : Bool) (n : ℕ) (l : ClientLine) (rest : List ℕ) (ls : List ClientLine) →
+    rest ≡ map (λ x. x.line) (map line_held ls) →
     cond b (l.line ∷ rest) rest ≡ map (λ x. x.line) (map line_held (cond b (l ∷ ls) ls))
 filtered_by true n l rest ls is = ap (λ ns. l.line ∷ ns) is
 filtered_by false n l rest ls is = is
 
 -- a test of numbers that tells a client's lines
-told_apart : (c : ℕ) (test : ℕ → Bool) (ls : List ClientLine) → AllByRecursion (λ l. test l.line ≡ (l.client == c)) ls → filter test (map (λ l. l.line) ls) ≡ map (λ l. l.line) (lines_by c ls)
+told_apart : (c : ℕ) (test : ℕ → Bool) (ls : List ClientLine) → AllByRecursion (λ l. test l.line ≡ (l.client == c)) ls →
+    filter test (map (λ l. l.line) ls) ≡ map (λ l. l.line) (lines_by c ls)
 told_apart c test [] tells = refl
 told_apart c test (l ∷ ls) tells =
     let rest = filter test (map (λ x. x.line) ls) in
     ap (λ b. cond b (l.line ∷ rest) rest) tells.0 ∙ filtered_by (l.client == c) l.line l rest (filter (λ x. x.client == c) ls) (told_apart c test ls tells.1)
 
 -- each line is among those of its client
-among_by : (b : Bool) (l x : ClientLine) (held : List Line) → Contains held (line_held x) → Contains (cond b (line_held l ∷ held) held) (line_held x)
+among_by : (b : Bool) (l x : ClientLine) (held : List Line) → Contains held (line_held x) →
+    Contains (cond b (line_held l ∷ held) held) (line_held x)
 among_by true l x held has = in_more (line_held l) held (line_held x) has
 among_by false l x held has = has
 
-first_by : (b : Bool) (l : ClientLine) (held : List Line) → b ≡ true → Contains (cond b (line_held l ∷ held) held) (line_held l)
+first_by : (b : Bool) (l : ClientLine) (held : List Line) → b ≡ true →
+    Contains (cond b (line_held l ∷ held) held) (line_held l)
 first_by true l held is = (0, omega arith, refl)
 first_by false l held is = absurd (cc)
 
@@ -164,14 +173,17 @@ changed F G a (suc n) zero x lt same is = λ i. (is ∙ ap G (let here : a + 0 �
 changed F G a (suc n) (suc k) x lt same is =
     λ i. same a (λ at. omega (arith, at)) i ∷ changed F G (a + 1) n k x (omega (arith, lt)) (λ c other. same c (λ at. other (omega (arith, at)))) (is ∙ ap G (let there : a + suc k ≡ a + 1 + k = omega arith in there)) i
 
-filtered_more : (c : ℕ) (done : List ClientLine) (l : ClientLine) → lines_by c (done ++ l ∷ []) ≡ lines_by c done ++ lines_by c (l ∷ [])
+filtered_more : (c : ℕ) (done : List ClientLine) (l : ClientLine) →
+    lines_by c (done ++ l ∷ []) ≡ lines_by c done ++ lines_by c (l ∷ [])
 filtered_more c done l =
     ap (map line_held) (filter-append (λ x. x.client == c) done (l ∷ [])) ∙ map-append line_held (filter (λ x. x.client == c) done) (filter (λ x. x.client == c) (l ∷ []))
 
-of_other : (c : ℕ) (done : List ClientLine) (l : ClientLine) → c ≢ l.client → lines_by c done ≡ lines_by c (done ++ l ∷ [])
+of_other : (c : ℕ) (done : List ClientLine) (l : ClientLine) → c ≢ l.client →
+    lines_by c done ≡ lines_by c (done ++ l ∷ [])
 of_other c done l other = sym (filtered_more c done l ∙ (ap (λ ls. lines_by c done ++ ls) (by_more c l [] ∙ ap (λ b. cond b (line_held l ∷ []) []) (ne_eqb l.client c (λ same. other (sym same)))) ∙ append-nil (lines_by c done)))
 
-of_own : (done : List ClientLine) (l : ClientLine) → lines_by l.client done ++ line_held l ∷ [] ≡ lines_by l.client (done ++ l ∷ [])
+of_own : (done : List ClientLine) (l : ClientLine) →
+    lines_by l.client done ++ line_held l ∷ [] ≡ lines_by l.client (done ++ l ∷ [])
 of_own done l = sym (filtered_more l.client done l ∙ ap (λ ls. lines_by l.client done ++ ls) (by_more l.client l [] ∙ ap (λ b. cond b (line_held l ∷ []) []) (same_eq l.client)))
 
 unwrapped : {X : Type 0} (o : Option X) (x d : X) → o ≡ Some x → unwrap_or o d ≡ x
@@ -232,10 +244,12 @@ module _ (g : NamedGraph) (form : Form) (bytes : List ℕ) where
 
 -- ---- made line by line
 
-listed_at : (count c : ℕ) (done : List ClientLine) → c < count → slice_get (map (λ client. lines_by client done) (range_with_len 0 count)) c ≡ Some (lines_by c done)
+listed_at : (count c : ℕ) (done : List ClientLine) → c < count →
+    slice_get (map (λ client. lines_by client done) (range_with_len 0 count)) c ≡ Some (lines_by c done)
 listed_at count c done lt = slice_get-map (λ client. lines_by client done) (range_with_len 0 count) c ∙ ap (option_map (λ client. lines_by client done)) (in_range count c lt)
 
-pub line_added : (count : ℕ) (done : List ClientLine) (l : ClientLine) (lists : List (List Line)) → l.client < count → lists ≡ map (λ client. lines_by client done) (range_with_len 0 count) →
+pub line_added : (count : ℕ) (done : List ClientLine) (l : ClientLine) (lists : List (List Line)) → l.client < count →
+    lists ≡ map (λ client. lines_by client done) (range_with_len 0 count) →
     slice_set lists l.client (unwrap_or (slice_get lists l.client) [] ++ line_held l ∷ []) ≡ map (λ client. lines_by client (done ++ l ∷ [])) (range_with_len 0 count)
 line_added count done l lists lt are =
     let old = map (λ client. lines_by client done) (range_with_len 0 count) in
@@ -254,8 +268,10 @@ few_clients g form bytes = few g form [] 1 (lines_of bytes)
 
 -- ---- each client's commands are proper
 
-held_filtered : (P : Command → Type 0) (c : ℕ) (ls : List ClientLine) → AllByRecursion (λ l. P l.command) ls → AllByRecursion (λ (l : Line). P l.command) (lines_by c ls)
-held_filtered P c ls all = all_mapped (λ (l : Line). P l.command) line_held (filter (λ x. x.client == c) ls) (all_filter (λ (l : ClientLine). P l.command) (λ x. x.client == c) ls all)
+held_filtered : (P : Command → Type 0) (c : ℕ) (ls : List ClientLine) → AllByRecursion (λ l. P l.command) ls →
+    AllByRecursion (λ (l : Line). P l.command) (lines_by c ls)
+held_filtered P c ls all = all_mapped (λ (l : Line). P l.command) line_held (filter (λ x. x.client == c) ls)
+    (all_filter (λ (l : ClientLine). P l.command) (λ x. x.client == c) ls all)
 
 each_number : (P : ℕ → Type 0) (a n : ℕ) → ((c : ℕ) → P c) → AllByRecursion P (range_with_len a n)
 each_number P a zero f = tt

@@ -58,6 +58,7 @@ abbrev pub over_size_from : Limits → List (List ℕ) → ℕ → List (List �
 over_size_from limits clients at [] = None
 over_size_from limits clients at (raw ∷ raws) = option_or (line_over_size limits clients at raw) (over_size_from limits (with_text clients (client_in raw)) (at + 1) raws)
 
+-- the first line of an input that is past a limit that the text alone tells: on lines, on bytes of a line, or on clients
 abbrev pub over_size_in : Limits → List ℕ → Option Over
 over_size_in limits bytes = over_size_from limits [] 1 (lines_of bytes)
 
@@ -81,5 +82,6 @@ over_from limits g form clients bars at [] = None
 over_from limits g form clients bars at (raw ∷ raws) =
     option_or (line_over limits g form clients bars at raw) (over_from limits g form (with_text clients (client_in raw)) (bars + bars_in g form raw) (at + 1) raws)
 
+-- the first line of an input that is past a limit
 abbrev pub over_in : Limits → NamedGraph → Form → List ℕ → Option Over
 over_in limits g form bytes = over_from limits g form [] 0 1 (lines_of bytes)

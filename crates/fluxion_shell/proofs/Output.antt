@@ -20,10 +20,13 @@ numbers_of : (history : List Entry) → map (λ (l : ClientLine). l.line) (map l
 numbers_of [] = refl
 numbers_of (e ∷ es) = ap (λ ns. e.line ∷ ns) (numbers_of es)
 
-pub sound_output : (g : NamedGraph) (horizon : ℕ) (input text : List ℕ) → IsPlayedText g horizon (clients_of input) (numbered_lines g served_form input) text → IsSoundOutput g horizon input text
+pub sound_output : (g : NamedGraph) (horizon : ℕ) (input text : List ℕ) →
+    IsPlayedText g horizon (clients_of input) (numbered_lines g served_form input) text →
+    IsSoundOutput g horizon input text
 sound_output g horizon input text played =
     let IsTold : ClientLine → Type 0 = λ x. (ls : List Line) × HasLines (script_of g served_form input) x.client ls × Contains ls (record { line = x.line; command = x.command }) in
-    let answers : AllByRecursion IsTold (map line_of played.history) = subst (AllByRecursion IsTold) (sym played.lines-are) (told g served_form input) in
+    let answers : AllByRecursion IsTold (map line_of played.history) = subst (AllByRecursion IsTold)
+    (sym played.lines-are) (told g served_form input) in
     record {
       output = record {
         rules = played.rules;

@@ -38,7 +38,8 @@ earlier_lines (Some over) result early = earlier_answer result _ early
 
 pub earlier_input : (g : NamedGraph) (left : Option (List ℕ)) (result : Status) → (result ≡ status.Read) ⊎ (result ≡ status.Memory) → IfSome left (ShowsInput result g)
 earlier_input g None result early = tt
-earlier_input g (Some input) result early = ((λ many. earlier_answer result _ early), (λ few. earlier_lines (over_in SHIPPED g served_form input) result early))
+earlier_input g (Some input) result early =
+    ((λ many. earlier_answer result _ early), (λ few. earlier_lines (over_in SHIPPED g served_form input) result early))
 
 module _ (told : Option Stored) (name : List ℕ) (bytes : List ℕ) (told_bytes : Known told name bytes) where
   shown : (result : Status) (Then : NamedGraph → Type 0) → (length bytes ≤ 268435456 → ShowsFile result bytes Then) → ShowsStore result told name Then
@@ -49,10 +50,14 @@ module _ (told : Option Stored) (name : List ℕ) (bytes : List ℕ) (told_bytes
       by (Some files) is = subst (λ (o : Option (List ℕ)). MatchOption o (OrEarlier result (result ≡ status.NoGraphFile)) (λ file. ShowsFile result file Then)) (sym is.0) (file is.1)
 
   -- the fault of the bytes that were read is one of the told file
-  pub told_fault : (fault : ReadFault) → HasFault bytes fault → IfSome told (λ files. (b : List ℕ) × (file_of files name ≡ Some b) × (length b ≤ MOST_FILE_BYTES) × HasFault b fault)
+  pub told_fault : (fault : ReadFault) → HasFault bytes fault →
+      IfSome told (λ files. (b : List ℕ) × (file_of files name ≡ Some b) × (length b ≤ MOST_FILE_BYTES)
+      × HasFault b fault)
   told_fault fault has = by told told_bytes
     where
-      by : (files : Option Stored) → Known files name bytes → IfSome files (λ files. (b : List ℕ) × (file_of files name ≡ Some b) × (length b ≤ MOST_FILE_BYTES) × HasFault b fault)
+      by : (files : Option Stored) → Known files name bytes →
+          IfSome files (λ files. (b : List ℕ) × (file_of files name ≡ Some b) × (length b ≤ MOST_FILE_BYTES)
+          × HasFault b fault)
       by None is = tt
       by (Some files) is = (bytes, is.0, is.1, has)
 
@@ -74,7 +79,9 @@ module _ (told : Option Stored) (name : List ℕ) (bytes : List ℕ) (told_bytes
         by (Some input) h = ((λ many. inr (inr refl)), (λ few. absurd (omega arith)))
 
     -- the input was read, and this is shown of its lines
-    shows_lines : (left : Option (List ℕ)) (input : List ℕ) (result : Status) → length input ≤ 268435456 → IfSome left (λ bytes. input ≡ bytes) → ShowsLines result (over_in SHIPPED g served_form input) → Shows result told name left
+    shows_lines : (left : Option (List ℕ)) (input : List ℕ) (result : Status) → length input ≤ 268435456 →
+        IfSome left (λ bytes. input ≡ bytes) → ShowsLines result (over_in SHIPPED g served_form input) →
+        Shows result told name left
     shows_lines left input result few is lines_shown = shows_then result (λ h. IfSome left (ShowsInput result h)) (by left is)
       where
         by : (o : Option (List ℕ)) → IfSome o (λ bytes. input ≡ bytes) → IfSome o (ShowsInput result g)
@@ -85,12 +92,15 @@ module _ (told : Option Stored) (name : List ℕ) (bytes : List ℕ) (told_bytes
         )
 
     -- no line is past a limit
-    pub shows_read : (left : Option (List ℕ)) (input : List ℕ) (result : Status) → length input ≤ 268435456 → IfSome left (λ bytes. input ≡ bytes) → over_in SHIPPED g served_form input ≡ None →
+    pub shows_read : (left : Option (List ℕ)) (input : List ℕ) (result : Status) → length input ≤ 268435456 →
+        IfSome left (λ bytes. input ≡ bytes) → over_in SHIPPED g served_form input ≡ None →
         (result ≡ status.Ok) ⊎ (result ≡ status.Write) → Shows result told name left
     shows_read left input result few is within ends = shows_lines left input result few is (subst (ShowsLines result) (sym within) (inr (inr ends)))
 
     -- this line is
-    pub shows_over : (left : Option (List ℕ)) (input : List ℕ) (over : Over) → length input ≤ 268435456 → IfSome left (λ bytes. input ≡ bytes) → over_in SHIPPED g served_form input ≡ Some over → Shows (limit_of over) told name left
+    pub shows_over : (left : Option (List ℕ)) (input : List ℕ) (over : Over) → length input ≤ 268435456 →
+        IfSome left (λ bytes. input ≡ bytes) → over_in SHIPPED g served_form input ≡ Some over →
+        Shows (limit_of over) told name left
     shows_over left input over few is past = shows_lines left input (limit_of over) few is (subst (ShowsLines (limit_of over)) (sym past) (inr (inr refl)))
 
     -- reading the input failed, or memory was wanting
@@ -169,10 +179,12 @@ over_is_one (over_at.Barred m) (over_at.Clients n) same = absurd (apart (record 
 over_is_one (over_at.Barred m) (over_at.Barred n) same = ap over_at.Barred (found_is (record { which = Barred; found = m }) (record { which = Barred; found = n }) same)
 
 -- of the limits that the input alone tells, the line is the first past one
-pub size_limit : (left : Option (List ℕ)) (input : List ℕ) (g : NamedGraph) (over : Over) → IfSome left (λ bytes. input ≡ bytes) → is_by_size over ≡ true → over_in SHIPPED g served_form input ≡ Some over →
+pub size_limit : (left : Option (List ℕ)) (input : List ℕ) (g : NamedGraph) (over : Over) →
+    IfSome left (λ bytes. input ≡ bytes) → is_by_size over ≡ true → over_in SHIPPED g served_form input ≡ Some over →
     IfSome left (λ lines. over_size_in SHIPPED lines ≡ Some over)
 size_limit None input g over is by_size past = tt
-size_limit (Some lines) input g over is by_size past = subst (λ (i : List ℕ). over_size_in SHIPPED i ≡ Some over) is (size_told SHIPPED g served_form input over by_size past)
+size_limit (Some lines) input g over is by_size past = subst (λ (i : List ℕ). over_size_in SHIPPED i ≡ Some over) is
+    (size_told SHIPPED g served_form input over by_size past)
 
 -- it is a limit, and no other answer
 pub over_is_limit : (over : Over) → (limited : Limited) × (limit_of over ≡ status.Limit limited)
@@ -186,13 +198,16 @@ module _ (told : Option Stored) (name : List ℕ) (faults faults_now refused ref
   abbrev Fails : Status → Type 0
   Fails = FailsWith told name faults faults_now refused refused_now
 
-  pub fails_limit : Fails long_graph → Rose refused refused_now × IfSome (told_file told name) (λ file. MOST_FILE_BYTES < length file)
+  pub fails_limit : Fails long_graph → Rose refused refused_now
+      × IfSome (told_file told name) (λ file. MOST_FILE_BYTES < length file)
   fails_limit h = (h.1, told_holds told name (λ file. MOST_FILE_BYTES < length file) h.2)
 
   pub fails_graph : (fault : ReadFault) → Fails (status.Graph fault) → IfSome (told_file told name) (λ file. HasFault file fault)
   fails_graph fault h = told_holds told name (λ file. HasFault file fault) (without_length told h.1)
     where
-      without_length : (o : Option Stored) → IfSome o (λ files. (bytes : List ℕ) × (file_of files name ≡ Some bytes) × (length bytes ≤ MOST_FILE_BYTES) × HasFault bytes fault) →
+      without_length : (o : Option Stored) →
+          IfSome o (λ files. (bytes : List ℕ) × (file_of files name ≡ Some bytes) × (length bytes ≤ MOST_FILE_BYTES)
+          × HasFault bytes fault) →
           IfSome o (λ files. (bytes : List ℕ) × (file_of files name ≡ Some bytes) × HasFault bytes fault)
       without_length None g = tt
       without_length (Some files) (bytes, at, short, has) = (bytes, at, has)
@@ -220,7 +235,9 @@ module _ (told : Option Stored) (name : List ℕ) (faults faults_now refused ref
   fails_shows status.Memory Then h early = earlier_store status.Memory Then (λ A. inr (inl refl)) (λ g. early g (inr refl))
   fails_shows (status.Graph fault) Then h early = by told h.1
     where
-      by : (files : Option Stored) → IfSome files (λ files. (bytes : List ℕ) × (file_of files name ≡ Some bytes) × (length bytes ≤ MOST_FILE_BYTES) × HasFault bytes fault) → ShowsStore (status.Graph fault) files name Then
+      by : (files : Option Stored) →
+          IfSome files (λ files. (bytes : List ℕ) × (file_of files name ≡ Some bytes) × (length bytes ≤ MOST_FILE_BYTES)
+          × HasFault bytes fault) → ShowsStore (status.Graph fault) files name Then
       by None g = tt
       by (Some files) (bytes, at, few, has) =
           subst (λ (o : Option (List ℕ)). MatchOption o (OrEarlier (status.Graph fault) (status.Graph fault ≡ status.NoGraphFile)) (λ file. ShowsFile (status.Graph fault) file Then)) (sym at) (record {
@@ -230,7 +247,9 @@ module _ (told : Option Stored) (name : List ℕ) (faults faults_now refused ref
           })
   fails_shows (status.Limit limited) Then h early = by told h.2
     where
-      by : (files : Option Stored) → IfSome files (λ files. (bytes : List ℕ) × (file_of files name ≡ Some bytes) × (MOST_FILE_BYTES < length bytes)) → ShowsStore (status.Limit limited) files name Then
+      by : (files : Option Stored) →
+          IfSome files (λ files. (bytes : List ℕ) × (file_of files name ≡ Some bytes)
+          × (MOST_FILE_BYTES < length bytes)) → ShowsStore (status.Limit limited) files name Then
       by None g = tt
       by (Some files) (bytes, at, many) =
           subst (λ (o : Option (List ℕ)). MatchOption o (OrEarlier (status.Limit limited) (status.Limit limited ≡ status.NoGraphFile)) (λ file. ShowsFile (status.Limit limited) file Then)) (sym at) (record {

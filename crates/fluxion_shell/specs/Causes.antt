@@ -74,7 +74,8 @@ ShowsInput result g input =
 -- the answer that the graph file's told bytes show, and what its graph then shows
 pub record ShowsFile (result : Status) (file : List ℕ) (Then : NamedGraph → Type 0) : Type 0 where
   pub long : MOST_FILE_BYTES < length file → OrEarlier result (result ≡ long_graph)
-  pub faulty : length file ≤ MOST_FILE_BYTES → (fault : ReadFault) → HasFault file fault → OrEarlier result ((told : ReadFault) × HasFault file told × (result ≡ status.Graph told))
+  pub faulty : length file ≤ MOST_FILE_BYTES → (fault : ReadFault) → HasFault file fault →
+      OrEarlier result ((told : ReadFault) × HasFault file told × (result ≡ status.Graph told))
   pub graph : length file ≤ MOST_FILE_BYTES → (g : NamedGraph) → IsGraphText file g → Then g
 
 -- the answer that a store's files show, and what the graph of the file of this name then shows
@@ -117,10 +118,13 @@ abbrev pub FailsWith : Option Stored → List ℕ → (faults faults_now refused
 FailsWith told name faults faults_now refused refused_now status.Ok = ⊥
 FailsWith told name faults faults_now refused refused_now status.Usage = ⊥
 FailsWith told name faults faults_now refused refused_now (status.Graph fault) =
-    (fault ≢ read_fault.Memory) × IfSome told (λ files. (bytes : List ℕ) × (file_of files name ≡ Some bytes) × (length bytes ≤ MOST_FILE_BYTES) × HasFault bytes fault)
+    (fault ≢ read_fault.Memory) × IfSome told
+    (λ files. (bytes : List ℕ) × (file_of files name ≡ Some bytes) × (length bytes ≤ MOST_FILE_BYTES)
+    × HasFault bytes fault)
 FailsWith told name faults faults_now refused refused_now status.Read = Rose faults faults_now
 FailsWith told name faults faults_now refused refused_now status.Write = ⊥
 FailsWith told name faults faults_now refused refused_now status.Memory = Unit {0}
 FailsWith told name faults faults_now refused refused_now (status.Limit limited) =
-    (limited ≡ past_graph) × Rose refused refused_now × IfSome told (λ files. (bytes : List ℕ) × (file_of files name ≡ Some bytes) × (MOST_FILE_BYTES < length bytes))
+    (limited ≡ past_graph) × Rose refused refused_now
+    × IfSome told (λ files. (bytes : List ℕ) × (file_of files name ≡ Some bytes) × (MOST_FILE_BYTES < length bytes))
 FailsWith told name faults faults_now refused refused_now status.NoGraphFile = Rose refused refused_now × IfSome told (λ files. file_of files name ≡ None)

@@ -41,7 +41,8 @@ fn played(
 pub fn answer(alloc: Global, graph: Graph, horizon: u64, input: &[u8]) -> Result<Text, InputFault>
     ensures output { IfOk result (IsSoundOutput graph horizon input.now) }
     ensures within { IsOk result → over_in SHIPPED graph served_form input.now ≡ None }
-    ensures over { (over : Over) → IsErrOf result (InputFault.Over over) → over_in SHIPPED graph served_form input.now ≡ Some over }
+    ensures over { (over : Over) → IsErrOf result (InputFault.Over over) →
+        over_in SHIPPED graph served_form input.now ≡ Some over }
 {
     graph.is_valid();
     let limits = Limits::shipped();

@@ -61,7 +61,8 @@ fn serve<F: Files, S: Source, O: Sink>(
     ensures graph_limit { result ≡ long_graph → Rose (F.refused files.old) (F.refused files.new)
         × IfSome (told_file (F.told files.old) name.now) (λ file. MOST_FILE_BYTES < length file) }
     ensures input_limit { result ≡ long_input → IfSome (S.left input.old) (λ lines. MOST_FILE_BYTES < length lines) }
-    ensures line_limit { (over : Over) → is_by_size over ≡ true → result ≡ limit_of over → IfSome (S.left input.old) (λ lines. over_size_in SHIPPED lines ≡ Some over) }
+    ensures line_limit { (over : Over) → is_by_size over ≡ true → result ≡ limit_of over →
+        IfSome (S.left input.old) (λ lines. over_size_in SHIPPED lines ≡ Some over) }
     ensures past_limit { (over : Over) → result ≡ limit_of over → WhereTold (told_file (F.told files.old) name.now) (S.left input.old) (λ file lines. IsPastLimit file lines over) }
     ensures limits { (limited : Limited) → result ≡ Status.Limit limited → (result ≡ long_graph) ⊎ (result ≡ long_input) ⊎ ((over : Over) × (result ≡ limit_of over)) }
     ensures graph { (fault : ReadFault) → result ≡ Status.Graph fault →
@@ -176,7 +177,8 @@ pub fn run<F: Files, S: Source, O: Sink>(
     ensures read { result ≡ Status.Read → Rose (F.faults files.old) (F.faults files.new) ⊎ Rose (S.faults input.old) (S.faults input.new) }
     ensures write { result ≡ Status.Write → Rose (O.faults out.old) (O.faults out.new) }
     ensures input_limit { result ≡ long_input → IfSome (S.left input.old) (λ lines. MOST_FILE_BYTES < length lines) }
-    ensures line_limit { (over : Over) → is_by_size over ≡ true → result ≡ limit_of over → IfSome (S.left input.old) (λ lines. over_size_in SHIPPED lines ≡ Some over) }
+    ensures line_limit { (over : Over) → is_by_size over ≡ true → result ≡ limit_of over →
+        IfSome (S.left input.old) (λ lines. over_size_in SHIPPED lines ≡ Some over) }
     ensures past_limit { (served : Served) → IsServe (map string_bytes words.now) served → (over : Over) → result ≡ limit_of over → WhereTold (told_file (F.told files.old) served.name) (S.left input.old)
         (λ file lines. IsPastLimit file lines over) }
     ensures print_limit { (name : List ℕ) → IsPrint (map string_bytes words.now) name → (over : Over) → result ≡ limit_of over → ⊥ }

@@ -129,7 +129,9 @@ module _ (ids : List (List ℕ)) where
   module _ (es : List FileEdge) (distinct : IsDistinct bytes_eq ids) (known : AllKnown es) where
     -- what a look at the target's entry finds
     entry : (id : List ℕ) (t : ℕ) → place_of ids id ≡ Some t → is_some (unwrap_or (slice_get (parents_of ids es) t) None) ≡ is_among (map (λ f. f.target) es) id
-    entry id t at = ap (λ o. is_some (unwrap_or o None)) (slice_get-map (parent_of ids es) ids t ∙ ap (option_map (parent_of ids es)) (at_field ids id t at)) ∙ parent_some es known id
+    entry id t at = ap (λ o. is_some (unwrap_or o None))
+        (slice_get-map (parent_of ids es) ids t ∙ ap (option_map (parent_of ids es)) (at_field ids id t at))
+        ∙ parent_some es known id
 
     module _ (source target : List ℕ) where
       abbrev edge : FileEdge

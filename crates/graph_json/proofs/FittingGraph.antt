@@ -184,7 +184,8 @@ no_fault (Err e) h = absurd (let clash : Some e ≡ None = h in cc)
 texts_are_names : (at m : ℕ) (ds : Items) → first_misfit at m ds ≡ None → AreNames (texts_in ds)
 texts_are_names at m no_items h = refl
 texts_are_names at m (item d ds) h =
-    let both = neither_fault (result_err (at_field (Property at m) (ruled_value (is_name 255) d))) (first_misfit at (suc m) ds) h in
+    let both = neither_fault (result_err (at_field (Property at m) (ruled_value (is_name 255) d)))
+    (first_misfit at (suc m) ds) h in
     let found = no_fault (at_field (Property at m) (ruled_value (is_name 255) d)) both.0 in
     let text = ruled_value_ok (is_name 255) d found.0 (at_ok (Property at m) (ruled_value (is_name 255) d) found.0 found.1) in
     ap (λ o. list_all (is_name 255) (option_map_or (λ s. s ∷ texts_in ds) o (texts_in ds))) text.0
@@ -203,7 +204,8 @@ properties_of_ok at (array ds) ps up h =
     let p = unless_ok (first_misfit at 0 ds) (in_order (texts_in ds)) ps h in
     subst AreProperties p.1 (names_fold [] (texts_in ds) refl (texts_are_names at 0 ds p.0), in_order-ordered (in_order (texts_in ds)) (ordered-in_order (texts_in ds)))
 properties_of_ok at (object ms) ps up h =
-    let p = if_ok (list_all (is_name 255) (keys_of ms)) (keys_of ms) ps (record { field = PropertyKey at; fault = FieldFault.Text }) h in
+    let p = if_ok (list_all (is_name 255) (keys_of ms)) (keys_of ms) ps
+    (record { field = PropertyKey at; fault = FieldFault.Text }) h in
     subst AreProperties p.1 (p.0, in_order-ordered (keys_of ms) up.0)
 
 properties_given_ok : (at : ℕ) (d : Data) (ps : List (List ℕ)) → IsOrdered d → properties_given at d ≡ Ok ps → AreProperties ps
@@ -238,7 +240,18 @@ node_with_ok at id d x up h =
     then_fits (at_key at Rank (small_given (codes "rank") d)) _ x h4 (λ rank rank_is h5.
     then_fits (at_key at Size (size_given (codes "size") d)) _ x h5 (λ size size_is h6.
     then_fits (at_key at Unit (ruled_given is_unit [] (codes "unit") d)) _ x h6 (λ unit unit_is h7.
-    let made = both_ok (λ properties. record { id = id; kind = kind; base = base; number = n; name = name; rank = rank; size = size; unit = unit; properties = properties }) (λ m. m) (properties_given at d) x h7 in
+    let made = both_ok (λ properties.
+    record {
+      id = id;
+      kind = kind;
+      base = base;
+      number = n;
+      name = name;
+      rank = rank;
+      size = size;
+      unit = unit;
+      properties = properties;
+    }) (λ m. m) (properties_given at d) x h7 in
     let kind_fits : is_name 64 kind ≡ true = ruled_field_ok (is_name 64) (codes "type") d kind (at_ok (NodeField at TypeName) _ kind kind_is) in
     let base_fits : is_name 255 base ≡ true = ruled_given_ok (is_name 255) kind (codes "basename") d base (longer_name kind kind_fits) (at_ok (NodeField at Basename) _ base base_is) in
     let n_fits : IsSmall n = small_given_ok (codes "id") d n (at_ok (NodeField at Number) _ n n_is) in
@@ -298,7 +311,8 @@ list_field_ordered key d ds up h = by (get key d) refl h
 lists_in_ordered : (d : Data) (lists : FileLists) → IsOrdered d → lists_in d ≡ Ok lists → AreOrdered lists.nodes
 lists_in_ordered d lists up h =
     then_fits (at_field Nodes (list_field (codes "nodes") d)) _ lists h (λ nodes nodes_is h1.
-    let made = both_ok (λ edges. record { nodes = nodes; edges = edges }) (λ m. m) (at_field Edges (list_field (codes "edges") d)) lists h1 in
+    let made = both_ok (λ edges. record { nodes = nodes; edges = edges }) (λ m. m)
+    (at_field Edges (list_field (codes "edges") d)) lists h1 in
     subst (λ (l : FileLists). AreOrdered l.nodes) made.2 (list_field_ordered (codes "nodes") d nodes up (at_ok Nodes _ nodes nodes_is)))
 
 lists_ordered : (d : Data) (lists : FileLists) → IsOrdered d → lists_of d ≡ Ok lists → AreOrdered lists.nodes
@@ -312,7 +326,8 @@ lists_ordered d lists up h =
 file_ok : (d : Data) (file : GraphFile) → IsOrdered d → file_of d ≡ Ok file → AllByRecursion IsFitNode file.nodes
 file_ok d file up h =
     then_fits (lists_of d) _ file h (λ lists lists_is h1.
-    let made = both_ok (λ nodes. record { nodes = nodes; edges = edges_of 0 lists.edges }) (λ m. m) (nodes_of 0 lists.nodes) file h1 in
+    let made = both_ok (λ nodes. record { nodes = nodes; edges = edges_of 0 lists.edges }) (λ m. m)
+    (nodes_of 0 lists.nodes) file h1 in
     subst (λ (f : GraphFile). AllByRecursion IsFitNode f.nodes) made.2 (nodes_ok 0 lists.nodes made.0 (lists_ordered d lists up lists_is) made.1))
 
 -- the nodes of a file keep their rules

@@ -33,7 +33,8 @@ pub file-read : (d : Data) (lists : FileLists) (nodes : List FileNode) → Ok li
 file-read d lists nodes listed read = rw (← listed, ← read) refl
 
 module _ (bytes : List ℕ) where
-  pub told_misfit : (m : FileMisfit) (fault : ReadFault) → IsToldAs m fault → HasMisfit bytes m ⊎ HasUnfitEdge bytes m → IsFirstFault bytes fault
+  pub told_misfit : (m : FileMisfit) (fault : ReadFault) → IsToldAs m fault → HasMisfit bytes m ⊎ HasUnfitEdge bytes m →
+      IsFirstFault bytes fault
   told_misfit m NotJson told has = absurd told
   told_misfit m (Field path fault) told has = (m, told.0, told.1, has)
   told_misfit m (DuplicateNode at) told has = absurd told
@@ -42,11 +43,14 @@ module _ (bytes : List ℕ) where
   told_misfit m Memory told has = tt
 
   module _ (file : GraphFile) (says : Says bytes file) where
-    pub told_edge : HasDistinctIds file → (wrong : EdgeFault) (fault : ReadFault) → IsFirstWrong (ids_of file.nodes) file.edges wrong → IsEdgeToldAs wrong fault → IsFirstFault bytes fault
+    pub told_edge : HasDistinctIds file → (wrong : EdgeFault) (fault : ReadFault) →
+        IsFirstWrong (ids_of file.nodes) file.edges wrong → IsEdgeToldAs wrong fault → IsFirstFault bytes fault
     told_edge distinct (Unfit m) fault first told = told_misfit m fault told (inr (file, says, distinct, first))
-    told_edge distinct (Wrong at) fault first told = subst (λ f. IsFirstFault bytes f) (sym told) (file, says, distinct, first)
+    told_edge distinct (Wrong at) fault first told = subst (λ f. IsFirstFault bytes f) (sym told)
+        (file, says, distinct, first)
 
-    pub told_raw : HasRightEdges file → (fault : ReadFault) → IsFirstRawFault (kinds_of file.nodes) (raw_of file) fault → IsFirstFault bytes fault
+    pub told_raw : HasRightEdges file → (fault : ReadFault) →
+        IsFirstRawFault (kinds_of file.nodes) (raw_of file) fault → IsFirstFault bytes fault
     told_raw right NotJson told = absurd told
     told_raw right (Field path fault) told = absurd told
     told_raw right (DuplicateNode at) told = absurd told
@@ -68,7 +72,8 @@ one_graph_told bytes g h (file, says, right, built, fine) (other, said, right-to
     one_graph (kinds_of file.nodes) (raw_of file) g h built (subst (λ (f : GraphFile). IsBuiltFrom (kinds_of f.nodes) (raw_of f) h) (same_file bytes other file said says) built-too)
 
 -- a graph file has no fault
-pub no_fault_told : (bytes : List ℕ) (g : NamedGraph) (fault : ReadFault) → IsGraphText bytes g → IsFirstFault bytes fault → fault ≡ Memory
+pub no_fault_told : (bytes : List ℕ) (g : NamedGraph) (fault : ReadFault) → IsGraphText bytes g →
+    IsFirstFault bytes fault → fault ≡ Memory
 no_fault_told bytes g NotJson (file, says, right, built, fine) told = absurd (let none : None ≡ Some says.0 = sym told ∙ says.1 in cc)
 no_fault_told bytes g (Field path fault) (file, says, right, built, fine) (m, path-is, fault-is, has) = absurd (by has)
   where
@@ -82,10 +87,12 @@ no_fault_told bytes g (Edge at) (file, says, right, built, fine) (other, said, d
     absurd (right.1 first.at (subst (λ (f : GraphFile). IsWrongEdge (ids_of f.nodes) f.edges first.at) (same_file bytes other file said says) first.wrong))
 no_fault_told bytes g (Graph fault) (file, says, right, built, fine) (other, said, right-too, told, not) =
     absurd (not (nothing_told (raw_graph (kinds_of file.nodes) (raw_of file)) (raw_names (raw_of file)) fault fine
-    (subst (λ (f : GraphFile). IsFirstGraphFault (raw_graph (kinds_of f.nodes) (raw_of f)) (raw_names (raw_of f)) fault) (same_file bytes other file said says) told)))
+    (subst (λ (f : GraphFile). IsFirstGraphFault (raw_graph (kinds_of f.nodes) (raw_of f)) (raw_names (raw_of f)) fault)
+    (same_file bytes other file said says) told)))
 no_fault_told bytes g Memory text told = refl
 
 -- bytes that are a graph file of a graph are read as that graph, or memory is wanting
-pub one_answer : (bytes : List ℕ) (r : Result NamedGraph ReadFault) → IfOk r (IsGraphText bytes) → IfErr r (IsFirstFault bytes) → (g : NamedGraph) → IsGraphText bytes g → (r ≡ Ok g) ⊎ (r ≡ Err Memory)
+pub one_answer : (bytes : List ℕ) (r : Result NamedGraph ReadFault) → IfOk r (IsGraphText bytes) →
+    IfErr r (IsFirstFault bytes) → (g : NamedGraph) → IsGraphText bytes g → (r ≡ Ok g) ⊎ (r ≡ Err Memory)
 one_answer bytes (Ok h) read told g text = inl (ap Ok (one_graph_told bytes h g read text))
 one_answer bytes (Err fault) read told g text = inr (ap Err (no_fault_told bytes g fault text told))

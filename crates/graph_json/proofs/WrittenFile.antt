@@ -119,8 +119,10 @@ module _ (g : NamedGraph) (v : ℕ) (x : Vertex) (fits : FitsNode g v x) where
   kept_properties : (at : ℕ) → properties_given at (metadata_data g v x) ≡ Ok (unwrap_or (slice_get g.properties v) [])
   kept_properties at =
       let keys : keys_of (keys_object (properties_at g v)) ≡ unwrap_or (slice_get g.properties v) [] = same_keys (properties_at g v) ∙ same_properties in
-      ap (λ ks. if list_all (is_name 255) ks then Ok ks else Err (record { field = PropertyKey at; fault = FieldFault.Text })) keys
-      ∙ ap (λ b. if b then Ok (unwrap_or (slice_get g.properties v) []) else Err (record { field = PropertyKey at; fault = FieldFault.Text })) fits.properties.0
+      ap (λ ks. if list_all (is_name 255) ks then Ok ks else Err
+      (record { field = PropertyKey at; fault = FieldFault.Text })) keys
+      ∙ ap (λ b. if b then Ok (unwrap_or (slice_get g.properties v) []) else Err
+      (record { field = PropertyKey at; fault = FieldFault.Text })) fits.properties.0
 
   pub node_read : (at : ℕ) → node_of at (node_data g v x) ≡ Ok (file_node g v x)
   node_read at =

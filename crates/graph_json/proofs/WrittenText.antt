@@ -91,7 +91,11 @@ clear_metadata g v x = (
 )
 
 clear_node : (g : NamedGraph) (v : ℕ) (x : Vertex) → v < 2 ^ 64 → IsClear (node_data g v x)
-clear_node g v x small = (IsUtf8-are_ascii (codes "id") refl, utf8_decimal v small, (IsUtf8-are_ascii (codes "metadata") refl, clear_metadata g v x, tt))
+clear_node g v x small = (
+  IsUtf8-are_ascii (codes "id") refl,
+  utf8_decimal v small,
+  (IsUtf8-are_ascii (codes "metadata") refl, clear_metadata g v x, tt),
+)
 
 clear_nodes : (g : NamedGraph) (v : ℕ) (xs : List Vertex) → v + length xs ≤ 2 ^ 64 → AreClear (nodes_data g v xs)
 clear_nodes g v [] few = tt
@@ -101,7 +105,15 @@ clear_contains : IsClear contains_data
 clear_contains = (IsUtf8-are_ascii (codes "name") refl, (IsUtf8-are_ascii (codes "containment") refl, IsUtf8-are_ascii (codes "contains") refl, tt), tt)
 
 clear_edge : (p v : ℕ) → p < 2 ^ 64 → v < 2 ^ 64 → IsClear (edge_data p v)
-clear_edge p v p_small v_small = (IsUtf8-are_ascii (codes "metadata") refl, clear_contains, (IsUtf8-are_ascii (codes "source") refl, utf8_decimal p p_small, (IsUtf8-are_ascii (codes "target") refl, utf8_decimal v v_small, tt)))
+clear_edge p v p_small v_small = (
+  IsUtf8-are_ascii (codes "metadata") refl,
+  clear_contains,
+  (
+    IsUtf8-are_ascii (codes "source") refl,
+    utf8_decimal p p_small,
+    (IsUtf8-are_ascii (codes "target") refl, utf8_decimal v v_small, tt),
+  ),
+)
 
 -- each parent is less than this
 abbrev pub HasParentsBelow : ℕ → List Vertex → Type 0

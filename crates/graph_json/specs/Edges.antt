@@ -53,7 +53,6 @@ abbrev pub role_of : Option Data → Role
 role_of None = Counted
 role_of (Some d) = role_in d
 
-
 -- the edge with these ends that the value with this index is
 abbrev pub edge_with : ℕ → Data → Result FileEdge FileMisfit
 edge_with at d =

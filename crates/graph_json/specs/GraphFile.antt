@@ -25,7 +25,8 @@ pub record GraphFile : Type 0 where
 abbrev pub lists_in : Data → Result FileLists FileMisfit
 lists_in d =
     result_and_then (at_field Nodes (list_field (codes "nodes") d)) (λ nodes.
-    result_map_both (λ edges. record { nodes = nodes; edges = edges }) (λ m. m) (at_field Edges (list_field (codes "edges") d)))
+    result_map_both (λ edges. record { nodes = nodes; edges = edges }) (λ m. m)
+    (at_field Edges (list_field (codes "edges") d)))
 
 -- the lists of a file
 abbrev pub lists_of : Data → Result FileLists FileMisfit

@@ -58,10 +58,15 @@ HasUnfitEdge bytes m = (file : GraphFile) × Says bytes file × HasDistinctIds f
 -- Which fault the bytes have: what is looked at first is told first. Of want of memory nothing is said.
 abbrev pub IsFirstFault : List ℕ → ReadFault → Type 0
 IsFirstFault bytes NotJson = value_of bytes ≡ None
-IsFirstFault bytes (Field path fault) = (m : FileMisfit) × (path ≡ path_text m.field) × (fault ≡ m.fault) × (HasMisfit bytes m ⊎ HasUnfitEdge bytes m)
-IsFirstFault bytes (DuplicateNode at) = (file : GraphFile) × Says bytes file × IsLeast (IsRepeated (ids_of file.nodes)) at
-IsFirstFault bytes (Edge at) = (file : GraphFile) × Says bytes file × HasDistinctIds file × IsFirstWrong (ids_of file.nodes) file.edges (Wrong at)
-IsFirstFault bytes (Graph fault) = (file : GraphFile) × Says bytes file × HasRightEdges file × IsFirstGraphFault (raw_graph (kinds_of file.nodes) (raw_of file)) (raw_names (raw_of file)) fault × (fault ≢ NoRoom)
+IsFirstFault bytes (Field path fault) = (m : FileMisfit) × (path ≡ path_text m.field) × (fault ≡ m.fault)
+    × (HasMisfit bytes m ⊎ HasUnfitEdge bytes m)
+IsFirstFault bytes (DuplicateNode at) = (file : GraphFile) × Says bytes file
+    × IsLeast (IsRepeated (ids_of file.nodes)) at
+IsFirstFault bytes (Edge at) = (file : GraphFile) × Says bytes file × HasDistinctIds file
+    × IsFirstWrong (ids_of file.nodes) file.edges (Wrong at)
+IsFirstFault bytes (Graph fault) = (file : GraphFile) × Says bytes file × HasRightEdges file
+    × IsFirstGraphFault (raw_graph (kinds_of file.nodes) (raw_of file)) (raw_names (raw_of file)) fault
+    × (fault ≢ NoRoom)
 IsFirstFault bytes Memory = Unit {0}
 
 -- ---- for private clauses
@@ -86,5 +91,6 @@ IsFirstRawFault kinds raw NotJson = ⊥
 IsFirstRawFault kinds raw (Field path fault) = ⊥
 IsFirstRawFault kinds raw (DuplicateNode at) = ⊥
 IsFirstRawFault kinds raw (Edge at) = ⊥
-IsFirstRawFault kinds raw (Graph fault) = IsFirstGraphFault (raw_graph kinds raw) (raw_names raw) fault × (fault ≢ NoRoom)
+IsFirstRawFault kinds raw (Graph fault) = IsFirstGraphFault (raw_graph kinds raw) (raw_names raw) fault
+    × (fault ≢ NoRoom)
 IsFirstRawFault kinds raw Memory = Unit {0}

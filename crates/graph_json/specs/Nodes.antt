@@ -68,7 +68,8 @@ in_order texts = fold (insert_key (slice_cmp nat_cmp)) [] texts
 -- the first of a list's members from `member` on that is no name
 abbrev pub first_misfit : ℕ → ℕ → Items → Option FileMisfit
 first_misfit at m no_items = None
-first_misfit at m (item d ds) = option_or (result_err (at_field (Property at m) (ruled_value (is_name 255) d))) (first_misfit at (suc m) ds)
+first_misfit at m (item d ds) = option_or (result_err (at_field (Property at m) (ruled_value (is_name 255) d)))
+    (first_misfit at (suc m) ds)
 
 abbrev pub unless_misfit : {A : Type 0} → Option FileMisfit → A → Result A FileMisfit
 unless_misfit None x = Ok x
@@ -81,7 +82,8 @@ properties_of at (boolean b) = Err (record { field = NodeField at Properties; fa
 properties_of at (number n) = Err (record { field = NodeField at Properties; fault = Kind })
 properties_of at (string s) = Err (record { field = NodeField at Properties; fault = Kind })
 properties_of at (array ds) = unless_misfit (first_misfit at 0 ds) (in_order (texts_in ds))
-properties_of at (object ms) = if list_all (is_name 255) (keys_of ms) then Ok (keys_of ms) else Err (record { field = PropertyKey at; fault = Text })
+properties_of at (object ms) = if list_all (is_name 255) (keys_of ms) then Ok (keys_of ms) else Err
+    (record { field = PropertyKey at; fault = Text })
 
 abbrev pub properties_or_none : ℕ → Option Data → Result (List (List ℕ)) FileMisfit
 properties_or_none at None = Ok []

@@ -9,8 +9,8 @@ ghost use Rattle.json_fields.specs.Values.{given, object_or_none};
 ghost use Rattle.graph_json.specs.Nodes.{id_bytes};
 ghost use Rattle.graph_json.specs.Edges.{role_in, role_of, name_role, is_contained, is_plain, edge_with, edge_of, edges_of, edge_held, place_of, joined, counted, parents_of, IsWrongEdge, IsFirstWrong};
 
-use crate::fields::{NodeId, id_field};
 use crate::field_paths::{EdgeKey, FieldPath, FileMisfit};
+use crate::fields::{NodeId, id_field};
 use json_fields::{at_field, object_or_none, object_value};
 use json_whole::FieldFault;
 use serde_json::Value;

@@ -10,8 +10,8 @@ ghost use Rattle.json_fields.specs.Values.{object_value, object_field, keys_of};
 ghost use Rattle.graph_json.specs.FieldPaths.{at_key, FileMisfit};
 ghost use Rattle.graph_json.specs.Nodes.{id_bytes, node_held, default_name, name_given, first_misfit, properties_given, properties_held, node_with, node_of, nodes_of};
 
-use crate::fields::{NodeId, id_field, size_or_one, small_or_none, unit_or_empty};
 use crate::field_paths::{FieldPath, FileMisfit, NodeKey};
+use crate::fields::{NodeId, id_field, size_or_one, small_or_none, unit_or_empty};
 use flux_defs::{MOST_NAME_BYTES, MOST_TYPE_BYTES};
 use json_fields::{
     Misfit, at_field, given, name_field, name_or, name_value, object_field, object_value,
@@ -86,7 +86,9 @@ fn name_of<'a>(
 fn keys_are_names(members: &Map<String, Value>) -> bool
     ensures { result ≡ list_all (is_name 255) (keys_of (members_view members.now.entries)) }
 {
-    members.keys().all(|key| is_name(key.as_bytes(), MOST_NAME_BYTES))
+    members
+        .keys()
+        .all(|key| is_name(key.as_bytes(), MOST_NAME_BYTES))
 }
 
 /// The first member of a list of properties that is no name.
@@ -139,7 +141,11 @@ fn properties_of(at: u64, metadata: &Value) -> Result<Properties<'_>, FileMisfit
 }
 
 /// What a file says of a node with this id, by its metadata.
-fn fields_with<'a>(at: u64, id: NodeId<'a>, metadata: &'a Value) -> Result<NodeFields<'a>, FileMisfit>
+fn fields_with<'a>(
+    at: u64,
+    id: NodeId<'a>,
+    metadata: &'a Value,
+) -> Result<NodeFields<'a>, FileMisfit>
     requires { IsSome (as_object (view metadata.now)) }
     ensures { result_map_both node_held (λ m. m) result ≡ node_with at (id_bytes id.entry) (view metadata.now) }
 {
@@ -148,7 +154,11 @@ fn fields_with<'a>(at: u64, id: NodeId<'a>, metadata: &'a Value) -> Result<NodeF
         NodeKey::TypeName,
         name_field(metadata, "type", MOST_TYPE_BYTES),
     )?;
-    let base = at_key(at, NodeKey::Basename, name_or(metadata, "basename", MOST_NAME_BYTES, kind))?;
+    let base = at_key(
+        at,
+        NodeKey::Basename,
+        name_or(metadata, "basename", MOST_NAME_BYTES, kind),
+    )?;
     let number = at_key(at, NodeKey::Number, small_or_none(metadata, "id"))?;
     let name = at_key(at, NodeKey::Name, name_of(metadata, base, number))?;
     let rank = at_key(at, NodeKey::Rank, small_or_none(metadata, "rank"))?;
@@ -210,7 +220,8 @@ impl<T: Drop> From<AllocFailed<T>> for NodesFault {
 /// What a file says of its nodes.
 pub(crate) fn nodes_of(alloc: Global, items: &[Value]) -> Result<Vec<NodeFields<'_>>, NodesFault>
     ensures read { IfOk result (λ nodes. Ok (map node_held nodes.items) ≡ nodes_of 0 (items_view items.now)) }
-    ensures misfit { (m : FileMisfit) → IsErrOf result (NodesFault.Misfit m) → nodes_of 0 (items_view items.now) ≡ Err m }
+    ensures misfit { (m : FileMisfit) → IsErrOf result (NodesFault.Misfit m) →
+        nodes_of 0 (items_view items.now) ≡ Err m }
 {
     let mut nodes = Vec::with_capacity(alloc, items.len())?;
     'nodes: for (at, item) in items.iter().enumerate() {

@@ -131,7 +131,8 @@ fn graph_from(
 /// The graph of a JSON value.
 fn graph_of(alloc: Global, value: &Value) -> Result<Graph, ReadFault>
     ensures graph { IfOk result (λ graph. (bytes : List ℕ) → IsValueOf bytes (view value.now) → IsGraphText bytes graph) }
-    ensures fault { IfErr result (λ fault. (bytes : List ℕ) → IsValueOf bytes (view value.now) → IsFirstFault bytes fault) }
+    ensures fault { IfErr result (λ fault. (bytes : List ℕ) → IsValueOf bytes (view value.now) →
+        IsFirstFault bytes fault) }
 {
     let lists = match lists_of(value) {
         Ok(lists) => lists,
@@ -172,5 +173,6 @@ pub fn read_graph(alloc: Global, bytes: &[u8]) -> Result<Graph, ReadFault>
 
 /// A law: the bytes of a graph file have no fault.
 pub fn graph_texts_have_no_fault()
-    ensures { (bytes : List ℕ) (graph : NamedGraph) (fault : ReadFault) → IsGraphText bytes graph → IsFirstFault bytes fault → fault ≡ ReadFault.Memory }
+    ensures { (bytes : List ℕ) (graph : NamedGraph) (fault : ReadFault) → IsGraphText bytes graph →
+        IsFirstFault bytes fault → fault ≡ ReadFault.Memory }
 {}

@@ -183,11 +183,14 @@ pieces_plain prefix (part ∷ parts) (Many own lo hi width ∷ hosts) are = and_
 
 -- ---- items
 
-prefix_bytes : (prefix : List ℕ) → (prefix ≡ []) ⊎ IsTrue (is_host_name prefix) → (list_all is_name_byte prefix ≡ true) × (length prefix ≤ 255)
+prefix_bytes : (prefix : List ℕ) → (prefix ≡ []) ⊎ IsTrue (is_host_name prefix) → (list_all is_name_byte prefix ≡ true)
+    × (length prefix ≤ 255)
 prefix_bytes prefix (inl none) = (ap (list_all is_name_byte) none, omega (arith, ap length none))
 prefix_bytes prefix (inr is) = let parts = name_parts prefix is in (parts.bytes, parts.short)
 
-list_is_read : (prefix piece : List ℕ) (others : List (List ℕ)) (hosts : List Hosts) → (prefix ≡ []) ⊎ IsTrue (is_host_name prefix) → AllZip (IsPiece prefix) (piece ∷ others) hosts → hosts_of_list prefix (join_with_byte 44 (piece ∷ others)) ≡ Some hosts
+list_is_read : (prefix piece : List ℕ) (others : List (List ℕ)) (hosts : List Hosts) → (prefix ≡ [])
+    ⊎ IsTrue (is_host_name prefix) → AllZip (IsPiece prefix) (piece ∷ others) hosts →
+    hosts_of_list prefix (join_with_byte 44 (piece ∷ others)) ≡ Some hosts
 list_is_read prefix piece others hosts fine are =
     let bytes = prefix_bytes prefix fine in
     ap (λ (t : Bool). cond t (hosts_of_pieces prefix (pieces false (join_with_byte 44 (piece ∷ others)))) None) (prefix_is_fine prefix bytes.0 bytes.1)
@@ -318,9 +321,15 @@ list_parts item place e = by_test (eqb (get_or item (length item - 1) 0) 93) ref
         ∙ ap (λ (x : List ℕ). take place item ++ x) (drop_more item place 0 at.0 ∙ ap (λ (b : ℕ). b ∷ rest) open_is)
         ∙ ap (λ (x : List ℕ). take place item ++ 91 ∷ x) (sym (take-append-drop n rest) ∙ ap (λ (x : List ℕ). take n rest ++ x) tail)
 
-fine_prefix : (prefix : List ℕ) → (eqb (length prefix) 0 || is_host_name prefix) ≡ true → (prefix ≡ []) ⊎ IsTrue (is_host_name prefix)
+fine_prefix : (prefix : List ℕ) → (eqb (length prefix) 0 || is_host_name prefix) ≡ true → (prefix ≡ [])
+    ⊎ IsTrue (is_host_name prefix)
 fine_prefix [] e = inl refl
-fine_prefix (byte ∷ prefix) e = elim (or_cases (eqb (length (byte ∷ prefix)) 0) (is_host_name (byte ∷ prefix)) e) [ inl none ↦ absurd (omega (arith, eqb-true (length (byte ∷ prefix)) 0 none)) | inr is ↦ inr is ]
+fine_prefix (byte ∷ prefix) e = elim
+    (or_cases (eqb (length (byte ∷ prefix)) 0) (is_host_name (byte ∷ prefix)) e) [
+      | inl none ↦ absurd
+          (omega (arith, eqb-true (length (byte ∷ prefix)) 0 none))
+      | inr is ↦ inr is
+    ]
 
 -- what a list that was read is
 record WasList (prefix list : List ℕ) (hosts : List Hosts) : Type 0 where
@@ -333,11 +342,14 @@ record WasList (prefix list : List ℕ) (hosts : List Hosts) : Type 0 where
 list_was_read : (prefix list : List ℕ) (hosts : List Hosts) → hosts_of_list prefix list ≡ Some hosts → WasList prefix list hosts
 list_was_read prefix list hosts e = by_test (eqb (length prefix) 0 || is_host_name prefix) refl e
   where
-    by_parts : (parts : List (List ℕ)) → 0 < length parts → join_with_byte 44 parts ≡ list → (eqb (length prefix) 0 || is_host_name prefix) ≡ true → hosts_of_pieces prefix parts ≡ Some hosts → WasList prefix list hosts
+    by_parts : (parts : List (List ℕ)) → 0 < length parts → join_with_byte 44 parts ≡ list →
+        (eqb (length prefix) 0 || is_host_name prefix) ≡ true → hosts_of_pieces prefix parts ≡ Some hosts →
+        WasList prefix list hosts
     by_parts [] some joined fine f = absurd (omega arith)
     by_parts (piece ∷ others) some joined fine f = record { piece = piece; others = others; fine = fine_prefix prefix fine; are = pieces_were_read prefix (piece ∷ others) hosts f; joined = joined }
 
-    by_test : (b : Bool) → (eqb (length prefix) 0 || is_host_name prefix) ≡ b → cond b (hosts_of_pieces prefix (pieces false list)) None ≡ Some hosts → WasList prefix list hosts
+    by_test : (b : Bool) → (eqb (length prefix) 0 || is_host_name prefix) ≡ b →
+        cond b (hosts_of_pieces prefix (pieces false list)) None ≡ Some hosts → WasList prefix list hosts
     by_test true fine f = by_parts (pieces false list) (some_pieces false list) (join-pieces false list) fine f
     by_test false fine f = absurd cc
 
@@ -347,7 +359,10 @@ item_was_read item hosts e = by_test (is_host_name item) refl e
     some_same : (a b : List Hosts) → Some a ≡ Some b → a ≡ b
     some_same a b f = cc
 
-    by_test : (b : Bool) → is_host_name item ≡ b → cond b (Some (One item ∷ [])) (option_and_then (λ place. hosts_of_list (take place item) (take (length item - 1 - (place + 1)) (drop (place + 1) item))) (list_place item)) ≡ Some hosts → IsHostItem item hosts
+    by_test : (b : Bool) → is_host_name item ≡ b →
+        cond b (Some (One item ∷ [])) (option_and_then
+        (λ place. hosts_of_list (take place item) (take (length item - 1 - (place + 1)) (drop (place + 1) item)))
+        (list_place item)) ≡ Some hosts → IsHostItem item hosts
     by_test true is f = inl (is, sym (some_same (One item ∷ []) hosts f))
     by_test false is f =
         option_and_then_some (λ place. hosts_of_list (take place item) (take (length item - 1 - (place + 1)) (drop (place + 1) item))) (list_place item) hosts f
@@ -383,9 +398,12 @@ hostlist_was_read (byte ∷ bytes) hosts e = by_parts (pieces false (byte ∷ by
 
 -- ---- a reader's answer
 
-pub hosts_found_by : (text : List ℕ) (r : Result (List Hosts) TextFault) → IsResultOf r (hostlist_of text) → IfOk r (λ hosts. IsHostlist text hosts)
+pub hosts_found_by : (text : List ℕ) (r : Result (List Hosts) TextFault) → IsResultOf r (hostlist_of text) →
+    IfOk r (λ hosts. IsHostlist text hosts)
 hosts_found_by text (Ok hosts) e = hostlist_was_read text hosts e
 hosts_found_by text (Err fault) e = tt
 
-pub hosts_only_by : (text : List ℕ) (r : Result (List Hosts) TextFault) (hosts : List Hosts) → IsResultOf r (hostlist_of text) → IsHostlist text hosts → IsResultOf r (Ok hosts)
-hosts_only_by text r hosts e is = let P : Result (List Hosts) ℕ → Type 0 = λ read. IsResultOf r read in subst P (hostlist_is_read text hosts is) e
+pub hosts_only_by : (text : List ℕ) (r : Result (List Hosts) TextFault) (hosts : List Hosts) →
+    IsResultOf r (hostlist_of text) → IsHostlist text hosts → IsResultOf r (Ok hosts)
+hosts_only_by text r hosts e is = let P : Result (List Hosts) ℕ →
+    Type 0 = λ read. IsResultOf r read in subst P (hostlist_is_read text hosts is) e

@@ -87,9 +87,12 @@ or_second true b e = refl
 or_second false b e = e
 
 -- a prefix of a name is one, or nothing
-pub prefix_is_fine : (prefix : List ℕ) → list_all is_name_byte prefix ≡ true → length prefix ≤ 255 → (eqb (length prefix) 0 || is_host_name prefix) ≡ true
+pub prefix_is_fine : (prefix : List ℕ) → list_all is_name_byte prefix ≡ true → length prefix ≤ 255 →
+    (eqb (length prefix) 0 || is_host_name prefix) ≡ true
 prefix_is_fine [] p short = refl
-prefix_is_fine (byte ∷ prefix) p short = or_second (eqb (length (byte ∷ prefix)) 0) (is_host_name (byte ∷ prefix)) (and_from _ _ (and_from _ _ (lt-ltb 0 (length (byte ∷ prefix)) (omega arith)) (le-leb (length (byte ∷ prefix)) 255 short)) p)
+prefix_is_fine (byte ∷ prefix) p short = or_second (eqb (length (byte ∷ prefix)) 0) (is_host_name (byte ∷ prefix))
+    (and_from _ _ (and_from _ _ (lt-ltb 0 (length (byte ∷ prefix)) (omega arith))
+    (le-leb (length (byte ∷ prefix)) 255 short)) p)
 
 pub hosts_of_item-listed : (prefix list : List ℕ) (hosts : Option (List Hosts)) → list_all is_name_byte prefix ≡ true → hosts_of_list prefix list ≡ hosts → hosts_of_item (listed prefix list) ≡ hosts
 hosts_of_item-listed prefix list hosts p read =
@@ -306,7 +309,8 @@ record ReadsAs (text : List ℕ) (names : List (List ℕ)) : Type 0 where
   read : hostlist_of text ≡ Ok hosts
   are : names_of hosts ≡ names
 
-run_reads : (many : Bool) (first last : List ℕ) (seen : List (List ℕ)) → is_host_name first ≡ true → is_host_name last ≡ true → IsRun many first last seen → ReadsAs (run_text many first last) seen
+run_reads : (many : Bool) (first last : List ℕ) (seen : List (List ℕ)) → is_host_name first ≡ true →
+    is_host_name last ≡ true → IsRun many first last seen → ReadsAs (run_text many first last) seen
 run_reads false first last seen f l (same, alone) = record { hosts = One first ∷ []; read = hostlist_of-name first f; are = sym alone }
 run_reads true first last seen f l run =
     let prefix : List ℕ = prefix_of first in
@@ -341,7 +345,9 @@ run_reads true first last seen f l run =
 abbrev pub AreNames : List (List ℕ) → Type 0
 AreNames names = All (λ name. IsTrue (is_host_name name)) names
 
-texts_read : (names : List (List ℕ)) (many : Bool) (first last : List ℕ) (seen : List (List ℕ)) → is_host_name first ≡ true → is_host_name last ≡ true → AreNames names → IsRun many first last seen → AreHostlistsOf (texts_from many first last names) (seen ++ names)
+texts_read : (names : List (List ℕ)) (many : Bool) (first last : List ℕ) (seen : List (List ℕ)) →
+    is_host_name first ≡ true → is_host_name last ≡ true → AreNames names → IsRun many first last seen →
+    AreHostlistsOf (texts_from many first last names) (seen ++ names)
 texts_read [] many first last seen f l h run =
     let r = run_reads many first last seen f l run in
     (r.hosts, [], r.read, ap (λ (names : List (List ℕ)). names ++ []) (sym r.are), refl)
@@ -370,4 +376,5 @@ pub texts_again : (names : List (List ℕ)) → AreNames names → AreHostlistsO
 texts_again [] h = refl
 texts_again (name ∷ names) h =
     let is : is_host_name name ≡ true = All-head (λ n. IsTrue (is_host_name n)) name names h in
-    texts_read names false name name (name ∷ []) is is (All-tail (λ n. IsTrue (is_host_name n)) name names h) (refl, refl)
+    texts_read names false name name (name ∷ []) is is (All-tail (λ n. IsTrue (is_host_name n)) name names h)
+    (refl, refl)

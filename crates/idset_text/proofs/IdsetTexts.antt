@@ -467,13 +467,17 @@ written_shortest ids other (ranges, read, same) = let P : List ℕ → Type 0 = 
 
 -- ---- a reader's answer
 
-pub found_by : (text : List ℕ) (r : Result (List Range) TextFault) → IsResultOf r (idset_of text) → IfOk r (λ ranges. IsIdset text ranges)
+pub found_by : (text : List ℕ) (r : Result (List Range) TextFault) → IsResultOf r (idset_of text) →
+    IfOk r (λ ranges. IsIdset text ranges)
 found_by text (Ok ranges) e = idset_was_read text ranges e
 found_by text (Err fault) e = tt
 
-pub only_by : (text : List ℕ) (r : Result (List Range) TextFault) (ranges : List Range) → IsResultOf r (idset_of text) → IsIdset text ranges → IsResultOf r (Ok ranges)
-only_by text r ranges e is = let P : Result (List Range) ℕ → Type 0 = λ read. IsResultOf r read in subst P (idset_is_read text ranges is) e
+pub only_by : (text : List ℕ) (r : Result (List Range) TextFault) (ranges : List Range) → IsResultOf r (idset_of text) →
+    IsIdset text ranges → IsResultOf r (Ok ranges)
+only_by text r ranges e is = let P : Result (List Range) ℕ →
+    Type 0 = λ read. IsResultOf r read in subst P (idset_is_read text ranges is) e
 
-pub rising_by : (text : List ℕ) (r : Result (List Range) TextFault) → IsResultOf r (idset_of text) → IfOk r (λ ranges. Rises 0 ranges)
+pub rising_by : (text : List ℕ) (r : Result (List Range) TextFault) → IsResultOf r (idset_of text) →
+    IfOk r (λ ranges. Rises 0 ranges)
 rising_by text (Ok ranges) e = idset_rises text ranges (idset_was_read text ranges e)
 rising_by text (Err fault) e = tt

@@ -53,7 +53,8 @@ hosts_of_pieces prefix (piece ∷ others) =
 
 -- a prefix is a name or nothing
 abbrev pub hosts_of_list : List ℕ → List ℕ → Option (List Hosts)
-hosts_of_list prefix list = if (length prefix == 0) || is_host_name prefix then hosts_of_pieces prefix (pieces false list) else None
+hosts_of_list prefix list = if (length prefix == 0) || is_host_name prefix then hosts_of_pieces prefix
+    (pieces false list) else None
 
 -- the place of the first '[' (91) in bytes that end with ']' (93)
 abbrev pub list_place : List ℕ → Option ℕ
@@ -133,7 +134,8 @@ IsPiece prefix piece (Many own lo hi width) = (own ≡ prefix) × (first : List 
 -- an item is a name, or a name or nothing with a list of pieces between '[' (91) and ']' (93), commas (44) between them
 abbrev pub IsHostItem : List ℕ → List Hosts → Type 0
 IsHostItem item hosts = (IsTrue (is_host_name item) × (hosts ≡ One item ∷ []))
-    ⊎ ((prefix : List ℕ) × (piece : List ℕ) × (others : List (List ℕ)) × ((prefix ≡ []) ⊎ IsTrue (is_host_name prefix)) × AllZip (IsPiece prefix) (piece ∷ others) hosts
+    ⊎ ((prefix : List ℕ) × (piece : List ℕ) × (others : List (List ℕ)) × ((prefix ≡ []) ⊎ IsTrue (is_host_name prefix))
+    × AllZip (IsPiece prefix) (piece ∷ others) hosts
     × (item ≡ prefix ++ 91 ∷ (join_with_byte 44 (piece ∷ others) ++ 93 ∷ [])))
 
 -- the hosts are those of the items, in order

@@ -394,7 +394,8 @@ fn texts_of_all(alloc: Global, names: &[Text]) -> Result<Vec<Text>, AllocError>
 /// Read in order they give the names again, if each is a name.
 pub fn write_hostlist(alloc: Global, names: &List<Text>) -> Result<List<Text>, AllocError>
     ensures texts { IfOk result (λ texts. texts ≡ hostlist_texts names.now) }
-    ensures again { IfOk result (λ texts. All (λ name. IsTrue (is_host_name name)) names.now → AreHostlistsOf texts names.now) }
+    ensures again { IfOk result (λ texts. All (λ name. IsTrue (is_host_name name)) names.now →
+        AreHostlistsOf texts names.now) }
 {
     let texts = texts_of_all(alloc, names.items())?;
     Ok(List::of_vec(texts))

@@ -101,7 +101,9 @@ module _ (d : Data) (s : Bool) (list : List ℕ) (at : ℕ) (labels : List (List
   pub one_read : (r : Requested) → requests_of said.with (is_slot said.kind || s) (vertex_path list at key.With) 0 (labels_with labels said.label) ≡ Ok r → request_of d s list at labels ≡ Ok (around said r)
   one_read r h = one_by ∙ ap (result_map_both (around said) (λ fault. fault)) h
 
-  pub one_told : (fault : SpecFault) → IsFirstFault (requests_of said.with (is_slot said.kind || s) (vertex_path list at key.With) 0 (labels_with labels said.label)) fault →
+  pub one_told : (fault : SpecFault) →
+      IsFirstFault (requests_of said.with (is_slot said.kind || s) (vertex_path list at key.With) 0
+      (labels_with labels said.label)) fault →
       IsFirstFault (request_of d s list at labels) fault
   one_told fault (inl memory) = inl memory
   one_told fault (inr told) = inr (one_by ∙ ap (result_map_both (around said) (λ fault. fault)) told)

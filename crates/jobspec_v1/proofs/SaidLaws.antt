@@ -39,15 +39,20 @@ u64_ok least most (Some d) n h = number_ok least most (as_number d) n h
 -- a count is in its bounds
 pub count_ok : (d : Data) (n : ℕ) → count_given d ≡ Ok n → (1 ≤ n) × (n ≤ 2 ^ 46)
 count_ok d n h =
-    let read = same_ok _ (if option_map_or is_other_count (get (codes "count") d) false then Err of_key.NotInProfile else of_field (u64_field (codes "count") 1 GREATEST_NUMBER d)) n h in
-    let field = else_ok (option_map_or is_other_count (get (codes "count") d) false) _ (of_field (u64_field (codes "count") 1 GREATEST_NUMBER d)) n read in
-    u64_ok 1 GREATEST_NUMBER (get (codes "count") d) n (same_ok _ (u64_field (codes "count") 1 GREATEST_NUMBER d) n field.1)
+    let read = same_ok _ (if option_map_or is_other_count
+    (get (codes "count") d) false then Err of_key.NotInProfile else of_field
+    (u64_field (codes "count") 1 GREATEST_NUMBER d)) n h in
+    let field = else_ok (option_map_or is_other_count (get (codes "count") d) false) _
+    (of_field (u64_field (codes "count") 1 GREATEST_NUMBER d)) n read in
+    u64_ok 1 GREATEST_NUMBER (get (codes "count") d) n
+    (same_ok _ (u64_field (codes "count") 1 GREATEST_NUMBER d) n field.1)
 
 -- a slot is in no slot
 pub type_ok : (s : Bool) (d : Data) (kind : List ℕ) → type_given s d ≡ Ok kind → (is_slot kind && s) ≡ false
 type_ok s d kind h =
     let f : List ℕ → Result (List ℕ) KeyFault = λ k. if is_slot k && s then Err of_key.NotInProfile else Ok k in
-    let read = then_ok (of_field (ruled_field (is_name MOST_TYPE_BYTES) (codes "type") d)) f kind (same_ok _ (result_and_then (of_field (ruled_field (is_name MOST_TYPE_BYTES) (codes "type") d)) f) kind h) in
+    let read = then_ok (of_field (ruled_field (is_name MOST_TYPE_BYTES) (codes "type") d)) f kind
+    (same_ok _ (result_and_then (of_field (ruled_field (is_name MOST_TYPE_BYTES) (codes "type") d)) f) kind h) in
     let fine = else_ok (is_slot read.0 && s) _ (Ok read.0) kind read.2 in
     subst (λ k. (is_slot k && s) ≡ false) (ok_is read.0 kind fine.1) fine.0
 

@@ -34,6 +34,7 @@ module _ (labels : List (List ℕ)) (d : Data) (ds : Items) (read : task_list d 
   pub one_fine : is_one ds ≡ true → tasks_fault labels 0 ds ≡ None → v1_tasks labels d ≡ Ok true
   one_fine one none = of_one one ∙ ap unless_fault none
 
-  pub one_told : is_one ds ≡ true → (fault : SpecFault) → (fault ≡ Memory) ⊎ (tasks_fault labels 0 ds ≡ Some fault) → IsFirstFault (v1_tasks labels d) fault
+  pub one_told : is_one ds ≡ true → (fault : SpecFault) → (fault ≡ Memory) ⊎ (tasks_fault labels 0 ds ≡ Some fault) →
+      IsFirstFault (v1_tasks labels d) fault
   one_told one fault (inl memory) = inl memory
   one_told one fault (inr told) = inr (of_one one ∙ ap unless_fault told)

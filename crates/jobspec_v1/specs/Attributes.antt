@@ -23,7 +23,8 @@ given_in key d = option_and_then (given key) d
 -- the seconds, 0 where none are said
 abbrev pub duration_in : Option Data → Result ℕ FieldFault
 duration_in None = Ok 0
-duration_in (Some d) = if is_some (get (codes "duration") d) then u64_field (codes "duration") 0 GREATEST_NUMBER d else Ok 0
+duration_in (Some d) = if is_some (get (codes "duration") d) then u64_field
+    (codes "duration") 0 GREATEST_NUMBER d else Ok 0
 
 -- what the attributes say, or the first fault of them
 abbrev pub terms_of : Data → Result Terms SpecFault

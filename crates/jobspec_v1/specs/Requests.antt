@@ -62,7 +62,8 @@ keys_given d = at_field key.Whole (Err (of_key.Field Kind))
 -- the type, which is a name; a slot is in no slot
 abbrev pub type_given : Bool → Data → Result (List ℕ) KeyMisfit
 type_given in_slot d = at_field key.TypeName
-    (result_and_then (of_field (ruled_field (is_name MOST_TYPE_BYTES) (codes "type") d)) (λ kind. if is_slot kind && in_slot then Err of_key.NotInProfile else Ok kind))
+    (result_and_then (of_field (ruled_field (is_name MOST_TYPE_BYTES) (codes "type") d))
+    (λ kind. if is_slot kind && in_slot then Err of_key.NotInProfile else Ok kind))
 
 -- an object or a text is a count that this profile doesn't have
 abbrev pub is_other_count : Data → Bool
@@ -70,11 +71,13 @@ is_other_count d = is_some (as_object d) || is_some (as_str d)
 
 abbrev pub count_given : Data → Result ℕ KeyMisfit
 count_given d = at_field key.Count
-    (if option_map_or is_other_count (get (codes "count") d) false then Err of_key.NotInProfile else of_field (u64_field (codes "count") 1 GREATEST_NUMBER d))
+    (if option_map_or is_other_count (get (codes "count") d) false then Err of_key.NotInProfile else of_field
+    (u64_field (codes "count") 1 GREATEST_NUMBER d))
 
 -- the unit is a text, and says nothing
 abbrev pub unit_given : Data → Result Bool KeyMisfit
-unit_given d = at_field key.Unit (unless (option_map_or (λ e. not (is_some (as_str e))) (get (codes "unit") d) false) (of_key.Field Kind))
+unit_given d = at_field key.Unit
+    (unless (option_map_or (λ e. not (is_some (as_str e))) (get (codes "unit") d) false) (of_key.Field Kind))
 
 abbrev pub exclusive_as : Bool → Option Bool → Result (Option Bool) KeyFault
 exclusive_as slot None = Err (of_key.Field Kind)

@@ -134,7 +134,8 @@ pub(crate) fn is_slot(kind: &str) -> bool
 
 fn type_key(in_slot: bool, value: &Value) -> Result<&str, KeyFault>
     requires { IsSome (as_object (view value.now)) }
-    ensures { at_field VertexKey.TypeName (result_map_both (λ s. s.now) (λ e. e) result) ≡ type_given in_slot (view value.now) }
+    ensures { at_field VertexKey.TypeName (result_map_both (λ s. s.now) (λ e. e) result) ≡ type_given in_slot
+        (view value.now) }
 {
     let kind = of_field(name_field(value, "type", MOST_TYPE_BYTES))?;
     if is_slot(kind) && in_slot {
@@ -190,7 +191,9 @@ fn label_key<'a>(
     value: &'a Value,
 ) -> Result<Option<&'a str>, KeyFault>
     requires { IsSome (as_object (view value.now)) }
-    ensures { at_field VertexKey.Label (result_map_both (λ found. option_map (λ s. s.now) found) (λ e. e) result) ≡ label_given labels.now slot (view value.now) }
+    ensures { at_field VertexKey.Label
+        (result_map_both (λ found. option_map (λ s. s.now) found) (λ e. e) result) ≡ label_given labels.now slot
+        (view value.now) }
 {
     if !slot {
         return Ok(None);
@@ -203,7 +206,8 @@ fn label_key<'a>(
 }
 
 fn with_key(slot: bool, value: &Value) -> Result<&[Value], KeyFault>
-    ensures { at_field VertexKey.With (result_map_both (λ ds. items_view ds.now) (λ e. e) result) ≡ with_given slot (view value.now) }
+    ensures { at_field VertexKey.With (result_map_both (λ ds. items_view ds.now) (λ e. e) result) ≡ with_given slot
+        (view value.now) }
 {
     let Some(found) = value.get("with") else {
         if slot {

@@ -37,7 +37,8 @@ pub fn read_version(alloc: Global, value: &Value) -> Result<u64, SpecFault>
     }
 }
 
-/// The request vertices of a jobspec, one or more, with the labels of their slots. The fault is the first one, vertex by
+/// The request vertices of a jobspec, one or more, with the labels of their slots. The fault is the first one, vertex
+/// by
 /// vertex, each before those in it, and in each key by key; and Field at `resources` where that is no such list.
 pub fn read_resources(alloc: Global, value: &Value) -> Result<Requested, SpecFault>
     ensures read { IfOk result (λ read. resources_of (view value.now) ≡ Ok read) }

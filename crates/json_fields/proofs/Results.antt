@@ -13,11 +13,13 @@ ok_is x y e = ap (ok_or x) e
 pub no_ok : {A E : Type 0} (e : E) (y : A) → Err e ≡ Ok y → ⊥
 no_ok e y h = cc
 
-pub then_ok : {A B E : Type 0} (r : Result A E) (f : A → Result B E) (y : B) → result_and_then r f ≡ Ok y → (x : A) × (r ≡ Ok x) × (f x ≡ Ok y)
+pub then_ok : {A B E : Type 0} (r : Result A E) (f : A → Result B E) (y : B) → result_and_then r f ≡ Ok y → (x : A)
+    × (r ≡ Ok x) × (f x ≡ Ok y)
 then_ok (Ok x) f y h = (x, refl, h)
 then_ok (Err e) f y h = absurd (no_ok e y h)
 
-pub both_ok : {A B E D : Type 0} (f : A → B) (g : E → D) (r : Result A E) (y : B) → result_map_both f g r ≡ Ok y → (x : A) × (r ≡ Ok x) × (f x ≡ y)
+pub both_ok : {A B E D : Type 0} (f : A → B) (g : E → D) (r : Result A E) (y : B) → result_map_both f g r ≡ Ok y →
+    (x : A) × (r ≡ Ok x) × (f x ≡ y)
 both_ok f g (Ok x) y h = (x, refl, ok_is (f x) y h)
 both_ok f g (Err e) y h = absurd (no_ok (g e) y h)
 
@@ -27,6 +29,7 @@ same_ok g (Ok x) y h = ap Ok (ok_is x y h)
 same_ok g (Err e) y h = absurd (no_ok (g e) y h)
 
 -- what is Ok where a test is the other way round isn't wrong
-pub else_ok : {A E : Type 0} (b : Bool) (e : E) (r : Result A E) (y : A) → (if b then Err e else r) ≡ Ok y → (b ≡ false) × (r ≡ Ok y)
+pub else_ok : {A E : Type 0} (b : Bool) (e : E) (r : Result A E) (y : A) → (if b then Err e else r) ≡ Ok y → (b ≡ false)
+    × (r ≡ Ok y)
 else_ok true e r y h = absurd (no_ok e y h)
 else_ok false e r y h = (refl, h)

@@ -19,7 +19,8 @@ group_map piece other f amount claims g = (g.0, g.1, g.2, g.3, pieces_map piece 
 
 module _ (vertices : List Vertex) (ok more : Claim → Type 0) (along : (c : Claim) → ok c → more c) where
   mutual
-    pub piece_more : (scope : Scope) (need : Need) (v q : ℕ) (claims : List Claim) → Piece vertices ok scope need v q claims → Piece vertices more scope need v q claims
+    pub piece_more : (scope : Scope) (need : Need) (v q : ℕ) (claims : List Claim) →
+        Piece vertices ok scope need v q claims → Piece vertices more scope need v q claims
     piece_more scope (Vert' kind count true m needs) v q claims p =
         (p.0, p.1, p.2, (p.3.0, along (Hold v) p.3.1, (p.3.2.0, row_more 1 (Beneath v) needs p.3.2.0 p.3.2.1)))
     piece_more scope (Vert' kind count false m needs) v q claims p =
@@ -28,12 +29,26 @@ module _ (vertices : List Vertex) (ok more : Claim → Type 0) (along : (c : Cla
     piece_more scope (Spread' count m needs) v q claims p =
         (p.0, p.1, (p.2.0, p.2.1, along (Pass v) p.2.2, row_more q (Beneath v) needs p.2.0 p.2.3))
 
-    row_more : {m : _} (k : ℕ) (scope : Scope) (row : Row_of-Need m) (claims : List Claim) → FitsRow vertices ok k scope row claims → FitsRow vertices more k scope row claims
+    row_more : {m : _} (k : ℕ) (scope : Scope) (row : Row_of-Need m) (claims : List Claim) →
+        FitsRow vertices ok k scope row claims → FitsRow vertices more k scope row claims
     row_more k scope end_of-Need claims f = f
-    row_more k scope (more_of-Need need rest) claims f =
-        (f.0, f.1, f.2, group_map (Piece vertices ok scope need) (Piece vertices more scope need) (piece_more scope need) (k * amount_of need) f.0 f.3, row_more k scope rest f.1 f.4)
+    row_more k scope (more_of-Need need rest) claims f = (
+      f.0,
+      f.1,
+      f.2,
+      group_map (Piece vertices ok scope need) (Piece vertices more scope need)
+          (piece_more scope need) (k * amount_of need) f.0 f.3,
+      row_more k scope rest f.1 f.4,
+    )
 
-  pub fits_more : (k : ℕ) (scope : Scope) (needs : List Need) (claims : List Claim) → Fits vertices ok k scope needs claims → Fits vertices more k scope needs claims
+  pub fits_more : (k : ℕ) (scope : Scope) (needs : List Need) (claims : List Claim) →
+      Fits vertices ok k scope needs claims → Fits vertices more k scope needs claims
   fits_more k scope [] claims f = f
-  fits_more k scope (need ∷ rest) claims f =
-      (f.0, f.1, f.2, group_map (Piece vertices ok scope need) (Piece vertices more scope need) (piece_more scope need) (k * amount_of need) f.0 f.3, fits_more k scope rest f.1 f.4)
+  fits_more k scope (need ∷ rest) claims f = (
+    f.0,
+    f.1,
+    f.2,
+    group_map (Piece vertices ok scope need) (Piece vertices more scope need) (piece_more scope need)
+        (k * amount_of need) f.0 f.3,
+    fits_more k scope rest f.1 f.4,
+  )

@@ -46,83 +46,108 @@ module _ (vertices : List Vertex) (ok : Claim → Type 0) where
   AllFill scope k needs = AllByRecursion (λ need. SomeGroup vertices ok scope need (k * amount_of need)) needs
 
   -- claims that fit have a group for each need, and so back
-  pub fits_alone : (k : ℕ) (scope : Scope) (needs : List Need) → SomeFits vertices ok scope needs k → AllFill scope k needs
+  pub fits_alone : (k : ℕ) (scope : Scope) (needs : List Need) → SomeFits vertices ok scope needs k →
+      AllFill scope k needs
   fits_alone k scope [] f = tt
   fits_alone k scope (need ∷ rest) f = ((f.1.0, f.1.3), fits_alone k scope rest (f.1.1, f.1.4))
 
-  pub alone_fits : (k : ℕ) (scope : Scope) (needs : List Need) → AllFill scope k needs → SomeFits vertices ok scope needs k
+  pub alone_fits : (k : ℕ) (scope : Scope) (needs : List Need) → AllFill scope k needs →
+      SomeFits vertices ok scope needs k
   alone_fits k scope [] each = ([], refl)
   alone_fits k scope (need ∷ rest) each =
       let others = alone_fits k scope rest each.1 in
       (each.0.0 ++ others.0, (each.0.0, others.0, refl, each.0.1, others.1))
 
   -- a group can be filled, and so back
-  pub group_to : (scope : Scope) (need : Need) (n : ℕ) → SomeGroup vertices ok scope need n → CanFill (CanServe vertices ok scope need) 0 n
+  pub group_to : (scope : Scope) (need : Need) (n : ℕ) → SomeGroup vertices ok scope need n →
+      CanFill (CanServe vertices ok scope need) 0 n
   group_to scope need n g = group_fills (Piece vertices ok scope need) n g.0 g.1
 
-  pub group_from : (scope : Scope) (need : Need) (n : ℕ) → CanFill (CanServe vertices ok scope need) 0 n → SomeGroup vertices ok scope need n
+  pub group_from : (scope : Scope) (need : Need) (n : ℕ) → CanFill (CanServe vertices ok scope need) 0 n →
+      SomeGroup vertices ok scope need n
   group_from scope need n f = filled_group (Piece vertices ok scope need) n f
 
   -- a group of less
-  pub group_less : TakesLess ok → (scope : Scope) (need : Need) (n m : ℕ) → m ≤ n → SomeGroup vertices ok scope need n → SomeGroup vertices ok scope need m
+  pub group_less : TakesLess ok → (scope : Scope) (need : Need) (n m : ℕ) → m ≤ n → SomeGroup vertices ok scope need n →
+      SomeGroup vertices ok scope need m
   group_less less scope need n m le g =
-      group_from scope need m (can_fill_less (CanServe vertices ok scope need) (serves_less vertices ok less scope need) 0 n m le (group_to scope need n g))
+      group_from scope need m (can_fill_less (CanServe vertices ok scope need)
+      (serves_less vertices ok less scope need) 0 n m le (group_to scope need n g))
 
   -- a group of nothing
   pub group_zero : (scope : Scope) (need : Need) (n : ℕ) → n ≡ 0 → SomeGroup vertices ok scope need n
   group_zero scope need n e = ([], ([], tt, tt, sym e, refl))
 
   -- the need at an index of the list has a group
-  pub group_at : (k : ℕ) (scope : Scope) (needs : List Need) (i : ℕ) (need : Need) (rest : List Need) → drop i needs ≡ need ∷ rest → SomeFits vertices ok scope needs k →
+  pub group_at : (k : ℕ) (scope : Scope) (needs : List Need) (i : ℕ) (need : Need) (rest : List Need) →
+      drop i needs ≡ need ∷ rest → SomeFits vertices ok scope needs k →
       SomeGroup vertices ok scope need (k * amount_of need)
   group_at k scope [] zero need rest e f = absurd (cc)
   group_at k scope [] (suc i) need rest e f = absurd (cc)
   group_at k scope (n ∷ ns) zero need rest e f =
-      let same : n ≡ need = cc in subst (λ (x : Need). SomeGroup vertices ok scope x (k * amount_of x)) same (f.1.0, f.1.3)
+      let same : n ≡ need = cc in subst (λ (x : Need). SomeGroup vertices ok scope x (k * amount_of x)) same
+      (f.1.0, f.1.3)
   group_at k scope (n ∷ ns) (suc i) need rest e f = group_at k scope ns i need rest e (f.1.1, f.1.4)
 
   -- one more lowest-first group
-  pub lowest_more : (k : ℕ) (scope : Scope) (need : Need) (rest : List Need) (group others : List Claim) → LowestGroup vertices ok scope need (k * amount_of need) group →
+  pub lowest_more : (k : ℕ) (scope : Scope) (need : Need) (rest : List Need) (group others : List Claim) →
+      LowestGroup vertices ok scope need (k * amount_of need) group →
       Lowest vertices ok k scope rest others → Lowest vertices ok k scope (need ∷ rest) (group ++ others)
   lowest_more k scope need rest group others g low = (g.0, group, others, refl, g.1, g.2, low)
 
   -- lowest-first claims of the needs that are left complete those so far
   abbrev pub Completes : ℕ → Scope → List Need → List Need → List Claim → Type 0
-  Completes k scope needs left claims = (rest : List Claim) → Lowest vertices ok k scope left rest → Lowest vertices ok k scope needs (claims ++ rest)
+  Completes k scope needs left claims = (rest : List Claim) → Lowest vertices ok k scope left rest →
+      Lowest vertices ok k scope needs (claims ++ rest)
 
-  pub completes_next : (k : ℕ) (scope : Scope) (needs left rest : List Need) (need : Need) (claims group : List Claim) → left ≡ need ∷ rest → LowestGroup vertices ok scope need (k * amount_of need) group →
+  pub completes_next : (k : ℕ) (scope : Scope) (needs left rest : List Need) (need : Need) (claims group : List Claim) →
+      left ≡ need ∷ rest → LowestGroup vertices ok scope need (k * amount_of need) group →
       Completes k scope needs left claims → Completes k scope needs rest (claims ++ group)
   completes_next k scope needs left rest need claims group e g c others low =
       subst (Lowest vertices ok k scope needs) (sym (append_assoc claims group others))
-      (c (group ++ others) (subst (λ (ns : List Need). Lowest vertices ok k scope ns (group ++ others)) (sym e) (lowest_more k scope need rest group others g low)))
+      (c (group ++ others) (subst (λ (ns : List Need). Lowest vertices ok k scope ns (group ++ others)) (sym e)
+      (lowest_more k scope need rest group others g low)))
 
-  pub completes_end : (k : ℕ) (scope : Scope) (needs left : List Need) (claims : List Claim) → left ≡ [] → Completes k scope needs left claims → Lowest vertices ok k scope needs claims
+  pub completes_end : (k : ℕ) (scope : Scope) (needs left : List Need) (claims : List Claim) → left ≡ [] →
+      Completes k scope needs left claims → Lowest vertices ok k scope needs claims
   completes_end k scope needs left claims e c =
-      subst (Lowest vertices ok k scope needs) (append-nil claims) (c [] (subst (λ (ns : List Need). Lowest vertices ok k scope ns []) (sym e) refl))
+      subst (Lowest vertices ok k scope needs) (append-nil claims)
+      (c [] (subst (λ (ns : List Need). Lowest vertices ok k scope ns []) (sym e) refl))
 
   -- what serves is a vertex of the need, in the scope
-  pub server : (scope : Scope) (need : Need) (v q : ℕ) → CanServe vertices ok scope need v q → IsOfNeed vertices need v × IsIn vertices scope v
+  pub server : (scope : Scope) (need : Need) (v q : ℕ) → CanServe vertices ok scope need v q → IsOfNeed vertices need v
+      × IsIn vertices scope v
   server scope (Vert' kind count hold m needs) v q c = (c.1.2, c.1.1)
   server scope (Pool kind quantity) v q c = (c.1.1, c.1.0)
   server scope (Spread' count m needs) v q c = (c.1.1, c.1.0)
 
   -- a vertex need is served by one vertex at a time, by its claims
-  pub serves_vertex : (scope : Scope) (kind count : ℕ) (hold : Bool) (needs : List Need) (v : ℕ) → IsIn vertices scope v → HasKind vertices kind v → (claims : List Claim) →
+  pub serves_vertex : (scope : Scope) (kind count : ℕ) (hold : Bool) (needs : List Need) (v : ℕ) →
+      IsIn vertices scope v → HasKind vertices kind v → (claims : List Claim) →
       VertexClaims vertices ok hold needs v claims → CanServe vertices ok scope (Vert kind count hold needs) v 1
-  serves_vertex scope kind count hold needs v within is claims p = (claims, transport⁻¹ (piece_Vert vertices ok scope kind count hold needs v 1 claims) (refl, within, is, p))
+  serves_vertex scope kind count hold needs v within is claims p =
+      (claims, transport⁻¹ (piece_Vert vertices ok scope kind count hold needs v 1 claims) (refl, within, is, p))
 
-  pub vertex_serves : (scope : Scope) (kind count : ℕ) (hold : Bool) (needs : List Need) (v q : ℕ) → CanServe vertices ok scope (Vert kind count hold needs) v q →
+  pub vertex_serves : (scope : Scope) (kind count : ℕ) (hold : Bool) (needs : List Need) (v q : ℕ) →
+      CanServe vertices ok scope (Vert kind count hold needs) v q →
       (q ≡ 1) × ((claims : List Claim) × VertexClaims vertices ok hold needs v claims)
-  vertex_serves scope kind count hold needs v q c = let p = transport (piece_Vert vertices ok scope kind count hold needs v q c.0) c.1 in (p.0, (c.0, p.3))
+  vertex_serves scope kind count hold needs v q c = let p = transport
+      (piece_Vert vertices ok scope kind count hold needs v q c.0) c.1 in (p.0, (c.0, p.3))
 
   -- a spread is served by copies below one node
-  pub serves_copies : (scope : Scope) (count : ℕ) (needs : List Need) (v q : ℕ) → IsIn vertices scope v → IsNode vertices v → ok (Pass v) → SomeFits vertices ok (Beneath v) needs q →
+  pub serves_copies : (scope : Scope) (count : ℕ) (needs : List Need) (v q : ℕ) → IsIn vertices scope v →
+      IsNode vertices v → ok (Pass v) → SomeFits vertices ok (Beneath v) needs q →
       CanServe vertices ok scope (Spread count needs) v q
-  serves_copies scope count needs v q within is may f =
-      (Pass v ∷ f.0, transport⁻¹ (piece_Spread vertices ok scope count needs v q (Pass v ∷ f.0)) (within, is, (f.0, refl, may, f.1)))
+  serves_copies scope count needs v q within is may f = (
+    Pass v ∷ f.0,
+    transport⁻¹ (piece_Spread vertices ok scope count needs v q (Pass v ∷ f.0))
+        (within, is, (f.0, refl, may, f.1)),
+  )
 
-  pub copies_serve : (scope : Scope) (count : ℕ) (needs : List Need) (v q : ℕ) → CanServe vertices ok scope (Spread count needs) v q → ok (Pass v) × SomeFits vertices ok (Beneath v) needs q
-  copies_serve scope count needs v q c = let p = (transport (piece_Spread vertices ok scope count needs v q c.0) c.1).2 in (p.2, (p.0, p.3))
+  pub copies_serve : (scope : Scope) (count : ℕ) (needs : List Need) (v q : ℕ) →
+      CanServe vertices ok scope (Spread count needs) v q → ok (Pass v) × SomeFits vertices ok (Beneath v) needs q
+  copies_serve scope count needs v q c = let p =
+      (transport (piece_Spread vertices ok scope count needs v q c.0) c.1).2 in (p.2, (p.0, p.3))
 
   -- what is written for a vertex that is held, or shared, and for copies
   pub writes_hold : (kind count : ℕ) (needs : List Need) (v : ℕ) → LowestPiece vertices ok (Vert kind count true needs) v 1 (Hold v ∷ [])

@@ -36,7 +36,8 @@ module _ (vertices : List Vertex) (ok : Claim → Type 0) where
   -- the claims are the need's lowest-first group of so much
   abbrev pub LowestGroup : Scope → Need → ℕ → List Claim → Type 0
   LowestGroup scope need amount claims =
-      (picks : List Pick) × FillsFrom (CanServe vertices ok scope need) 0 amount picks × Pieces (LowestPiece vertices ok need) picks claims
+      (picks : List Pick) × FillsFrom (CanServe vertices ok scope need) 0 amount picks
+      × Pieces (LowestPiece vertices ok need) picks claims
 
   -- the claims meet one of a need of vertices by vertex v, which is held or shared
   abbrev pub VertexClaims : Bool → List Need → ℕ → List Claim → Type 0

@@ -19,12 +19,14 @@ tells_first a b f (inr is) = inr (ap (λ o. option_or o b) is)
 
 -- a fault of a pool type is the type's first
 pub pool_told : {T : Type 0} (types : Types) (within : Within) (raw : RawNeed) (r : Result T ShapeFault) → is_pool_type types (out-RawNeed raw).kind ≡ true →
-    IfErr r (IsFirstFault (pool_fault (out-RawNeed raw).kind (out-RawNeed raw).exclusive (is_some_list (out-RawNeed raw).with))) → IfErr r (IsFirstFault (type_fault_in types within raw))
+    IfErr r (IsFirstFault (pool_fault (out-RawNeed raw).kind (out-RawNeed raw).exclusive
+    (is_some_list (out-RawNeed raw).with))) → IfErr r (IsFirstFault (type_fault_in types within raw))
 pool_told types within raw r pool told =
     let fault = pool_fault (out-RawNeed raw).kind (out-RawNeed raw).exclusive (is_some_list (out-RawNeed raw).with) in
     let list = list_fault types (in_type types within (out-RawNeed raw).kind) (out-RawNeed raw).with in
     on_errors (IsFirstFault fault) (IsFirstFault (type_fault_in types within raw)) r
-    (λ f h. subst (λ (b : Bool). IsFirstFault (option_or (if b then fault else None) list) f) (sym pool) (tells_first fault list f h)) told
+    (λ f h. subst (λ (b : Bool). IsFirstFault (option_or (if b then fault else None) list) f) (sym pool)
+    (tells_first fault list f h)) told
 
 -- the list's first fault is that of a type that is no pool type
 pub vert_fault : (types : Types) (within : Within) (raw : RawNeed) → is_pool_type types (out-RawNeed raw).kind ≡ false →

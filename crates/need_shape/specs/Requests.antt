@@ -27,10 +27,12 @@ IsSomeRow end_of-RawNeed = ⊥
 IsSomeRow (more_of-RawNeed raw rest) = Unit {0}
 
 abbrev mutual
-  -- A request: its count is from 1 to the greatest number; a slot is in no slot, and something is asked for in it; and so for those in it.
+  -- A request: its count is from 1 to the greatest number; a slot is in no slot, and something is asked for in it; and
+  -- so for those in it.
   pub IsRequest : Bool → RawNeed → Type 0
   IsRequest in_slot (RawNeed' kind count exclusive m with) =
-      (1 ≤ count) × (count ≤ GREATEST_NUMBER) × (IsTrue (is_slot kind) → IsFalse in_slot × IsSomeRow with) × AreRequestsRow (is_slot kind || in_slot) with
+      (1 ≤ count) × (count ≤ GREATEST_NUMBER) × (IsTrue (is_slot kind) → IsFalse in_slot × IsSomeRow with)
+      × AreRequestsRow (is_slot kind || in_slot) with
 
   pub AreRequestsRow : Bool → {m : _} → Row_of-RawNeed m → Type 0
   AreRequestsRow in_slot end_of-RawNeed = Unit {0}

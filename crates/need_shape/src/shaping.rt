@@ -10,9 +10,7 @@ ghost use Rattle.need_shape.specs.Faults.{IsFirstFault, fault_of, members_fault_
 
 use crate::pairs::pairs_fault;
 use crate::raw::{RawNeed, ShapeFault};
-use crate::types::{
-    add_types, graph_types, is_inner, is_slot, names_upper, number_of,
-};
+use crate::types::{add_types, graph_types, is_inner, is_slot, names_upper, number_of};
 use flux_defs::{GREATEST_NUMBER, List, Need};
 use resource_graph::Graph;
 use std::alloc::{AllocError, Global};
@@ -119,7 +117,9 @@ fn shape_pool(alloc: Global, kind: u32, raw: &RawNeed) -> Result<Need, ShapeFaul
     ensures need { IfOk result (λ need. need ≡ Need.Pool kind (out-RawNeed raw.now).count) }
     ensures bare { IsOk result → (out-RawNeed raw.now).with ≡ [] }
     ensures fine { IsOk result → pool_fault (out-RawNeed raw.now).kind (out-RawNeed raw.now).exclusive (is_some_list (out-RawNeed raw.now).with) ≡ None }
-    ensures told { IfErr result (IsFirstFault (pool_fault (out-RawNeed raw.now).kind (out-RawNeed raw.now).exclusive (is_some_list (out-RawNeed raw.now).with))) }
+    ensures told { IfErr result (IsFirstFault
+        (pool_fault (out-RawNeed raw.now).kind (out-RawNeed raw.now).exclusive
+        (is_some_list (out-RawNeed raw.now).with))) }
 {
     if raw.exclusive.unwrap_or(false) {
         let kind = raw.kind.copy(alloc)?;
@@ -270,7 +270,8 @@ pub fn shape(
     requires { AreRequests false request.now }
     ensures needs { IfOk result (λ needs. needs ≡ needs_in (types_for graph.now.resources request.now) outside request.now) }
     ensures fine { IsOk result → list_fault (types_for graph.now.resources request.now) outside request.now ≡ None }
-    ensures told { IfErr result (IsFirstFault (list_fault (types_for graph.now.resources request.now) outside request.now)) }
+    ensures told { IfErr result (IsFirstFault
+        (list_fault (types_for graph.now.resources request.now) outside request.now)) }
     ensures valid { IfOk result (AreValidNeeds graph.now.resources.vertices) }
 {
     graph.is_valid();

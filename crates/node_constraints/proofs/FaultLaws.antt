@@ -1,12 +1,20 @@
 -- The fault that is meant.
-use Rattle.std.proofs.Common.{◌≡◌, sym, ◌∙◌, ap, ℕ, List, ◌++◌, append_assoc, Option, Some, None, Result, Ok, Err, IsOk, OnOk}
+use Rattle.std.proofs.Common.{◌≡◌, refl, sym, ◌∙◌, ap, ℕ, ◌+◌, drop, List, ◌∷◌, ◌++◌, append_assoc, Option, Some, None}
 use Rattle.std.specs.Option.{option_or}
 use Rattle.node_constraints.specs.declared.faults.ConstraintFault.{ConstraintFault}
 use Rattle.node_constraints.specs.declared.faults.ConstraintFault.TheVariants.{Form, Memory}
+use Rattle.serde_json.specs.declared.value.Value.{Value}
+use Rattle.serde_json.specs.Data.{Data, null, boolean, number, string, array, object}
+use Rattle.serde_json.specs.Find.{as_array, as_object}
+use Rattle.serde_json.specs.View.{view, items_view}
+use Rattle.json_fields.specs.Paths.{index}
+use Rattle.node_constraints.specs.declared.keys.Key.{Key}
+use Rattle.node_constraints.specs.Faults.{fault_at, key_fault, items_fault}
 use Rattle.node_constraints.specs.Narrowing.{Means}
 
 -- a fault of the first is that of all
-pub first_means : (path : List ℕ) (first later : Option (List ℕ)) (fault : ConstraintFault) → Means path first fault → Means path (option_or first later) fault
+pub first_means : (path : List ℕ) (first later : Option (List ℕ)) (fault : ConstraintFault) → Means path first fault →
+    Means path (option_or first later) fault
 first_means path first later (Form rest) means = ap (λ o. option_or o later) means
 first_means path first later Memory means = tt
 
@@ -15,17 +23,44 @@ pub later_is : (first later : Option (List ℕ)) → first ≡ None → option_o
 later_is first later none = ap (λ o. option_or o later) none
 
 -- another fault that is as good
-pub means_same : (path : List ℕ) (meant other : Option (List ℕ)) (fault : ConstraintFault) → meant ≡ other → Means path meant fault → Means path other fault
+pub means_same : (path : List ℕ) (meant other : Option (List ℕ)) (fault : ConstraintFault) → meant ≡ other →
+    Means path meant fault → Means path other fault
 means_same path meant other (Form rest) same means = sym same ∙ means
 means_same path meant other Memory same means = tt
 
 -- a fault that is told from further out
-pub means_behind : (path front rest text : List ℕ) (meant : Option (List ℕ)) → text ≡ front ++ rest → Means (path ++ front) meant (Form rest) → Means path meant (Form text)
+pub means_behind : (path front rest text : List ℕ) (meant : Option (List ℕ)) → text ≡ front ++ rest →
+    Means (path ++ front) meant (Form rest) → Means path meant (Form text)
 means_behind path front rest text meant joined means =
     means ∙ (ap Some (append_assoc path front rest) ∙ ap (λ t. Some (path ++ t)) (sym joined))
 
--- what is so where the one is Ok is so where the other is
-pub ok_along : {A E : Type 0} {P : Type 0} (r s : Result A E) → (IsOk r → IsOk s) → OnOk s P → OnOk r P
-ok_along (Ok x) (Ok y) along on = on
-ok_along (Ok x) (Err e) along on = absurd (along tt)
-ok_along (Err e) s along on = tt
+-- what is no object has its fault in itself
+pub no_object : (path : List ℕ) (d : Data) → as_object d ≡ None → fault_at path d ≡ Some path
+no_object path null none = refl
+no_object path (boolean b) none = refl
+no_object path (number x) none = refl
+no_object path (string s) none = refl
+no_object path (array ds) none = refl
+no_object path (object ms) none = absurd (cc)
+
+-- so has a constraint that has no list at a key
+pub no_list : (path k : List ℕ) (key : Key) (d : Data) → as_array d ≡ None → key_fault path k (Some key) d ≡ Some path
+no_list path k key null none = refl
+no_list path k key (boolean b) none = refl
+no_list path k key (number x) none = refl
+no_list path k key (string s) none = refl
+no_list path k key (array ds) none = absurd (cc)
+no_list path k key (object ms) none = refl
+
+-- behind members without a fault, that of the next one is that of all
+pub told_at : (list : List ℕ) (vs : List Value) (at : ℕ) (x : Value) (fault : ConstraintFault) →
+    drop at vs ≡ x ∷ drop (at + 1) vs →
+    items_fault list at (items_view (drop at vs)) ≡ items_fault list 0 (items_view vs) →
+    Means (list ++ index at) (fault_at (list ++ index at) (view x)) fault →
+    Means (list ++ index at) (items_fault list 0 (items_view vs)) fault
+told_at list vs at x fault here before told =
+    let inner = fault_at (list ++ index at) (view x) in
+    let later = items_fault list (at + 1) (items_view (drop (at + 1) vs)) in
+    means_same (list ++ index at) (option_or inner later) (items_fault list 0 (items_view vs)) fault
+    (ap (λ ys. items_fault list at (items_view ys)) (sym here) ∙ before)
+    (first_means (list ++ index at) inner later fault told)

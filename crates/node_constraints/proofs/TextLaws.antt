@@ -81,8 +81,11 @@ module _ {X : Type 0} (read : List ℕ → Result X ℕ) where
   read_fine path ds xs all = ap (unless path) (each_read ds ∙ ap is_some all)
 
   -- where some can't be read, the list has one
-  pub unread_fault : (path : List ℕ) (ds : Items) → read_all read ds ≡ None → (fault : ConstraintFault) → Means (Some path) fault → Means (unless path (each_text (λ text. is_ok (read text)) ds)) fault
-  unread_fault path ds none fault means = means_same (Some path) (unless path (each_text (λ text. is_ok (read text)) ds)) fault (sym (ap (unless path) (each_read ds ∙ ap is_some none))) means
+  pub unread_fault : (path : List ℕ) (ds : Items) → read_all read ds ≡ None → (fault : ConstraintFault) →
+      Means path (Some path) fault → Means path (unless path (each_text (λ text. is_ok (read text)) ds)) fault
+  unread_fault path ds none fault means =
+      means_same path (Some path) (unless path (each_text (λ text. is_ok (read text)) ds)) fault
+      (sym (ap (unless path) (each_read ds ∙ ap is_some none))) means
 
   -- some text has what is asked for where what some text is read as has it
   pub some_read : (test : X → Bool) (ds : Items) (xs : List X) → read_all read ds ≡ Some xs →

@@ -26,11 +26,10 @@ fn false_for(alloc: Global, graph: &Graph, constraint: &Value) -> Result<Vec<u32
 {
     let nodes = nodes_of(alloc, graph)?;
     let mut fitting = Vec::from_slice(alloc, nodes.as_slice())?;
-    if let Err(fault) = narrow(alloc, graph, constraint, &mut fitting) {
-        return Err(behind(alloc, ROOT, fault));
+    match narrow(alloc, graph, constraint, &mut fitting) {
+        Ok(()) => Ok(others_of(alloc, nodes.as_slice(), fitting.as_slice())?),
+        Err(fault) => Err(behind(alloc, ROOT, fault)),
     }
-    let bars = others_of(alloc, nodes.as_slice(), fitting.as_slice())?;
-    Ok(bars)
 }
 
 /// The nodes of a graph for which the constraint of a jobspec is false, in the order of their numbers. A constraint (RFC

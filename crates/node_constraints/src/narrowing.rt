@@ -45,7 +45,8 @@ fn joined(alloc: Global, front: &[u8], rest: &[u8]) -> Result<Text, AllocError>
 
 /// A fault that was told from an inner place on, told from the one before this front of its path.
 pub(crate) fn behind(alloc: Global, front: &[u8], fault: ConstraintFault) -> ConstraintFault
-    ensures { (path : List ℕ) (meant : Option (List ℕ)) → Means (path ++ front.now) meant fault → Means path meant result }
+    ensures { (path : List ℕ) (meant : Option (List ℕ)) → Means (path ++ front.now) meant fault →
+        Means path meant result }
 {
     let ConstraintFault::Form { path: rest } = fault else {
         return ConstraintFault::Memory;
@@ -58,7 +59,8 @@ pub(crate) fn behind(alloc: Global, front: &[u8], fault: ConstraintFault) -> Con
 
 /// A fault of the member with this index, told from the list on.
 fn in_member(alloc: Global, at: u64, fault: ConstraintFault) -> ConstraintFault
-    ensures { (list : List ℕ) (meant : Option (List ℕ)) → Means (list ++ index at) meant fault → Means list meant result }
+    ensures { (list : List ℕ) (meant : Option (List ℕ)) → Means (list ++ index at) meant fault →
+        Means list meant result }
 {
     match index_path(alloc, at) {
         Ok(front) => behind(alloc, front.bytes(), fault),
@@ -73,7 +75,8 @@ fn in_list(
     narrowed: Result<(), ConstraintFault>,
 ) -> Result<(), ConstraintFault>
     ensures ok { IsOk result → IsOk narrowed }
-    ensures found { (path : List ℕ) (meant : Option (List ℕ)) → Finds (list_path path key.now) narrowed meant → Finds path result meant }
+    ensures found { (path : List ℕ) (meant : Option (List ℕ)) → Finds (list_path path key.now) narrowed meant →
+        Finds path result meant }
 {
     match narrowed {
         Ok(()) => Ok(()),
@@ -253,7 +256,8 @@ fn narrow_by_list(
 ) -> Result<(), ConstraintFault>
     ensures kept { OnOk result (nodes.new.items ≡ where_true graph.now (λ n. list_is_true n known (items_view values.now) (each_true n (items_view values.now)) (some_true n (items_view values.now))) nodes.old.items) }
     ensures found { (path : List ℕ) → Finds path result
-        (list_fault path known (items_view values.now) (items_fault (list_path path key.now) 0 (items_view values.now))) }
+        (list_fault path known (items_view values.now)
+        (items_fault (list_path path key.now) 0 (items_view values.now))) }
 {
     match known {
         Key::Properties => narrow_by_properties(alloc, graph, values, nodes),

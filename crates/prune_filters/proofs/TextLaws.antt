@@ -31,10 +31,12 @@ no_colon_byte b h e = true≢false (sym (subst (λ x. is_name_byte x ≡ true) e
 
 no_colons : (bytes : List ℕ) → list_all is_name_byte bytes ≡ true → Lacks 58 bytes
 no_colons [] h = tt
-no_colons (b ∷ bs) h = let p = and_parts (is_name_byte b) (list_all is_name_byte bs) h in (no_colon_byte b p.0, no_colons bs p.1)
+no_colons (b ∷ bs) h = let p = and_parts (is_name_byte b) (list_all is_name_byte bs) h in
+    (no_colon_byte b p.0, no_colons bs p.1)
 
 pub no_colon : (name : List ℕ) → IsTrue (is_type_name name) → Lacks 58 name
-no_colon name h = no_colons name (and_parts (nat_lt 0 (length name) && nat_le (length name) 64) (list_all is_name_byte name) h).1
+no_colon name h = no_colons name
+    (and_parts (nat_lt 0 (length name) && nat_le (length name) 64) (list_all is_name_byte name) h).1
 
 -- so an item without a colon is no rule
 has_colon : (a b : List ℕ) → Lacks 58 (a ++ 58 ∷ b) → ⊥

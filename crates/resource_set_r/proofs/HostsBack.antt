@@ -49,7 +49,8 @@ ascii_append (x ∷ a) b all more = (all.0, ascii_append a b all.1 more)
 
 ascii_bytes : (bytes : List ℕ) → list_all is_name_byte bytes ≡ true → AreAscii bytes
 ascii_bytes [] h = tt
-ascii_bytes (b ∷ bytes) h = let both = and_parts (is_name_byte b) (list_all is_name_byte bytes) h in (name_byte_small b both.0, ascii_bytes bytes both.1)
+ascii_bytes (b ∷ bytes) h = let both = and_parts (is_name_byte b) (list_all is_name_byte bytes) h in
+    (name_byte_small b both.0, ascii_bytes bytes both.1)
 
 ascii_name : (name : List ℕ) → IsTrue (is_host_name name) → AreAscii name
 ascii_name name h = ascii_bytes name (and_parts _ _ h).1
@@ -73,11 +74,13 @@ utf8_from many first last (next ∷ names) a b all =
     by true joined new = joined
     by false joined new = (ascii_utf8 (run_text many first last) (ascii_run many first last a b), new)
 
-ascii_names : (names : List (List ℕ)) → AllByRecursion (λ name. IsTrue (is_host_name name)) names → AllByRecursion AreAscii names
+ascii_names : (names : List (List ℕ)) → AllByRecursion (λ name. IsTrue (is_host_name name)) names →
+    AllByRecursion AreAscii names
 ascii_names [] all = tt
 ascii_names (name ∷ names) all = (ascii_name name all.0, ascii_names names all.1)
 
-pub utf8_hostlists : (names : List (List ℕ)) → AllByRecursion (λ name. IsTrue (is_host_name name)) names → AllByRecursion IsUtf8 (hostlist_texts names)
+pub utf8_hostlists : (names : List (List ℕ)) → AllByRecursion (λ name. IsTrue (is_host_name name)) names →
+    AllByRecursion IsUtf8 (hostlist_texts names)
 utf8_hostlists [] all = tt
 utf8_hostlists (name ∷ names) all = let first = ascii_name name all.0 in utf8_from false name name names first first (ascii_names names all.1)
 
@@ -127,8 +130,10 @@ module _ (vertices : List Vertex) where
         by false g = cc
 
 -- a rank's node has a name, where all vertices have
-pub host_named : (g : NamedGraph) (rank n : ℕ) → length g.names ≡ length g.resources.vertices → AllByRecursion (λ name. IsTrue (is_host_name name)) g.names →
-    n < length g.resources.vertices → rank_of g.resources.vertices n ≡ Some rank → IsTrue (is_host_name (host_of g rank))
+pub host_named : (g : NamedGraph) (rank n : ℕ) → length g.names ≡ length g.resources.vertices →
+    AllByRecursion (λ name. IsTrue (is_host_name name)) g.names →
+    n < length g.resources.vertices → rank_of g.resources.vertices n ≡ Some rank →
+    IsTrue (is_host_name (host_of g rank))
 host_named g rank n named names lt is = by (node_with g.resources.vertices rank) refl
   where
     p : ℕ → Bool
@@ -140,9 +145,11 @@ host_named g rank n named names lt is = by (node_with g.resources.vertices rank)
     at : (v : ℕ) → v < length g.names → IsTrue (is_host_name (unwrap_or (slice_get g.names v) []))
     at v within =
         let here = slice_get-get_or g.names v [] within in
-        subst (λ (o : Option (List ℕ)). IsTrue (is_host_name (unwrap_or o []))) (sym here) (all_at (λ name. IsTrue (is_host_name name)) g.names v _ names here)
+        subst (λ (o : Option (List ℕ)). IsTrue (is_host_name (unwrap_or o []))) (sym here)
+        (all_at (λ name. IsTrue (is_host_name name)) g.names v _ names here)
 
-    by : (o : Option ℕ) → node_with g.resources.vertices rank ≡ o → IsTrue (is_host_name (option_map_or (λ v. unwrap_or (slice_get g.names v) []) o []))
+    by : (o : Option ℕ) → node_with g.resources.vertices rank ≡ o →
+        IsTrue (is_host_name (option_map_or (λ v. unwrap_or (slice_get g.names v) []) o []))
     by None e = absurd (found_some p (length g.resources.vertices) 0 n (omega arith) (omega arith) passes e)
     by (Some v) e =
         let found = find_some p (length g.resources.vertices) 0 v e in

@@ -60,7 +60,8 @@ pub readable_utf8 : (text : List ℕ) → IsUtf8 text → readable text ≡ text
 readable_utf8 text u = ap (λ b. if b then text else []) (is_utf8-from_IsUtf8 text u)
 
 -- the text of ids is read as their runs
-pub text_back : (at : FieldPath) (ids : List ℕ) → AreFine ids → idset_text_at at (readable (idset_text ids)) ≡ Ok (runs_of ids)
+pub text_back : (at : FieldPath) (ids : List ℕ) → AreFine ids →
+    idset_text_at at (readable (idset_text ids)) ≡ Ok (runs_of ids)
 text_back at ids fine =
     ap (idset_text_at at) (readable_utf8 (idset_text ids) (utf8_idset ids fine)) ∙ ap (idset_read at) (idset_of-runs_text (runs_of ids) (runs_of_fine ids fine))
 

@@ -73,7 +73,8 @@ no_fault bytes set (fault.RepeatedRank rank) p told = absurd (no_misread bytes s
 no_fault bytes set fault.Memory p told = refl
 
 -- what a reader answers of what was written of a job
-pub read_again : (bytes : List ℕ) (r : Result RSet RFault) → IfOk r (IsRText bytes) → IfErr r (IsFirstFault bytes) → (g : NamedGraph) (job : Job) → bytes ≡ r_text g job → CanBeRead g job →
+pub read_again : (bytes : List ℕ) (r : Result RSet RFault) → IfOk r (IsRText bytes) → IfErr r (IsFirstFault bytes) →
+    (g : NamedGraph) (job : Job) → bytes ≡ r_text g job → CanBeRead g job →
     MatchResult r (IsOfJob g job) (λ f. f ≡ fault.Memory)
 read_again bytes (Ok set) found told g job is can =
     let back = set_back g job can in
@@ -154,7 +155,8 @@ cause_of bytes (fault.RepeatedRank rank) other told = inr (misread.RepeatedRank 
 cause_of bytes fault.Memory other told = absurd (other refl)
 
 -- bytes have one fault at most
-pub one_fault : (bytes : List ℕ) (f k : RFault) → (f ≡ fault.Memory → ⊥) → (k ≡ fault.Memory → ⊥) → IsFirstFault bytes f → IsFirstFault bytes k → f ≡ k
+pub one_fault : (bytes : List ℕ) (f k : RFault) → (f ≡ fault.Memory → ⊥) → (k ≡ fault.Memory → ⊥) →
+    IsFirstFault bytes f → IsFirstFault bytes k → f ≡ k
 one_fault bytes f k no_f no_k p q = by (cause_of bytes f no_f p) (cause_of bytes k no_k q)
   where
     by : Cause bytes f → Cause bytes k → f ≡ k

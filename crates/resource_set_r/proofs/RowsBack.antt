@@ -28,12 +28,16 @@ use Rattle.resource_set_r.proofs.IdsBack.{AreFine, IsFine, text_back, ids_back, 
 
 -- ---- elements
 
-cores_back : (at : FieldPath) (cores gpus : List ℕ) → AreFine cores → idset_or_none at (get (codes "core") (object (with_ids (codes "core") cores (with_ids (codes "gpu") gpus no_members)))) ≡ Ok (runs_of cores)
+cores_back : (at : FieldPath) (cores gpus : List ℕ) → AreFine cores →
+    idset_or_none at (get (codes "core")
+    (object (with_ids (codes "core") cores (with_ids (codes "gpu") gpus no_members)))) ≡ Ok (runs_of cores)
 cores_back at [] [] fine = refl
 cores_back at [] (gpu ∷ gpus) fine = refl
 cores_back at (core ∷ cores) gpus fine = text_back at (core ∷ cores) fine
 
-gpus_back : (at : FieldPath) (cores gpus : List ℕ) → AreFine gpus → idset_or_none at (get (codes "gpu") (object (with_ids (codes "core") cores (with_ids (codes "gpu") gpus no_members)))) ≡ Ok (runs_of gpus)
+gpus_back : (at : FieldPath) (cores gpus : List ℕ) → AreFine gpus →
+    idset_or_none at (get (codes "gpu")
+    (object (with_ids (codes "core") cores (with_ids (codes "gpu") gpus no_members)))) ≡ Ok (runs_of gpus)
 gpus_back at [] [] fine = refl
 gpus_back at (core ∷ cores) [] fine = refl
 gpus_back at [] (gpu ∷ gpus) fine = text_back at (gpu ∷ gpus) fine
@@ -42,12 +46,15 @@ gpus_back at (core ∷ cores) (gpu ∷ gpus) fine = text_back at (gpu ∷ gpus) 
 children_back : (at : ℕ) (ranks : List Range) (c : Children) → AreFine c.cores → AreFine c.gpus → row_with at ranks (children_data c) ≡ Ok (record { ranks = ranks; cores = runs_of c.cores; gpus = runs_of c.gpus })
 children_back at ranks c cores gpus =
     let d = children_data c in
-    ap (λ r. result_and_then r (λ xs. result_and_then (idset_or_none (field.Gpu at) (get (codes "gpu") d)) (λ ys. Ok (record { ranks = ranks; cores = xs; gpus = ys })))) (cores_back (field.Core at) c.cores c.gpus cores)
-    ∙ ap (λ r. result_and_then r (λ ys. Ok (record { ranks = ranks; cores = runs_of c.cores; gpus = ys }))) (gpus_back (field.Gpu at) c.cores c.gpus gpus)
+    ap (λ r. result_and_then r (λ xs. result_and_then (idset_or_none (field.Gpu at) (get (codes "gpu") d))
+    (λ ys. Ok (record { ranks = ranks; cores = xs; gpus = ys })))) (cores_back (field.Core at) c.cores c.gpus cores)
+    ∙ ap (λ r. result_and_then r (λ ys. Ok (record { ranks = ranks; cores = runs_of c.cores; gpus = ys })))
+    (gpus_back (field.Gpu at) c.cores c.gpus gpus)
 
 element_back : (at : ℕ) (e : Element) → IsFine e → row_of at (element_data e) ≡ Ok (row_of_element e)
 element_back at e fine =
-    ap (λ r. result_and_then r (λ ranks. row_with at ranks (children_data e.children))) (text_back (field.Rank at) e.ranks fine.ranks)
+    ap (λ r. result_and_then r (λ ranks. row_with at ranks (children_data e.children)))
+    (text_back (field.Rank at) e.ranks fine.ranks)
     ∙ children_back at (runs_of e.ranks) e.children fine.cores fine.gpus
 
 pub elements_back : (at : ℕ) (es : List Element) → AllByRecursion IsFine es → rows_from at (elements_data es) ≡ Ok (map row_of_element es)
@@ -90,7 +97,8 @@ hosts_back at (text ∷ texts) names utf8 are =
     let hosts = are.0 in
     let others = are.1 in
     let rest = hosts_back (suc at) texts others utf8.1 are.4 in
-    let one : host_value at (string (readable text)) ≡ Ok hosts = ap (λ t. hosts_read (field.Host at) (hostlist_of t)) (readable_utf8 text utf8.0) ∙ ap (hosts_read (field.Host at)) are.2 in
+    let one : host_value at (string (readable text)) ≡ Ok hosts = ap (λ t. hosts_read (field.Host at) (hostlist_of t))
+    (readable_utf8 text utf8.0) ∙ ap (hosts_read (field.Host at)) are.2 in
     record {
       hosts = hosts ++ rest.hosts;
       read = ap (λ r. result_and_then r (λ hs. result_map_both (λ more. hs ++ more) (λ m. m) (hosts_from (suc at) (texts_data texts)))) one ∙ ap (result_map_both (λ more. hosts ++ more) (λ m. m)) rest.read;

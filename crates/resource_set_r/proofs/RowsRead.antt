@@ -40,11 +40,13 @@ ordered_when_rising : (least : ℕ) (ranges : List Range) → Rises least ranges
 ordered_when_rising least [] r = tt
 ordered_when_rising least (range ∷ ranges) r = (r.1.ordered, ordered_when_rising (range.hi + 1) ranges r.2)
 
-read_ordered : (at : FieldPath) (o : Result (List Range) ℕ) (ranges : List Range) → idset_read at o ≡ Ok ranges → o ≡ Ok ranges
+read_ordered : (at : FieldPath) (o : Result (List Range) ℕ) (ranges : List Range) → idset_read at o ≡ Ok ranges →
+    o ≡ Ok ranges
 read_ordered at (Ok xs) ranges e = let same : xs ≡ ranges = cc in ap Ok same
 read_ordered at (Err k) ranges e = absurd (cc)
 
-idset_ordered : (at : FieldPath) (key : List ℕ) (d : Data) (ranges : List Range) → idset_field at key d ≡ Ok ranges → AllByRecursion Ordered ranges
+idset_ordered : (at : FieldPath) (key : List ℕ) (d : Data) (ranges : List Range) → idset_field at key d ≡ Ok ranges →
+    AllByRecursion Ordered ranges
 idset_ordered at key d ranges e =
     let text = then_ok (at_field at (text_field key d)) (idset_text_at at) ranges e in
     ordered_when_rising 0 ranges (idset_rises text.0 ranges (idset_was_read text.0 ranges (read_ordered at (idset_of text.0) ranges text.2)))
@@ -59,12 +61,19 @@ ok_ranks ranks cores gpus row e = ap (λ (r : Result RRow Misread). ranks_or_non
 row_ordered : (at : ℕ) (d : Data) (row : RRow) → row_of at d ≡ Ok row → AllByRecursion Ordered row.ranks
 row_ordered at d row e =
     let o = then_ok (at_field (field.Row at) (object_value d)) (row_in at) row e in
-    let ranks = then_ok (idset_field (field.Rank at) (codes "rank") o.0) (λ ranks. result_and_then (at_field (field.Children at) (object_field (codes "children") o.0)) (row_with at ranks)) row o.2 in
-    let children = then_ok (at_field (field.Children at) (object_field (codes "children") o.0)) (row_with at ranks.0) row ranks.2 in
-    let cores = then_ok (idset_or_none (field.Core at) (get (codes "core") children.0)) (λ cores. result_and_then (idset_or_none (field.Gpu at) (get (codes "gpu") children.0)) (λ gpus. Ok (record { ranks = ranks.0; cores = cores; gpus = gpus }))) row children.2 in
-    let gpus = then_ok (idset_or_none (field.Gpu at) (get (codes "gpu") children.0)) (λ gpus. Ok (record { ranks = ranks.0; cores = cores.0; gpus = gpus })) row cores.2 in
+    let ranks = then_ok (idset_field (field.Rank at) (codes "rank") o.0)
+    (λ ranks. result_and_then (at_field (field.Children at) (object_field (codes "children") o.0))
+    (row_with at ranks)) row o.2 in
+    let children = then_ok (at_field (field.Children at) (object_field (codes "children") o.0))
+    (row_with at ranks.0) row ranks.2 in
+    let cores = then_ok (idset_or_none (field.Core at) (get (codes "core") children.0))
+    (λ cores. result_and_then (idset_or_none (field.Gpu at) (get (codes "gpu") children.0))
+    (λ gpus. Ok (record { ranks = ranks.0; cores = cores; gpus = gpus }))) row children.2 in
+    let gpus = then_ok (idset_or_none (field.Gpu at) (get (codes "gpu") children.0))
+    (λ gpus. Ok (record { ranks = ranks.0; cores = cores.0; gpus = gpus })) row cores.2 in
     let same : ranks.0 ≡ row.ranks = ok_ranks ranks.0 cores.0 gpus.0 row gpus.2 in
-    subst (λ (rs : List Range). AllByRecursion Ordered rs) same (idset_ordered (field.Rank at) (codes "rank") o.0 ranks.0 ranks.1)
+    subst (λ (rs : List Range). AllByRecursion Ordered rs) same
+    (idset_ordered (field.Rank at) (codes "rank") o.0 ranks.0 ranks.1)
 
 all_joined : (xs ys : List Range) → AllByRecursion Ordered xs → AllByRecursion Ordered ys → AllByRecursion Ordered (xs ++ ys)
 all_joined [] ys a b = b
@@ -73,7 +82,8 @@ all_joined (x ∷ xs) ys a b = (a.0, all_joined xs ys a.1 b)
 rows_ordered : (at : ℕ) (ds : Items) (rows : List RRow) → rows_from at ds ≡ Ok rows → AllByRecursion Ordered (ranges_in rows)
 rows_ordered at no_items rows e = let same : [] ≡ rows = cc in subst (λ (rs : List RRow). AllByRecursion Ordered (ranges_in rs)) same tt
 rows_ordered at (item d ds) rows e =
-    let first = then_ok (row_of at d) (λ row. result_map_both (λ rows. row ∷ rows) (λ m. m) (rows_from (suc at) ds)) rows e in
+    let first = then_ok (row_of at d)
+    (λ row. result_map_both (λ rows. row ∷ rows) (λ m. m) (rows_from (suc at) ds)) rows e in
     let others = mapped_ok (rows_from (suc at) ds) (λ rows. first.0 ∷ rows) rows first.2 in
     subst (λ (rs : List RRow). AllByRecursion Ordered (ranges_in rs)) others.2
     (all_joined first.0.ranks (ranges_in others.0) (row_ordered at d first.0 first.1) (rows_ordered (suc at) ds others.0 others.1))
@@ -87,11 +97,13 @@ ranges_ordered e rows is =
 -- ---- what is found of a value
 
 module _ (e : Data) (rows : List RRow) (read : rows_in e ≡ Ok rows) where
-  pub set_found : (r : Result RSet ReadError) → IsResultOf r (set_with rows e) → IsRepeatedRank (ranges_in rows) None → IfOk r (λ set. (d : Data) → execution_of d ≡ Ok e → IsSetOf d set)
+  pub set_found : (r : Result RSet ReadError) → IsResultOf r (set_with rows e) → IsRepeatedRank (ranges_in rows) None →
+      IfOk r (λ set. (d : Data) → execution_of d ≡ Ok e → IsSetOf d set)
   set_found (Ok set) gives none = λ d is. (e, rows, (is, read), none, gives)
   set_found (Err m) gives none = tt
 
-  pub error_found : (r : Result RSet ReadError) → IsResultOf r (set_with rows e) → IsRepeatedRank (ranges_in rows) None → IfErr r (λ m. (d : Data) → execution_of d ≡ Ok e → IsErrorOf d m)
+  pub error_found : (r : Result RSet ReadError) → IsResultOf r (set_with rows e) →
+      IsRepeatedRank (ranges_in rows) None → IfErr r (λ m. (d : Data) → execution_of d ≡ Ok e → IsErrorOf d m)
   error_found (Ok set) gives none = tt
   error_found (Err (error.Misread m)) gives none = λ d is. inr (inr (e, rows, (is, read), none, gives))
   error_found (Err error.Memory) gives none = λ d is. tt

@@ -67,8 +67,10 @@ module _ (g : NamedGraph) (job : Job) (can : CanBeRead g job) where
   named : AllByRecursion (λ name. IsTrue (is_host_name name)) names
   named =
       all_mapped (λ name. IsTrue (is_host_name name)) (host_of g) ranks
-      (all_rising (λ rank. IsTrue (is_host_name (host_of g rank))) (filter_map (rank_above vertices) (given vertices job.claims))
-      (all_found (λ rank. IsTrue (is_host_name (host_of g rank))) (rank_above vertices) (given vertices job.claims) (λ v rank e.
+      (all_rising (λ rank. IsTrue (is_host_name (host_of g rank)))
+      (filter_map (rank_above vertices) (given vertices job.claims))
+      (all_found (λ rank. IsTrue (is_host_name (host_of g rank))) (rank_above vertices) (given vertices job.claims)
+      (λ v rank e.
       let above = ranked_above vertices v rank e in host_named g rank above.0 can.named can.names above.1 above.2)))
 
   again : AreHostlistsOf (hostlist_texts names) names
@@ -97,7 +99,9 @@ module _ (g : NamedGraph) (job : Job) (can : CanBeRead g job) where
 
   seconds_read : seconds_of (execution_data g job) ≡ Ok (job.start, job.end)
   seconds_read =
-      ap (λ r. result_and_then r (λ start. result_and_then (second_or_zero field.Expiration (get (codes "expiration") (execution_data g job))) (λ end. Ok (start, end)))) (second_back field.Starttime job.start can.start)
+      ap (λ r. result_and_then r (λ start. result_and_then
+      (second_or_zero field.Expiration (get (codes "expiration") (execution_data g job))) (λ end. Ok (start, end))))
+      (second_back field.Starttime job.start can.start)
       ∙ ap (λ r. result_and_then r (λ end. Ok (job.start, end))) (second_back field.Expiration job.end can.end)
 
   set_read : set_with rows (execution_data g job) ≡ Ok set

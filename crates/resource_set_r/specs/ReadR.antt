@@ -32,7 +32,8 @@ hosts_read at (Err k) = Err (misread.Field at Text)
 
 -- the hosts that the value with this index is
 abbrev pub host_value : ℕ → Data → Result (List Hosts) Misread
-host_value at d = result_and_then (at_field (field.Host at) (text_or_kind (as_str d))) (λ text. hosts_read (field.Host at) (hostlist_of text))
+host_value at d = result_and_then (at_field (field.Host at) (text_or_kind (as_str d)))
+    (λ text. hosts_read (field.Host at) (hostlist_of text))
 
 -- the hosts of a list from this index on
 abbrev pub hosts_from : ℕ → Items → Result (List Hosts) Misread
@@ -115,7 +116,8 @@ HasMisread bytes m = (d : Data) × (value_of bytes ≡ Some d) × IsMisreadOf d 
 -- Which fault the bytes have: what is looked at first is told first. Of want of memory nothing is said.
 abbrev pub IsFirstFault : List ℕ → RFault → Type 0
 IsFirstFault bytes fault.NotJson = value_of bytes ≡ None
-IsFirstFault bytes (fault.Field path f) = (at : FieldPath) × (path ≡ field_path at) × HasMisread bytes (misread.Field at f)
+IsFirstFault bytes (fault.Field path f) = (at : FieldPath) × (path ≡ field_path at)
+    × HasMisread bytes (misread.Field at f)
 IsFirstFault bytes fault.Version = HasMisread bytes misread.Version
 IsFirstFault bytes (fault.Idset path) = (at : FieldPath) × (path ≡ field_path at) × HasMisread bytes (misread.Idset at)
 IsFirstFault bytes fault.Hosts = HasMisread bytes misread.Hosts

@@ -63,7 +63,8 @@ rows_from at (item d ds) = result_and_then (row_of at d) (λ row. result_map_bot
 
 -- the version is 1
 abbrev pub version_of : Data → Result ℕ Misread
-version_of d = result_and_then (at_field field.Version (u64_field (codes "version") 0 (2 ^ 64 - 1) d)) (λ n. if n == 1 then Ok n else Err Version)
+version_of d = result_and_then (at_field field.Version (u64_field (codes "version") 0 (2 ^ 64 - 1) d))
+    (λ n. if n == 1 then Ok n else Err Version)
 
 -- what stands at `execution`
 abbrev pub execution_of : Data → Result Data Misread

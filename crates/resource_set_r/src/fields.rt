@@ -43,10 +43,10 @@ pub(crate) fn field_path(alloc: Global, field: FieldPath) -> Result<Text, AllocE
 }
 
 /// What a field gives, or its fault there.
-pub(crate) fn at_field<T>(field: FieldPath, field: Result<T, FieldFault>) -> Result<T, Misread>
-    ensures { result ≡ at_field field field }
+pub(crate) fn at_field<T>(field: FieldPath, read: Result<T, FieldFault>) -> Result<T, Misread>
+    ensures { result ≡ at_field field read }
 {
-    match field {
+    match read {
         Ok(found) => Ok(found),
         Err(fault) => Err(Misread::Field { field, fault }),
     }
@@ -60,8 +60,13 @@ pub(crate) fn object_of(value: &Value, field: FieldPath) -> Result<&Value, Misre
 }
 
 /// The object at a key.
-pub(crate) fn object_at<'a>(value: &'a Value, key: &str, field: FieldPath) -> Result<&'a Value, Misread>
-    ensures { result_map_both (λ v. view v.now) (λ e. e) result ≡ at_field field (object_field key.now (view value.now)) }
+pub(crate) fn object_at<'a>(
+    value: &'a Value,
+    key: &str,
+    field: FieldPath,
+) -> Result<&'a Value, Misread>
+    ensures { result_map_both (λ v. view v.now) (λ e. e) result ≡ at_field field
+        (object_field key.now (view value.now)) }
 {
     at_field(field, object_field(value, key))
 }
@@ -72,14 +77,16 @@ pub(crate) fn list_at<'a>(
     key: &str,
     field: FieldPath,
 ) -> Result<&'a Vec<Value>, Misread>
-    ensures { result_map_both (λ v. items_view v.now.items) (λ e. e) result ≡ at_field field (list_field key.now (view value.now)) }
+    ensures { result_map_both (λ v. items_view v.now.items) (λ e. e) result ≡ at_field field
+        (list_field key.now (view value.now)) }
 {
     at_field(field, list_field(value, key))
 }
 
 /// A value that is a list.
 pub(crate) fn list_of(value: &Value, field: FieldPath) -> Result<&Vec<Value>, Misread>
-    ensures { result_map_both (λ v. items_view v.now.items) (λ e. e) result ≡ at_field field (list_value (view value.now)) }
+    ensures { result_map_both (λ v. items_view v.now.items) (λ e. e) result ≡ at_field field
+        (list_value (view value.now)) }
 {
     at_field(field, list_value(value))
 }

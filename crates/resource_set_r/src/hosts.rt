@@ -8,7 +8,7 @@ ghost use Rattle.resource_set_r.specs.declared.sets_read.RRow.{RRow};
 ghost use Rattle.resource_set_r.specs.Misreads.{IsResultOf};
 ghost use Rattle.resource_set_r.specs.ReadR.{host_value, hosts_from, hosts_fit, hosts_for, hosts_in};
 
-use crate::faults::{Misread, FieldPath, ReadError};
+use crate::faults::{FieldPath, Misread, ReadError};
 use crate::fields::{list_of, text_value};
 use flux_defs::List;
 use idset_text::{Hosts, Range, TextFault, read_hostlist};
@@ -110,7 +110,8 @@ fn hosts_fit(values: &[Value], ranks: u128, hosts: &[Hosts]) -> bool
 
 /// The hosts that a list has for so many ranks.
 fn hosts_for(alloc: Global, ranks: u128, values: &[Value]) -> Result<List<Hosts>, ReadError>
-    ensures { (rows : List RRow) → ranks ≡ length (ids_of (ranges_in rows)) → IsResultOf result (hosts_for rows (items_view values.now)) }
+    ensures { (rows : List RRow) → ranks ≡ length (ids_of (ranges_in rows)) →
+        IsResultOf result (hosts_for rows (items_view values.now)) }
 {
     let hosts = match hosts_from(alloc, values) {
         Ok(hosts) => hosts,
@@ -129,7 +130,8 @@ pub(crate) fn hosts_in(
     ranks: u128,
     execution: &Value,
 ) -> Result<List<Hosts>, ReadError>
-    ensures { (rows : List RRow) → ranks ≡ length (ids_of (ranges_in rows)) → IsResultOf result (hosts_in rows (view execution.now)) }
+    ensures { (rows : List RRow) → ranks ≡ length (ids_of (ranges_in rows)) →
+        IsResultOf result (hosts_in rows (view execution.now)) }
 {
     let Some(found) = execution.get("nodelist") else {
         return hosts_for(alloc, ranks, &[]);

@@ -21,8 +21,10 @@ pub fn written_sets_are_read_back()
 /// A law: the bytes say one set at most, have no fault where they say one, and have one fault at most, want of memory aside.
 pub fn a_text_has_one_set()
     ensures one { (bytes : List ℕ) (a b : RSet) → IsRText bytes a → IsRText bytes b → a ≡ b }
-    ensures faultless { (bytes : List ℕ) (set : RSet) (fault : RFault) → IsRText bytes set → IsFirstFault bytes fault → fault ≡ RFault.Memory }
-    ensures one_fault { (bytes : List ℕ) (a b : RFault) → a ≢ RFault.Memory → b ≢ RFault.Memory → IsFirstFault bytes a → IsFirstFault bytes b → a ≡ b }
+    ensures faultless { (bytes : List ℕ) (set : RSet) (fault : RFault) → IsRText bytes set → IsFirstFault bytes fault →
+        fault ≡ RFault.Memory }
+    ensures one_fault { (bytes : List ℕ) (a b : RFault) → a ≢ RFault.Memory → b ≢ RFault.Memory → IsFirstFault bytes a →
+        IsFirstFault bytes b → a ≡ b }
 {}
 
 /// A law: a job with quantities of 64 bits, from and to seconds up to 2^46, on a graph that a graph file can hold is such a job.

@@ -7,7 +7,7 @@ ghost use Rattle.serde_json.specs.View.{view, items_view};
 ghost use Rattle.resource_set_r.specs.Misreads.{IsResultOf};
 ghost use Rattle.resource_set_r.specs.ReadRows.{idset_text_at, idset_or_none, idset_field, row_with, row_in, row_of, rows_from, rows_in, ranges_in, overlap_from, IsRepeatedRank};
 
-use crate::faults::{Misread, FieldPath, ReadError};
+use crate::faults::{FieldPath, Misread, ReadError};
 use crate::fields::{list_at, object_at, object_of, text_at, text_value};
 use crate::sets_read::RRow;
 use flux_defs::List;

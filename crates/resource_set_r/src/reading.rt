@@ -12,7 +12,7 @@ ghost use Rattle.resource_set_r.specs.Misreads.{IsResultOf};
 ghost use Rattle.resource_set_r.specs.ReadRows.{execution_of, ranges_in};
 ghost use Rattle.resource_set_r.specs.ReadR.{seconds_of, set_with, IsSetOf, IsErrorOf, IsToldAs, IsRText, IsFirstFault};
 
-use crate::faults::{Misread, FieldPath, RFault, ReadError};
+use crate::faults::{FieldPath, Misread, RFault, ReadError};
 use crate::fields::{execution_of, field_path, second_or_zero};
 use crate::hosts::{hosts_in, rank_count};
 use crate::ranks::{ranges_in, repeated_rank, rows_in};

@@ -40,7 +40,8 @@ module _ (vertices : List Vertex) (ok : Claim → Type 0) where
       subst (AllByRecursion IsHad) (sym g.2) (all_append IsHad g.0 g.1 (each p.0 p.1 g.0 some.0 g.3) (pieces_had piece each ps g.1 some.1 g.4))
 
   mutual
-    piece_had : (scope : Scope) (need : Need) → IsValidNeed vertices need → (v q : ℕ) (cs : List Claim) → 1 ≤ q → Piece vertices ok scope need v q cs → AllByRecursion IsHad cs
+    piece_had : (scope : Scope) (need : Need) → IsValidNeed vertices need → (v q : ℕ) (cs : List Claim) → 1 ≤ q →
+        Piece vertices ok scope need v q cs → AllByRecursion IsHad cs
     piece_had scope (Vert' kind count true m needs) valid v q cs some p = one (Hold v) cs p.3.0 (p.3.1, tt)
     piece_had scope (Vert' kind count false m needs) valid v q cs some p =
         subst (AllByRecursion IsHad) (sym p.3.1) ((p.3.2, tt), row_had 1 (Beneath v) needs valid.2 p.3.0 p.3.3)
@@ -49,13 +50,16 @@ module _ (vertices : List Vertex) (ok : Claim → Type 0) where
     piece_had scope (Spread' count m needs) valid v q cs some p =
         subst (AllByRecursion IsHad) (sym p.2.1) ((p.2.2, tt), row_had q (Beneath v) needs valid.3 p.2.0 p.2.3)
 
-    row_had : {m : _} (k : ℕ) (scope : Scope) (row : Row_of-Need m) → AreValidRow vertices row → (cs : List Claim) → FitsRow vertices ok k scope row cs → AllByRecursion IsHad cs
+    row_had : {m : _} (k : ℕ) (scope : Scope) (row : Row_of-Need m) → AreValidRow vertices row → (cs : List Claim) →
+        FitsRow vertices ok k scope row cs → AllByRecursion IsHad cs
     row_had k scope end_of-Need valid cs f = subst (AllByRecursion IsHad) (sym f) tt
     row_had k scope (more_of-Need need rest) valid cs f =
         subst (AllByRecursion IsHad) (sym f.2)
-        (all_append IsHad f.0 f.1 (pieces_had (Piece vertices ok scope need) (piece_had scope need valid.0) f.3.0 f.0 f.3.2 f.3.4) (row_had k scope rest valid.2 f.1 f.4))
+        (all_append IsHad f.0 f.1 (pieces_had (Piece vertices ok scope need)
+        (piece_had scope need valid.0) f.3.0 f.0 f.3.2 f.3.4) (row_had k scope rest valid.2 f.1 f.4))
 
-  pub fits_had : (k : ℕ) (scope : Scope) (needs : List Need) → AreValidNeeds vertices needs → (claims : List Claim) → Fits vertices ok k scope needs claims → AllByRecursion IsHad claims
+  pub fits_had : (k : ℕ) (scope : Scope) (needs : List Need) → AreValidNeeds vertices needs → (claims : List Claim) →
+      Fits vertices ok k scope needs claims → AllByRecursion IsHad claims
   fits_had k scope needs valid claims fit =
       row_had k scope (hidden-the_row-Need-0 needs) (valid_to_row vertices needs valid) claims
       (transport⁻¹ (ap (λ (h : List Claim → Type 0). h claims) (fits_list vertices ok needs k scope)) fit)

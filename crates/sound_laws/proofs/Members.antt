@@ -16,4 +16,3 @@ any_at test (y ∷ ys) x (suc k) lt e h = or_right (test y) (list_any test ys) (
 -- a member that passes a test
 pub any_member : {X : Type 0} (test : X → Bool) (xs : List X) (x : X) → Contains xs x → IsTrue (test x) → IsTrue (list_any test xs)
 any_member test xs x (k, lt, e) h = any_at test xs x k lt e h
-

@@ -38,7 +38,8 @@ was_found : (n len m : ℕ) (b : Bool) → nat_lt n len ≡ b → (if b then Som
 was_found n len m true e is = (let same : n ≡ m = cc in same, ltb-true n len e)
 was_found n len m false e is = absurd (cc)
 
-any_by : (b : Bool) (n len : ℕ) (any : Bool) → cond (not b) (1 + n) 0 < suc len → (n < len → any ≡ true) → (b || any) ≡ true
+any_by : (b : Bool) (n len : ℕ) (any : Bool) → cond (not b) (1 + n) 0 < suc len → (n < len → any ≡ true) →
+    (b || any) ≡ true
 any_by true n len any lt later = refl
 any_by false n len any lt later = later (omega (arith, lt))
 
@@ -47,7 +48,8 @@ is_there q [] lt = absurd (omega (arith, lt))
 is_there q (x ∷ xs) lt = any_by (bytes_eq q x) (place_of xs q) (length xs) (list_any (bytes_eq q) xs) lt (is_there q xs)
 
 -- a text that has a number is there
-pub found_text : (texts : List (List ℕ)) (q : List ℕ) (n : ℕ) → position (bytes_eq q) texts ≡ Some n → (texts ≡ with_text texts q) × (n ≡ place_of texts q)
+pub found_text : (texts : List (List ℕ)) (q : List ℕ) (n : ℕ) → position (bytes_eq q) texts ≡ Some n →
+    (texts ≡ with_text texts q) × (n ≡ place_of texts q)
 found_text texts q n is =
     let found = was_found (place_of texts q) (length texts) n (nat_lt (place_of texts q) (length texts)) refl is in
     (sym (ap (λ b. if b then texts else texts ++ q ∷ []) (is_there q texts found.1)), sym found.0)

@@ -3,4 +3,5 @@ use Rattle.match_laws.proofs.NeedLists.{fits_alone, alone_fits}
 use Rattle.match_laws.proofs.needs_fit_alone.Goals as goal
 
 pub returns : goal.returns
-returns c = λ s w k scope needs. (fits_alone s.vertices (IsAvailable s w) k scope needs, alone_fits s.vertices (IsAvailable s w) k scope needs)
+returns c = λ s w k scope needs.
+    (fits_alone s.vertices (IsAvailable s w) k scope needs, alone_fits s.vertices (IsAvailable s w) k scope needs)

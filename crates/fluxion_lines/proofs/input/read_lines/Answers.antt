@@ -24,7 +24,8 @@ returns-in-Err-with_bars-clause-over c =
     let raw = c.cut_line.result.0.now in
     let split = first_line raw c.cut_line.result.1.now c.lines.rest.now c.cut_line.ensures.feed c.cut_line.ensures.begins in
     let at : c.len.result ≡ length c.lines.lines.items = search rules in
-    let own : bars_of_command c.in-Ok.line.command ≡ bars_in g c.args.form raw = ap (λ (l : ClientLine). bars_of_command l.command) c.in-Ok.ensures.line in
+    let own : bars_of_command c.in-Ok.line.command ≡ bars_in g c.args.form raw = ap
+    (λ (l : ClientLine). bars_of_command l.command) c.in-Ok.ensures.line in
     let here : over_bars c.args.limits.now (c.len.result + 1) (c.lines.bars + bars_in g c.args.form raw) ≡ Some c.in-Err-with_bars.over =
     ap (λ n. over_bars c.args.limits.now (c.len.result + 1) (c.lines.bars + n)) (sym own) ∙ c.in-Err-with_bars.ensures.over in
     inr (
@@ -56,12 +57,15 @@ lines-preserved c =
     let few = c.lines.invariant.few in
     let items = c.in_ok-push.ensures.ok in
     let at : c.len.result ≡ length done = search rules in
-    let long : length c.push.new.items.items ≡ length done + 1 = ap length items ∙ length-append done (c.in-Ok.line ∷ []) in
+    let long : length c.push.new.items.items ≡ length done + 1 = ap length items
+    ∙ length-append done (c.in-Ok.line ∷ []) in
     let lines : c.push.new.items.items ≡ done ++ line_at g form table (length done + 1) raw ∷ [] =
-    items ∙ ap (λ (l : ClientLine). done ++ l ∷ []) (c.in-Ok.ensures.line ∙ ap (λ n. line_at g form table (n + 1) raw) at) in
+    items ∙ ap (λ (l : ClientLine). done ++ l ∷ [])
+    (c.in-Ok.ensures.line ∙ ap (λ n. line_at g form table (n + 1) raw) at) in
     let tables : c.read_line.new.table ≡ with_text table (client_in raw) = c.in-Ok.ensures.table in
     let within : line_over_size limits table (length done + 1) raw ≡ None = ap (λ n. line_over_size limits table (n + 1) raw) (sym at) ∙ c.in-Ok.ensures.within in
-    let sum : c.in-Ok-with_bars.sum ≡ bars + bars_in g form raw = c.in-Ok-with_bars.ensures.sum ∙ ap (λ (l : ClientLine). bars + bars_of_command l.command) c.in-Ok.ensures.line in
+    let sum : c.in-Ok-with_bars.sum ≡ bars + bars_in g form raw = c.in-Ok-with_bars.ensures.sum
+    ∙ ap (λ (l : ClientLine). bars + bars_of_command l.command) c.in-Ok.ensures.line in
     let most = c.in-Ok-with_bars.ensures.most in
     let fit : over_bars limits (length done + 1) (bars + bars_in g form raw) ≡ None = ap (over_bars limits (length done + 1)) (sym sum) ∙ bars_fit limits (length done + 1) c.in-Ok-with_bars.sum most in
     record {
@@ -74,5 +78,6 @@ lines-preserved c =
       over =
           (λ i. over_from limits g form (tables i) (sum i) (long i + 1) (lines_of more))
           ∙ (next_over limits g form table bars (length done + 1) raw more c.lines.rest.now split within fit ∙ c.lines.invariant.over);
-      proper = subst (AllByRecursion (λ (x : ClientLine). IsProper g.resources.vertices x.command)) (sym items) (proper_push g.resources.vertices done c.in-Ok.line c.lines.invariant.proper c.in-Ok.ensures.proper);
+      proper = subst (AllByRecursion (λ (x : ClientLine). IsProper g.resources.vertices x.command)) (sym items)
+          (proper_push g.resources.vertices done c.in-Ok.line c.lines.invariant.proper c.in-Ok.ensures.proper);
     }

@@ -9,7 +9,8 @@ pub loop-client-preserved : goal.loop-client-preserved
 loop-client-preserved c =
     let lists = c.loop-client.lists.items in
     let rest = map (λ client. lines_by client []) (range_with_len (c.loop-client.client + 1) (c.args.count - (c.loop-client.client + 1))) in
-    ap (λ (ls : List (List Line)). ls ++ rest) (c.in_ok-push.ensures.ok ∙ ap (λ (x : List Line). lists ++ x ∷ []) c.new.ensures)
+    ap (λ (ls : List (List Line)). ls ++ rest)
+    (c.in_ok-push.ensures.ok ∙ ap (λ (x : List Line). lists ++ x ∷ []) c.new.ensures)
     ∙ (append_assoc lists ([] ∷ []) rest ∙ (ap (λ (ls : List (List Line)). lists ++ ls) (sym (no_more c.args.count c.loop-client.client c.loop-client-test.true)) ∙ c.loop-client.invariant))
 
 pub returns : goal.returns

@@ -11,8 +11,10 @@ pub by_client-requires : goal.by_client-requires
 by_client-requires c =
     let few = few_clients c.args.graph.now c.args.form c.args.bytes.now in
     let count = sym (c.len.ensures ∙ ap length c.in-Ok.ensures.clients) in
-    subst (λ (ls : List ClientLine). AllByRecursion (λ (l : ClientLine). l.client < c.len.result) ls) (sym c.in-Ok.ensures.lines)
-    (subst (λ n. AllByRecursion (λ (l : ClientLine). l.client < n) (numbered_lines c.args.graph.now c.args.form c.args.bytes.now)) count few)
+    subst (λ (ls : List ClientLine). AllByRecursion (λ (l : ClientLine). l.client < c.len.result) ls)
+    (sym c.in-Ok.ensures.lines)
+    (subst (λ n. AllByRecursion (λ (l : ClientLine). l.client < n)
+    (numbered_lines c.args.graph.now c.args.form c.args.bytes.now)) count few)
 
 pub returns-clause-proper : goal.returns-clause-proper
 returns-clause-proper c =

@@ -13,7 +13,8 @@ returns-in-Err-clause-over c = λ over is.
     let g = c.args.graph in
     let input = c.args.input.now in
     ap (λ l. over_in l g served_form input) (sym c.shipped-limits.ensures)
-    ∙ told_over (λ o. over_in c.shipped-limits.result g served_form input ≡ Some o) c.in-Err.fault over c.in-Err.ensures.over is
+    ∙ told_over (λ o. over_in c.shipped-limits.result g served_form input
+    ≡ Some o) c.in-Err.fault over c.in-Err.ensures.over is
 
 pub played-requires : goal.played-requires
 played-requires c =
@@ -31,4 +32,5 @@ returns-clause-output c =
 
 pub returns-clause-within : goal.returns-clause-within
 returns-clause-within c = λ _.
-    ap (λ l. over_in l c.args.graph served_form c.args.input.now) (sym c.shipped-limits.ensures) ∙ c.in-Ok.ensures.within refl
+    ap (λ l. over_in l c.args.graph served_form c.args.input.now) (sym c.shipped-limits.ensures)
+    ∙ c.in-Ok.ensures.within refl

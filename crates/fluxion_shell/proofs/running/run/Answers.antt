@@ -49,7 +49,10 @@ returns-in-Some-clause-no_file g c = λ name is same.
 
 pub returns-in-Some-clause-graph_limit : goal.returns-in-Some-clause-graph_limit
 returns-in-Some-clause-graph_limit g c = λ name is same.
-    subst (λ (n : List ℕ). Rose (g.F.Files.refused c.args.files.now) (g.F.Files.refused c.serve.new.files) × IfSome (told_file (g.F.Files.told c.args.files.now) n) (λ file. MOST_FILE_BYTES < length file)) (serve_name (map string_bytes c.args.words.now) (served_held c.in-Some.call) name c.in-Some.ensures is) (c.serve.ensures.graph_limit same)
+    subst (λ (n : List ℕ). Rose (g.F.Files.refused c.args.files.now) (g.F.Files.refused c.serve.new.files)
+    × IfSome (told_file (g.F.Files.told c.args.files.now) n) (λ file. MOST_FILE_BYTES < length file))
+    (serve_name (map string_bytes c.args.words.now) (served_held c.in-Some.call) name c.in-Some.ensures is)
+    (c.serve.ensures.graph_limit same)
 
 pub returns-in-Some-clause-graph : goal.returns-in-Some-clause-graph
 returns-in-Some-clause-graph g c = λ name is fault same.

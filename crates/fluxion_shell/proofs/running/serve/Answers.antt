@@ -208,13 +208,15 @@ returns-in-Err-Over-clause-first g c =
     let name = c.args.name.now in
     let left = g.S.Source.left c.args.input.now in
     let loaded = c.in-Ok.ensures.loaded in
-    let past = ap (over_in SHIPPED c.in-Ok.graph served_form) (sym c.bytes.ensures) ∙ c.answer.ensures.over c.in-Err-Over.over (c.in-Err-Over.is ∙ ap Err c.in-Err-Over.field-0-is) in
+    let past = ap (over_in SHIPPED c.in-Ok.graph served_form) (sym c.bytes.ensures)
+    ∙ c.answer.ensures.over c.in-Err-Over.over (c.in-Err-Over.is ∙ ap Err c.in-Err-Over.field-0-is) in
     subst (λ (r : Status). Shows r told name left) (sym c.limit_of.ensures)
     (shows_over told name loaded.0 loaded.1 c.in-Ok.graph loaded.2 left c.in-Ok-read_all.lines c.in-Err-Over.over c.in-Ok-read_all.ensures.most c.in-Ok-read_all.ensures.whole past)
 
 pub returns-in-Err-Over-clause-line_limit : goal.returns-in-Err-Over-clause-line_limit
 returns-in-Err-Over-clause-line_limit g c = λ over by_size same.
-    let past = ap (over_in SHIPPED c.in-Ok.graph served_form) (sym c.bytes.ensures) ∙ c.answer.ensures.over c.in-Err-Over.over (c.in-Err-Over.is ∙ ap Err c.in-Err-Over.field-0-is) in
+    let past = ap (over_in SHIPPED c.in-Ok.graph served_form) (sym c.bytes.ensures)
+    ∙ c.answer.ensures.over c.in-Err-Over.over (c.in-Err-Over.is ∙ ap Err c.in-Err-Over.field-0-is) in
     size_limit (g.S.Source.left c.args.input.now) c.in-Ok-read_all.lines c.in-Ok.graph over c.in-Ok-read_all.ensures.whole by_size
     (past ∙ ap Some (over_is_one c.in-Err-Over.over over (sym c.limit_of.ensures ∙ same)))
 
@@ -222,6 +224,7 @@ pub returns-in-Err-Over-clause-past_limit : goal.returns-in-Err-Over-clause-past
 returns-in-Err-Over-clause-past_limit g c = λ over same.
     let told = g.F.Files.told c.args.files.now in
     let loaded = c.in-Ok.ensures.loaded in
-    let past = ap (over_in SHIPPED c.in-Ok.graph served_form) (sym c.bytes.ensures) ∙ c.answer.ensures.over c.in-Err-Over.over (c.in-Err-Over.is ∙ ap Err c.in-Err-Over.field-0-is) in
+    let past = ap (over_in SHIPPED c.in-Ok.graph served_form) (sym c.bytes.ensures)
+    ∙ c.answer.ensures.over c.in-Err-Over.over (c.in-Err-Over.is ∙ ap Err c.in-Err-Over.field-0-is) in
     where_told told c.args.name.now loaded.0 loaded.1 (g.S.Source.left c.args.input.now) c.in-Ok-read_all.lines (λ file lines. IsPastLimit file lines over) c.in-Ok-read_all.ensures.whole
     (c.in-Ok.graph, loaded.2, past ∙ ap Some (over_is_one c.in-Err-Over.over over (sym c.limit_of.ensures ∙ same)))

@@ -65,7 +65,9 @@ module _ (d : Data) (lists : FileLists) (nodes : List FileNode) (parents : List 
   graph_told (Ok g) built = λ bytes is. (let made = built (counted (edges_of 0 lists.edges)) same in (file, says bytes is, right, made.0, made.1))
   graph_told (Err e) built = tt
 
-  fault_told : (r : Result NamedGraph ReadFault) → IfErr r (λ f. (edges : List FileEdge) → parents ≡ parents_of (ids_of nodes) edges → IsFirstRawFault (kinds_of nodes) (vertices_of nodes edges) f)
+  fault_told : (r : Result NamedGraph ReadFault) →
+      IfErr r (λ f. (edges : List FileEdge) → parents ≡ parents_of (ids_of nodes) edges →
+      IsFirstRawFault (kinds_of nodes) (vertices_of nodes edges) f)
       → IfErr r (λ f. (bytes : List ℕ) → IsValueOf bytes d → IsFirstFault bytes f)
   fault_told (Ok g) told = tt
   fault_told (Err e) told = λ bytes is. told_raw bytes file (says bytes is) right e (told (counted (edges_of 0 lists.edges)) same)

@@ -12,7 +12,8 @@ module _ (bytes : List ℕ) (d : Data) (is : IsValueOf bytes d) where
   graph_told (Ok g) told = told bytes is
   graph_told (Err e) told = tt
 
-  fault_told : (r : Result NamedGraph ReadFault) → IfErr r (λ f. (bytes : List ℕ) → IsValueOf bytes d → IsFirstFault bytes f) → IfErr r (IsFirstFault bytes)
+  fault_told : (r : Result NamedGraph ReadFault) →
+      IfErr r (λ f. (bytes : List ℕ) → IsValueOf bytes d → IsFirstFault bytes f) → IfErr r (IsFirstFault bytes)
   fault_told (Ok g) told = tt
   fault_told (Err e) told = told bytes is
 

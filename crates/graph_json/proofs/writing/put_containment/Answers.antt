@@ -2,4 +2,6 @@ use Rattle.json_written.proofs.WriterLaws.{wrote, and_then}
 use Rattle.graph_json.proofs.writing.put_containment.Goals as goal
 
 pub returns : goal.returns
-returns c = and_then (wrote c.in_ok-key.ensures) (and_then (wrote c.in_ok-begin_object.ensures) (and_then c.in_ok-put_text.ensures.ok (wrote c.in_ok-end_object.ensures)))
+returns c = and_then (wrote c.in_ok-key.ensures)
+    (and_then (wrote c.in_ok-begin_object.ensures)
+    (and_then c.in_ok-put_text.ensures.ok (wrote c.in_ok-end_object.ensures)))

@@ -55,7 +55,8 @@ read_request-returns-in-Err-read_requests-clause-told t c =
     let path : c.bytes.result.now ≡ vertex_path c.args.list.now c.args.at key.With = c.bytes.ensures ∙ (c.in_ok-path.ensures ∙ ap (λ k. c.args.list.now ++ index c.args.at ++ k) c.key_path.ensures) in
     let same : requests_of said.with c.is_inside-inside.result c.bytes.result.now 0 c.add_label.new.labels ≡ requests_of said.with (is_slot said.kind || c.args.in_slot) (vertex_path c.args.list.now c.args.at key.With) 0 (labels_with c.args.labels.now said.label) = λ i. requests_of said.with (c.is_inside-inside.ensures i) (path i) 0 (c.in_ok-add_label.ensures i) in
     one_told d c.args.in_slot c.args.list.now c.args.at c.args.labels.now said says facts.inner c.in-Err-read_requests.fault
-    (subst (λ (r : Result Requested SpecFault). IsFirstFault r c.in-Err-read_requests.fault) same c.in-Err-read_requests.ensures.told)
+    (subst (λ (r : Result Requested SpecFault).
+    IsFirstFault r c.in-Err-read_requests.fault) same c.in-Err-read_requests.ensures.told)
 
 pub read_requests-read_request-requires : goal.read_requests-read_request-requires
 read_requests-read_request-requires t c =

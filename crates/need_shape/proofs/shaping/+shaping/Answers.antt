@@ -24,7 +24,8 @@ pub add_member-returns-then-is_slot-clause-told : goal.add_member-returns-then-i
 add_member-returns-then-is_slot-clause-told t c =
     let types = types_at c.args.graph.now c.args.table.now in
     let slot = ap is_slot (sym c.bytes.ensures) ∙ (sym c.is_slot.ensures ∙ c.if-is_slot.true) in
-    subst (λ (f : Option ShapeFault). IfErr c.add_slot.result (IsFirstFault f)) (sym (fault_of_slot types c.args.within c.args.raw.now slot)) c.add_slot.ensures.told
+    subst (λ (f : Option ShapeFault). IfErr c.add_slot.result (IsFirstFault f))
+    (sym (fault_of_slot types c.args.within c.args.raw.now slot)) c.add_slot.ensures.told
 
 pub shape_type-returns-then-is_pool-clause-told : goal.shape_type-returns-then-is_pool-clause-told
 shape_type-returns-then-is_pool-clause-told t c =
@@ -44,7 +45,8 @@ pub add_member-returns-in-Err-clause-told : goal.add_member-returns-in-Err-claus
 add_member-returns-in-Err-clause-told t c =
     let types = types_at c.args.graph.now c.args.table.now in
     let slot = ap is_slot (sym c.bytes.ensures) ∙ (sym c.is_slot.ensures ∙ c.if-is_slot.false) in
-    subst (λ (o : Option ShapeFault). IsFirstFault o c.in-Err.fault) (sym (fault_of_type types c.args.within c.args.raw.now slot)) c.in-Err.ensures.told
+    subst (λ (o : Option ShapeFault). IsFirstFault o c.in-Err.fault)
+    (sym (fault_of_type types c.args.within c.args.raw.now slot)) c.in-Err.ensures.told
 
 pub shape_type-returns-in-Ok-clause-need : goal.shape_type-returns-in-Ok-clause-need
 shape_type-returns-in-Ok-clause-need t c =

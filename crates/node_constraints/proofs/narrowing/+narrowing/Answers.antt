@@ -1,4 +1,4 @@
-use Rattle.std.proofs.Common.{rules, ◌≡◌, ◌∙◌, sym, ap, subst, ◌++◌, ◌∷◌, ◌+◌, ◌*◌, ◌<◌, ◌≤◌, ◌&&◌, [], max, not, drop, arith, string_bytes}
+use Rattle.std.proofs.Common.{rules, ◌≡◌, ◌∙◌, sym, ap, subst, ◌++◌, ◌∷◌, ◌+◌, ◌*◌, ◌<◌, ◌≤◌, ◌&&◌, [], max, not, drop, arith, string_bytes, Some}
 use Rattle.std.proofs.lemmas.List.{drop_more, drop_all}
 use Rattle.std.specs.Option.{option_or}
 use Rattle.serde_json.specs.Data.{depth, items_depth, members_depth}
@@ -9,7 +9,7 @@ use Rattle.node_constraints.specs.Truth.{facts_of, key_of, is_true, each_key, ke
 use Rattle.node_constraints.specs.Faults.{fault_at, keys_fault, key_fault, items_fault}
 use Rattle.node_constraints.specs.Narrowing.{where_true}
 use Rattle.node_constraints.proofs.FilterLaws.{filter_all, others_of_others}
-use Rattle.node_constraints.proofs.FaultLaws.{later_is}
+use Rattle.node_constraints.proofs.FaultLaws.{later_is, means_same, no_object, no_list, told_at}
 use Rattle.node_constraints.proofs.StepLaws.{is_object, narrowed_twice, neither_left, none_given, some_given}
 use Rattle.json_fields.proofs.Depths.{at_depth}
 use Rattle.node_constraints.proofs.narrowing.+narrowing.Goals as goal
@@ -28,7 +28,8 @@ narrow-members-preserved t c =
           ∙ (narrowed_twice g (λ n. key_is_true n (key_of text) (view e.1)) (λ n. each_key n (members_view left)) old
           ∙ (ap (λ k. where_true g (λ n. key_is_true n (key_of k) (view e.1) && each_key n (members_view left)) old) name
           ∙ (ap (λ es. where_true g (λ n. each_key n (members_view es)) old) (sym steps) ∙ c.members.invariant.kept)));
-      found = λ path. sym (later_is (key_fault path text (key_of text) (view e.1)) (keys_fault path (members_view left)) (c.in_ok-narrow_by_key.ensures.found path))
+      found = λ path. sym (later_is (key_fault path text (key_of text) (view e.1)) (keys_fault path (members_view left))
+          (c.in_ok-narrow_by_key.ensures.found path))
           ∙ (ap (λ k. option_or (key_fault path k (key_of k) (view e.1)) (keys_fault path (members_view left))) name
           ∙ (ap (λ es. keys_fault path (members_view es)) (sym steps) ∙ c.members.invariant.found path));
       less =
@@ -68,7 +69,8 @@ narrow_by_each-values-preserved t c =
       kept = ap (where_true g (λ n. each_true n rest)) c.in-Ok.ensures.kept
           ∙ (narrowed_twice g (λ n. is_true n (view x)) (λ n. each_true n rest) old
           ∙ (ap (λ ys. where_true g (λ n. each_true n (items_view ys)) old) (sym here) ∙ c.values.invariant.kept));
-      found = λ list. sym (later_is (fault_at (list ++ index at) (view x)) (items_fault list (at + 1) rest) (c.in-Ok.ensures.found (list ++ index at)))
+      found = λ list. sym (later_is (fault_at (list ++ index at) (view x)) (items_fault list (at + 1) rest)
+          (c.in-Ok.ensures.found (list ++ index at)))
           ∙ (ap (λ ys. items_fault list at (items_view ys)) (sym here) ∙ c.values.invariant.found list);
     }
 
@@ -94,12 +96,15 @@ narrow_by_none-values-preserved t c =
     let old = c.values.nodes.items in
     let rest = items_view (drop (at + 1) vs) in
     let here : drop at vs ≡ x ∷ drop (at + 1) vs = drop_more vs at x (omega arith) ∙ ap (λ y. y ∷ drop (at + 1) vs) (sym c.index-values-at.is) in
-    let taken = c.in_ok-take_away.ensures (λ v. is_true (facts_of g v) (view x)) (c.as_slice.ensures.value ∙ (c.in-Ok.ensures.kept ∙ ap (where_true g (λ n. is_true n (view x))) c.in_ok-some.ensures)) in
+    let taken = c.in_ok-take_away-in-Ok.ensures (λ v. is_true (facts_of g v) (view x))
+    (c.as_slice.ensures.value ∙ (c.in-Ok.ensures.kept
+    ∙ ap (where_true g (λ n. is_true n (view x))) c.in_ok-some.ensures)) in
     record {
       kept = ap (where_true g (λ n. not (some_true n rest))) taken
           ∙ (neither_left g (λ n. is_true n (view x)) (λ n. some_true n rest) old
           ∙ (ap (λ ys. where_true g (λ n. not (some_true n (items_view ys))) old) (sym here) ∙ c.values.invariant.kept));
-      found = λ list. sym (later_is (fault_at (list ++ index at) (view x)) (items_fault list (at + 1) rest) (c.in-Ok.ensures.found (list ++ index at)))
+      found = λ list. sym (later_is (fault_at (list ++ index at) (view x)) (items_fault list (at + 1) rest)
+          (c.in-Ok.ensures.found (list ++ index at)))
           ∙ (ap (λ ys. items_fault list at (items_view ys)) (sym here) ∙ c.values.invariant.found list);
     }
 
@@ -120,3 +125,43 @@ narrow_by_some-returns-clause-kept t c =
     let others = c.as_slice.ensures.value ∙ (c.in_ok-narrow_by_none.ensures.kept ∙ ap (where_true g (λ n. not (some_true n (items_view vs)))) c.in_ok-others.ensures) in
     others_of_others nodes c.as_slice.result.now c.take_away.new.nodes.items (λ v. some_true (facts_of g v) (items_view vs)) others c.in_ok-take_away.ensures
     ∙ some_given g vs (sym c.is_empty.ensures ∙ c.if-is_empty.false) nodes
+
+pub narrow-returns-in_default-clause-found : goal.narrow-returns-in_default-clause-found
+narrow-returns-in_default-clause-found t c = λ path.
+    let d = view c.args.constraint.now in
+    means_same path (Some path) (fault_at path d) c.fault_here.result
+    (sym (no_object path d (sym c.in_default.ensures))) (c.fault_here.ensures path)
+
+pub narrow_by_key-returns-in_default-clause-found : goal.narrow_by_key-returns-in_default-clause-found
+narrow_by_key-returns-in_default-clause-found t c = λ path.
+    let key = c.args.key.now in
+    let d = view c.args.value.now in
+    means_same path (Some path) (key_fault path key (key_of key) d) c.fault_here.result
+    (ap (λ k. key_fault path key k d) c.in_default.ensures) (c.fault_here.ensures path)
+
+pub narrow_by_key-returns-in_default-as_array-clause-found : goal.narrow_by_key-returns-in_default-as_array-clause-found
+narrow_by_key-returns-in_default-as_array-clause-found t c = λ path.
+    let key = c.args.key.now in
+    let d = view c.args.value.now in
+    let fault = c.fault_here-in_default-as_array in
+    means_same path (Some path) (key_fault path key (key_of key) d) fault.result
+    (sym (no_list path key c.in-Some.known d (sym c.in_default-as_array.ensures))
+    ∙ ap (λ k. key_fault path key k d) c.in-Some.ensures) (fault.ensures path)
+
+pub narrow_by_each-returns-in-Err-clause-found : goal.narrow_by_each-returns-in-Err-clause-found
+narrow_by_each-returns-in-Err-clause-found t c = λ list.
+    let vs = c.args.values.now in
+    let at = c.values.at in
+    let x = c.index-values-at.result in
+    let here : drop at vs ≡ x ∷ drop (at + 1) vs = drop_more vs at x (omega arith) ∙ ap (λ y. y ∷ drop (at + 1) vs) (sym c.index-values-at.is) in
+    c.in_member.ensures list (items_fault list 0 (items_view vs))
+    (told_at list vs at x c.in-Err.fault here (c.values.invariant.found list) (c.in-Err.ensures.found (list ++ index at)))
+
+pub narrow_by_none-returns-in-Err-clause-found : goal.narrow_by_none-returns-in-Err-clause-found
+narrow_by_none-returns-in-Err-clause-found t c = λ list.
+    let vs = c.args.values.now in
+    let at = c.values.at in
+    let x = c.index-values-at.result in
+    let here : drop at vs ≡ x ∷ drop (at + 1) vs = drop_more vs at x (omega arith) ∙ ap (λ y. y ∷ drop (at + 1) vs) (sym c.index-values-at.is) in
+    c.in_member.ensures list (items_fault list 0 (items_view vs))
+    (told_at list vs at x c.in-Err.fault here (c.values.invariant.found list) (c.in-Err.ensures.found (list ++ index at)))

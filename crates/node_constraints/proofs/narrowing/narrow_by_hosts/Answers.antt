@@ -10,9 +10,9 @@ use Rattle.node_constraints.proofs.TextLaws.{hosts_read, read_fine, unread_fault
 use Rattle.node_constraints.proofs.narrowing.narrow_by_hosts.Goals as goal
 
 pub returns-in_default-clause-found : goal.returns-in_default-clause-found
-returns-in_default-clause-found c =
+returns-in_default-clause-found c = λ path.
     let none : read_all hostlist_of (items_view c.args.values.now) ≡ None = sym c.in_ok-lists.ensures ∙ c.in_default.is in
-    unread_fault hostlist_of c.args.path.now (items_view c.args.values.now) none c.fault_of.result c.fault_of.ensures
+    unread_fault hostlist_of path (items_view c.args.values.now) none c.fault_here.result (c.fault_here.ensures path)
 
 pub returns-clause-kept : goal.returns-clause-kept
 returns-clause-kept c =
@@ -21,6 +21,6 @@ returns-clause-kept c =
     ∙ filter_agree (λ v. list_any (λ hosts. is_among (names_of hosts) (facts_of c.args.graph.now v).name) c.in-Some.lists) (λ v. some_text (is_listed (facts_of c.args.graph.now v).name) (items_view c.args.values.now)) (λ v. sym (hosts_read (facts_of c.args.graph.now v).name (items_view c.args.values.now) c.in-Some.lists all)) c.args.nodes.now.items
 
 pub returns-clause-found : goal.returns-clause-found
-returns-clause-found c =
+returns-clause-found c = λ path.
     let all : read_all hostlist_of (items_view c.args.values.now) ≡ Some c.in-Some.lists = sym c.in_ok-lists.ensures ∙ c.in-Some.is in
-    read_fine hostlist_of c.args.path.now (items_view c.args.values.now) c.in-Some.lists all
+    read_fine hostlist_of path (items_view c.args.values.now) c.in-Some.lists all

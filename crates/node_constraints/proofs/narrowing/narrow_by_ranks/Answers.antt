@@ -11,9 +11,9 @@ use Rattle.node_constraints.proofs.TextLaws.{ranks_read, read_fine, unread_fault
 use Rattle.node_constraints.proofs.narrowing.narrow_by_ranks.Goals as goal
 
 pub returns-in_default-clause-found : goal.returns-in_default-clause-found
-returns-in_default-clause-found c =
+returns-in_default-clause-found c = λ path.
     let none : read_all idset_of (items_view c.args.values.now) ≡ None = sym c.in_ok-sets.ensures ∙ c.in_default.is in
-    unread_fault idset_of c.args.path.now (items_view c.args.values.now) none c.fault_of.result c.fault_of.ensures
+    unread_fault idset_of path (items_view c.args.values.now) none c.fault_here.result (c.fault_here.ensures path)
 
 pub returns-clause-kept : goal.returns-clause-kept
 returns-clause-kept c =
@@ -22,6 +22,6 @@ returns-clause-kept c =
     ∙ filter_agree (λ v. option_map_or (λ r. list_any (λ ranges. list_any (λ id. id == r) (ids_of ranges)) c.in-Some.sets) (facts_of c.args.graph.now v).rank false) (λ v. some_text (is_ranked (facts_of c.args.graph.now v).rank) (items_view c.args.values.now)) (λ v. sym (ranks_read (facts_of c.args.graph.now v).rank (items_view c.args.values.now) c.in-Some.sets all)) c.args.nodes.now.items
 
 pub returns-clause-found : goal.returns-clause-found
-returns-clause-found c =
+returns-clause-found c = λ path.
     let all : read_all idset_of (items_view c.args.values.now) ≡ Some c.in-Some.sets = sym c.in_ok-sets.ensures ∙ c.in-Some.is in
-    read_fine idset_of c.args.path.now (items_view c.args.values.now) c.in-Some.sets all
+    read_fine idset_of path (items_view c.args.values.now) c.in-Some.sets all

@@ -13,7 +13,8 @@ pub returns-in_default-more-clause-read : goal.returns-in_default-more-clause-re
 returns-in_default-more-clause-read c =
     let last = rw c.in_default-more.is at c.first_item.ensures.items in
     let rule = rw c.in-Some.is at c.in_ok-rule.ensures in
-    rw (c.of_vec.ensures, c.in_ok-push.ensures.ok) (read_last c.args.text.now c.items.rest.now c.first_item.result.0.now c.items.at c.items.rules.items c.in-Some.rule c.items.invariant.read last rule)
+    rw (c.of_vec.ensures, c.in_ok-push.ensures.ok)
+    (read_last c.args.text.now c.items.rest.now c.first_item.result.0.now c.items.at c.items.rules.items c.in-Some.rule c.items.invariant.read last rule)
 
 pub items-preserved : goal.items-preserved
 items-preserved c =
@@ -22,5 +23,6 @@ items-preserved c =
     let rule = rw c.in-Some.is at c.in_ok-rule.ensures in
     record {
       sizes = (let before = c.items.invariant.sizes in omega (arith, simp length-append at (ap length parts)));
-      read = rw c.in_ok-push.ensures.ok (read_more c.args.text.now c.items.rest.now c.first_item.result.0.now c.in-Some-more.next.now c.items.at c.items.rules.items c.in-Some.rule c.items.invariant.read more rule);
+      read = rw c.in_ok-push.ensures.ok
+          (read_more c.args.text.now c.items.rest.now c.first_item.result.0.now c.in-Some-more.next.now c.items.at c.items.rules.items c.in-Some.rule c.items.invariant.read more rule);
     }

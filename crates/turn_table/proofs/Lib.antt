@@ -1,0 +1,9 @@
+pub mod Positions
+pub mod Rising
+pub mod Sums
+pub mod Views
+pub mod Places
+pub mod Turning
+pub mod Counting
+pub mod Seating
+pub mod Ends

@@ -1,0 +1,16 @@
+use Rattle.std.proofs.Common.{◌≡◌, ◌+◌, All, length}
+use Rattle.turn_table.specs.declared.tests.Log.{Log}
+use Rattle.turn_table.specs.declared.tests.Client.{Client}
+use Rattle.turn_table.specs.Seats.{share, Rests}
+use Rattle.turn_table.specs.Turns.{Belongs}
+use Rattle.turn_table.proofs.tests.gather.Given as goal
+
+abbrev pub invariant-loop-client : goal.invariant-loop-client
+invariant-loop-client l =
+    (Belongs (λ (log : Log). log.name) l.turn l.first × Rests l.first)
+    × (share l.first + length l.clients.items ≡ 65536)
+    × All (λ (c : Client). Belongs (λ (log : Log). log.name) l.turn c.seat × Rests c.seat × (share c.seat ≡ 1))
+    l.clients.items
+
+abbrev pub decreases-loop-client : goal.decreases-loop-client
+decreases-loop-client l = goal.left-loop-client l

@@ -1,0 +1,5 @@
+pub mod Positions
+pub mod Rule
+pub mod Plays
+pub mod Seats
+pub mod Turns

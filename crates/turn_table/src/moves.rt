@@ -1,0 +1,108 @@
+//! One function for each kind of step.
+ghost use Rattle.std.specs.Prelude.{◌≡◌, [], ◌∷◌, length, Some, None, MatchBool};
+ghost use mathlib.Core.List.{IsPrefix};
+ghost use Rattle.turn_table.specs.declared.view.TurnPhase.TheVariants.{Holding, Stored};
+ghost use Rattle.turn_table.specs.Positions.{RisesBelow};
+ghost use Rattle.turn_table.specs.Plays.{stores, rests, Looks};
+ghost use Rattle.turn_table.specs.Seats.{seen, HasInHand, Took};
+ghost use Rattle.turn_table.specs.Turns.{setting_of, Stands};
+
+use crate::logged::Logged;
+use crate::plays::{Give, Load, Store, Take};
+use crate::turn::{Seat, Turn};
+use std::sync::Wait;
+
+// The turn word, the count word, and the slot with the value.
+const TURN: usize = 0;
+
+const COUNT: usize = 1;
+
+pub(crate) const VALUE: usize = 0;
+
+// What the turn word is while nobody has the turn, and while somebody has it.
+pub(crate) const FREE: u64 = 0;
+
+const TAKEN: u64 = 1;
+
+impl<V: Logged> Turn<V> {
+    // Takes the turn, and with it the slot, if it is free.
+    pub(crate) fn try_turn(&self, seat: &mut Seat<V>) -> bool
+        requires own { Stands V.setting self.now seat.old }
+        requires hand { seat.old.me.1 ≡ [] }
+        ensures own { seat.new.table_id ≡ seat.old.table_id }
+        ensures took { MatchBool result
+            (Took V.history V.setting (setting_of V.setting self.now) seat.old.me.0 seat.new.me)
+            (seat.new.me ≡ seat.old.me) }
+    {
+        self.table
+            .shared
+            .compare_exchange::<Take>(seat, TURN, FREE, TAKEN)
+            == FREE
+    }
+
+    // Sleeps while somebody has the turn. It may also return for no reason.
+    pub(crate) fn sleep<R: Wait>(&self, rt: &R) {
+        self.table.shared.park(rt, TURN, TAKEN as u32);
+    }
+
+    // Takes the value out of the slot in hand.
+    pub(crate) fn lift(&self, seat: &mut Seat<V>) -> V
+        requires own { seat.old.table_id ≡ self.now.table.shared.table_id }
+        requires hand { (value : V) × HasInHand seat.old value }
+        ensures own { seat.new.table_id ≡ seat.old.table_id }
+        ensures value { HasInHand seat.old result }
+        ensures left { seat.new.me ≡ (seat.old.me.0, (0, None) ∷ []) }
+    {
+        let Some(value) = self.table.shared.exchange(seat, VALUE, None) else {
+            unreachable!()
+        };
+        value
+    }
+
+    // Lays a value into the empty slot in hand.
+    pub(crate) fn lay_back(&self, seat: &mut Seat<V>, value: V)
+        requires own { seat.old.table_id ≡ self.now.table.shared.table_id }
+        requires hand { seat.old.me.1 ≡ (0, None) ∷ [] }
+        ensures own { seat.new.table_id ≡ seat.old.table_id }
+        ensures laid { seat.new.me ≡ (seat.old.me.0, (0, Some value) ∷ []) }
+    {
+        let nothing = self.table.shared.exchange(seat, VALUE, Some(value));
+        let None = nothing else { unreachable!() };
+    }
+
+    // Makes the history of the value in hand the history of all. The positions that it adds are the seat's.
+    pub(crate) fn store_count(&self, seat: &mut Seat<V>, count: u64)
+        requires own { Stands V.setting self.now seat.old }
+        requires hand { (value : V) × HasInHand seat.old value × IsPrefix (seen seat.old) (V.history value)
+            × (length (V.history value) ≡ count) }
+        requires turn { seat.old.me.0.phase ≡ Holding }
+        ensures own { seat.new.table_id ≡ seat.old.table_id }
+        ensures stored { (value : V) → HasInHand seat.old value →
+            (seat.new.me ≡ (stores (V.history value) seat.old.me.0, seat.old.me.1))
+            × RisesBelow (length (V.history value)) seat.new.me.0.mine }
+    {
+        self.table.shared.store::<Store>(seat, COUNT, count);
+    }
+
+    // Gives the turn up, and with it the slot and the value in it. Wakes one of those who wait.
+    pub(crate) fn give_turn(&self, seat: &mut Seat<V>)
+        requires own { Stands V.setting self.now seat.old }
+        requires hand { (value : V) × HasInHand seat.old value × (seen seat.old ≡ V.history value)
+            × (V.setting value ≡ setting_of V.setting self.now) }
+        requires stored { seat.old.me.0.phase ≡ Stored }
+        ensures own { seat.new.table_id ≡ seat.old.table_id }
+        ensures gave { seat.new.me ≡ (rests seat.old.me.0, []) }
+    {
+        self.table.shared.store::<Give>(seat, TURN, FREE);
+        self.table.shared.wake_one(TURN);
+    }
+
+    // Reads how long the history is.
+    pub(crate) fn load_count(&self, seat: &mut Seat<V>) -> u64
+        requires own { Stands V.setting self.now seat.old }
+        ensures own { seat.new.table_id ≡ seat.old.table_id }
+        ensures looked { Looks result seat.old.me seat.new.me }
+    {
+        self.table.shared.load::<Load>(seat, COUNT)
+    }
+}

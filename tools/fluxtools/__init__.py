@@ -1,0 +1,1 @@
+"""What the programs of tools/ share: words, files, texts of ids and hosts, graph files, journals."""
