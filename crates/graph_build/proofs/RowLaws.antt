@@ -37,9 +37,11 @@ no_first (row ∷ rows) fault none (inl here) = none.0 here.0 here.2.0
 no_first (row ∷ rows) fault none (inr later) = no_first rows fault none.1 later.1
 
 -- of a list with which nothing is wrong only want of memory is told
-pub nothing_told : (g : ResourceGraph) (names : List (List ℕ)) (fault : GraphFault) → IsFaultless g names → IsFirstFault g names fault → fault ≡ Memory
+pub nothing_told : (g : ResourceGraph) (names : List (List ℕ)) (fault : GraphFault) → IsFaultless g names →
+    IsFirstFault g names fault → fault ≡ Memory
 nothing_told g names fault fine (inl memory) = memory
 nothing_told g names fault fine (inr first) = absurd (no_first (table g names) fault fine first)
 
 pub parents_clear : (g : ResourceGraph) → Nowhere (HasUnknownParent g) → KnowsParents g.vertices
-parents_clear g clear v p e = elim (cases_lt p (length g.vertices)) [ inl less ↦ less | inr past ↦ absurd (clear v (p, e, past)) ]
+parents_clear g clear v p e = elim (cases_lt p (length g.vertices))
+    [ inl less ↦ less | inr past ↦ absurd (clear v (p, e, past)) ]
