@@ -64,9 +64,11 @@ find P decide (suc n) = elim (find P decide n) [
 
 module _ (g : ResourceGraph) where
   decide_root : (v : ℕ) → IsRoot g v ⊎ (IsRoot g v → ⊥)
-  decide_root v = elim (cases_lt v (length g.vertices))
-      [ inl lt ↦ go (parent_of g.vertices v) refl lt | inr past ↦ inr
-      (λ r. let lt : v < length g.vertices = r.0 in omega arith) ]
+  decide_root v = elim (cases_lt v (length g.vertices)) [
+    | inl lt ↦ go (parent_of g.vertices v) refl lt
+    | inr past ↦ inr
+        (λ r. let lt : v < length g.vertices = r.0 in omega arith)
+  ]
     where
       go : (o : Option ℕ) → parent_of g.vertices v ≡ o → v < length g.vertices → IsRoot g v ⊎ (IsRoot g v → ⊥)
       go None e lt = inl (lt, e)
@@ -85,7 +87,7 @@ module _ (g : ResourceGraph) where
             let y = value_of (slice_get g.vertices v) (λ x. slice_get g.kinds x.kind ≡ Some (codes "node")) h in
             let same : y.0 ≡ x = same_Some _ _ (sym y.1 ∙ e) in
             true≢false (sym (node_tested g.kinds x (ap (λ (z : Vertex). slice_get g.kinds z.kind) (sym same) ∙ y.2))
-                ∙ not))
+            ∙ not))
       ]
 
   pub root_of : ((n : ℕ) → (n ≡ 0) × Nowhere (IsRoot g) → ⊥) → (r : ℕ) × IsRoot g r
@@ -114,10 +116,40 @@ pub at_most : (n most : ℕ) → ((k : ℕ) → (k ≡ n) × (most < k) → ⊥)
 at_most n most none = elim (cases_lt most n) [ inl more ↦ absurd (none n (refl, more)) | inr le ↦ le ]
 
 pub facts : (g : ResourceGraph) (names : List (List ℕ)) → IsFaultless g names → Facts g names
-facts g names (few, (few_kinds, (parents,
-    (known, (root, (alone, (ends, (shallow,
-    (unnested, (unreserved, (leaves,
-    (whole, (most, (loose, (identified, (ids, (names_apart, (ranks, _)))))))))))))))))) = record {
+facts g names (
+  few,
+  (
+    few_kinds,
+    (
+      parents,
+      (
+        known,
+        (
+          root,
+          (
+            alone,
+            (
+              ends,
+              (
+                shallow,
+                (
+                  unnested,
+                  (
+                    unreserved,
+                    (
+                      leaves,
+                      (whole, (most, (loose, (identified, (ids, (names_apart, (ranks, _))))))),
+                    ),
+                  ),
+                ),
+              ),
+            ),
+          ),
+        ),
+      ),
+    ),
+  ),
+) = record {
   few = at_most (length g.vertices) MOST_VERTICES few;
   few_kinds = at_most (length g.kinds) MOST_TYPES few_kinds;
   parents = parents;
@@ -165,8 +197,10 @@ faultless g names f = (
                         f.whole,
                         (
                           f.most,
-                          (λ v loose. loose.1 (f.housed v loose.0),
-                              (f.identified, (f.ids, (f.names_apart, (f.ranks, tt))))),
+                          (
+                            λ v loose. loose.1 (f.housed v loose.0),
+                            (f.identified, (f.ids, (f.names_apart, (f.ranks, tt)))),
+                          ),
                         ),
                       ),
                     ),

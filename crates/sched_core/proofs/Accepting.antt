@@ -105,7 +105,7 @@ module _ (g : Setting) (names : List (List ℕ)) (valid : IsValidGraph g.graph n
             subst (λ (x : List Vertex). AllByRecursion (IsAvailable (no_bars x jobs) w) job.claims) (sym over)
             (subst (λ (js : List Job). AllByRecursion (IsAvailable (no_bars vs js) w) job.claims) (stood book s.jobs at.jobs ∙ sym (stood book jobs stands))
             (all_along (IsHad vs ok) (IsAvailable (no_bars vs s.jobs) w)
-                (λ c h. unbarred vs s.jobs ask.barred w c h.0) job.claims had));
+            (λ c h. unbarred vs s.jobs ask.barred w c h.0) job.claims had));
         fresh = fresh_row journal s job.id (get (rows_of book) job.id) (at.table job.id) (subst (λ (n : ℕ). Contains s.used n → ⊥) (sym is.id-is) fresh);
       }
 

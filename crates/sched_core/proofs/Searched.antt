@@ -31,23 +31,28 @@ module _ (g : Setting) (s : State) (ask : Ask) (t : ℕ) (at : t ≡ s.moment) w
   pub now_none : (w : Window) → w ≡ window_of g.horizon ask t → (SomeFit g.graph.vertices s.jobs ask w → ⊥) →
       FindsNow g s ask NoFit
   now_none w is none =
-      inl (subst (λ m. SomeFit g.graph.vertices s.jobs ask (window_of g.horizon ask m) → ⊥) at
-          (subst (λ (x : Window). SomeFit g.graph.vertices s.jobs ask x → ⊥) is none), refl)
+      inl (
+        subst (λ m. SomeFit g.graph.vertices s.jobs ask (window_of g.horizon ask m) → ⊥) at
+            (subst (λ (x : Window). SomeFit g.graph.vertices s.jobs ask x → ⊥) is none),
+        refl,
+      )
 
   pub now_found : (w : Window) → w ≡ window_of g.horizon ask t → (claims : List Claim) →
       IsLowestFirst g.graph.vertices s.jobs ask w claims → FindsNow g s ask (Found t claims)
   now_found w is claims low =
       let here : IsLowestFirst g.graph.vertices s.jobs ask (window_of g.horizon ask s.moment) claims =
       subst (λ m. IsLowestFirst g.graph.vertices s.jobs ask (window_of g.horizon ask m) claims) at
-          (subst (λ (x : Window). IsLowestFirst g.graph.vertices s.jobs ask x claims) is low) in
-      inr ((claims, lowest_fits g.graph.vertices s.jobs ask (window_of g.horizon ask s.moment) claims here),
-          (claims, here, ap (λ m. Found m claims) at))
+      (subst (λ (x : Window). IsLowestFirst g.graph.vertices s.jobs ask x claims) is low) in
+      inr (
+        (claims, lowest_fits g.graph.vertices s.jobs ask (window_of g.horizon ask s.moment) claims here),
+        (claims, here, ap (λ m. Found m claims) at),
+      )
 
   pub none_starts : ((u : ℕ) → t ≤ u → IsStart g.graph.vertices s.jobs g.horizon ask u → ⊥) →
       FindsEarliest g s ask NoFit
   none_starts none =
       let never : (u : ℕ) → s.moment ≤ u → IsStart g.graph.vertices s.jobs g.horizon ask u →
-          ⊥ = subst (λ m. (u : ℕ) → m ≤ u → IsStart g.graph.vertices s.jobs g.horizon ask u → ⊥) at none in
+      ⊥ = subst (λ m. (u : ℕ) → m ≤ u → IsStart g.graph.vertices s.jobs g.horizon ask u → ⊥) at none in
       inl ((λ f. never f.0 f.1 f.2), refl)
 
   pub start_found : (start : ℕ) (claims : List Claim) → IsEarliest g.graph.vertices s.jobs g.horizon ask t start →
@@ -55,5 +60,5 @@ module _ (g : Setting) (s : State) (ask : Ask) (t : ℕ) (at : t ≡ s.moment) w
       FindsEarliest g s ask (Found start claims)
   start_found start claims first low =
       let early : IsEarliest g.graph.vertices s.jobs g.horizon ask s.moment start =
-          subst (λ m. IsEarliest g.graph.vertices s.jobs g.horizon ask m start) at first in
+      subst (λ m. IsEarliest g.graph.vertices s.jobs g.horizon ask m start) at first in
       inr ((start, early.later, early.starts), (start, early, (claims, low, refl)))

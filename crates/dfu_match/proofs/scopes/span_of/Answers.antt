@@ -5,4 +5,4 @@ pub returns-in-Some-clause-covers : goal.returns-in-Some-clause-covers
 returns-in-Some-clause-covers c =
     let graph = c.args.graph.now in
     rw c.in-Some.is (covers_below graph.resources graph.names c.is_valid.ensures.valid c.in-Some.upper c.past.result
-        c.past.ensures)
+    c.past.ensures)

@@ -14,15 +14,15 @@ returns-in_err-check_raw-clause-told c =
     let fault = c.in_err-check_raw.field-0.0 in
     let is : c.from_residual-in_err-check_raw.result ≡ Err fault = search rules in
     rw is (moved (λ k r. IsFirstFault (raw_graph k r) (raw_names r) fault) c.args.kinds c.items-2.result.now
-        c.args.raw c.items-3.result.now c.items-2.ensures c.items-3.ensures c.in_err-check_raw.ensures.err)
+    c.args.raw c.items-3.result.now c.items-2.ensures c.items-3.ensures c.in_err-check_raw.ensures.err)
 
 pub build_faultless-requires-clause-fine : goal.build_faultless-requires-clause-fine
 build_faultless-requires-clause-fine c =
     moved (λ k r. IsFaultless (raw_graph k r) (raw_names r)) c.items-4.result.now c.items-2.result.now c.args.raw
-        c.items-3.result.now (c.items-2.ensures ∙ sym c.items-4.ensures) c.items-3.ensures
+    c.items-3.result.now (c.items-2.ensures ∙ sym c.items-4.ensures) c.items-3.ensures
     c.in_ok-check_raw.ensures.ok
 
 pub returns-clause-faultless : goal.returns-clause-faultless
 returns-clause-faultless c =
     moved (λ k r. IsFaultless (raw_graph k r) (raw_names r)) c.args.kinds c.items-2.result.now c.args.raw
-        c.items-3.result.now c.items-2.ensures c.items-3.ensures c.in_ok-check_raw.ensures.ok
+    c.items-3.result.now c.items-2.ensures c.items-3.ensures c.in_ok-check_raw.ensures.ok
