@@ -26,9 +26,9 @@ field_path (Host at) = codes "execution.nodelist" ++ index at
 field_path Starttime = codes "execution.starttime"
 field_path Expiration = codes "execution.expiration"
 
--- what a field gives, or its fault at this field
+-- what is read of a field, or its fault there
 abbrev pub at_field : {A : Type 0} → FieldPath → Result A FieldFault → Result A Misread
-at_field field field = result_map_both (λ x. x) (λ fault. Field field fault) field
+at_field field read = result_map_both (λ x. x) (λ fault. Field field fault) read
 
 -- the answer is what is read there, a value or what is wrong; want of memory may come at any time
 abbrev pub IsResultOf : {X : Type 0} → Result X ReadError → Result X Misread → Type 0
