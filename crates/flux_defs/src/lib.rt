@@ -23,6 +23,3 @@ pub use steps::Steps;
 pub use texts::Text;
 pub use vertices::Vertex;
 pub use views::{FreeView, NoJobs};
-
-#[cfg(test)]
-mod tests;

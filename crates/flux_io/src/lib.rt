@@ -12,8 +12,6 @@ mod std_sink;
 mod std_source;
 mod stores;
 mod streams;
-#[cfg(test)]
-mod tests;
 mod whole;
 
 pub use memory_files::{MemFiles, SureFiles};

@@ -18,6 +18,3 @@ pub use laws::{
 };
 pub use reading::{graph_texts_have_no_fault, read_graph};
 pub use writing::{write_graph, written_graphs_are_json};
-
-#[cfg(test)]
-mod tests;

@@ -6,8 +6,6 @@ mod hostlists;
 mod idsets;
 mod items;
 mod numbers;
-#[cfg(test)]
-mod tests;
 
 pub use faults::TextFault;
 pub use hostlists::{Hosts, has_host, read_hostlist, write_hostlist};

@@ -10,6 +10,3 @@ mod values;
 pub use fields::{FieldFault, need_text, need_u64};
 pub use plain_form::plain;
 pub use values::{ValueFault, read_value};
-
-#[cfg(test)]
-mod tests;

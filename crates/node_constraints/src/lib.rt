@@ -10,6 +10,3 @@ mod texts;
 
 pub use bars::barred;
 pub use faults::ConstraintFault;
-
-#[cfg(test)]
-mod tests;

@@ -5,6 +5,3 @@ mod items;
 pub mod rules;
 
 pub use rules::{FilterFault, Rule, Rules};
-
-#[cfg(test)]
-mod tests;

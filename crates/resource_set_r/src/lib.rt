@@ -21,6 +21,3 @@ pub use laws::{
 pub use reading::read_r;
 pub use sets_read::{RRow, RSet};
 pub use writing::write_r;
-
-#[cfg(test)]
-mod tests;

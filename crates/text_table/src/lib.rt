@@ -4,6 +4,3 @@
 pub mod table;
 
 pub use table::TextTable;
-
-#[cfg(test)]
-mod tests;
