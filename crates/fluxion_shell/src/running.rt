@@ -16,7 +16,7 @@ use crate::answering::answer;
 use crate::loading::{load, too_long};
 use crate::status::{Limited, Status, Which};
 use crate::words::{graph_name, serve_call};
-use flux_defs::Text;
+use flux_defs::{MOST_FILE_BYTES, Text};
 use flux_io::{Files, ReadAllFail, Sink, Source, read_all, write_all};
 use fluxion_lines::{InputFault, Over};
 use graph_json::{ReadFault, write_graph};
