@@ -4,12 +4,8 @@
 pub mod answering;
 mod fault_texts;
 pub mod loading;
-#[cfg(test)]
-mod rows;
 pub mod running;
 pub mod status;
-#[cfg(test)]
-mod tests;
 pub mod words;
 
 pub use running::run;

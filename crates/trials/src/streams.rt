@@ -1,0 +1,305 @@
+//! What no clause says: that calls succeed with ample memory, which numbers the failing calls have, and what the
+//! adapters do at real files and pipes and at interrupted calls.
+ghost use Rattle.std.specs.Prelude.{◌≤◌, IfOk};
+
+use flux_defs::{List, Text};
+use flux_io::{
+    Failed, FileFail, FileOpener, Files, Got, MemFiles, MemSink, MemSource, ReadAllFail, Sink,
+    Source, StdFiles, StdSink, StdSource, SureFiles, SureSink, SureSource, read_all, write_all,
+};
+use std::alloc::{AllocError, Global};
+use std::cell::Cell;
+use std::io::{ErrorKind, Read, Write, pipe};
+use std::process::Abort;
+use std::test::Fail;
+use std::{env, fs, io, process};
+
+/// The bytes 0, 1, 2 and so on, and after 250 again 0.
+fn counting(alloc: Global, count: usize) -> Result<Vec<u8>, AllocError> {
+    let mut bytes = Vec::with_capacity(alloc, count)?;
+    for i in 0..count {
+        bytes.push((i % 251) as u8)?;
+    }
+    Ok(bytes)
+}
+
+/// For 250 bytes: the most bytes of a call, and how many pulls that takes with the one that finds the end.
+const PULLS: [(usize, u64); 3] = [(1, 251), (7, 37), (100, 4)];
+
+/// For 250 bytes: the most bytes of a call, and how many pushes that takes.
+const PUSHES: [(usize, u64); 3] = [(1, 250), (7, 36), (100, 3)];
+
+fn reads_or_fails(
+    rt: &impl Abort,
+    alloc: Global,
+    row: (usize, u64),
+    failing: u64,
+) -> Result<(), Fail> {
+    let (piece, pulls) = row;
+    assert!(rt; 0 < piece);
+    let bytes = Text::of_vec(counting(alloc, 250)?);
+    let fails = List::of_vec(vec![in alloc; failing]?);
+    let mut source = MemSource::new(bytes.copy(alloc)?, piece, fails);
+    match read_all(alloc, &mut source, 250) {
+        Ok(text) => {
+            assert!(rt; failing > pulls, "piece {piece}, call {failing} failed not");
+            assert_eq!(rt; text.bytes(), bytes.bytes());
+        }
+        Err(fail) => {
+            assert!(rt; failing <= pulls, "piece {piece}, call {failing} failed");
+            assert_eq!(rt; fail, ReadAllFail::Failed);
+        }
+    }
+    Ok(())
+}
+
+fn writes_or_fails(
+    rt: &impl Abort,
+    alloc: Global,
+    row: (usize, u64),
+    failing: u64,
+) -> Result<(), Fail> {
+    let (piece, pushes) = row;
+    assert!(rt; 0 < piece);
+    let text = Text::of_vec(counting(alloc, 250)?);
+    let mut sink = MemSink::new(alloc, piece, List::of_vec(vec![in alloc; failing]?));
+    sink.reserve(250)?;
+    let written = write_all(&mut sink, &text);
+    let mut taken = 250;
+    if failing <= pushes {
+        taken = (failing as usize).saturating_sub(1).saturating_mul(piece);
+    }
+    assert_eq!(rt;
+        written.is_err(),
+        failing <= pushes,
+        "piece {piece}, call {failing}"
+    );
+    assert_eq!(rt; sink.bytes(), counting(alloc, taken)?.as_slice());
+    Ok(())
+}
+
+#[test]
+fn listed_calls_fail(rt: HostRuntime) -> Result<(), Fail> {
+    for row in PULLS {
+        for failing in [1, 2, 3, 4, 5, 36, 37, 38, 250, 251, 252] {
+            reads_or_fails(&rt, rt.alloc(), row, failing)?;
+        }
+    }
+    for row in PUSHES {
+        for failing in [1, 2, 3, 4, 35, 36, 37, 249, 250, 251] {
+            writes_or_fails(&rt, rt.alloc(), row, failing)?;
+        }
+    }
+    Ok(())
+}
+
+#[test]
+fn pushes_past_the_room_fail(rt: HostRuntime) -> Result<(), Fail> {
+    let alloc = rt.alloc();
+    let text = Text::of_vec(counting(alloc, 250)?);
+    let mut mem = MemSink::new(alloc, 7, List::new(alloc));
+    mem.reserve(50)?;
+    assert_eq!(rt; write_all(&mut mem, &text), Err(Failed));
+    assert_eq!(rt; mem.bytes(), counting(alloc, 49)?.as_slice());
+    let mut sure = SureSink::new(alloc, 7);
+    sure.reserve(249)?;
+    assert_eq!(rt; write_all(&mut sure, &text), Err(Failed));
+    sure.reserve(250)?;
+    assert_eq!(rt; write_all(&mut sure, &text), Ok(()));
+    assert_eq!(rt; sure.bytes().len(), 245 + 250);
+    Ok(())
+}
+
+#[test]
+fn sources_end_at_the_limit(rt: HostRuntime) -> Result<(), Fail> {
+    let alloc = rt.alloc();
+    let bytes = Text::of_vec(counting(alloc, 200_000)?);
+    let mut within = SureSource::new(bytes.copy(alloc)?, 100_000);
+    let text = read_all(alloc, &mut within, 200_000).ok().ok_or("within")?;
+    assert_eq!(rt; text.bytes(), bytes.bytes());
+    assert_eq!(rt; within.pull(&mut [0; 3]), Ok(0));
+    let mut long = SureSource::new(bytes, 100_000);
+    let read = read_all(alloc, &mut long, 199_999);
+    assert_eq!(rt; read.err().ok_or("past")?, ReadAllFail::Long);
+    Ok(())
+}
+
+fn two_files(alloc: Global) -> Result<List<(Text, Text)>, AllocError> {
+    let mut files = Vec::new(alloc);
+    files.push((Text::of(alloc, b"a")?, Text::of(alloc, b"first")?))?;
+    files.push((Text::of(alloc, b"a")?, Text::of(alloc, b"second")?))?;
+    files.push((Text::of(alloc, b"b")?, Text::empty(alloc)))?;
+    Ok(List::of_vec(files))
+}
+
+#[test]
+fn stores_answer(rt: HostRuntime) -> Result<(), Fail> {
+    let alloc = rt.alloc();
+    let mut into = Text::of(alloc, b"> ")?.into_vec();
+    let mut sure = SureFiles::new(two_files(alloc)?);
+    assert_eq!(rt; sure.read("a", &mut into, 5), Ok(Got::Whole));
+    assert_eq!(rt; sure.read("a", &mut into, 4), Ok(Got::Long));
+    assert_eq!(rt; sure.read("b", &mut into, 0), Ok(Got::Whole));
+    assert_eq!(rt; sure.read("", &mut into, 9), Ok(Got::Absent));
+    assert_eq!(rt; into.as_slice(), b"> first".as_slice());
+    let mut mem = MemFiles::new(two_files(alloc)?, List::of_vec(vec![in alloc; 2]?));
+    assert_eq!(rt; mem.read("c", &mut into, 9), Ok(Got::Absent));
+    assert_eq!(rt; mem.read("a", &mut into, 9), Err(FileFail::Failed));
+    assert_eq!(rt; mem.read("a", &mut into, 9), Ok(Got::Whole));
+    assert_eq!(rt; into.as_slice(), b"> firstfirst".as_slice());
+    Ok(())
+}
+
+#[test]
+fn real_files_are_read(rt: HostRuntime) -> Result<(), Fail> {
+    let alloc = rt.alloc();
+    let bytes = counting(alloc, 200_000)?;
+    let folder = env::temp_dir(&rt)?;
+    let folder = folder.as_path().to_str().ok_or("a folder's name")?;
+    let path = format!(in alloc; "{folder}/flux_io-{}", process::id(rt.process()))?;
+    fs::write(&rt, path.as_str(), bytes.as_slice())?;
+    let mut files = StdFiles::new(&rt);
+    let mut into = Vec::new(alloc);
+    assert_eq!(rt;
+        files.read(path.as_str(), &mut into, 200_000),
+        Ok(Got::Whole)
+    );
+    assert_eq!(rt; into.as_slice(), bytes.as_slice());
+    assert!(rt; into.capacity() <= 200_000);
+    assert_eq!(rt;
+        files.read(path.as_str(), &mut into, 199_999),
+        Ok(Got::Long)
+    );
+    assert_eq!(rt; into.as_slice(), bytes.as_slice());
+    fs::remove_file(&rt, path.as_str())?;
+    assert_eq!(rt;
+        files.read(path.as_str(), &mut into, 200_000),
+        Ok(Got::Absent)
+    );
+    assert_eq!(rt;
+        files.read(folder, &mut into, 200_000),
+        Err(FileFail::Failed)
+    );
+    Ok(())
+}
+
+#[test]
+fn pipes_are_read(rt: HostRuntime) -> Result<(), Fail> {
+    let alloc = rt.alloc();
+    let bytes = counting(alloc, 60_000)?;
+    let (reader, mut writer) = pipe(&rt)?;
+    writer.write_all(bytes.as_slice())?;
+    drop(writer);
+    let mut source = StdSource::new(reader);
+    let text = read_all(alloc, &mut source, 60_000).ok().ok_or("read")?;
+    assert_eq!(rt; text.bytes(), bytes.as_slice());
+    Ok(())
+}
+
+#[test]
+fn pipes_are_written(rt: HostRuntime) -> Result<(), Fail> {
+    let alloc = rt.alloc();
+    let bytes = counting(alloc, 60_000)?;
+    let (mut reader, writer) = pipe(&rt)?;
+    let mut sink = StdSink::new(writer);
+    assert_eq!(rt;
+        write_all(&mut sink, &Text::of_vec(counting(alloc, 60_000)?)),
+        Ok(())
+    );
+    drop(sink);
+    let mut read = Vec::new(alloc);
+    reader.read_to_end(&mut read)?;
+    assert_eq!(rt; read.as_slice(), bytes.as_slice());
+    Ok(())
+}
+
+/// A stream whose first calls a signal interrupts. After them it gives and takes a byte at a call, or nothing.
+#[derive(Drop)]
+struct Interrupted {
+    calls: u32,
+    bytes: usize,
+}
+
+impl Interrupted {
+    fn next(&mut self) -> io::Result<usize>
+        ensures { IfOk result (λ count. count ≤ 1) }
+    {
+        if self.calls > 0 {
+            self.calls -= 1;
+            return Err(io::Error::from(ErrorKind::Interrupted));
+        }
+        Ok(self.bytes.min(1))
+    }
+}
+
+impl Read for Interrupted {
+    fn read(&mut self, buf: &mut [u8]) -> io::Result<usize> {
+        Ok(self.next()?.min(buf.len()))
+    }
+}
+
+impl Write for Interrupted {
+    fn write(&mut self, buf: &[u8]) -> io::Result<usize> {
+        Ok(self.next()?.min(buf.len()))
+    }
+
+    fn flush(&mut self) -> io::Result<()> {
+        Ok(())
+    }
+}
+
+/// What opens such streams, after calls of its own that a signal interrupts.
+#[derive(Drop)]
+struct InterruptedOpener {
+    calls: Cell<u32>,
+}
+
+impl FileOpener for InterruptedOpener {
+    ghost use Rattle.std.specs.Prelude.{None};
+
+    type File = Interrupted;
+
+    ghost content = { λ _ _. None };
+
+    fn open(&self, _name: &str) -> io::Result<Interrupted> {
+        let calls = self.calls.get();
+        if calls > 0 {
+            self.calls.set(calls - 1);
+            return Err(io::Error::from(ErrorKind::Interrupted));
+        }
+        Ok(Interrupted { calls: 0, bytes: 1 })
+    }
+}
+
+#[test]
+fn interrupted_openings_are_tried_again(rt: HostRuntime) {
+    for (calls, got) in [
+        (0, Ok(Got::Long)),
+        (1_000, Ok(Got::Long)),
+        (1_001, Err(FileFail::Failed)),
+    ] {
+        let mut files = StdFiles::of(InterruptedOpener {
+            calls: Cell::new(calls),
+        });
+        assert_eq!(rt;
+            files.read("name", &mut Vec::new(rt.alloc()), 9),
+            got,
+            "{calls} calls"
+        );
+    }
+}
+
+#[test]
+fn interrupted_calls_are_tried_again(rt: HostRuntime) {
+    for (calls, bytes, pulled, pushed) in [
+        (0, 1, Ok(1), Ok(1)),
+        (1_000, 1, Ok(1), Ok(1)),
+        (1_001, 1, Err(Failed), Err(Failed)),
+        (0, 0, Ok(0), Err(Failed)),
+    ] {
+        let mut source = StdSource::new(Interrupted { calls, bytes });
+        assert_eq!(rt; source.pull(&mut [0; 9]), pulled, "{calls} calls");
+        let mut sink = StdSink::new(Interrupted { calls, bytes });
+        assert_eq!(rt; sink.push(b"text"), pushed, "{calls} calls");
+    }
+}
