@@ -8,10 +8,12 @@ fn spaces(bytes: &[u8]) -> usize
     ensures place { result ≡ position_or_len (λ b. not (b == 32)) bytes.now }
     ensures within { result ≤ length bytes.now }
 {
-    match bytes.iter().position(|byte| *byte != b' ') {
-        Some(at) => at,
-        None => bytes.len(),
+    'bytes: for (at, byte) in bytes.iter().enumerate() {
+        if *byte != b' ' {
+            return at;
+        }
     }
+    bytes.len()
 }
 
 /// Where the word at the front ends.
@@ -19,10 +21,12 @@ fn word_end(bytes: &[u8]) -> usize
     ensures place { result ≡ position_or_len (λ b. b == 32) bytes.now }
     ensures within { result ≤ length bytes.now }
 {
-    match bytes.iter().position(|byte| *byte == b' ') {
-        Some(at) => at,
-        None => bytes.len(),
+    'bytes: for (at, byte) in bytes.iter().enumerate() {
+        if *byte == b' ' {
+            return at;
+        }
     }
+    bytes.len()
 }
 
 /// The bytes from the first that is no space on.
