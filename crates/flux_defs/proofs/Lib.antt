@@ -1,1 +1,2 @@
 pub mod EmptyGraph
+pub mod DigitLaws
