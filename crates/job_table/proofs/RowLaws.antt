@@ -15,13 +15,14 @@ is_equal Less e = absurd (true≢false (sym e))
 is_equal Equal e = refl
 is_equal Greater e = absurd (true≢false (sym e))
 
-unequal : (q k : ℕ) → q ≢ k → eq_by_cmp nat_cmp q k ≡ false
+pub unequal : (q k : ℕ) → q ≢ k → eq_by_cmp nat_cmp q k ≡ false
 unequal q k ne = not_true (eq_by_cmp nat_cmp q k) (λ t. ne (nat_cmp-IsAntisymmetric q k (is_equal (nat_cmp q k) t)))
 
 module _ {X : Type 0} (rows : FinMap nat_cmp X) (id : ℕ) (row : X) where
   -- the id has the row
   pub get_same : get (insert rows id row) id ≡ Some row
-  get_same = get-insert nat_cmp_total rows id row id ∙ ap (λ b. cond b (Some row) (get rows id)) ((eq_by_cmp_equiv nat_cmp_total).refl id)
+  get_same = get-insert nat_cmp_total rows id row id
+      ∙ ap (λ b. cond b (Some row) (get rows id)) ((eq_by_cmp_equiv nat_cmp_total).refl id)
 
   -- and any other id what it had
   pub get_other : (k : ℕ) → k ≢ id → get (insert rows id row) k ≡ get rows k

@@ -7,7 +7,8 @@ use Rattle.job_table.specs.declared.tables.Row.{Row}
 
 -- a row as data: its place, and whether its job is live
 abbrev pub row_code : Coded Row
-row_code = code_by (ℕ × Bool) (coded× coded_ℕ coded_bool) (λ r. (r.at, r.live)) (λ p. record { at = p.0; live = p.1 }) (λ _. refl)
+row_code = code_by (ℕ × Bool) (coded× coded_ℕ coded_bool) (λ r. (r.at, r.live)) (λ p. record { at = p.0; live = p.1 })
+    (λ _. refl)
 
 -- the row of a job that was accepted by the entry at this place, and not cancelled
 abbrev pub live_row : ℕ → Row

@@ -1,13 +1,14 @@
 //! The table of jobs.
-ghost use Rattle.std.specs.Prelude.{◌≡◌, ℕ, None, Some, IfOk};
+ghost use Rattle.std.specs.Prelude.{◌≡◌, ℕ, ◌+◌, ◌*◌, ◌≤◌, None, Some, IfOk, OnOk, OnErr};
 ghost use Rattle.std.specs.FinMap as map;
+ghost use Rattle.flux_defs.specs.Digits.{dig};
 ghost use Rattle.job_table.specs.Rows.{live_row, cancelled_row, HasLiveRow};
 
+use crate::parts::Part;
 use flux_defs::Steps;
+use node_store::{Share, Vacant};
 use std::alloc::{AllocError, Global};
-use std::collections::BTreeMap;
 use std::marker::Model;
-use std::sync::Arc;
 use std::sync::ledger::Ledger;
 
 /// Where the journal's entry stands that accepted the job, and whether the job was not cancelled since.
@@ -17,28 +18,31 @@ pub struct Row {
     pub live: bool,
 }
 
-/// A map from ids of jobs to rows. No table changes: a call that changes something gives a new one, a copy.
+/// A map from ids of jobs to rows, as a shared tree. No table changes: a call that changes something gives a new one,
+/// which holds in common with the old one what the change doesn't lead through.
+///
+/// A look at a row takes at most a step for each of the 16 hexadecimal digits of an id. Where the last digits of n ids
+/// are spread it takes about as many as n has hexadecimal digits, as for ids that count up.
 #[derive(Drop)]
 pub struct JobTable {
-    rows: Option<Arc<BTreeMap<u64, Row>, Global>>,
+    root: Part,
 }
 
 impl Model for JobTable {
-    ghost use Rattle.std.specs.Prelude.{ℕ};
     ghost use Rattle.std.specs.Ordering.{nat_cmp};
-    ghost use Rattle.std.specs.BTreeMap.{BTreeMap};
     ghost use Rattle.std.specs.FinMap as map;
     ghost use Rattle.std.specs.Coded.{coded_ℕ};
-    ghost use Rattle.std.specs.Option.{option_map_or};
-    ghost use Rattle.std.specs.Arc.{arc_value};
     ghost use Rattle.job_table.specs.declared.tables.Row.{Row};
     ghost use Rattle.job_table.specs.Rows.{row_code};
+    ghost use Rattle.job_table.specs.Parts.{IsPart};
 
     ghost Value = { map.FinMap nat_cmp Row };
 
     ghost coded = { map.code coded_ℕ row_code };
 
-    ghost view = { λ t. option_map_or (λ rows. map.from_entries (arc_value {X = BTreeMap ℕ Row} rows).entries) t.rows map.empty };
+    ghost view = { λ table. map.from_entries table.root.0 };
+
+    ghost invariant = { λ table. IsPart 16 table.root };
 }
 
 impl JobTable {
@@ -46,30 +50,25 @@ impl JobTable {
     pub fn empty() -> JobTable
         ensures { result ≡ map.empty }
     {
-        JobTable { rows: None }
+        JobTable {
+            root: Part::vacant(),
+        }
     }
 
     /// The row of the id, and `None` exactly where it has none. It takes no memory.
     pub fn find<L: Ledger>(&self, id: u64, steps: &mut Steps<L>) -> Option<Row>
-        ensures { result ≡ map.get self.now id }
+        ensures row { result ≡ map.get self.now id }
+        ensures work { steps.new ≤ steps.old + 16 * dig (map.len self.now + 2) }
     {
-        steps.tick();
-        match &self.rows {
-            None => None,
-            Some(rows) => rows.get(&id).copied(),
-        }
+        self.root.find(id, steps)
     }
 
     /// The same table, without a copy.
     pub fn share(&self) -> Result<JobTable, AllocError>
         ensures { IfOk result (λ table. table ≡ self.now) }
     {
-        match &self.rows {
-            None => Ok(JobTable { rows: None }),
-            Some(rows) => Ok(JobTable {
-                rows: Some(Arc::try_clone(rows)?),
-            }),
-        }
+        let root = self.root.share()?;
+        Ok(JobTable { root })
     }
 
     /// The table with a live row for a new id, whose job the entry at place `at` accepted.
@@ -81,10 +80,10 @@ impl JobTable {
         steps: &mut Steps<L>,
     ) -> Result<JobTable, AllocError>
         requires { map.get self.now id ≡ None }
-        ensures { IfOk result (λ table. table ≡ map.insert self.now id (live_row at)) }
+        ensures added { IfOk result (λ table. table ≡ map.insert self.now id (live_row at)) }
+        ensures work { steps.new ≤ steps.old + 256 * dig (map.len self.now + 2) }
     {
-        steps.tick();
-        self.with_row(alloc, id, Row { at, live: true })
+        self.with_row(alloc, id, Row { at, live: true }, steps)
     }
 
     /// The table in which the id's row is not live.
@@ -95,46 +94,35 @@ impl JobTable {
         steps: &mut Steps<L>,
     ) -> Result<JobTable, AllocError>
         requires { HasLiveRow self.now id }
-        ensures { IfOk result (λ table. (at : ℕ) → map.get self.now id ≡ Some (live_row at) → table ≡ map.insert self.now id (cancelled_row at)) }
+        ensures cancelled { IfOk result (λ table. (at : ℕ) → map.get self.now id ≡ Some (live_row at) →
+            table ≡ map.insert self.now id (cancelled_row at)) }
+        ensures work { steps.new ≤ steps.old + 256 * dig (map.len self.now + 2) }
     {
-        match self.find(id, steps) {
-            Some(row) => self.with_row(
-                alloc,
-                id,
-                Row {
-                    at: row.at,
-                    live: false,
-                },
-            ),
-            None => unreachable!(),
+        let Some(row) = self.find(id, steps) else {
+            unreachable!()
+        };
+        let cancelled = Row {
+            at: row.at,
+            live: false,
+        };
+        self.with_row(alloc, id, cancelled, steps)
+    }
+
+    /// The table with this row at the id, in place of the one that it may have: a change in place of a share.
+    fn with_row<L: Ledger>(
+        &self,
+        alloc: Global,
+        id: u64,
+        row: Row,
+        steps: &mut Steps<L>,
+    ) -> Result<JobTable, AllocError>
+        ensures row { IfOk result (λ table. table ≡ map.insert self.now id row) }
+        ensures work { steps.new ≤ steps.old + 16 }
+    {
+        let mut root = self.root.share()?;
+        match root.set(alloc, 16, id, row, steps) {
+            Ok(()) => Ok(JobTable { root }),
+            Err(refused) => Err(refused),
         }
     }
-
-    /// The table with this row at the id, in place of the one that it may have.
-    fn with_row(&self, alloc: Global, id: u64, row: Row) -> Result<JobTable, AllocError>
-        ensures { IfOk result (λ table. table ≡ map.insert self.now id row) }
-    {
-        let mut rows = self.copied(alloc)?;
-        rows.insert(id, row)?;
-        Ok(JobTable {
-            rows: Some(Arc::new(alloc, rows)?),
-        })
-    }
-
-    /// A copy of its rows.
-    fn copied(&self, alloc: Global) -> Result<BTreeMap<u64, Row>, AllocError>
-        ensures { IfOk result (λ rows. map.from_entries rows.entries ≡ self.now) }
-    {
-        match &self.rows {
-            None => Ok(BTreeMap::new(alloc)),
-            Some(rows) => copy_of(rows),
-        }
-    }
-}
-
-/// An equal map.
-fn copy_of(rows: &BTreeMap<u64, Row>) -> Result<BTreeMap<u64, Row>, AllocError>
-    ensures { IfOk result (λ copy. copy.entries ≡ rows.now.entries) }
-{
-    rows.clone()
 }

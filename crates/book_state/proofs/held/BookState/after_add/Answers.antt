@@ -10,7 +10,7 @@ invariant_of-result g c =
     let book = c.args.self.now in
     let job = c.args.job.now in
     record {
-      tied = agree_along _ c.in_ok-with_new.field-0 (arc_value book.jobs ++ job ∷ []) _ c.in_ok-with_new.ensures
+      tied = agree_along _ c.in_ok-with_new.field-0 (arc_value book.jobs ++ job ∷ []) _ c.in_ok-with_new.ensures.added
           (c.in_ok-new.ensures.ok ∙ c.in_ok-jobs.ensures ∙ ap (λ js. js ++ job ∷ []) c.job_list.ensures)
           (agree_more (rows_of book) (arc_value book.jobs) job c.args.at c.requires.fresh book.tied);
     }

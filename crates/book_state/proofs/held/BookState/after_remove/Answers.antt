@@ -13,7 +13,7 @@ invariant_of-result g c =
     let book = c.args.self.now in
     let id = c.args.job.now.id in
     record {
-      tied = agree_along _ c.in_ok-with_cancelled.field-0 (without_job id (arc_value book.jobs)) _ (c.in_ok-with_cancelled.ensures c.requires.live.0 c.requires.live.1)
+      tied = agree_along _ c.in_ok-with_cancelled.field-0 (without_job id (arc_value book.jobs)) _ (c.in_ok-with_cancelled.ensures.cancelled c.requires.live.0 c.requires.live.1)
           (c.in_ok-new.ensures.ok ∙ c.in_ok-jobs.ensures ∙ ap (without_job id) c.job_list.ensures)
           (agree_less (rows_of book) (arc_value book.jobs) id c.requires.live.0 book.tied);
     }

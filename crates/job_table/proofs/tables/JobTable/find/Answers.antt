@@ -1,14 +1,13 @@
-use Rattle.std.proofs.Common.{ap, sym, ◌∙◌}
-use Rattle.std.specs.Ordering.{nat_cmp}
-use Rattle.std.specs.BTreeMap.{get_by}
+use Rattle.std.proofs.Common.{sym, ap, ◌∙◌, ◌+◌, arith}
 use Rattle.std.specs.FinMap as map
-use Rattle.job_table.proofs.TableLaws.{rows_none, rows_some}
+use Rattle.flux_defs.proofs.DigitLaws.{some_dig}
+use Rattle.job_table.proofs.TableLaws.{get_entries}
 use Rattle.job_table.proofs.tables.JobTable.find.Goals as goal
 
-pub returns-in-None : goal.returns-in-None
-returns-in-None g c = sym (ap (λ m. map.get m c.args.id) (sym c.self.view_is) ∙ rows_none c.self.inside.rows c.in-None.is c.args.id)
+pub returns-clause-row : goal.returns-clause-row
+returns-clause-row g c = c.find.ensures.row
+    ∙ sym (ap (λ m. map.get m c.args.id) (sym c.self.view_is) ∙ get_entries _ c.args.id)
 
-pub returns-in-Some : goal.returns-in-Some
-returns-in-Some g c =
-    c.copied.ensures ∙ c.get.ensures.value ∙ ap (get_by (nat_cmp c.args.id)) c.deref.ensures
-    ∙ sym (ap (λ m. map.get m c.args.id) (sym c.self.view_is) ∙ rows_some c.self.inside.rows c.in-Some.rows c.in-Some.is c.args.id)
+pub returns-clause-work : goal.returns-clause-work
+returns-clause-work g c = let high = c.self.invariant.high in
+    omega (arith, c.find.ensures.work, some_dig (map.len c.args.self.now + 2))

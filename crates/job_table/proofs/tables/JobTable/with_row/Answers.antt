@@ -1,10 +1,10 @@
-use Rattle.std.proofs.Common.{ap, ◌∙◌}
+use Rattle.std.proofs.Common.{ap, ◌∙◌, ℕ, List}
 use Rattle.std.specs.FinMap as map
-use Rattle.job_table.proofs.TableLaws.{insert_map}
+use Rattle.job_table.specs.declared.tables.Row.{Row}
+use Rattle.job_table.proofs.TableLaws.{insert_entries}
 use Rattle.job_table.proofs.tables.JobTable.with_row.Goals as goal
 
-pub returns : goal.returns
-returns c =
-    ap (λ m. map.from_entries m.entries) c.in_ok-new.ensures.ok
-    ∙ insert_map c.in_ok-rows.rows c.insert.new.self c.args.id c.args.row c.in_ok-insert.ensures.updates
-    ∙ ap (λ m. map.insert m c.args.id c.args.row) c.in_ok-rows.ensures
+pub returns-in-Ok-clause-row : goal.returns-in-Ok-clause-row
+returns-in-Ok-clause-row g c =
+    let old = ap (λ (u : List (ℕ × Row) × ℕ). map.from_entries u.0) c.in_ok-root.ensures ∙ c.self.view_is in
+    insert_entries _ _ c.args.id c.args.row c.in-Ok.ensures.sets ∙ ap (λ m. map.insert m c.args.id c.args.row) old

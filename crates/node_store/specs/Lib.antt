@@ -1,0 +1,4 @@
+pub mod formers
+pub mod Lending
+pub mod Parts
+pub mod Most

@@ -1,0 +1,4 @@
+pub mod PlaceLaws
+pub mod PageLaws
+pub mod RaiseLaws
+pub mod ListLaws

@@ -1,0 +1,89 @@
+-- A page after a change of one of its parts.
+use Rattle.std.proofs.Common.{◌≡◌, ℕ, zero, suc, ◌+◌, ◌*◌, ◌^◌, ◌<◌, List, [], ◌∷◌, ◌++◌, refl, ap, sym, ◌∙◌, arith, Some, slice_get, slice_set, subst}
+use Rattle.std.proofs.lemmas.Nat.{pow-add}
+use Rattle.node_store.specs.Lending.{with_part}
+use Rattle.node_store.proofs.PartLaws.{parts_with}
+use Rattle.snapshot_store.specs.Parts.{parts_in, items_in, items_of, height_of, ArePacked, IsPage}
+use Rattle.snapshot_store.specs.Places.{HasItem, HasRoom}
+use Rattle.snapshot_store.specs.declared.parts.Body.{Body}
+use Rattle.snapshot_store.specs.declared.parts.Body.TheVariants.{Fork}
+use Rattle.snapshot_store.specs.declared.parts.Page.{Page}
+
+-- the page with another part at a place
+abbrev pub changed : {E : Type 0} → Page E → ℕ → List E × ℕ → Page E
+changed page place part = record { below = page.below; parts = with_part page.parts place part }
+
+set_back : {X : Type 0} (xs : List X) (at : ℕ) (x : X) → slice_get xs at ≡ Some x → slice_set xs at x ≡ xs
+set_back [] at x g = refl
+set_back (y ∷ ys) zero x g = (let e : x ≡ y = cc in ap (λ u. u ∷ ys) e)
+set_back (y ∷ ys) (suc at) x g = ap (λ u. y ∷ u) (set_back ys at x g)
+
+pub pairs : {A B : Type 0} (a a' : A) (b b' : B) → a ≡ a' → b ≡ b' → Path (A × B) (a, b) (a', b')
+pairs {A} {B} a a' b b' e f = ap (λ (u : A). let v : A × B = (u, b) in v) e
+    ∙ ap (λ (u : B). let v : A × B = (a', u) in v) f
+
+-- what a part is seen as while its page is open
+pub opened : {E : Type 0} (seen : List E × ℕ) (body : Body E) (node page : Page E) →
+    (items_of body, height_of body) ≡ seen → body ≡ Fork node → page ≡ node →
+    seen ≡ (items_in (parts_in page), page.below + 1)
+opened seen body node page e f g = sym e ∙ ap (λ u. (items_of u, height_of u)) f
+    ∙ ap (λ (u : Page _). (items_in (parts_in u), u.below + 1)) (sym g)
+
+module _ {E : Type 0} (page : Page E) (place : ℕ) (part new : List E × ℕ) (at_place : place < 16) where
+  -- the parts after the change, where the new part is this one
+  parts_after : (s : List E × ℕ) → new ≡ s → parts_in (changed page place new) ≡ slice_set (parts_in page) place s
+  parts_after s e = parts_with page.parts place new at_place ∙ ap (λ u. slice_set (parts_in page) place u) e
+
+  is_page : (s : List E × ℕ) → new ≡ s → IsPage page → ArePacked page.below (slice_set (parts_in page) place s) →
+      IsPage (changed page place new)
+  is_page s e p packed = record {
+    low = p.low;
+    packed = subst (λ u. ArePacked page.below u) (sym (parts_after s e))
+        packed;
+  }
+
+  pub put_page : (at rest : ℕ) (x : E) → IsPage page → HasItem page at part place rest →
+      new ≡ (slice_set part.0 rest x, part.1) → IsPage (changed page place new)
+  put_page at rest x p it e = is_page _ e p (it.packed x)
+
+  pub put_seen : (seen : List E × ℕ) (at rest : ℕ) (x : E) → seen ≡ (items_in (parts_in page), page.below + 1) →
+      HasItem page at part place rest → new ≡ (slice_set part.0 rest x, part.1) →
+      Path (List E × ℕ) (items_in (parts_in (changed page place new)), page.below + 1) (slice_set seen.0 at x, seen.1)
+  put_seen seen at rest x q it e =
+      pairs _ _ _ _ (ap items_in (parts_after _ e) ∙ it.items x ∙ ap (λ (u : List E × ℕ). slice_set u.0 at x) (sym q))
+      (ap (λ (u : List E × ℕ). u.1) (sym q))
+
+  pub push_page : (rest : ℕ) (x : E) → IsPage page → HasRoom page part place rest →
+      new ≡ (part.0 ++ x ∷ [], page.below) → IsPage (changed page place new)
+  push_page rest x p it e = is_page _ e p (it.packed x)
+
+  pub push_seen : (seen : List E × ℕ) (height rest : ℕ) (x : E) → seen ≡ (items_in (parts_in page), page.below + 1) →
+      (0 < seen.1 → seen.1 ≡ height) → HasRoom page part place rest → new ≡ (part.0 ++ x ∷ [], page.below) →
+      Path (List E × ℕ) (items_in (parts_in (changed page place new)), page.below + 1) (seen.0 ++ x ∷ [], height)
+  push_seen seen height rest x q forked it e =
+      let high : seen.1 ≡ page.below + 1 = ap (λ (u : List E × ℕ). u.1) q in
+      let tall : page.below + 1 ≡ height = sym high ∙ forked (omega arith) in
+      pairs _ _ _ _ (ap items_in (parts_after _ e) ∙ it.items x ∙ ap (λ (u : List E × ℕ). u.0 ++ x ∷ []) (sym q)) tall
+
+  pub kept_page : IsPage page → slice_get (parts_in page) place ≡ Some part → new ≡ part →
+      IsPage (changed page place new)
+  kept_page p g e = is_page _ e p (subst (λ u. ArePacked page.below u) (sym (set_back (parts_in page) place part g))
+      p.packed)
+
+  pub kept_seen : (seen : List E × ℕ) → seen ≡ (items_in (parts_in page), page.below + 1) →
+      slice_get (parts_in page) place ≡ Some part → new ≡ part →
+      Path (List E × ℕ) (items_in (parts_in (changed page place new)), page.below + 1) seen
+  kept_seen seen q g e = ap (λ u. (items_in u, page.below + 1))
+      (parts_after _ e ∙ set_back (parts_in page) place part g) ∙ sym q
+
+-- an open part of that height has room for as many items as sixteen of its parts
+pub room_in : {E : Type 0} (seen : List E × ℕ) (page : Page E) (height at : ℕ) →
+    seen ≡ (items_in (parts_in page), page.below + 1) → (0 < seen.1 → seen.1 ≡ height) → at < 2 ^ (4 * height) →
+    at < 16 * 2 ^ (4 * page.below)
+room_in {E} seen page height at q forked l =
+    let high : seen.1 ≡ page.below + 1 = ap (λ (u : List E × ℕ). u.1) q in
+    let e : height ≡ page.below + 1 = omega (arith, forked (omega arith)) in
+    let n : 4 * (page.below + 1) ≡ 4 * page.below + 4 = omega arith in
+    let p = pow-add 2 (4 * page.below) 4 in
+    let m : 2 ^ (4 * height) ≡ 2 ^ (4 * page.below + 4) = ap (λ u. 2 ^ (4 * u)) e ∙ ap (λ u. 2 ^ u) n in
+    omega (arith, l, p, m)

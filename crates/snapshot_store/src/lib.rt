@@ -1,0 +1,11 @@
+//! Lists of which old versions stay: a copy costs one shared node, and a change copies the nodes on its way that an
+//! older list holds too, four for 65,536 items.
+#![tactic(auto)]
+
+mod pages;
+mod parts;
+
+pub use pages::Pages;
+
+#[cfg(test)]
+mod tests;

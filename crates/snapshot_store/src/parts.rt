@@ -1,0 +1,303 @@
+//! Parts of a list, as shared trees: a node of sixteen parts has room for sixteen times as many items as each of them.
+ghost use Rattle.std.specs.Prelude.{◌≡◌, ℕ, ◌+◌, ◌-◌, ◌*◌, ◌/◌, ◌^◌, ◌<◌, ◌≤◌, List, [], ◌∷◌, ◌++◌, length, slice_get, slice_set, replicate, Some, IfOk, IfErr, OnOk, OnErr};
+
+use flux_defs::Steps;
+use node_store::{Node, Share, Sixteen, Vacant};
+use std::alloc::{AllocError, Global};
+use std::marker::Model;
+use std::sync::ledger::Ledger;
+
+/// A part of a list: nothing, an item, or a page of sixteen parts. Contracts see its items and its height, which is how
+/// many pages stand one below the other.
+#[cycle(part)]
+#[derive(Drop)]
+pub struct Part<T: Drop> {
+    body: Body<T>,
+}
+
+/// What a part is made of.
+#[cycle(part)]
+#[derive(Drop)]
+enum Body<T: Drop> {
+    Empty,
+    Item(Node<T>),
+    Fork(Node<Page<T>>),
+}
+
+/// Sixteen parts one after the other, each full where one after it has an item; `below` is their height.
+#[cycle(part)]
+#[derive(Drop)]
+pub struct Page<T: Drop> {
+    below: u64,
+    parts: Sixteen<Part<T>>,
+}
+
+impl<T: Drop> Model for Part<T> {
+    ghost use Rattle.std.specs.Prelude.{ℕ, List};
+
+    ghost Value = { List T × ℕ };
+
+    ghost use Rattle.snapshot_store.specs.Parts.{items_of, height_of, IsLevel};
+
+    ghost view = { λ part. (items_of part.body, height_of part.body) };
+
+    ghost invariant = { λ part. IsLevel part.body };
+
+    ghost size = { λ value. value.1 };
+
+    ghost use Rattle.snapshot_store.specs.Heights.{falls};
+
+    ghost size_decreases = { falls };
+}
+
+impl<T: Drop> Vacant for Part<T> {
+    ghost use Rattle.std.specs.Prelude.{[]};
+
+    ghost vacant = { ([], 0) };
+
+    fn vacant() -> Part<T> {
+        Part { body: Body::Empty }
+    }
+}
+
+impl<T: Drop> Share for Part<T> {
+    fn share(&self) -> Result<Part<T>, AllocError> {
+        let body = match &self.body {
+            Body::Empty => Body::Empty,
+            Body::Item(node) => Body::Item(node.share()?),
+            Body::Fork(node) => Body::Fork(node.share()?),
+        };
+        Ok(Part { body })
+    }
+}
+
+impl<T: Drop> Share for Page<T> {
+    fn share(&self) -> Result<Page<T>, AllocError> {
+        let parts = self.parts.share()?;
+        Ok(Page {
+            below: self.below,
+            parts,
+        })
+    }
+}
+
+impl<T: Drop> Page<T> {
+    ghost use Rattle.snapshot_store.specs.Parts.{parts_in, items_in, IsPage};
+    ghost use Rattle.snapshot_store.specs.Places.{HasItem, HasRoom};
+
+    /// A page of sixteen empty parts of that height.
+    fn vacant(below: u64) -> Page<T>
+        ensures below { result.below ≡ below }
+        ensures parts { parts_in result ≡ replicate 16 ([], 0) }
+    {
+        Page {
+            below,
+            parts: Sixteen::vacant(),
+        }
+    }
+
+    /// How many items each of its parts has room for.
+    #[tactic(auto, using(crate::proofs::PlaceLaws::width_fits))]
+    fn width(&self) -> u64
+        requires { self.now.below < 16 }
+        ensures { result ≡ 2 ^ (4 * self.now.below) }
+    {
+        1 << (4 * self.below)
+    }
+
+    /// The place of the part that has the item, and the item's place in it.
+    #[tactic(auto, using(crate::proofs::PlaceLaws::place_facts))]
+    fn place_of(&self, at: u64) -> (u64, u64)
+        requires page { IsPage self.now }
+        requires inside { at < length (items_in (parts_in self.now)) }
+        ensures place { result.0 < 16 }
+        ensures item { (part : List T × ℕ) → slice_get (parts_in self.now) result.0 ≡ Some part →
+            HasItem self.now at part result.0 result.1 }
+    {
+        let width = self.width();
+        (at / width, at % width)
+    }
+
+    /// The place of the part that has room for the next item, and how many items that part has.
+    #[tactic(auto, using(crate::proofs::PlaceLaws::place_facts))]
+    fn room_of(&self, at: u64) -> (u64, u64)
+        requires page { IsPage self.now }
+        requires end { at ≡ length (items_in (parts_in self.now)) }
+        requires room { at < 16 * 2 ^ (4 * self.now.below) }
+        ensures place { result.0 < 16 }
+        ensures room { (part : List T × ℕ) → slice_get (parts_in self.now) result.0 ≡ Some part →
+            HasRoom self.now part result.0 result.1 }
+    {
+        let width = self.width();
+        (at / width, at % width)
+    }
+
+    /// The part that has the item, and the item's place in it.
+    fn find(&self, at: u64) -> (&Part<T>, u64)
+        requires page { IsPage self.now }
+        requires inside { at < length (items_in (parts_in self.now)) }
+        ensures inside { result.1 < length result.0.now.0 }
+        ensures low { result.0.now.1 ≤ self.now.below }
+        ensures same { slice_get (items_in (parts_in self.now)) at ≡ slice_get result.0.now.0 result.1 }
+    {
+        let (place, rest) = self.place_of(at);
+        (self.parts.get(place), rest)
+    }
+}
+
+impl<T: Drop> Part<T> {
+    ghost use Rattle.snapshot_store.specs.Parts.{IsPart};
+
+    /// The item at a place. It takes a step for each page on the way to it, and one for the item.
+    pub fn get<L: Ledger>(&self, at: u64, steps: &mut Steps<L>) -> &T
+        requires { at < length self.now.0 }
+        ensures value { slice_get self.now.0 at ≡ Some result.now }
+        ensures work { steps.new ≤ steps.old + self.now.1 + 1 }
+    {
+        match &self.body {
+            Body::Empty => unreachable!(),
+            Body::Item(node) => node.look(steps),
+            Body::Fork(node) => {
+                let page = node.look(steps);
+                let (part, rest) = page.find(at);
+                part.get(rest, steps)
+            }
+        }
+    }
+
+    /// Stores the item at a place, in the pages of this part that no other holds and in copies of the others. Where no
+    /// memory is left the item comes back, and the part is as before.
+    pub fn put<L: Ledger>(
+        &mut self,
+        alloc: Global,
+        at: u64,
+        item: T,
+        steps: &mut Steps<L>,
+    ) -> Result<(), (T, AllocError)>
+        requires { at < length self.old.0 }
+        ensures new { OnOk result (self.new ≡ (slice_set self.old.0 at item, self.old.1)) }
+        ensures item { IfErr result (λ e. e.0 ≡ item) }
+        ensures same { OnErr result (self.new ≡ self.old) }
+        ensures work { steps.new ≤ steps.old + self.old.1 + 1 }
+    {
+        match &mut self.body {
+            Body::Empty => unreachable!(),
+            Body::Item(node) => {
+                steps.tick();
+                return node.set(alloc, item);
+            }
+            Body::Fork(node) => {
+                steps.tick();
+                if let Err(refused) = node.own(alloc) {
+                    return Err((item, refused));
+                }
+                let Some(page) = node.get_mut() else {
+                    return Err((item, AllocError));
+                };
+                let (place, rest) = page.place_of(at);
+                match page.parts.get_mut(place).put(alloc, rest, item, steps) {
+                    Ok(()) => return Ok(()),
+                    Err(refused) => return Err(refused),
+                }
+            }
+        }
+    }
+
+    /// A part of that height with one item.
+    fn path(alloc: Global, height: u64, item: T) -> Result<Part<T>, (T, AllocError)>
+        requires { height ≤ 16 }
+        ensures new { IfOk result (λ part. part ≡ (item ∷ [], height)) }
+        ensures item { IfErr result (λ e. e.0 ≡ item) }
+    {
+        if height == 0 {
+            match Node::new(alloc, item) {
+                Ok(node) => {
+                    return Ok(Part {
+                        body: Body::Item(node),
+                    });
+                }
+                Err(refused) => return Err(refused),
+            }
+        }
+        let mut node = match Node::new(alloc, Page::vacant(height - 1)) {
+            Ok(node) => node,
+            Err((_, refused)) => return Err((item, refused)),
+        };
+        let Some(page) = node.get_mut() else {
+            return Err((item, AllocError));
+        };
+        *page.parts.get_mut(0) = Part::path(alloc, height - 1, item)?;
+        Ok(Part {
+            body: Body::Fork(node),
+        })
+    }
+
+    /// A part one higher, of which this one is the first part. Where no memory is left it comes back.
+    pub fn raised(self, alloc: Global, height: u64) -> Result<Part<T>, (Part<T>, AllocError)>
+        requires low { height < 16 }
+        requires part { IsPart height self }
+        ensures new { IfOk result (λ part. part ≡ (self.0, height + 1)) }
+        ensures same { IfErr result (λ e. e.0 ≡ self) }
+    {
+        let mut node = match Node::new(alloc, Page::vacant(height)) {
+            Ok(node) => node,
+            Err((_, refused)) => return Err((self, refused)),
+        };
+        let Some(page) = node.get_mut() else {
+            return Err((self, AllocError));
+        };
+        *page.parts.get_mut(0) = self;
+        Ok(Part {
+            body: Body::Fork(node),
+        })
+    }
+
+    /// Adds the item at the end of a part of that height, as `put` stores one.
+    pub fn push<L: Ledger>(
+        &mut self,
+        alloc: Global,
+        height: u64,
+        at: u64,
+        item: T,
+        steps: &mut Steps<L>,
+    ) -> Result<(), (T, AllocError)>
+        requires part { IsPart height self.old }
+        requires end { at ≡ length self.old.0 }
+        requires room { at < 2 ^ (4 * height) }
+        requires low { height ≤ 16 }
+        ensures new { OnOk result (self.new ≡ (self.old.0 ++ item ∷ [], height)) }
+        ensures item { IfErr result (λ e. e.0 ≡ item) }
+        ensures same { OnErr result (self.new ≡ self.old) }
+        ensures work { steps.new ≤ steps.old + height }
+    {
+        match &mut self.body {
+            Body::Item(_) => unreachable!(),
+            Body::Empty => match Part::path(alloc, height, item) {
+                Ok(part) => {
+                    *self = part;
+                    return Ok(());
+                }
+                Err(refused) => return Err(refused),
+            },
+            Body::Fork(node) => {
+                steps.tick();
+                if let Err(refused) = node.own(alloc) {
+                    return Err((item, refused));
+                }
+                let Some(page) = node.get_mut() else {
+                    return Err((item, AllocError));
+                };
+                let below = page.below;
+                let (place, rest) = page.room_of(at);
+                match page
+                    .parts
+                    .get_mut(place)
+                    .push(alloc, below, rest, item, steps)
+                {
+                    Ok(()) => return Ok(()),
+                    Err(refused) => return Err(refused),
+                }
+            }
+        }
+    }
+}
