@@ -21,14 +21,16 @@ use Rattle.resource_graph.proofs.Lists.{less_later}
 use Rattle.list_laws.proofs.Tests.{false_from}
 
 -- the least number from `from` on stands at the index before which all are less
-pub least_at_index : (list : List ℕ) (from index : ℕ) → IsStrictlyIncreasing list → IsPlaceOf list from index → index < length list → IsLeastFrom list from (slice_index list index)
+pub least_at_index : (list : List ℕ) (from index : ℕ) → IsStrictlyIncreasing list → IsPlaceOf list from index →
+    index < length list → IsLeastFrom list from (slice_index list index)
 least_at_index list from index up at lt = record {
   there = (index, lt, refl);
   low = at.after index (omega arith) lt;
   least = λ i within ge. elim (cases_lt i index) [
     | inl before ↦ (let less : slice_index list i < from = at.before i before in absurd (omega arith))
     | inr later ↦ elim (cases_lt index i) [
-      | inl after ↦ (let more : slice_index list index < slice_index list i = less_later list up index i 0 after within in omega arith)
+      | inl after ↦ (let more : slice_index list index < slice_index list i = less_later list up index i 0 after
+          within in omega arith)
       | inr same ↦ (let e : i ≡ index = omega arith in let f : slice_index list i ≡ slice_index list index = ap (slice_index list) e in omega arith)
     ]
   ];
@@ -67,10 +69,12 @@ rises_from low [] up i lt = absurd (omega arith)
 rises_from low (x ∷ xs) up zero lt = up.0
 rises_from low (x ∷ xs) up (suc i) lt = let le : suc x ≤ slice_index xs i = rises_from (suc x) xs up.1 i (omega arith) in let first : low ≤ x = up.0 in omega arith
 
-rises_later : (low : ℕ) (list : List ℕ) → AreRisingFrom low list → (i j : ℕ) → i < j → j < length list → slice_index list i < slice_index list j
+rises_later : (low : ℕ) (list : List ℕ) → AreRisingFrom low list → (i j : ℕ) → i < j → j < length list →
+    slice_index list i < slice_index list j
 rises_later low [] up i j lt within = absurd (omega arith)
 rises_later low (x ∷ xs) up i zero lt within = absurd (omega arith)
-rises_later low (x ∷ xs) up zero (suc j) lt within = let le : suc x ≤ slice_index xs j = rises_from (suc x) xs up.1 j (omega arith) in omega arith
+rises_later low (x ∷ xs) up zero (suc j) lt within = let le : suc x ≤ slice_index xs j =
+    rises_from (suc x) xs up.1 j (omega arith) in omega arith
 rises_later low (x ∷ xs) up (suc i) (suc j) lt within = rises_later (suc x) xs up.1 i j (omega arith) (omega arith)
 
 pub rises : (low : ℕ) (list : List ℕ) → AreRisingFrom low list → IsStrictlyIncreasing list
@@ -97,7 +101,8 @@ module _ (g : ResourceGraph) (names : List (List ℕ)) (valid : IsValidGraph g n
   over_none v never = none_pass (is_at_or_below g.vertices v) barred (λ i lt h. never (slice_index barred i) (node_to _ (nodes i lt)) h)
 
   -- one in a node has one exactly where the node is barred
-  pub over_node : (v node : ℕ) (found : Option ℕ) → v < length g.vertices → IsNode g.vertices node → IsTrue (is_at_or_below g.vertices v node) → IsLeastOrNone barred node found →
+  pub over_node : (v node : ℕ) (found : Option ℕ) → v < length g.vertices → IsNode g.vertices node →
+      IsTrue (is_at_or_below g.vertices v node) → IsLeastOrNone barred node found →
       option_map_or (λ u. nat_eq u node) found false ≡ list_any (is_at_or_below g.vertices v) barred
   over_node v node None lt is h all =
       sym (none_pass (is_at_or_below g.vertices v) barred (λ i within k.

@@ -19,4 +19,5 @@ pub record IsLeastFrom (list : List ℕ) (from u : ℕ) : Type 0 where
 
 -- the least number of the list from `from` on, and none exactly where all are less
 abbrev pub IsLeastOrNone : List ℕ → ℕ → Option ℕ → Type 0
-IsLeastOrNone list from found = MatchOption found ((i : ℕ) → i < length list → slice_index list i < from) (IsLeastFrom list from)
+IsLeastOrNone list from found = MatchOption found ((i : ℕ) → i < length list → slice_index list i < from)
+    (IsLeastFrom list from)

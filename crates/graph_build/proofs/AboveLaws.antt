@@ -121,6 +121,3 @@ pub parent_pool : (vertices : List Vertex) (v : ℕ) (r : Bool) → v < length v
 parent_pool vertices v r lt is child =
     let same = pool_here vertices v lt in
     ((λ h. (same ∙ (sym is ∙ h), (child.0, child.2))), (λ bad. is ∙ (sym same ∙ bad.0)))
-
-pub no_child : (vertices : List Vertex) (v : ℕ) → (HasChildTo vertices (length vertices) v → ⊥) → (w : ℕ) → parent_of vertices w ≡ Some v → ⊥
-no_child vertices v none w e = none (w, has_parent vertices w v e, e)

@@ -8,7 +8,7 @@ use Rattle.std.proofs.lemmas.List.Sums.{fails_before_first, passes_at_first}
 use Rattle.std.proofs.lemmas.Option.{slice_get_within, get_or_from_slice_get}
 use Rattle.flux_defs.specs.declared.vertices.Vertex.{Vertex}
 use Rattle.graph_build.specs.Faults.{HasUnknownParent, HasUnknownKind, IsRoot, IsSecondRoot}
-use Rattle.graph_build.specs.Checks.{graph_in, has_parent_from, has_kind_from, has_no_parent}
+use Rattle.graph_build.specs.Checks.{graph_in, has_parent_from}
 use Rattle.resource_graph.specs.Finds.{IsFirstOf}
 use Rattle.resource_graph.proofs.LineLaws.{parent_read, parent_at, no_vertex}
 use Rattle.resource_graph.proofs.Finds.{Passes, finds_position, finds_same}
@@ -33,45 +33,8 @@ module _ (kinds : List (List ℕ)) (vertices : List Vertex) where
           let parent : x.parent ≡ Some h.0 = sym (parent_read vertices v x e) ∙ h.1 in
           from_value (slice_get vertices v) (λ x. has_parent_from (length vertices) x ≡ true) x e (ap (λ o. option_map_or (leb (length vertices)) o false) parent ∙ le-leb (length vertices) h.0 h.2)
 
-  pub kind_to : (v : ℕ) → Passes (has_kind_from (length kinds)) vertices v → HasUnknownKind (graph_in kinds vertices) v
-  kind_to v h =
-      let x = value_of (slice_get vertices v) (λ x. has_kind_from (length kinds) x ≡ true) h in
-      from_value (slice_get vertices v) (λ x. length kinds ≤ x.kind) x.0 x.1 (leb-true _ _ x.2)
-
-  pub kind_from : (v : ℕ) → HasUnknownKind (graph_in kinds vertices) v → Passes (has_kind_from (length kinds)) vertices v
-  kind_from v h =
-      let x = value_of (slice_get vertices v) (λ x. length kinds ≤ x.kind) h in
-      from_value (slice_get vertices v) (λ x. has_kind_from (length kinds) x ≡ true) x.0 x.1 (le-leb _ _ x.2)
-
-  pub root_to : (v : ℕ) → Passes has_no_parent vertices v → IsRoot (graph_in kinds vertices) v
-  root_to v h =
-      let x = value_of (slice_get vertices v) (λ x. has_no_parent x ≡ true) h in
-      go x.0 x.1 x.0.parent refl x.2
-    where
-      go : (x : Vertex) → slice_get vertices v ≡ Some x → (o : Option ℕ) → x.parent ≡ o → not (is_some o) ≡ true → IsRoot (graph_in kinds vertices) v
-      go x at None e t = (slice_get_within vertices v x at, parent_read vertices v x at ∙ e)
-      go x at (Some p) e t = absurd (true≢false (sym t))
-
-  pub root_from : (v : ℕ) → IsRoot (graph_in kinds vertices) v → Passes has_no_parent vertices v
-  root_from v h = go (slice_get vertices v) refl
-    where
-      go : (o : Option Vertex) → slice_get vertices v ≡ o → Passes has_no_parent vertices v
-      go None e = absurd (within vertices v h.0 e)
-        where
-          within : (l : List Vertex) (i : ℕ) → i < length l → slice_get l i ≡ None → ⊥
-          within [] i lt f = omega arith
-          within (x ∷ l) zero lt f = cc
-          within (x ∷ l) (suc i) lt f = within l i (omega arith) f
-      go (Some x) e = from_value (slice_get vertices v) (λ x. has_no_parent x ≡ true) x e (ap (λ o. not (is_some o)) (sym (parent_read vertices v x e) ∙ h.1))
-
 pub finds_unknown_parent : (kinds : List (List ℕ)) (vertices : List Vertex) (found : Option ℕ) → found ≡ position (has_parent_from (length vertices)) vertices → IsFirstOf (HasUnknownParent (graph_in kinds vertices)) found
 finds_unknown_parent kinds vertices found e = finds_same _ _ found (parent_to kinds vertices) (parent_from kinds vertices) (finds_position (has_parent_from (length vertices)) vertices found e)
-
-pub finds_unknown_kind : (kinds : List (List ℕ)) (vertices : List Vertex) (found : Option ℕ) → found ≡ position (has_kind_from (length kinds)) vertices → IsFirstOf (HasUnknownKind (graph_in kinds vertices)) found
-finds_unknown_kind kinds vertices found e = finds_same _ _ found (kind_to kinds vertices) (kind_from kinds vertices) (finds_position (has_kind_from (length kinds)) vertices found e)
-
-pub finds_root : (kinds : List (List ℕ)) (vertices : List Vertex) (found : Option ℕ) → found ≡ position has_no_parent vertices → IsFirstOf (IsRoot (graph_in kinds vertices)) found
-finds_root kinds vertices found e = finds_same _ _ found (root_to kinds vertices) (root_from kinds vertices) (finds_position has_no_parent vertices found e)
 
 module _ (kinds : List (List ℕ)) (vertices : List Vertex) (first : ℕ) (root : IsRoot (graph_in kinds vertices) first)
     (least : (u : ℕ) → u < first → IsRoot (graph_in kinds vertices) u → ⊥) where

@@ -22,9 +22,6 @@ module _ (vertices : List Vertex) where
       let e : suc (n + m) ≡ suc n + m = omega arith in
       climb-climb n m (parent_of vertices v) ∙ ap (λ k. climb vertices k (Some v)) e
 
-  pub climb_one : (v : ℕ) → climb vertices 1 (Some v) ≡ parent_of vertices v
-  climb_one v = refl
-
   -- a climb reaches vertices of the list
   pub climb_known : KnowsParents vertices → (n v u : ℕ) → v < length vertices → climb vertices n (Some v) ≡ Some u → u < length vertices
   climb_known known zero v u lt e = let same : v ≡ u = same_Some _ _ e in subst (λ (w : ℕ). w < length vertices) same lt
@@ -51,14 +48,6 @@ module _ (vertices : List Vertex) where
   leads_within known n climbs has v u e =
       let v_in : v < length vertices = (let lt : v < length climbs = slice_get_within climbs v (Some u) e in let long = has.as_many in omega arith) in
       climb_known known n v u v_in (sym (has.each v (Some u) e))
-
-  pub starts_more : (v : ℕ) (climbs grown : List (Option ℕ)) → length climbs ≡ v → ((u : ℕ) (o : Option ℕ) → slice_get climbs u ≡ Some o → o ≡ climb vertices 0 (Some u)) → grown ≡ climbs ++ Some v ∷ [] →
-      (u : ℕ) (o : Option ℕ) → slice_get grown u ≡ Some o → o ≡ climb vertices 0 (Some u)
-  starts_more v climbs grown long before is u o e =
-      elim (push_cases climbs (Some v) o u (ap (λ l. slice_get l u) (sym is) ∙ e)) [
-        | inl old ↦ before u o old.1
-        | inr new ↦ new.1 ∙ ap Some (sym long ∙ sym new.0)
-      ]
 
   -- one climb after another
   pub followed_more : (a b v : ℕ) (first second : List (Option ℕ)) (reached : Option ℕ) → HasClimbs vertices a first → HasClimbs vertices b second → slice_get first v ≡ Some reached →

@@ -47,7 +47,8 @@ module _ (kinds : List (List ℕ)) where
       go (Some name) e = ap Some (sym ((bytes_eq-Decides (codes "node") name).0 e))
 
   pub node_tested : (x : Vertex) → slice_get kinds x.kind ≡ Some (codes "node") → is_node_of kinds x ≡ true
-  node_tested x e = ap (λ o. option_map_or (bytes_eq (codes "node")) o false) e ∙ (bytes_eq-Decides (codes "node") (codes "node")).1 refl
+  node_tested x e = ap (λ o. option_map_or (bytes_eq (codes "node")) o false) e
+      ∙ (bytes_eq-Decides (codes "node") (codes "node")).1 refl
 
 -- what is decided at each number holds at one below the count, or at none
 find : (P : ℕ → Type 0) → ((v : ℕ) → P v ⊎ (P v → ⊥)) → (n : ℕ) → ((v : ℕ) × P v) ⊎ ((v : ℕ) → v < n → P v → ⊥)
@@ -56,13 +57,18 @@ find P decide (suc n) = elim (find P decide n) [
   | inl found ↦ inl found
   | inr none ↦ elim (decide n) [
     | inl here ↦ inl (n, here)
-    | inr not ↦ inr (λ v lt p. elim (cases_lt v n) [ inl before ↦ none v before p | inr last ↦ (let is : v ≡ n = omega arith in not (subst P is p)) ])
+    | inr not ↦ inr (λ v lt p. elim (cases_lt v n)
+        [ inl before ↦ none v before p | inr last ↦ (let is : v ≡ n = omega arith in not (subst P is p)) ])
   ]
 ]
 
 module _ (g : ResourceGraph) where
   decide_root : (v : ℕ) → IsRoot g v ⊎ (IsRoot g v → ⊥)
-  decide_root v = elim (cases_lt v (length g.vertices)) [ inl lt ↦ go (parent_of g.vertices v) refl lt | inr past ↦ inr (λ r. let lt : v < length g.vertices = r.0 in omega arith) ]
+  decide_root v = elim (cases_lt v (length g.vertices)) [
+    | inl lt ↦ go (parent_of g.vertices v) refl lt
+    | inr past ↦ inr
+        (λ r. let lt : v < length g.vertices = r.0 in omega arith)
+  ]
     where
       go : (o : Option ℕ) → parent_of g.vertices v ≡ o → v < length g.vertices → IsRoot g v ⊎ (IsRoot g v → ⊥)
       go None e lt = inl (lt, e)
@@ -72,13 +78,16 @@ module _ (g : ResourceGraph) where
   decide_node v = go (slice_get g.vertices v) refl
     where
       go : (o : Option Vertex) → slice_get g.vertices v ≡ o → IsNodeType g v ⊎ (IsNodeType g v → ⊥)
-      go None e = inr (λ h. let x = value_of (slice_get g.vertices v) (λ x. slice_get g.kinds x.kind ≡ Some (codes "node")) h in let clash : None ≡ Some x.0 = sym e ∙ x.1 in cc)
+      go None e = inr (λ h. let x = value_of (slice_get g.vertices v)
+          (λ x. slice_get g.kinds x.kind ≡ Some (codes "node")) h in let clash : None ≡ Some x.0 = sym e ∙ x.1 in cc)
       go (Some x) e = elim (cases_Bool (is_node_of g.kinds x)) [
-        | inl is ↦ inl (from_value (slice_get g.vertices v) (λ x. slice_get g.kinds x.kind ≡ Some (codes "node")) x e (node_test g.kinds x is))
+        | inl is ↦ inl (from_value (slice_get g.vertices v) (λ x. slice_get g.kinds x.kind ≡ Some (codes "node")) x e
+            (node_test g.kinds x is))
         | inr not ↦ inr (λ h.
             let y = value_of (slice_get g.vertices v) (λ x. slice_get g.kinds x.kind ≡ Some (codes "node")) h in
             let same : y.0 ≡ x = same_Some _ _ (sym y.1 ∙ e) in
-            true≢false (sym (node_tested g.kinds x (ap (λ (z : Vertex). slice_get g.kinds z.kind) (sym same) ∙ y.2)) ∙ not))
+            true≢false (sym (node_tested g.kinds x (ap (λ (z : Vertex). slice_get g.kinds z.kind) (sym same) ∙ y.2))
+            ∙ not))
       ]
 
   pub root_of : ((n : ℕ) → (n ≡ 0) × Nowhere (IsRoot g) → ⊥) → (r : ℕ) × IsRoot g r
@@ -90,12 +99,16 @@ module _ (g : ResourceGraph) where
   pub house_of : (v : ℕ) → ((IsHoused g v → ⊥) → ⊥) → IsHoused g v
   house_of v some = elim (find (λ n. IsNodeType g n × IsTrue (is_below g.vertices v n)) both (length g.vertices)) [
     | inl found ↦ (found.0, found.1.0, found.1.1)
-    | inr none ↦ absurd (some (λ house. none house.0 (let x = value_of (slice_get g.vertices house.0) (λ x. slice_get g.kinds x.kind ≡ Some (codes "node")) house.1 in slice_get_within g.vertices house.0 x.0 x.1) (house.1, house.2)))
+    | inr none ↦ absurd (some (λ house. none house.0
+        (let x = value_of (slice_get g.vertices house.0) (λ x. slice_get g.kinds x.kind ≡ Some (codes "node")) house.1
+        in slice_get_within g.vertices house.0 x.0 x.1) (house.1, house.2)))
   ]
     where
-      both : (n : ℕ) → (IsNodeType g n × IsTrue (is_below g.vertices v n)) ⊎ (IsNodeType g n × IsTrue (is_below g.vertices v n) → ⊥)
+      both : (n : ℕ) → (IsNodeType g n × IsTrue (is_below g.vertices v n)) ⊎
+          (IsNodeType g n × IsTrue (is_below g.vertices v n) → ⊥)
       both n = elim (decide_node n) [
-        | inl node ↦ elim (cases_Bool (is_below g.vertices v n)) [ inl below ↦ inl (node, below) | inr not ↦ inr (λ h. true≢false (sym h.1 ∙ not)) ]
+        | inl node ↦ elim (cases_Bool (is_below g.vertices v n))
+            [ inl below ↦ inl (node, below) | inr not ↦ inr (λ h. true≢false (sym h.1 ∙ not)) ]
         | inr not ↦ inr (λ h. not h.0)
       ]
 
@@ -103,7 +116,40 @@ pub at_most : (n most : ℕ) → ((k : ℕ) → (k ≡ n) × (most < k) → ⊥)
 at_most n most none = elim (cases_lt most n) [ inl more ↦ absurd (none n (refl, more)) | inr le ↦ le ]
 
 pub facts : (g : ResourceGraph) (names : List (List ℕ)) → IsFaultless g names → Facts g names
-facts g names (few, (few_kinds, (parents, (known, (root, (alone, (ends, (shallow, (unnested, (unreserved, (leaves, (whole, (most, (loose, (identified, (ids, (names_apart, (ranks, _)))))))))))))))))) = record {
+facts g names (
+  few,
+  (
+    few_kinds,
+    (
+      parents,
+      (
+        known,
+        (
+          root,
+          (
+            alone,
+            (
+              ends,
+              (
+                shallow,
+                (
+                  unnested,
+                  (
+                    unreserved,
+                    (
+                      leaves,
+                      (whole, (most, (loose, (identified, (ids, (names_apart, (ranks, _))))))),
+                    ),
+                  ),
+                ),
+              ),
+            ),
+          ),
+        ),
+      ),
+    ),
+  ),
+) = record {
   few = at_most (length g.vertices) MOST_VERTICES few;
   few_kinds = at_most (length g.kinds) MOST_TYPES few_kinds;
   parents = parents;
@@ -151,7 +197,10 @@ faultless g names f = (
                         f.whole,
                         (
                           f.most,
-                          (λ v loose. loose.1 (f.housed v loose.0), (f.identified, (f.ids, (f.names_apart, (f.ranks, tt))))),
+                          (
+                            λ v loose. loose.1 (f.housed v loose.0),
+                            (f.identified, (f.ids, (f.names_apart, (f.ranks, tt)))),
+                          ),
                         ),
                       ),
                     ),

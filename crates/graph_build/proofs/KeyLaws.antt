@@ -55,9 +55,6 @@ none_some n e = cc
 pub house_at : (g : ResourceGraph) (most : ℕ) (houses : List (Option ℕ)) (v n : ℕ) → HasHouses g most houses → v < most → get_or houses v None ≡ Some n → IsNodeType g n × IsTrue (is_below g.vertices v n)
 house_at g most houses v n has lt e = has.each v (Some n) (slice_get-get_or houses v None (let long = has.as_many in omega arith) ∙ ap Some e)
 
-pub unranked_within : (kinds : List (List ℕ)) (vertices : List Vertex) (v : ℕ) → IsUnranked (graph_in kinds vertices) v → v < length vertices
-unranked_within kinds vertices v h = fact_within vertices v (λ x. x.rank ≡ None) h.1
-
 -- the first of which either is true is the lesser of the first ones
 pub finds_either : (P Q : ℕ → Type 0) (a b : Option ℕ) → IsFirstOf P a → IsFirstOf Q b → IsFirstOf (λ v. P v ⊎ Q v) (lesser a b)
 finds_either P Q None None none_p none_q = λ v bad. elim bad [ inl p ↦ none_p v p | inr q ↦ none_q v q ]

@@ -28,18 +28,6 @@ module _ (kinds : List (List ℕ)) (vertices : List Vertex) (v : ℕ) where
   device_within (inl core) = type_within (codes "core") core
   device_within (inr gpu) = type_within (codes "gpu") gpu
 
-  pub reserved_within : IsReserved (graph_in kinds vertices) v → v < length vertices
-  reserved_within h = type_within (codes "slot") h
-
-  pub sized_within : IsSized (graph_in kinds vertices) v → v < length vertices
-  sized_within h = fact_within vertices v (λ x. x.size ≢ 1) h.1
-
-  pub large_within : IsLarge (graph_in kinds vertices) v → v < length vertices
-  large_within h = fact_within vertices v (λ x. 2 ^ 46 < x.size) h
-
-  pub unnamed_within : HasNoId (graph_in kinds vertices) v → v < length vertices
-  unnamed_within h = fact_within vertices v (λ x. x.id ≡ None) h.1
-
   pub nested_within : IsNestedInKind (graph_in kinds vertices) v → v < length vertices
   nested_within h = fact_within vertices v (λ x. x.kind ≡ h.1) h.2
 
@@ -70,10 +58,3 @@ type_test kinds vertices v name r lt test = (
   (λ h. fact_here vertices v (λ x. slice_get kinds x.kind ≡ Some name) lt (test.0 h)),
   (λ t. test.1 (fact_read vertices v (λ x. slice_get kinds x.kind ≡ Some name) lt t)),
 )
-
-pub no_id_here : (vertices : List Vertex) (v : ℕ) → v < length vertices → is_some (get_or vertices v no_vertex).id ≡ false → IsSomeAnd (slice_get vertices v) (λ x. x.id ≡ None)
-no_id_here vertices v lt h = fact_here vertices v (λ x. x.id ≡ None) lt (go (get_or vertices v no_vertex).id h)
-  where
-    go : (o : Option ℕ) → is_some o ≡ false → o ≡ None
-    go None t = refl
-    go (Some id) t = absurd (true≢false t)

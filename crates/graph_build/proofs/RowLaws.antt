@@ -37,16 +37,11 @@ no_first (row ∷ rows) fault none (inl here) = none.0 here.0 here.2.0
 no_first (row ∷ rows) fault none (inr later) = no_first rows fault none.1 later.1
 
 -- of a list with which nothing is wrong only want of memory is told
-pub nothing_told : (g : ResourceGraph) (names : List (List ℕ)) (fault : GraphFault) → IsFaultless g names → IsFirstFault g names fault → fault ≡ Memory
+pub nothing_told : (g : ResourceGraph) (names : List (List ℕ)) (fault : GraphFault) → IsFaultless g names →
+    IsFirstFault g names fault → fault ≡ Memory
 nothing_told g names fault fine (inl memory) = memory
 nothing_told g names fault fine (inr first) = absurd (no_first (table g names) fault fine first)
 
 pub parents_clear : (g : ResourceGraph) → Nowhere (HasUnknownParent g) → KnowsParents g.vertices
-parents_clear g clear v p e = elim (cases_lt p (length g.vertices)) [ inl less ↦ less | inr past ↦ absurd (clear v (p, e, past)) ]
-
-pub lines_clear : (g : ResourceGraph) → Nowhere (IsDeep g) → (v : ℕ) → v < length g.vertices → length (line_of g.vertices v) ≤ 16
-lines_clear g clear v lt = elim (cases_lt 16 (length (line_of g.vertices v))) [ inl over ↦ absurd (clear v (lt, over)) | inr le ↦ le ]
-
--- the least number of which it is true is the first of its row
-pub here : (fault : ℕ → GraphFault) (Holds : ℕ → Type 0) (rows : List Row) (v : ℕ) → IsLeast Holds v → IsFirstRow (row fault Holds ∷ rows) (fault v)
-here fault Holds rows v least = inl (v, refl, least)
+parents_clear g clear v p e = elim (cases_lt p (length g.vertices))
+    [ inl less ↦ less | inr past ↦ absurd (clear v (p, e, past)) ]

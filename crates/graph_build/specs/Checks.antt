@@ -13,14 +13,6 @@ graph_in kinds vertices = record { kinds = kinds; vertices = vertices }
 abbrev pub has_parent_from : ℕ → Vertex → Bool
 has_parent_from count x = option_map_or (nat_le count) x.parent false
 
--- its kind is at this place or past it
-abbrev pub has_kind_from : ℕ → Vertex → Bool
-has_kind_from count x = nat_le count x.kind
-
--- it has no parent
-abbrev pub has_no_parent : Vertex → Bool
-has_no_parent x = not (is_some x.parent)
-
 -- the vertex so many steps up
 abbrev pub climb : List Vertex → ℕ → Option ℕ → Option ℕ
 climb vertices zero o = o

@@ -34,7 +34,8 @@ line_rows g = row Cycle (NeverEnds g) ∷ row Depth (IsDeep g) ∷ row NestedKin
 
 -- the types' names, the pools and the sizes
 abbrev pub size_rows : ResourceGraph → List Row
-size_rows g = row ReservedKind (IsReserved g) ∷ row PoolWithChild (IsPoolWithChild g) ∷ row Sized (IsSized g) ∷ row Large (IsLarge g) ∷ []
+size_rows g = row ReservedKind (IsReserved g) ∷ row PoolWithChild (IsPoolWithChild g) ∷ row Sized (IsSized g)
+    ∷ row Large (IsLarge g) ∷ []
 
 -- the cores and gpus
 abbrev pub device_rows : ResourceGraph → List Row
@@ -64,7 +65,8 @@ NoneHolds (row ∷ rows) = Nowhere row.Holds × NoneHolds rows
 -- the first row that holds is of the fault, with the least number at which it does
 abbrev pub IsFirstRow : List Row → GraphFault → Type 0
 IsFirstRow [] fault = ⊥
-IsFirstRow (row ∷ rows) fault = ((n : ℕ) × (fault ≡ row.fault n) × IsLeast row.Holds n) ⊎ (Nowhere row.Holds × IsFirstRow rows fault)
+IsFirstRow (row ∷ rows) fault = ((n : ℕ) × (fault ≡ row.fault n) × IsLeast row.Holds n) ⊎
+    (Nowhere row.Holds × IsFirstRow rows fault)
 
 -- it is that fault, or want of memory
 abbrev pub IsFirstIn : List Row → GraphFault → Type 0

@@ -28,7 +28,8 @@ pub(crate) fn is_node_at(kinds: &[Text], vertices: &[Vertex], v: usize) -> bool
 
 /// Whether the type is that of cores or of gpus.
 fn is_device(kinds: &[Text], kind: u32) -> bool
-    ensures { IsTrue result ↔ ((slice_get kinds.now kind ≡ Some (codes "core")) ⊎ (slice_get kinds.now kind ≡ Some (codes "gpu"))) }
+    ensures { IsTrue result ↔ ((slice_get kinds.now kind ≡ Some (codes "core")) ⊎
+        (slice_get kinds.now kind ≡ Some (codes "gpu"))) }
 {
     is_called(kinds, kind, b"core") || is_called(kinds, kind, b"gpu")
 }
@@ -46,7 +47,8 @@ pub(crate) fn is_device_at(kinds: &[Text], vertices: &[Vertex], v: usize) -> boo
 
 /// Whether the type is that of nodes, of cores or of gpus.
 fn is_whole(kinds: &[Text], kind: u32) -> bool
-    ensures { IsTrue result ↔ ((slice_get kinds.now kind ≡ Some (codes "node")) ⊎ ((slice_get kinds.now kind ≡ Some (codes "core")) ⊎ (slice_get kinds.now kind ≡ Some (codes "gpu")))) }
+    ensures { IsTrue result ↔ ((slice_get kinds.now kind ≡ Some (codes "node")) ⊎
+        ((slice_get kinds.now kind ≡ Some (codes "core")) ⊎ (slice_get kinds.now kind ≡ Some (codes "gpu")))) }
 {
     is_called(kinds, kind, b"node") || is_device(kinds, kind)
 }

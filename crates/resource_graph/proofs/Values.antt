@@ -16,5 +16,6 @@ pub from_value : {X : Type 0} (o : Option X) (P : X → Type 0) (x : X) → o �
 from_value o P x e h = subst (λ o. IsSomeAnd o P) (sym e) h
 
 -- what is true of an item is true of one of the list
-pub fact_within : {X : Type 0} (list : List X) (v : ℕ) (P : X → Type 0) → IsSomeAnd (slice_get list v) P → v < length list
+pub fact_within : {X : Type 0} (list : List X) (v : ℕ) (P : X → Type 0) → IsSomeAnd (slice_get list v) P →
+    v < length list
 fact_within list v P h = let x = value_of (slice_get list v) P h in slice_get_within list v x.0 x.1

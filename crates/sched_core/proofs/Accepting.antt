@@ -98,12 +98,14 @@ module _ (g : Setting) (names : List (List ℕ)) (valid : IsValidGraph g.graph n
         begins = subst (λ (n : ℕ). job.start < n) (sym is.end-is) (subst (λ (n : ℕ). n < (window_of g.horizon ask start).to) (sym is.start-is) sp.0);
         ends = subst (λ (n : ℕ). job.end ≤ n) (sym until) (subst (λ (n : ℕ). n ≤ g.horizon) (sym is.end-is) sp.1);
         on_vertices = subst (λ (x : List Vertex). AllByRecursion (λ c. vertex_of c < length x) job.claims) (sym over) (fits_on vs ok 1 Everywhere ask.needs job.claims fit);
-        from_pools = subst (λ (x : List Vertex). AllByRecursion (TakesFromPool x) job.claims) (sym over) (all_along (IsHad vs ok) (TakesFromPool vs) (λ c h. pool_of vs c h.1) job.claims had);
+        from_pools = subst (λ (x : List Vertex). AllByRecursion (TakesFromPool x) job.claims) (sym over)
+            (all_along (IsHad vs ok) (TakesFromPool vs) (λ c h. pool_of vs c h.1) job.claims had);
         separate = subst (λ (x : List Vertex). AreAllSeparate x job.claims) (sym over) (separate_fits g.graph names valid ok 1 Everywhere ask.needs proper.needs job.claims fit);
         available = λ jobs stands.
             subst (λ (x : List Vertex). AllByRecursion (IsAvailable (no_bars x jobs) w) job.claims) (sym over)
             (subst (λ (js : List Job). AllByRecursion (IsAvailable (no_bars vs js) w) job.claims) (stood book s.jobs at.jobs ∙ sym (stood book jobs stands))
-            (all_along (IsHad vs ok) (IsAvailable (no_bars vs s.jobs) w) (λ c h. unbarred vs s.jobs ask.barred w c h.0) job.claims had));
+            (all_along (IsHad vs ok) (IsAvailable (no_bars vs s.jobs) w)
+            (λ c h. unbarred vs s.jobs ask.barred w c h.0) job.claims had));
         fresh = fresh_row journal s job.id (get (rows_of book) job.id) (at.table job.id) (subst (λ (n : ℕ). Contains s.used n → ⊥) (sym is.id-is) fresh);
       }
 

@@ -28,7 +28,8 @@ module _ (g : Setting) (s : State) (id : ℕ) (ask : Ask) where
   by : (none : Reply) (v w : Verdict) (r : Reply) → v ≡ w → Answers g s id ask none v r → Answers g s id ask none w r
   by none v w r e h = subst (λ (x : Verdict). Answers g s id ask none x r) e h
 
-  now_decided : (v : Verdict) (r : Reply) → FindsJob g s id ask (FindsNow g s ask) v → Answers g s id ask reply.Busy v r → Replies g s (command.Allocate id ask) r
+  now_decided : (v : Verdict) (r : Reply) → FindsJob g s id ask (FindsNow g s ask) v →
+      Answers g s id ask reply.Busy v r → Replies g s (command.Allocate id ask) r
   now_decided v r (inl (used, e)) h = inl (used, by reply.Busy v _ r e h)
   now_decided v r (inr (n, inl (un, e))) h = inr (n, inl (un, by reply.Busy v _ r e h))
   now_decided v r (inr (n, inr (sat, inl (long, e)))) h = inr (n, inr (sat, inl (long, by reply.Busy v _ r e h)))
@@ -36,7 +37,8 @@ module _ (g : Setting) (s : State) (id : ℕ) (ask : Ask) where
   now_decided v r (inr (n, inr (sat, inr (k, inr (fit, (claims, low, e)))))) h =
       inr (n, inr (sat, inr (k, inr (fit, accepts s.moment claims reply.Busy r low (by reply.Busy v _ r e h)))))
 
-  start_decided : (v : Verdict) (r : Reply) → FindsJob g s id ask (FindsEarliest g s ask) v → Answers g s id ask reply.NoStart v r → Replies g s (command.Reserve id ask) r
+  start_decided : (v : Verdict) (r : Reply) → FindsJob g s id ask (FindsEarliest g s ask) v →
+      Answers g s id ask reply.NoStart v r → Replies g s (command.Reserve id ask) r
   start_decided v r (inl (used, e)) h = inl (used, by reply.NoStart v _ r e h)
   start_decided v r (inr (n, inl (un, e))) h = inr (n, inl (un, by reply.NoStart v _ r e h))
   start_decided v r (inr (n, inr (sat, inl (long, e)))) h = inr (n, inr (sat, inl (long, by reply.NoStart v _ r e h)))
@@ -44,7 +46,8 @@ module _ (g : Setting) (s : State) (id : ℕ) (ask : Ask) where
   start_decided v r (inr (n, inr (sat, inr (k, inr (some, (t, early, (claims, low, e))))))) h =
       inr (n, inr (sat, inr (k, inr (some, (t, early, accepts t claims reply.NoStart r low (by reply.NoStart v _ r e h))))))
 
-  pub decided : (at : Starts) (v : Verdict) (r : Reply) → FindsJob g s id ask (FindsAt at g s ask) v → Answers g s id ask (none_at at) v r → Replies g s (command_of at id ask) r
+  pub decided : (at : Starts) (v : Verdict) (r : Reply) → FindsJob g s id ask (FindsAt at g s ask) v →
+      Answers g s id ask (none_at at) v r → Replies g s (command_of at id ask) r
   decided starts.Now v r finds h = now_decided v r finds h
   decided starts.Earliest v r finds h = start_decided v r finds h
 
@@ -52,7 +55,8 @@ module _ (g : Setting) (s : State) (id : ℕ) (ask : Ask) where
   of_same : (v w : Verdict) → v ≡ w → IsOfJob g.horizon ask w → IsOfJob g.horizon ask v
   of_same v w e h = subst (IsOfJob g.horizon ask) (sym e) h
 
-  of_start : (at : Starts) (v : Verdict) → CountsWithin g.horizon ask s.moment → FindsAt at g s ask v → IsOfJob g.horizon ask v
+  of_start : (at : Starts) (v : Verdict) → CountsWithin g.horizon ask s.moment → FindsAt at g s ask v →
+      IsOfJob g.horizon ask v
   of_start starts.Now v k (inl (none, e)) = of_same v _ e tt
   of_start starts.Now v k (inr (fit, (claims, low, e))) = of_same v _ e k
   of_start starts.Earliest v k (inl (none, e)) = of_same v _ e tt

@@ -7,7 +7,7 @@ use Rattle.flux_defs.specs.declared.journal.Entry.{Entry}
 use Rattle.flux_defs.specs.Asks.{window_of, CountsWithin, SomeFit, IsLowestFirst, IsStart, IsEarliest, IsSatisfiable}
 use Rattle.flux_defs.specs.Scheduler.{Setting, State}
 use Rattle.flux_defs.specs.declared.verdicts.Verdict.{Verdict}
-use Rattle.flux_defs.specs.declared.verdicts.Verdict.TheVariants.{Found, NoFit, Unsat, Long, Known}
+use Rattle.flux_defs.specs.declared.verdicts.Verdict.TheVariants.{Found, NoFit}
 use Rattle.flux_defs.specs.Verdicts.{FindsNow, FindsEarliest, FindsJob}
 use Rattle.flux_laws.proofs.Determined.{lowest_fits}
 use Rattle.job_table.specs.declared.tables.Row.{Row}
@@ -22,36 +22,43 @@ has_row journal s id None new = (λ h. absurd (true≢false (sym h)), λ used. a
 has_row journal s id (Some row) is = (λ h. is.used, λ used. refl)
 
 module _ (g : Setting) (s : State) (id : ℕ) (ask : Ask) (AtStarts : Verdict → Type 0) where
-  pub job_known : Contains s.used id → FindsJob g s id ask AtStarts Known
-  job_known used = inl (used, refl)
-
-  pub job_unsat : (Contains s.used id → ⊥) → (IsSatisfiable g.graph.vertices ask → ⊥) → FindsJob g s id ask AtStarts Unsat
-  job_unsat fresh un = inr (fresh, inl (un, refl))
-
-  pub job_long : (Contains s.used id → ⊥) → IsSatisfiable g.graph.vertices ask → (t : ℕ) → t ≡ s.moment → (CountsWithin g.horizon ask t → ⊥) → FindsJob g s id ask AtStarts Long
-  job_long fresh served t at ne = inr (fresh, inr (served, inl (subst (λ m. CountsWithin g.horizon ask m → ⊥) at ne, refl)))
-
-  pub job_at : (Contains s.used id → ⊥) → IsSatisfiable g.graph.vertices ask → (t : ℕ) → t ≡ s.moment → CountsWithin g.horizon ask t → (v : Verdict) → AtStarts v → FindsJob g s id ask AtStarts v
-  job_at fresh served t at counts v found = inr (fresh, inr (served, inr (subst (CountsWithin g.horizon ask) at counts, found)))
+  pub job_at : (Contains s.used id → ⊥) → IsSatisfiable g.graph.vertices ask → (t : ℕ) → t ≡ s.moment →
+      CountsWithin g.horizon ask t → (v : Verdict) → AtStarts v → FindsJob g s id ask AtStarts v
+  job_at fresh served t at counts v found =
+      inr (fresh, inr (served, inr (subst (CountsWithin g.horizon ask) at counts, found)))
 
 module _ (g : Setting) (s : State) (ask : Ask) (t : ℕ) (at : t ≡ s.moment) where
-  pub now_none : (w : Window) → w ≡ window_of g.horizon ask t → (SomeFit g.graph.vertices s.jobs ask w → ⊥) → FindsNow g s ask NoFit
+  pub now_none : (w : Window) → w ≡ window_of g.horizon ask t → (SomeFit g.graph.vertices s.jobs ask w → ⊥) →
+      FindsNow g s ask NoFit
   now_none w is none =
-      inl (subst (λ m. SomeFit g.graph.vertices s.jobs ask (window_of g.horizon ask m) → ⊥) at (subst (λ (x : Window). SomeFit g.graph.vertices s.jobs ask x → ⊥) is none), refl)
+      inl (
+        subst (λ m. SomeFit g.graph.vertices s.jobs ask (window_of g.horizon ask m) → ⊥) at
+            (subst (λ (x : Window). SomeFit g.graph.vertices s.jobs ask x → ⊥) is none),
+        refl,
+      )
 
-  pub now_found : (w : Window) → w ≡ window_of g.horizon ask t → (claims : List Claim) → IsLowestFirst g.graph.vertices s.jobs ask w claims → FindsNow g s ask (Found t claims)
+  pub now_found : (w : Window) → w ≡ window_of g.horizon ask t → (claims : List Claim) →
+      IsLowestFirst g.graph.vertices s.jobs ask w claims → FindsNow g s ask (Found t claims)
   now_found w is claims low =
       let here : IsLowestFirst g.graph.vertices s.jobs ask (window_of g.horizon ask s.moment) claims =
-      subst (λ m. IsLowestFirst g.graph.vertices s.jobs ask (window_of g.horizon ask m) claims) at (subst (λ (x : Window). IsLowestFirst g.graph.vertices s.jobs ask x claims) is low) in
-      inr ((claims, lowest_fits g.graph.vertices s.jobs ask (window_of g.horizon ask s.moment) claims here), (claims, here, ap (λ m. Found m claims) at))
+      subst (λ m. IsLowestFirst g.graph.vertices s.jobs ask (window_of g.horizon ask m) claims) at
+      (subst (λ (x : Window). IsLowestFirst g.graph.vertices s.jobs ask x claims) is low) in
+      inr (
+        (claims, lowest_fits g.graph.vertices s.jobs ask (window_of g.horizon ask s.moment) claims here),
+        (claims, here, ap (λ m. Found m claims) at),
+      )
 
-  pub none_starts : ((u : ℕ) → t ≤ u → IsStart g.graph.vertices s.jobs g.horizon ask u → ⊥) → FindsEarliest g s ask NoFit
+  pub none_starts : ((u : ℕ) → t ≤ u → IsStart g.graph.vertices s.jobs g.horizon ask u → ⊥) →
+      FindsEarliest g s ask NoFit
   none_starts none =
-      let never : (u : ℕ) → s.moment ≤ u → IsStart g.graph.vertices s.jobs g.horizon ask u → ⊥ = subst (λ m. (u : ℕ) → m ≤ u → IsStart g.graph.vertices s.jobs g.horizon ask u → ⊥) at none in
+      let never : (u : ℕ) → s.moment ≤ u → IsStart g.graph.vertices s.jobs g.horizon ask u →
+      ⊥ = subst (λ m. (u : ℕ) → m ≤ u → IsStart g.graph.vertices s.jobs g.horizon ask u → ⊥) at none in
       inl ((λ f. never f.0 f.1 f.2), refl)
 
-  pub start_found : (start : ℕ) (claims : List Claim) → IsEarliest g.graph.vertices s.jobs g.horizon ask t start → IsLowestFirst g.graph.vertices s.jobs ask (window_of g.horizon ask start) claims →
+  pub start_found : (start : ℕ) (claims : List Claim) → IsEarliest g.graph.vertices s.jobs g.horizon ask t start →
+      IsLowestFirst g.graph.vertices s.jobs ask (window_of g.horizon ask start) claims →
       FindsEarliest g s ask (Found start claims)
   start_found start claims first low =
-      let early : IsEarliest g.graph.vertices s.jobs g.horizon ask s.moment start = subst (λ m. IsEarliest g.graph.vertices s.jobs g.horizon ask m start) at first in
+      let early : IsEarliest g.graph.vertices s.jobs g.horizon ask s.moment start =
+      subst (λ m. IsEarliest g.graph.vertices s.jobs g.horizon ask m start) at first in
       inr ((start, early.later, early.starts), (start, early, (claims, low, refl)))

@@ -11,7 +11,7 @@ ghost use Rattle.sched_core.specs.Answered.{FindsAt};
 
 use book_state::BookState;
 use dfu_match::{match_at, some_fit};
-use earliest_search::{Found, counts, earliest, window_at};
+use earliest_search::{counts, earliest, window_at};
 use flux_defs::{Ask, NoJobs, Steps, Verdict, Window};
 use resource_graph::Graph;
 use std::alloc::{AllocError, Global};
@@ -56,7 +56,8 @@ fn find_now<L: Ledger>(
     requires over { vertices_of book.now ≡ graph.now.resources.vertices }
     requires proper { IsProperAsk graph.now.resources.vertices ask.now }
     requires counts { CountsWithin horizon ask.now moment }
-    ensures { IfOk result (λ v. (rules : List Rule) (limit : ℕ) (journal : List Entry) → IsBookOf journal book.now → moment ≡ (left_by journal).moment →
+    ensures { IfOk result (λ v. (rules : List Rule) (limit : ℕ) (journal : List Entry) → IsBookOf journal book.now →
+        moment ≡ (left_by journal).moment →
         FindsNow (setting_of graph.now.resources rules horizon limit) (left_by journal) ask.now v) }
 {
     let window = window_at(horizon, ask, moment);
@@ -81,12 +82,16 @@ fn find_earliest<L: Ledger>(
 ) -> Result<Verdict, AllocError>
     requires over { vertices_of book.now ≡ graph.now.resources.vertices }
     requires proper { IsProperAsk graph.now.resources.vertices ask.now }
-    ensures { IfOk result (λ v. (rules : List Rule) (limit : ℕ) (journal : List Entry) → IsBookOf journal book.now → moment ≡ (left_by journal).moment →
+    ensures { IfOk result (λ v. (rules : List Rule) (limit : ℕ) (journal : List Entry) → IsBookOf journal book.now →
+        moment ≡ (left_by journal).moment →
         FindsEarliest (setting_of graph.now.resources rules horizon limit) (left_by journal) ask.now v) }
 {
     match earliest(alloc, graph, book, ask, moment, horizon, steps)? {
         None => Ok(Verdict::NoFit),
-        Some(Found { start, claims }) => Ok(Verdict::Found { start, claims }),
+        Some(found) => Ok(Verdict::Found {
+            start: found.start,
+            claims: found.claims,
+        }),
     }
 }
 
@@ -104,7 +109,8 @@ fn find_at<L: Ledger>(
     requires over { vertices_of book.now ≡ graph.now.resources.vertices }
     requires proper { IsProperAsk graph.now.resources.vertices ask.now }
     requires counts { CountsWithin horizon ask.now moment }
-    ensures { IfOk result (λ v. (rules : List Rule) (limit : ℕ) (journal : List Entry) → IsBookOf journal book.now → moment ≡ (left_by journal).moment →
+    ensures { IfOk result (λ v. (rules : List Rule) (limit : ℕ) (journal : List Entry) → IsBookOf journal book.now →
+        moment ≡ (left_by journal).moment →
         FindsAt starts (setting_of graph.now.resources rules horizon limit) (left_by journal) ask.now v) }
 {
     match starts {

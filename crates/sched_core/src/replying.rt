@@ -51,7 +51,8 @@ fn job_reply<L: Ledger>(
 ) -> Result<Reply, AllocError>
     requires core { IsCore site.now kept.now }
     requires proper { IsProperAsk (vertices_at site.now) ask.now }
-    ensures { IfOk result (Replies (setting_in site.now kept.now) (left_by (journal_in kept.now)) (command_of starts id ask.now)) }
+    ensures { IfOk result (Replies (setting_in site.now kept.now) (left_by (journal_in kept.now))
+        (command_of starts id ask.now)) }
 {
     let verdict = find_job(
         site.alloc,

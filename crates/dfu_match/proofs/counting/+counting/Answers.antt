@@ -50,7 +50,8 @@ copies-whole_times-best-requires-clause-some g t c =
     let need = c.need-item.result in
     let split : drop i items ≡ need ∷ drop (i + 1) items = laws.item_split items i need c.loop-need-test.true c.need-item.is in
     let valid : AreValidNeeds c.args.s.now.graph.now.resources.vertices items = rw c.items-need-items.ensures c.requires.valid in
-    rw c.amount-amount.ensures (laws.amount_some c.args.s.now.graph.now.resources.vertices need (laws.valid_at c.args.s.now.graph.now.resources.vertices items i need (drop (i + 1) items) split valid))
+    rw c.amount-amount.ensures (laws.amount_some c.args.s.now.graph.now.resources.vertices need
+    (laws.valid_at c.args.s.now.graph.now.resources.vertices items i need (drop (i + 1) items) split valid))
 
 pub copies-returns-then-best-eq0-clause-greatest : goal.copies-returns-then-best-eq0-clause-greatest
 copies-returns-then-best-eq0-clause-greatest g t c = λ jobs stands.
@@ -60,10 +61,13 @@ copies-returns-then-best-eq0-clause-greatest g t c = λ jobs stands.
     let i = c.loop-need.need-index in
     let need = c.need-item.result in
     let split : drop i items ≡ need ∷ drop (i + 1) items = laws.item_split items i need c.loop-need-test.true c.need-item.is in
-    let greatest = rw (c.from.ensures, c.from-in-loop-need.ensures, c.amount-amount.ensures) at (c.reach-reached.ensures.greatest jobs stands) in
+    let greatest = rw (c.from.ensures, c.from-in-loop-need.ensures, c.amount-amount.ensures) at
+    (c.reach-reached.ensures.greatest jobs stands) in
     let high = rw c.amount-amount.ensures at c.whole_times-best.ensures.high in
-    laws.copies_none vs ok (scope_of c.args.scope) items c.args.needs.now c.args.most c.whole_times-best.result c.items-need-items.ensures c.if-best-eq0.true
-    (laws.full_next vs ok (takes_less _ _) (scope_of c.args.scope) items i need (drop (i + 1) items) c.args.most c.loop-need.best c.reach-reached.result c.whole_times-best.result split greatest high
+    laws.copies_none vs ok (scope_of c.args.scope) items c.args.needs.now c.args.most c.whole_times-best.result
+    c.items-need-items.ensures c.if-best-eq0.true
+    (laws.full_next vs ok (takes_less _ _) (scope_of c.args.scope) items i need (drop (i + 1) items) c.args.most
+    c.loop-need.best c.reach-reached.result c.whole_times-best.result split greatest high
     c.whole_times-best.ensures.within (c.loop-need.invariant.full jobs stands))
 
 pub copies-loop-need-preserved : goal.copies-loop-need-preserved
@@ -79,13 +83,17 @@ copies-loop-need-preserved g t c =
       within = (let few = c.whole_times-best.ensures.within in let before = c.loop-need.invariant.within in omega arith);
       enough = λ jobs stands.
           let ok : Claim → Type 0 = open_to vs jobs c.args.s.now.barred.now c.args.s.now.window in
-          let greatest = rw (c.from.ensures, c.from-in-loop-need.ensures, c.amount-amount.ensures) at (c.reach-reached.ensures.greatest jobs stands) in
-          laws.enough_next vs ok (takes_less _ _) (scope_of c.args.scope) items i need (drop (i + 1) items) c.loop-need.best c.reach-reached.result c.whole_times-best.result split greatest low
+          let greatest = rw (c.from.ensures, c.from-in-loop-need.ensures, c.amount-amount.ensures) at
+          (c.reach-reached.ensures.greatest jobs stands) in
+          laws.enough_next vs ok (takes_less _ _) (scope_of c.args.scope) items i need (drop (i + 1) items)
+          c.loop-need.best c.reach-reached.result c.whole_times-best.result split greatest low
           c.whole_times-best.ensures.within (c.loop-need.invariant.enough jobs stands);
       full = λ jobs stands.
           let ok : Claim → Type 0 = open_to vs jobs c.args.s.now.barred.now c.args.s.now.window in
-          let greatest = rw (c.from.ensures, c.from-in-loop-need.ensures, c.amount-amount.ensures) at (c.reach-reached.ensures.greatest jobs stands) in
-          laws.full_next vs ok (takes_less _ _) (scope_of c.args.scope) items i need (drop (i + 1) items) c.args.most c.loop-need.best c.reach-reached.result c.whole_times-best.result split greatest high
+          let greatest = rw (c.from.ensures, c.from-in-loop-need.ensures, c.amount-amount.ensures) at
+          (c.reach-reached.ensures.greatest jobs stands) in
+          laws.full_next vs ok (takes_less _ _) (scope_of c.args.scope) items i need (drop (i + 1) items) c.args.most
+          c.loop-need.best c.reach-reached.result c.whole_times-best.result split greatest high
           c.whole_times-best.ensures.within (c.loop-need.invariant.full jobs stands);
     }
 
@@ -94,7 +102,8 @@ copies-returns-clause-greatest g t c = λ jobs stands.
     let vs = c.args.s.now.graph.now.resources.vertices in
     let ok : Claim → Type 0 = open_to vs jobs c.args.s.now.barred.now c.args.s.now.window in
     let items : List Need = c.items-need-items.result.now in
-    laws.copies_end vs ok (scope_of c.args.scope) items c.args.needs.now (drop c.loop-need.need-index items) c.args.most c.loop-need.best c.items-need-items.ensures
+    laws.copies_end vs ok (scope_of c.args.scope) items c.args.needs.now (drop c.loop-need.need-index items)
+    c.args.most c.loop-need.best c.items-need-items.ensures
     (drop_all c.loop-need.need-index items c.loop-need-test.false) c.loop-need.invariant.within (c.loop-need.invariant.enough jobs stands) (c.loop-need.invariant.full jobs stands)
 
 pub reach-returns-in_default-clause-greatest : goal.reach-returns-in_default-clause-greatest

@@ -12,10 +12,14 @@ abbrev pub invariant-copies-loop-need : goal.invariant-copies-loop-need
 invariant-copies-loop-need g l = record {
   within : l.best ≤ l.most;
   enough : (jobs : List Job) → g.F.FreeView.stands_for l.s.view.now jobs → (k : ℕ) → k ≤ l.best →
-      AllFill l.s.graph.now.resources.vertices (open_to l.s.graph.now.resources.vertices jobs l.s.barred.now l.s.window) (scope_of l.scope) k (drop l.need-index l.need-items) →
-      AllFill l.s.graph.now.resources.vertices (open_to l.s.graph.now.resources.vertices jobs l.s.barred.now l.s.window) (scope_of l.scope) k l.need-items;
+      AllFill l.s.graph.now.resources.vertices (open_to l.s.graph.now.resources.vertices jobs l.s.barred.now
+      l.s.window) (scope_of l.scope) k (drop l.need-index l.need-items) →
+      AllFill l.s.graph.now.resources.vertices (open_to l.s.graph.now.resources.vertices jobs l.s.barred.now
+      l.s.window) (scope_of l.scope) k l.need-items;
   full : (jobs : List Job) → g.F.FreeView.stands_for l.s.view.now jobs → l.best < l.most →
-      SomeFits l.s.graph.now.resources.vertices (open_to l.s.graph.now.resources.vertices jobs l.s.barred.now l.s.window) (scope_of l.scope) l.need-items (l.best + 1) → ⊥;
+      SomeFits l.s.graph.now.resources.vertices
+      (open_to l.s.graph.now.resources.vertices jobs l.s.barred.now l.s.window) (scope_of l.scope) l.need-items
+      (l.best + 1) → ⊥;
 }
 
 -- so much is reached before the vertex `at`

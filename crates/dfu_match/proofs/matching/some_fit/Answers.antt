@@ -27,5 +27,7 @@ none_can_be can n g one = elim (cases_lt 0 n) [
 
 pub returns : goal.returns
 returns g c = λ jobs stands.
-    let greatest = c.copies.ensures.greatest jobs stands in
-    ((λ h. one_can_be _ c.copies.result greatest (ltb-true 0 c.copies.result h)), (λ fit. lt-ltb 0 c.copies.result (none_can_be _ c.copies.result greatest fit)))
+    let greatest = c.copies.ensures.greatest jobs stands in (
+      (λ h. one_can_be _ c.copies.result greatest (ltb-true 0 c.copies.result h)),
+      (λ fit. lt-ltb 0 c.copies.result (none_can_be _ c.copies.result greatest fit)),
+    )

@@ -16,9 +16,11 @@ kind_of_spread g names valid count needs (Some k) is = node_kind g names valid k
 pub returns-in-Spread-clause-of_need : goal.returns-in-Spread-clause-of_need
 returns-in-Spread-clause-of_need c =
     let graph = c.args.graph.now in
-    rw c.in-Spread.is (kind_of_spread graph.resources graph.names c.is_valid.ensures.valid c.in-Spread.count c.in-Spread.needs c.kind_of.result c.kind_of.ensures)
+    rw c.in-Spread.is (kind_of_spread graph.resources graph.names c.is_valid.ensures.valid c.in-Spread.count
+    c.in-Spread.needs c.kind_of.result c.kind_of.ensures)
 
 pub returns-in-Spread-clause-only : goal.returns-in-Spread-clause-only
 returns-in-Spread-clause-only c =
     let graph = c.args.graph.now in
-    rw c.in-Spread.is (only_Spread graph.resources graph.names c.is_valid.ensures.valid c.in-Spread.count c.in-Spread.needs c.kind_of.result c.kind_of.ensures)
+    rw c.in-Spread.is (only_Spread graph.resources graph.names c.is_valid.ensures.valid c.in-Spread.count
+    c.in-Spread.needs c.kind_of.result c.kind_of.ensures)

@@ -178,7 +178,8 @@ write_group-returns-in_default g t c =
 
 pub write_group-loop-missing-init : goal.write_group-loop-missing-init
 write_group-loop-missing-init g t c =
-    let total : c.from.result * c.from-2.result ≡ c.args.k * amount_of c.args.need.now = rw (c.from.ensures, c.from-2.ensures, c.amount.ensures) refl in
+    let total : c.from.result * c.from-2.result ≡ c.args.k * amount_of c.args.need.now =
+    rw (c.from.ensures, c.from-2.ensures, c.amount.ensures) refl in
     record {
       within = omega arith;
       from = omega arith;

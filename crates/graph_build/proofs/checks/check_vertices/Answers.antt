@@ -8,11 +8,15 @@ use Rattle.graph_build.proofs.checks.check_vertices.Goals as goal
 pub returns-in_err-check_links-clause-err : goal.returns-in_err-check_links-clause-err
 returns-in_err-check_links-clause-err c =
     let g = graph_in c.args.kinds.now c.args.vertices.now in
-    IfErr-weaker c.from_residual.result (IsFirstIn (link_rows g)) _ (in_left (link_rows g) (line_rows g ++ (size_rows g ++ device_rows g))) (search rules)
+    IfErr-weaker c.from_residual.result (IsFirstIn (link_rows g)) _
+    (in_left (link_rows g) (line_rows g ++ (size_rows g ++ device_rows g))) (search rules)
 
 pub returns-clause-err : goal.returns-clause-err
 returns-clause-err c =
     let g = graph_in c.args.kinds.now c.args.vertices.now in
     IfErr-weaker c.check_devices.result (IsFirstIn (device_rows g)) _
-    (λ fault first. in_right (link_rows g) (line_rows g ++ (size_rows g ++ device_rows g)) c.in_ok-check_links.ensures.ok fault
-    (in_right (line_rows g) (size_rows g ++ device_rows g) c.in_ok-check_lines.ensures.ok fault (in_right (size_rows g) (device_rows g) c.in_ok-check_sizes.ensures.ok fault first))) c.check_devices.ensures.err
+    (λ fault first. in_right (link_rows g) (line_rows g ++ (size_rows g ++ device_rows g))
+    c.in_ok-check_links.ensures.ok fault
+    (in_right (line_rows g) (size_rows g ++ device_rows g) c.in_ok-check_lines.ensures.ok fault
+    (in_right (size_rows g) (device_rows g) c.in_ok-check_sizes.ensures.ok fault first)))
+    c.check_devices.ensures.err

@@ -7,8 +7,10 @@ pub returns-then-v-to : goal.returns-then-v-to
 returns-then-v-to c = λ i lt low high.
     let list = c.args.list.now in
     elim (cases_lt i c.place_of-place.result) [
-      | inl before ↦ absurd (let less : get_or list i 0 < c.args.from = c.place_of-place.ensures.before i before in omega arith)
-      | inr after ↦ absurd (let le : get_or list c.place_of-place.result 0 ≤ get_or list i 0 = not_less list c.requires c.place_of-place.result i after lt in omega arith)
+      | inl before ↦ absurd (let less : get_or list i 0 < c.args.from = c.place_of-place.ensures.before i before in
+          omega arith)
+      | inr after ↦ absurd (let le : get_or list c.place_of-place.result 0 ≤ get_or list i 0 =
+          not_less list c.requires c.place_of-place.result i after lt in omega arith)
     ]
 
 pub returns : goal.returns
@@ -21,7 +23,8 @@ returns c =
       high = omega arith;
       least = λ i lt low.
           elim (cases_lt i c.place_of-place.result) [
-            | inl before ↦ absurd (let less : get_or list i 0 < c.args.from = c.place_of-place.ensures.before i before in omega arith)
+            | inl before ↦ absurd (let less : get_or list i 0 < c.args.from = c.place_of-place.ensures.before i before
+                in omega arith)
             | inr after ↦ not_less list c.requires c.place_of-place.result i after lt
           ];
     }

@@ -5,6 +5,8 @@ use Rattle.resource_graph.proofs.rising.place_of.Goals as goal
 
 pub returns : goal.returns
 returns c =
-    let parted = IsPartitionedBy-ltb (λ v. v) c.args.list.now c.args.from (IsNonDecreasingBy-rising c.args.list.now c.requires) in
-    let point = IsPartitionPoint-from_clause (λ v. ltb v c.args.from) _ _ c.partition_point.ensures.partitioned parted (λ a r q k. search rules) in
+    let parted = IsPartitionedBy-ltb (λ v. v) c.args.list.now c.args.from
+    (IsNonDecreasingBy-rising c.args.list.now c.requires) in
+    let point = IsPartitionPoint-from_clause (λ v. ltb v c.args.from) _ _ c.partition_point.ensures.partitioned parted
+    (λ a r q k. search rules) in
     IsPlaceOf-point c.args.list.now c.args.from _ c.partition_point.ensures.bound point

@@ -9,4 +9,5 @@ pub returns-in-Found : goal.returns-in-Found
 returns-in-Found c = λ graph rules s moment claims.
     let g = setting_of graph rules c.args.reached.horizon c.args.reached.claim_limit in
     subst (λ (v : Verdict). Answers g s c.args.id c.args.ask.now c.args.none v c.accept.result) (sym c.in-Found.is)
-    (given_found g s c.args.id c.args.ask.now c.in-Found.start c.in-Found.claims c.args.none c.accept.result c.args.reached.moment c.args.reached.claim_count moment claims (c.accept.ensures graph rules))
+    (given_found g s c.args.id c.args.ask.now c.in-Found.start c.in-Found.claims c.args.none c.accept.result
+    c.args.reached.moment c.args.reached.claim_count moment claims (c.accept.ensures graph rules))

@@ -20,8 +20,11 @@ give-requires g c =
     let id = c.args.id in
     let ask = c.args.ask.now in
     let set : NamedGraph → Setting = λ n. setting_of n.resources (rules_of kept.book) site.horizon site.claim_limit in
-    let finds = subst (λ (n : NamedGraph). FindsJob (set n) s id ask (FindsAt c.args.starts (set n) s ask) v) c.deref.ensures (c.in_ok-verdict.ensures (rules_of kept.book) site.claim_limit (journal_in kept) core.book-of) in
-    subst (λ (h : ℕ). IsOfJob h ask v) (sym c.reached.ensures.horizon) (of_job (setting_in site kept) s id ask c.args.starts v finds)
+    let finds = subst (λ (n : NamedGraph). FindsJob (set n) s id ask (FindsAt c.args.starts (set n) s ask) v)
+    c.deref.ensures (c.in_ok-verdict.ensures (rules_of kept.book) site.claim_limit (journal_in kept) core.book-of)
+    in
+    subst (λ (h : ℕ). IsOfJob h ask v) (sym c.reached.ensures.horizon)
+    (of_job (setting_in site kept) s id ask c.args.starts v finds)
 
 pub returns : goal.returns
 returns g c =
@@ -36,9 +39,14 @@ returns g c =
     let ask = c.args.ask.now in
     let none = none_at c.args.starts in
     let set : NamedGraph → Setting = λ n. setting_of n.resources rules site.horizon site.claim_limit in
-    let finds = subst (λ (n : NamedGraph). FindsJob (set n) s id ask (FindsAt c.args.starts (set n) s ask) v) c.deref.ensures (c.in_ok-verdict.ensures rules site.claim_limit (journal_in kept) core.book-of) in
+    let finds = subst (λ (n : NamedGraph). FindsJob (set n) s id ask (FindsAt c.args.starts (set n) s ask) v)
+    c.deref.ensures (c.in_ok-verdict.ensures rules site.claim_limit (journal_in kept) core.book-of) in
     let given = c.give.ensures graph rules s (sym c.reached.ensures.moment) (sym c.reached.ensures.claim_count) in
-    let by_none = subst (λ (r : Reply). Answers (setting_of graph rules c.reached.result.horizon c.reached.result.claim_limit) s id ask r v c.give.result) c.none_at.ensures given in
-    let answers = subst (λ (n : ℕ). Answers (setting_of graph rules site.horizon n) s id ask none v c.give.result) c.reached.ensures.claim_limit
-    (subst (λ (h : ℕ). Answers (setting_of graph rules h c.reached.result.claim_limit) s id ask none v c.give.result) c.reached.ensures.horizon by_none) in
+    let by_none = subst (λ (r : Reply). Answers
+    (setting_of graph rules c.reached.result.horizon c.reached.result.claim_limit) s id ask r v c.give.result)
+    c.none_at.ensures given in
+    let answers = subst (λ (n : ℕ). Answers (setting_of graph rules site.horizon n) s id ask none v c.give.result)
+    c.reached.ensures.claim_limit
+    (subst (λ (h : ℕ). Answers (setting_of graph rules h c.reached.result.claim_limit) s id ask none v c.give.result)
+    c.reached.ensures.horizon by_none) in
     decided (setting_in site kept) s id ask c.args.starts v c.give.result finds answers

@@ -6,5 +6,6 @@ use Rattle.sched_core.proofs.scheduler.Core.new.Goals as goal
 pub invariant_of-result : goal.invariant_of-result
 invariant_of-result c =
     let book = c.in_ok-book.ensures in
-    first_core _ _ (subst IsWhole c.deref.ensures c.is_valid.ensures) (book.graph ∙ c.in_ok-try_clone.ensures) book.horizon book.moment book.rows book.jobs
+    first_core _ _ (subst IsWhole c.deref.ensures c.is_valid.ensures) (book.graph ∙ c.in_ok-try_clone.ensures)
+    book.horizon book.moment book.rows book.jobs
     c.new-2.ensures refl
