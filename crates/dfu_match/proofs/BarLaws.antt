@@ -31,28 +31,35 @@ least_at_index list from index up at lt = record {
     | inr later ↦ elim (cases_lt index i) [
       | inl after ↦ (let more : slice_index list index < slice_index list i = less_later list up index i 0 after
           within in omega arith)
-      | inr same ↦ (let e : i ≡ index = omega arith in let f : slice_index list i ≡ slice_index list index = ap (slice_index list) e in omega arith)
+      | inr same ↦ (let e : i ≡ index = omega arith in
+          let f : slice_index list i ≡ slice_index list index = ap (slice_index list) e in omega arith)
     ]
   ];
 }
 
-pub none_from_index : (list : List ℕ) (from index : ℕ) → IsPlaceOf list from index → index ≡ length list → (i : ℕ) → i < length list → slice_index list i < from
+pub none_from_index : (list : List ℕ) (from index : ℕ) → IsPlaceOf list from index → index ≡ length list → (i : ℕ) →
+    i < length list → slice_index list i < from
 none_from_index list from index at over i lt = at.before i (omega arith)
 
 -- no member passes a test that is false of each
-none_pass : (test : ℕ → Bool) (list : List ℕ) → ((i : ℕ) → i < length list → IsTrue (test (slice_index list i)) → ⊥) → list_any test list ≡ false
+none_pass : (test : ℕ → Bool) (list : List ℕ) → ((i : ℕ) → i < length list → IsTrue (test (slice_index list i)) → ⊥) →
+    list_any test list ≡ false
 none_pass test list never =
-    list_any_none test list (λ i d lt. let e : get_or list i d ≡ get_or list i 0 = get_or_default list i d 0 lt in false_from (test (get_or list i d)) (λ h. never i lt (subst (λ x. IsTrue (test x)) e h)))
+    list_any_none test list (λ i d lt. let e : get_or list i d ≡ get_or list i 0 = get_or_default list i d 0 lt in
+    false_from (test (get_or list i d)) (λ h. never i lt (subst (λ x. IsTrue (test x)) e h)))
 
-one_passes : (test : ℕ → Bool) (list : List ℕ) (i u : ℕ) → i < length list → slice_index list i ≡ u → IsTrue (test u) → list_any test list ≡ true
+one_passes : (test : ℕ → Bool) (list : List ℕ) (i u : ℕ) → i < length list → slice_index list i ≡ u →
+    IsTrue (test u) → list_any test list ≡ true
 one_passes test list i u lt e h = list_any_at test list i 0 lt (subst (λ x. IsTrue (test x)) (sym e) h)
 
 -- nodes, as a test and as a fact
-node_from : (x : Option Vertex) → IsSomeAnd x (λ y. is_some y.rank ≡ true) → option_map_or (λ y. is_some y.rank) x false ≡ true
+node_from : (x : Option Vertex) → IsSomeAnd x (λ y. is_some y.rank ≡ true) →
+    option_map_or (λ y. is_some y.rank) x false ≡ true
 node_from None h = elim h [ ]
 node_from (Some y) h = h
 
-node_to : (x : Option Vertex) → option_map_or (λ y. is_some y.rank) x false ≡ true → IsSomeAnd x (λ y. is_some y.rank ≡ true)
+node_to : (x : Option Vertex) → option_map_or (λ y. is_some y.rank) x false ≡ true →
+    IsSomeAnd x (λ y. is_some y.rank ≡ true)
 node_to None h = absurd (true≢false (sym h))
 node_to (Some y) h = h
 
@@ -60,14 +67,16 @@ in_list : (vertices : List Vertex) (v : ℕ) → is_node_at vertices v ≡ true 
 in_list vertices v h =
     elim (cases_lt v (length vertices)) [
       | inl within ↦ within
-      | inr past ↦ absurd (true≢false (sym h ∙ ap (λ x. option_map_or (λ y. is_some y.rank) x false) (slice_get_past vertices v past)))
+      | inr past ↦ absurd (true≢false (sym h ∙ ap (λ x. option_map_or (λ y. is_some y.rank) x false)
+          (slice_get_past vertices v past)))
     ]
 
 -- an ask's bars rise, and are nodes
 rises_from : (low : ℕ) (list : List ℕ) → AreRisingFrom low list → (i : ℕ) → i < length list → low ≤ slice_index list i
 rises_from low [] up i lt = absurd (omega arith)
 rises_from low (x ∷ xs) up zero lt = up.0
-rises_from low (x ∷ xs) up (suc i) lt = let le : suc x ≤ slice_index xs i = rises_from (suc x) xs up.1 i (omega arith) in let first : low ≤ x = up.0 in omega arith
+rises_from low (x ∷ xs) up (suc i) lt = let le : suc x ≤ slice_index xs i = rises_from (suc x) xs up.1 i (omega arith)
+    in let first : low ≤ x = up.0 in omega arith
 
 rises_later : (low : ℕ) (list : List ℕ) → AreRisingFrom low list → (i j : ℕ) → i < j → j < length list →
     slice_index list i < slice_index list j
@@ -80,14 +89,17 @@ rises_later low (x ∷ xs) up (suc i) (suc j) lt within = rises_later (suc x) xs
 pub rises : (low : ℕ) (list : List ℕ) → AreRisingFrom low list → IsStrictlyIncreasing list
 rises low list up k within = rises_later low list up k (k + 1) (omega arith) within
 
-pub nodes_of : (vertices : List Vertex) (list : List ℕ) → AllByRecursion (IsNode vertices) list → AreNodesOf vertices list
+pub nodes_of : (vertices : List Vertex) (list : List ℕ) → AllByRecursion (IsNode vertices) list →
+    AreNodesOf vertices list
 nodes_of vertices [] each i lt = absurd (omega arith)
 nodes_of vertices (x ∷ xs) each zero lt = node_from (slice_get vertices x) each.0
 nodes_of vertices (x ∷ xs) each (suc i) lt = nodes_of vertices xs each.1 i (omega arith)
 
-module _ (g : ResourceGraph) (names : List (List ℕ)) (valid : IsValidGraph g names) (barred : List ℕ) (nodes : AreNodesOf g.vertices barred) where
+module _ (g : ResourceGraph) (names : List (List ℕ)) (valid : IsValidGraph g names) (barred : List ℕ)
+    (nodes : AreNodesOf g.vertices barred) where
   -- two nodes at or above one vertex are the same
-  one_node : (v a b : ℕ) → v < length g.vertices → IsNode g.vertices a → IsNode g.vertices b → IsTrue (is_at_or_below g.vertices v a) → IsTrue (is_at_or_below g.vertices v b) → a ≢ b → ⊥
+  one_node : (v a b : ℕ) → v < length g.vertices → IsNode g.vertices a → IsNode g.vertices b →
+      IsTrue (is_at_or_below g.vertices v a) → IsTrue (is_at_or_below g.vertices v b) → a ≢ b → ⊥
   one_node v a b lt na nb ha hb ne =
       let first = parents_first g valid.preorder in
       let k = nodes_alike g names valid a b na nb in
@@ -97,8 +109,10 @@ module _ (g : ResourceGraph) (names : List (List ℕ)) (valid : IsValidGraph g n
       ]
 
   -- a vertex in no node has no bar at or above it
-  pub over_none : (v : ℕ) → ((n : ℕ) → IsNode g.vertices n → IsTrue (is_at_or_below g.vertices v n) → ⊥) → list_any (is_at_or_below g.vertices v) barred ≡ false
-  over_none v never = none_pass (is_at_or_below g.vertices v) barred (λ i lt h. never (slice_index barred i) (node_to _ (nodes i lt)) h)
+  pub over_none : (v : ℕ) → ((n : ℕ) → IsNode g.vertices n → IsTrue (is_at_or_below g.vertices v n) → ⊥) →
+      list_any (is_at_or_below g.vertices v) barred ≡ false
+  over_none v never = none_pass (is_at_or_below g.vertices v) barred
+      (λ i lt h. never (slice_index barred i) (node_to _ (nodes i lt)) h)
 
   -- one in a node has one exactly where the node is barred
   pub over_node : (v node : ℕ) (found : Option ℕ) → v < length g.vertices → IsNode g.vertices node →
@@ -106,25 +120,34 @@ module _ (g : ResourceGraph) (names : List (List ℕ)) (valid : IsValidGraph g n
       option_map_or (λ u. nat_eq u node) found false ≡ list_any (is_at_or_below g.vertices v) barred
   over_node v node None lt is h all =
       sym (none_pass (is_at_or_below g.vertices v) barred (λ i within k.
-      one_node v (slice_index barred i) node lt (node_to _ (nodes i within)) is k h (λ e. let less : slice_index barred i < node = all i within in omega arith)))
+      one_node v (slice_index barred i) node lt (node_to _ (nodes i within)) is k h
+      (λ e. let less : slice_index barred i < node = all i within in omega arith)))
   over_node v node (Some u) lt is h f =
       elim (eqb_tells u node) [
-        | inl same ↦ (let there = f.there in same.0 ∙ sym (one_passes (is_at_or_below g.vertices v) barred there.0 node there.1 (there.2 ∙ same.1) h))
+        | inl same ↦ (let there = f.there in same.0
+            ∙ sym (one_passes (is_at_or_below g.vertices v) barred there.0 node there.1 (there.2 ∙ same.1) h))
         | inr differ ↦ differ.0 ∙ sym (none_pass (is_at_or_below g.vertices v) barred (λ i within k.
             one_node v (slice_index barred i) node lt (node_to _ (nodes i within)) is k h
-            (λ e. let low : node ≤ u = f.low in let least : u ≤ slice_index barred i = f.least i within (omega arith) in differ.1 (omega arith))))
+            (λ e. let low : node ≤ u = f.low in let least : u ≤ slice_index barred i = f.least i within (omega arith)
+            in differ.1 (omega arith))))
       ]
 
   -- a vertex has a bar at or below it exactly where the least bar from it on stands before what follows it
-  pub below_none : (v : ℕ) → ((i : ℕ) → i < length barred → slice_index barred i < v) → list_any (λ u. is_at_or_below g.vertices u v) barred ≡ false
+  pub below_none : (v : ℕ) → ((i : ℕ) → i < length barred → slice_index barred i < v) →
+      list_any (λ u. is_at_or_below g.vertices u v) barred ≡ false
   below_none v all =
       none_pass (λ u. is_at_or_below g.vertices u v) barred (λ i within h.
-      (let less : slice_index barred i < v = all i within in let le : v ≤ slice_index barred i = below_le g.vertices (parents_first g valid.preorder) (slice_index barred i) v h in omega arith))
+      (let less : slice_index barred i < v = all i within in
+      let le : v ≤ slice_index barred i = below_le g.vertices (parents_first g valid.preorder)
+      (slice_index barred i) v h in omega arith))
 
-  pub below_some : (v past u : ℕ) → IsPast g.vertices v past → IsLeastFrom barred v u → nat_lt u past ≡ list_any (λ u. is_at_or_below g.vertices u v) barred
+  pub below_some : (v past u : ℕ) → IsPast g.vertices v past → IsLeastFrom barred v u →
+      nat_lt u past ≡ list_any (λ u. is_at_or_below g.vertices u v) barred
   below_some v past u p f =
       elim (cases_lt u past) [
-        | inl before ↦ (let there = f.there in is_less u past before ∙ sym (one_passes (λ u. is_at_or_below g.vertices u v) barred there.0 u there.1 there.2 (p.covered u f.low before)))
+        | inl before ↦ (let there = f.there in is_less u past before
+            ∙ sym (one_passes (λ u. is_at_or_below g.vertices u v) barred there.0 u there.1 there.2
+            (p.covered u f.low before)))
         | inr after ↦ not_less u past after ∙ sym (none_pass (λ u. is_at_or_below g.vertices u v) barred (λ i within h.
             (let w = slice_index barred i in
             let lo : v ≤ w = below_le g.vertices (parents_first g valid.preorder) w v h in

@@ -39,7 +39,8 @@ Covers vertices scope from to = (v : ℕ) → v < length vertices → (IsIn vert
 
 -- exactly the vertices of the kind are of the need; where there is no kind, no vertex is
 abbrev pub IsKindOfNeed : List Vertex → Need → Option ℕ → Type 0
-IsKindOfNeed vertices need kind = MatchOption kind ((v : ℕ) → IsOfNeed vertices need v → ⊥) (λ k. (v : ℕ) → (IsOfNeed vertices need v ↔ HasKind vertices k v))
+IsKindOfNeed vertices need kind = MatchOption kind ((v : ℕ) → IsOfNeed vertices need v → ⊥)
+    (λ k. (v : ℕ) → (IsOfNeed vertices need v ↔ HasKind vertices k v))
 
 -- needs that are scaled: by 1, or needs without a spread
 abbrev pub MayScale : ℕ → List Need → Type 0

@@ -59,7 +59,8 @@ fn bars_below<F: FreeView>(s: &Search<F>, vertex: u32) -> bool
 fn closed<F: FreeView, L: Ledger>(s: &Search<F>, vertex: u32, steps: &mut Steps<L>) -> bool
     requires { vertex < length s.now.graph.now.resources.vertices }
     ensures { (jobs : List Job) → F.stands_for s.now.view.now jobs →
-        (IsTrue result ↔ IsClosedIn (meets s.now.graph.now.resources.vertices jobs s.now.barred.now) s.now.window vertex) }
+        (IsTrue result ↔ IsClosedIn (meets s.now.graph.now.resources.vertices jobs s.now.barred.now) s.now.window
+        vertex) }
 {
     bars_over(s, vertex) || s.view.closed_over(vertex, s.window, steps)
 }
@@ -68,7 +69,8 @@ fn closed<F: FreeView, L: Ledger>(s: &Search<F>, vertex: u32, steps: &mut Steps<
 fn touched<F: FreeView, L: Ledger>(s: &Search<F>, vertex: u32, steps: &mut Steps<L>) -> bool
     requires { vertex < length s.now.graph.now.resources.vertices }
     ensures { (jobs : List Job) → F.stands_for s.now.view.now jobs →
-        (IsTrue result ↔ IsTouchedIn (meets s.now.graph.now.resources.vertices jobs s.now.barred.now) s.now.window vertex) }
+        (IsTrue result ↔ IsTouchedIn (meets s.now.graph.now.resources.vertices jobs s.now.barred.now) s.now.window
+        vertex) }
 {
     bars_below(s, vertex) || s.view.touched_over(vertex, s.window, steps)
 }
@@ -94,7 +96,8 @@ pub(crate) fn admits<F: FreeView, L: Ledger>(
 ) -> bool
     requires { vertex < length s.now.graph.now.resources.vertices }
     ensures { (jobs : List Job) → F.stands_for s.now.view.now jobs →
-        (IsTrue result ↔ open_to s.now.graph.now.resources.vertices jobs s.now.barred.now s.now.window (claim_on hold vertex)) }
+        (IsTrue result ↔ open_to s.now.graph.now.resources.vertices jobs s.now.barred.now s.now.window
+        (claim_on hold vertex)) }
 {
     if closed(s, vertex, steps) {
         return false;

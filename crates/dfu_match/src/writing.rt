@@ -16,7 +16,8 @@ use flux_defs::{Claim, FreeView, List, Need, Steps};
 use std::alloc::AllocError;
 use std::sync::ledger::Ledger;
 
-/// Writes the lowest-first claims of the needs scaled by `k` in the scope. `false` exactly where no claims fit; what was
+/// Writes the lowest-first claims of the needs scaled by `k` in
+    the scope. `false` exactly where no claims fit; what was
 /// written by then is of no use.
 #[cycle(writing)]
 pub(crate) fn write_needs<F: FreeView, L: Ledger>(
@@ -31,7 +32,8 @@ pub(crate) fn write_needs<F: FreeView, L: Ledger>(
     requires valid { AreValidNeeds s.now.graph.now.resources.vertices needs.now }
     requires may { MayScale k needs.now }
     requires some { 1 ≤ k }
-    ensures { IfOk result (λ fit. Extends out.old.items out.new.items (λ claims. (jobs : List Job) → F.stands_for s.now.view.now jobs →
+    ensures { IfOk result (λ fit. Extends out.old.items out.new.items
+        (λ claims. (jobs : List Job) → F.stands_for s.now.view.now jobs →
         (let vs : List Vertex = s.now.graph.now.resources.vertices in
         let ok : Claim → Type 0 = open_to vs jobs s.now.barred.now s.now.window in
         MatchBool fit
@@ -62,7 +64,8 @@ fn write_group<F: FreeView, L: Ledger>(
     requires valid { IsValidNeed s.now.graph.now.resources.vertices need.now }
     requires may { MayScaleNeed k need.now }
     requires some { 1 ≤ k }
-    ensures { IfOk result (λ filled. Extends out.old.items out.new.items (λ claims. (jobs : List Job) → F.stands_for s.now.view.now jobs →
+    ensures { IfOk result (λ filled. Extends out.old.items out.new.items
+        (λ claims. (jobs : List Job) → F.stands_for s.now.view.now jobs →
         (let vs : List Vertex = s.now.graph.now.resources.vertices in
         let ok : Claim → Type 0 = open_to vs jobs s.now.barred.now s.now.window in
         MatchBool filled
@@ -102,7 +105,8 @@ fn offer<F: FreeView, L: Ledger>(
     requires may { MayAsk most need.now }
     requires some { 1 ≤ most }
     ensures within { IfOk result (λ served. served ≤ most) }
-    ensures offers { IfOk result (λ served. Extends out.old.items out.new.items (λ claims. (jobs : List Job) → F.stands_for s.now.view.now jobs →
+    ensures offers { IfOk result (λ served. Extends out.old.items out.new.items
+        (λ claims. (jobs : List Job) → F.stands_for s.now.view.now jobs →
         (let vs : List Vertex = s.now.graph.now.resources.vertices in
         let ok : Claim → Type 0 = open_to vs jobs s.now.barred.now s.now.window in
         (scope : Scope) → IsIn vs scope vertex →
@@ -164,7 +168,8 @@ fn write_shared<F: FreeView, L: Ledger>(
     requires valid { AreValidNeeds s.now.graph.now.resources.vertices needs.now }
     requires may { MayScale k needs.now }
     requires some { 1 ≤ k }
-    ensures { IfOk result (λ fit. Extends out.old.items out.new.items (λ claims. (fit ≡ false → claims ≡ []) × ((jobs : List Job) → F.stands_for s.now.view.now jobs →
+    ensures { IfOk result (λ fit. Extends out.old.items out.new.items
+        (λ claims. (fit ≡ false → claims ≡ []) × ((jobs : List Job) → F.stands_for s.now.view.now jobs →
         (let vs : List Vertex = s.now.graph.now.resources.vertices in
         let ok : Claim → Type 0 = open_to vs jobs s.now.barred.now s.now.window in
         MatchBool fit

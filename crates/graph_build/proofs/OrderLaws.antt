@@ -30,7 +30,8 @@ same_text a b e = (bytes_eq-Decides a b).0 (sym (is_eq-slice_cmp a b) ∙ (Equal
 pub itself_text : (a b : List ℕ) → a ≡ b → slice_cmp nat_cmp a b ≡ Equal
 itself_text a b e = (Equal-is (slice_cmp nat_cmp a b)).0 (is_eq-slice_cmp a b ∙ (bytes_eq-Decides a b).1 e)
 
-pub same_device : (a b : DeviceKey) → device.cmp-value.it a b ≡ Equal → (a.node ≡ b.node) × (a.kind ≡ b.kind) × (a.id ≡ b.id)
+pub same_device : (a b : DeviceKey) → device.cmp-value.it a b ≡ Equal → (a.node ≡ b.node) × (a.kind ≡ b.kind)
+    × (a.id ≡ b.id)
 same_device a b e =
     let parts = then_equal (nat_cmp a.node b.node) (ordering_then (nat_cmp a.kind b.kind) (nat_cmp a.id b.id)) e in
     let rest = then_equal (nat_cmp a.kind b.kind) (nat_cmp a.id b.id) parts.1 in
@@ -42,16 +43,22 @@ equal_then a b e f = ap (λ o. ordering_then o b) e ∙ f
 equal_number : (a b : ℕ) → a ≡ b → nat_cmp a b ≡ Equal
 equal_number a b e = ap (nat_cmp a) (sym e) ∙ itself_number a
 
-pub itself_device : (a b : DeviceKey) → a.node ≡ b.node → a.kind ≡ b.kind → a.id ≡ b.id → device.cmp-value.it a b ≡ Equal
+pub itself_device : (a b : DeviceKey) → a.node ≡ b.node → a.kind ≡ b.kind → a.id ≡ b.id →
+    device.cmp-value.it a b ≡ Equal
 itself_device a b node kind id =
-    equal_then (nat_cmp a.node b.node) (ordering_then (nat_cmp a.kind b.kind) (nat_cmp a.id b.id)) (equal_number a.node b.node node)
-    (equal_then (nat_cmp a.kind b.kind) (nat_cmp a.id b.id) (equal_number a.kind b.kind kind) (equal_number a.id b.id id))
+    equal_then (nat_cmp a.node b.node) (ordering_then (nat_cmp a.kind b.kind) (nat_cmp a.id b.id))
+    (equal_number a.node b.node node)
+    (equal_then (nat_cmp a.kind b.kind) (nat_cmp a.id b.id) (equal_number a.kind b.kind kind)
+    (equal_number a.id b.id id))
 
-pub same_sibling : (a b : SiblingKey) → sibling.cmp-value.it a b ≡ Equal → (a.parent ≡ b.parent) × (a.name.now ≡ b.name.now)
+pub same_sibling : (a b : SiblingKey) → sibling.cmp-value.it a b ≡ Equal → (a.parent ≡ b.parent)
+    × (a.name.now ≡ b.name.now)
 same_sibling a b e =
     let parts = then_equal (nat_cmp a.parent b.parent) (slice_cmp nat_cmp a.name.now b.name.now) e in
     (same_number a.parent b.parent parts.0, same_text a.name.now b.name.now parts.1)
 
-pub itself_sibling : (a b : SiblingKey) → a.parent ≡ b.parent → a.name.now ≡ b.name.now → sibling.cmp-value.it a b ≡ Equal
+pub itself_sibling : (a b : SiblingKey) → a.parent ≡ b.parent → a.name.now ≡ b.name.now →
+    sibling.cmp-value.it a b ≡ Equal
 itself_sibling a b parent name =
-    equal_then (nat_cmp a.parent b.parent) (slice_cmp nat_cmp a.name.now b.name.now) (equal_number a.parent b.parent parent) (itself_text a.name.now b.name.now name)
+    equal_then (nat_cmp a.parent b.parent) (slice_cmp nat_cmp a.name.now b.name.now)
+    (equal_number a.parent b.parent parent) (itself_text a.name.now b.name.now name)

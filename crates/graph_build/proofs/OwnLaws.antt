@@ -14,11 +14,15 @@ use Rattle.resource_graph.proofs.LineLaws.{no_vertex}
 use Rattle.resource_graph.proofs.Values.{from_value, at_value, fact_within}
 
 -- a fact on the vertex that was read
-pub fact_here : (vertices : List Vertex) (v : ℕ) (P : Vertex → Type 0) → v < length vertices → P (get_or vertices v no_vertex) → IsSomeAnd (slice_get vertices v) P
-fact_here vertices v P lt h = from_value (slice_get vertices v) P (get_or vertices v no_vertex) (slice_get-get_or vertices v no_vertex lt) h
+pub fact_here : (vertices : List Vertex) (v : ℕ) (P : Vertex → Type 0) → v < length vertices →
+    P (get_or vertices v no_vertex) → IsSomeAnd (slice_get vertices v) P
+fact_here vertices v P lt h = from_value (slice_get vertices v) P (get_or vertices v no_vertex)
+    (slice_get-get_or vertices v no_vertex lt) h
 
-pub fact_read : (vertices : List Vertex) (v : ℕ) (P : Vertex → Type 0) → v < length vertices → IsSomeAnd (slice_get vertices v) P → P (get_or vertices v no_vertex)
-fact_read vertices v P lt h = at_value (slice_get vertices v) P (get_or vertices v no_vertex) (slice_get-get_or vertices v no_vertex lt) h
+pub fact_read : (vertices : List Vertex) (v : ℕ) (P : Vertex → Type 0) → v < length vertices →
+    IsSomeAnd (slice_get vertices v) P → P (get_or vertices v no_vertex)
+fact_read vertices v P lt h = at_value (slice_get vertices v) P (get_or vertices v no_vertex)
+    (slice_get-get_or vertices v no_vertex lt) h
 
 module _ (kinds : List (List ℕ)) (vertices : List Vertex) (v : ℕ) where
   pub type_within : (name : List ℕ) → HasType (graph_in kinds vertices) name v → v < length vertices
@@ -37,12 +41,14 @@ module _ (kinds : List (List ℕ)) (vertices : List Vertex) (v : ℕ) where
   pub parent_pool_within : IsPoolWithChild (graph_in kinds vertices) v → v < length vertices
   parent_pool_within h = go (slice_get vertices v) refl h.0
     where
-      go : (o : Option Vertex) → slice_get vertices v ≡ o → option_map_or (λ x. is_pool_kind vertices x.kind) o false ≡ true → v < length vertices
+      go : (o : Option Vertex) → slice_get vertices v ≡ o →
+          option_map_or (λ x. is_pool_kind vertices x.kind) o false ≡ true → v < length vertices
       go None e t = absurd (true≢false (sym t))
       go (Some x) e t = slice_get_within vertices v x e
 
 -- whether a type is called so, by its bytes
-pub called : (kinds : List (List ℕ)) (kind : ℕ) (text bytes name : List ℕ) (r : Bool) → kind < length kinds → text ≡ get_or kinds kind text → bytes ≡ text → r ≡ bytes_eq bytes name →
+pub called : (kinds : List (List ℕ)) (kind : ℕ) (text bytes name : List ℕ) (r : Bool) → kind < length kinds →
+    text ≡ get_or kinds kind text → bytes ≡ text → r ≡ bytes_eq bytes name →
     (IsTrue r → slice_get kinds kind ≡ Some name) × (slice_get kinds kind ≡ Some name → IsTrue r)
 called kinds kind text bytes name r lt read same e =
     let at : slice_get kinds kind ≡ Some text = slice_get-get_or kinds kind text lt ∙ ap Some (sym read) in (
@@ -51,8 +57,10 @@ called kinds kind text bytes name r lt read same e =
     )
 
 -- a test of a vertex's kind is one of the vertex
-pub type_test : (kinds : List (List ℕ)) (vertices : List Vertex) (v : ℕ) (name : List ℕ) (r : Bool) → v < length vertices →
-    (IsTrue r → slice_get kinds (get_or vertices v no_vertex).kind ≡ Some name) × (slice_get kinds (get_or vertices v no_vertex).kind ≡ Some name → IsTrue r) →
+pub type_test : (kinds : List (List ℕ)) (vertices : List Vertex) (v : ℕ) (name : List ℕ) (r : Bool) →
+    v < length vertices →
+    (IsTrue r → slice_get kinds (get_or vertices v no_vertex).kind ≡ Some name)
+    × (slice_get kinds (get_or vertices v no_vertex).kind ≡ Some name → IsTrue r) →
     (IsTrue r → HasType (graph_in kinds vertices) name v) × (HasType (graph_in kinds vertices) name v → IsTrue r)
 type_test kinds vertices v name r lt test = (
   (λ h. fact_here vertices v (λ x. slice_get kinds x.kind ≡ Some name) lt (test.0 h)),

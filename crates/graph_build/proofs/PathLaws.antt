@@ -19,7 +19,8 @@ pub cmp_less : (x y : ℕ) → x < y → nat_cmp x y ≡ Less
 cmp_less x y lt = ap (λ b. cond b Less (cond (nat_eq x y) Equal Greater)) (lt-ltb x y lt)
 
 pub cmp_same : (x : ℕ) → nat_cmp x x ≡ Equal
-cmp_same x = ap (λ b. cond b Less (cond (nat_eq x x) Equal Greater)) (le-ltb x x (omega arith)) ∙ ap (λ b. cond b Equal Greater) (eq-eqb x x refl)
+cmp_same x = ap (λ b. cond b Less (cond (nat_eq x x) Equal Greater)) (le-ltb x x (omega arith))
+    ∙ ap (λ b. cond b Equal Greater) (eq-eqb x x refl)
 
 -- xs stands before ys
 abbrev pub stands_before : List ℕ → List ℕ → Bool
@@ -28,27 +29,36 @@ stands_before xs ys = is_lt (slice_cmp nat_cmp xs ys)
 -- a list stands before what it begins
 pub before_longer : (xs : List ℕ) (y : ℕ) (ys : List ℕ) → stands_before xs (xs ++ y ∷ ys) ≡ true
 before_longer [] y ys = refl
-before_longer (x ∷ xs) y ys = ap (λ o. is_lt (ordering_then o (slice_cmp nat_cmp xs (xs ++ y ∷ ys)))) (cmp_same x) ∙ before_longer xs y ys
+before_longer (x ∷ xs) y ys = ap (λ o. is_lt (ordering_then o (slice_cmp nat_cmp xs (xs ++ y ∷ ys)))) (cmp_same x)
+    ∙ before_longer xs y ys
 
 -- after one beginning the lesser number stands first
 pub before_by_last : (p : List ℕ) (a b : ℕ) → a < b → stands_before (p ++ a ∷ []) (p ++ b ∷ []) ≡ true
 before_by_last [] a b lt = ap (λ o. is_lt (ordering_then o (slice_cmp nat_cmp [] []))) (cmp_less a b lt)
-before_by_last (x ∷ p) a b lt = ap (λ o. is_lt (ordering_then o (slice_cmp nat_cmp (p ++ a ∷ []) (p ++ b ∷ [])))) (cmp_same x) ∙ before_by_last p a b lt
+before_by_last (x ∷ p) a b lt = ap (λ o. is_lt (ordering_then o (slice_cmp nat_cmp (p ++ a ∷ []) (p ++ b ∷ []))))
+    (cmp_same x) ∙ before_by_last p a b lt
 
 -- what stands between a list and one that is longer by one number begins with it
-pub begins_between : (p b : List ℕ) (w : ℕ) → stands_before b p ≡ false → stands_before (p ++ w ∷ []) b ≡ false → (ys : List ℕ) × (b ≡ p ++ ys)
+pub begins_between : (p b : List ℕ) (w : ℕ) → stands_before b p ≡ false → stands_before (p ++ w ∷ []) b ≡ false →
+    (ys : List ℕ) × (b ≡ p ++ ys)
 begins_between [] b w low high = (b, refl)
 begins_between (x ∷ p) [] w low high = absurd (true≢false low)
 begins_between (x ∷ p) (y ∷ b) w low high =
     elim (cases_order x y) [
       | inl same ↦ (
-          let at_low : stands_before b p ≡ false = sym (ap (λ o. is_lt (ordering_then o (slice_cmp nat_cmp b p))) (ap (λ z. nat_cmp z x) (sym same) ∙ cmp_same x)) ∙ low in
-          let at_high : stands_before (p ++ w ∷ []) b ≡ false = sym (ap (λ o. is_lt (ordering_then o (slice_cmp nat_cmp (p ++ w ∷ []) b))) (ap (λ z. nat_cmp x z) (sym same) ∙ cmp_same x)) ∙ high in
+          let at_low : stands_before b p ≡ false = sym
+          (ap (λ o. is_lt (ordering_then o (slice_cmp nat_cmp b p)))
+          (ap (λ z. nat_cmp z x) (sym same) ∙ cmp_same x)) ∙ low in
+          let at_high : stands_before (p ++ w ∷ []) b ≡ false =
+          sym (ap (λ o. is_lt (ordering_then o (slice_cmp nat_cmp (p ++ w ∷ []) b)))
+          (ap (λ z. nat_cmp x z) (sym same) ∙ cmp_same x)) ∙ high in
           let rest = begins_between p b w at_low at_high in
           (rest.0, ap (λ z. z ∷ b) (sym same) ∙ ap (λ l. x ∷ l) rest.1))
       | inr differ ↦ elim differ [
-        | inl less ↦ absurd (true≢false (sym (ap (λ o. is_lt (ordering_then o (slice_cmp nat_cmp (p ++ w ∷ []) b))) (cmp_less x y less)) ∙ high))
-        | inr more ↦ absurd (true≢false (sym (ap (λ o. is_lt (ordering_then o (slice_cmp nat_cmp b p))) (cmp_less y x more)) ∙ low))
+        | inl less ↦ absurd (true≢false (sym (ap (λ o. is_lt (ordering_then o (slice_cmp nat_cmp (p ++ w ∷ []) b)))
+            (cmp_less x y less)) ∙ high))
+        | inr more ↦ absurd (true≢false (sym (ap (λ o. is_lt (ordering_then o (slice_cmp nat_cmp b p)))
+            (cmp_less y x more)) ∙ low))
       ]
     ]
 
@@ -58,17 +68,23 @@ module _ (vertices : List Vertex) (rooted : IsRooted vertices) where
   path_to v = reverse (line_of vertices v)
 
   -- a line is the vertex and its parent's line
-  line_step : (v : ℕ) → v < length vertices → line_of vertices v ≡ v ∷ chain vertices (length vertices) (parent_of vertices v)
+  line_step : (v : ℕ) → v < length vertices → line_of vertices v ≡ v
+      ∷ chain vertices (length vertices) (parent_of vertices v)
   line_step v lt = by_length (length vertices) refl
     where
-      by_length : (n : ℕ) → length vertices ≡ n → line_of vertices v ≡ v ∷ chain vertices (length vertices) (parent_of vertices v)
+      by_length : (n : ℕ) → length vertices ≡ n → line_of vertices v ≡ v
+          ∷ chain vertices (length vertices) (parent_of vertices v)
       by_length zero e = absurd (let none : v < 0 = subst (λ (n : ℕ). v < n) e lt in omega arith)
       by_length (suc n) e =
-          let ends : length (chain vertices (suc (suc n)) (Some v)) ≤ suc n = subst (λ (m : ℕ). length (chain vertices (suc m) (Some v)) ≤ m) e (rooted.ends v lt) in
+          let ends : length (chain vertices (suc (suc n)) (Some v)) ≤ suc n =
+          subst (λ (m : ℕ). length (chain vertices (suc m) (Some v)) ≤ m) e (rooted.ends v lt) in
           let above : length (chain vertices (suc n) (parent_of vertices v)) ≤ n = omega arith in
-          let short : length (chain vertices n (parent_of vertices v)) ≤ n = chain_short vertices n (parent_of vertices v) in
-          let same : chain vertices n (parent_of vertices v) ≡ chain vertices (suc n) (parent_of vertices v) = chains_agree vertices n (suc n) (parent_of vertices v) (omega arith) (omega arith) in
-          ap (λ m. chain vertices m (Some v)) e ∙ (ap (λ l. v ∷ l) same ∙ ap (λ m. v ∷ chain vertices m (parent_of vertices v)) (sym e))
+          let short : length (chain vertices n (parent_of vertices v)) ≤ n =
+          chain_short vertices n (parent_of vertices v) in
+          let same : chain vertices n (parent_of vertices v) ≡ chain vertices (suc n) (parent_of vertices v) =
+          chains_agree vertices n (suc n) (parent_of vertices v) (omega arith) (omega arith) in
+          ap (λ m. chain vertices m (Some v)) e ∙ (ap (λ l. v ∷ l) same
+          ∙ ap (λ m. v ∷ chain vertices m (parent_of vertices v)) (sym e))
 
   none_line : (n : ℕ) → chain vertices n None ≡ []
   none_line zero = refl
@@ -76,12 +92,14 @@ module _ (vertices : List Vertex) (rooted : IsRooted vertices) where
 
   pub path_below : (v p : ℕ) → v < length vertices → parent_of vertices v ≡ Some p → path_to v ≡ path_to p ++ v ∷ []
   path_below v p lt e =
-      let line : line_of vertices v ≡ v ∷ line_of vertices p = line_step v lt ∙ ap (λ o. v ∷ chain vertices (length vertices) o) e in
+      let line : line_of vertices v ≡ v ∷ line_of vertices p = line_step v lt
+      ∙ ap (λ o. v ∷ chain vertices (length vertices) o) e in
       ap reverse line ∙ reverse-append (v ∷ []) (line_of vertices p)
 
   pub path_root : (v : ℕ) → v < length vertices → parent_of vertices v ≡ None → path_to v ≡ v ∷ []
   path_root v lt e =
-      let line : line_of vertices v ≡ v ∷ [] = line_step v lt ∙ (ap (λ o. v ∷ chain vertices (length vertices) o) e ∙ ap (λ l. v ∷ l) (none_line (length vertices))) in
+      let line : line_of vertices v ≡ v ∷ [] = line_step v lt
+      ∙ (ap (λ o. v ∷ chain vertices (length vertices) o) e ∙ ap (λ l. v ∷ l) (none_line (length vertices))) in
       ap reverse line
 
   -- each path ends in its vertex
@@ -100,33 +118,41 @@ module _ (vertices : List Vertex) (rooted : IsRooted vertices) where
       ap (λ l. get_or l (length l - 1) 0) ends.1 ∙ get_or_push ends.0 v 0 (length (ends.0 ++ v ∷ []) - 1) at
 
   -- a vertex whose path begins with another's path is at or below that one
-  pub begins_below : (v p : ℕ) (ys : List ℕ) → p < length vertices → path_to v ≡ path_to p ++ ys → IsTrue (is_at_or_below vertices v p)
+  pub begins_below : (v p : ℕ) (ys : List ℕ) → p < length vertices → path_to v ≡ path_to p ++ ys →
+      IsTrue (is_at_or_below vertices v p)
   begins_below v p ys lt e =
       let ends = path_ends p lt in
       let split : path_to v ≡ ends.0 ++ (p ∷ ys) = e ∙ (ap (λ l. l ++ ys) ends.1 ∙ append_assoc ends.0 (p ∷ []) ys) in
-      let line : line_of vertices v ≡ (reverse (p ∷ ys) ++ reverse ends.0) = sym (reverse-reverse (line_of vertices v)) ∙ (ap reverse split ∙ reverse-append ends.0 (p ∷ ys)) in
+      let line : line_of vertices v ≡ (reverse (p ∷ ys) ++ reverse ends.0) =
+      sym (reverse-reverse (line_of vertices v)) ∙ (ap reverse split ∙ reverse-append ends.0 (p ∷ ys)) in
       let turned : reverse (p ∷ ys) ≡ (reverse ys ++ p ∷ []) = reverse-append (p ∷ []) ys in
       let here : list_any (nat_eq p) (reverse ys ++ p ∷ []) ≡ true =
-      list_any-append (nat_eq p) (reverse ys) (p ∷ []) ∙ or_right (list_any (nat_eq p) (reverse ys)) (list_any (nat_eq p) (p ∷ [])) (or_left (nat_eq p p) false (equal_from p p refl)) in
+      list_any-append (nat_eq p) (reverse ys) (p ∷ [])
+      ∙ or_right (list_any (nat_eq p) (reverse ys)) (list_any (nat_eq p) (p ∷ []))
+      (or_left (nat_eq p p) false (equal_from p p refl)) in
       let there : list_any (nat_eq p) (line_of vertices v) ≡ true =
       ap (list_any (nat_eq p)) line ∙ (list_any-append (nat_eq p) (reverse (p ∷ ys)) (reverse ends.0) ∙
-      or_left (list_any (nat_eq p) (reverse (p ∷ ys))) (list_any (nat_eq p) (reverse ends.0)) (ap (list_any (nat_eq p)) turned ∙ here)) in
+      or_left (list_any (nat_eq p) (reverse (p ∷ ys))) (list_any (nat_eq p) (reverse ends.0))
+      (ap (list_any (nat_eq p)) turned ∙ here)) in
       at_or_below-opens vertices v p ∙ there
 
   -- an order by the paths
   pub record IsByPath (order : List ℕ) : Type 0 where
     pub places : IsOrderOf (length vertices) order
-    pub sorted : (a b i j : ℕ) → a ≤ b → slice_get order a ≡ Some i → slice_get order b ≡ Some j → stands_before (path_to j) (path_to i) ≡ false
+    pub sorted : (a b i j : ℕ) → a ≤ b → slice_get order a ≡ Some i → slice_get order b ≡ Some j →
+        stands_before (path_to j) (path_to i) ≡ false
 
   module _ (list : List ℕ) (by : IsByPath list) where
-    parent_first : (m k p j : ℕ) → slice_get list m ≡ Some p → slice_get list k ≡ Some j → parent_of vertices j ≡ Some p → m < k
+    parent_first : (m k p j : ℕ) → slice_get list m ≡ Some p → slice_get list k ≡ Some j →
+        parent_of vertices j ≡ Some p → m < k
     parent_first m k p j at_m at_k e =
         elim (cases_lt m k) [
           | inl less ↦ less
           | inr more ↦ (
               let j_in : j < length vertices = by.places.known k j at_k in
               let below = path_below j p j_in e in
-              absurd (true≢false (sym (ap (stands_before (path_to p)) below ∙ before_longer (path_to p) j []) ∙ by.sorted k m j p more at_k at_m)))
+              absurd (true≢false (sym (ap (stands_before (path_to p)) below ∙ before_longer (path_to p) j [])
+              ∙ by.sorted k m j p more at_k at_m)))
         ]
 
     root_first : (i : ℕ) → slice_get list 0 ≡ Some i → parent_of vertices i ≡ None
@@ -138,30 +164,36 @@ module _ (vertices : List Vertex) (rooted : IsRooted vertices) where
             let there = by.places.each p (rooted.known i p e) in
             let less : there.0 < 0 = parent_first there.0 0 p i there.1 at e in absurd (omega arith)
 
-    next_below : (k i j : ℕ) → slice_get list k ≡ Some i → slice_get list (suc k) ≡ Some j → (p : ℕ) × (parent_of vertices j ≡ Some p) × IsTrue (is_at_or_below vertices i p)
+    next_below : (k i j : ℕ) → slice_get list k ≡ Some i → slice_get list (suc k) ≡ Some j → (p : ℕ)
+        × (parent_of vertices j ≡ Some p) × IsTrue (is_at_or_below vertices i p)
     next_below k i j at_k at_next = go (parent_of vertices j) refl
       where
         first_at : (l : List ℕ) (i : ℕ) → slice_get l (suc k) ≡ Some j → (f : ℕ) × (slice_get l 0 ≡ Some f)
         first_at [] i e = absurd (cc)
         first_at (x ∷ l) i e = (x, refl)
 
-        go : (o : Option ℕ) → parent_of vertices j ≡ o → (p : ℕ) × (parent_of vertices j ≡ Some p) × IsTrue (is_at_or_below vertices i p)
+        go : (o : Option ℕ) → parent_of vertices j ≡ o → (p : ℕ) × (parent_of vertices j ≡ Some p)
+            × IsTrue (is_at_or_below vertices i p)
         go None e =
             let f = first_at list i at_next in
-            let same : f.0 ≡ j = rooted.alone f.0 j (by.places.known 0 f.0 f.1) (by.places.known (suc k) j at_next) (root_first f.0 f.1) e in
+            let same : f.0 ≡ j = rooted.alone f.0 j (by.places.known 0 f.0 f.1) (by.places.known (suc k) j at_next)
+            (root_first f.0 f.1) e in
             let place : 0 ≡ suc k = by.places.apart 0 (suc k) j (f.1 ∙ ap Some same) at_next in
             absurd (omega arith)
         go (Some p) e =
             let p_in : p < length vertices = rooted.known j p e in
             let there = by.places.each p p_in in
             let less : there.0 < suc k = parent_first there.0 (suc k) p j there.1 at_next e in
-            let low : stands_before (path_to i) (path_to p) ≡ false = by.sorted there.0 k p i (omega arith) there.1 at_k in
+            let low : stands_before (path_to i) (path_to p) ≡ false = by.sorted there.0 k p i (omega arith) there.1
+            at_k in
             let below = path_below j p (by.places.known (suc k) j at_next) e in
-            let high : stands_before (path_to p ++ j ∷ []) (path_to i) ≡ false = ap (λ l. stands_before l (path_to i)) (sym below) ∙ by.sorted k (suc k) i j (omega arith) at_k at_next in
+            let high : stands_before (path_to p ++ j ∷ []) (path_to i) ≡ false = ap (λ l. stands_before l (path_to i))
+            (sym below) ∙ by.sorted k (suc k) i j (omega arith) at_k at_next in
             let begins = begins_between (path_to p) (path_to i) j low high in
             (p, e, begins_below i p begins.0 p_in begins.1)
 
-    siblings_rise : (j k u v : ℕ) → j < k → slice_get list j ≡ Some u → slice_get list k ≡ Some v → parent_of vertices u ≡ parent_of vertices v → u < v
+    siblings_rise : (j k u v : ℕ) → j < k → slice_get list j ≡ Some u → slice_get list k ≡ Some v →
+        parent_of vertices u ≡ parent_of vertices v → u < v
     siblings_rise j k u v lt at_j at_k same =
         elim (cases_order u v) [
           | inl equal ↦ absurd (let place : j ≡ k = by.places.apart j k v (at_j ∙ ap Some equal) at_k in omega arith)
@@ -182,8 +214,16 @@ module _ (vertices : List Vertex) (rooted : IsRooted vertices) where
         go (Some p) e more =
             let a = path_below u p u_in (same ∙ e) in
             let b = path_below v p v_in e in
-            let clash : stands_before (path_to v) (path_to u) ≡ true = ap (λ l. stands_before l (path_to u)) b ∙ (ap (stands_before (path_to p ++ v ∷ [])) a ∙ before_by_last (path_to p) v u more) in
+            let clash : stands_before (path_to v) (path_to u) ≡ true = ap (λ l. stands_before l (path_to u)) b
+            ∙ (ap (stands_before (path_to p ++ v ∷ [])) a ∙ before_by_last (path_to p) v u more) in
             absurd (true≢false (sym clash ∙ by.sorted j k u v (omega arith) at_j at_k))
 
     pub preorder_by_path : IsPreorderOf vertices list
-    preorder_by_path = record { places = by.places; first = root_first; next = next_below; before = parent_first; siblings = siblings_rise }
+    preorder_by_path = record {
+      places = by.places;
+      first = root_first;
+      next = next_below;
+      before =
+          parent_first;
+      siblings = siblings_rise;
+    }

@@ -11,7 +11,8 @@ use Rattle.graph_build.specs.Keys.{IsRepeated}
 
 -- one of the first so many places has this key
 abbrev pub HasSeen : {K : Type 0} → (K → K → Ordering) → List (Option K) → ℕ → K → Type 0
-HasSeen {K} cmp keys most key = (u : ℕ) × (a : K) × (u < most) × (slice_get keys u ≡ Some (Some a)) × (cmp a key ≡ Equal)
+HasSeen {K} cmp keys most key = (u : ℕ) × (a : K) × (u < most) × (slice_get keys u ≡ Some (Some a))
+    × (cmp a key ≡ Equal)
 
 -- exactly the keys of the first so many places pass the test
 abbrev pub SeesKeys : {K : Type 0} → (K → K → Ordering) → List (Option K) → ℕ → (K → Bool) → Type 0
@@ -23,30 +24,39 @@ module _ {K : Type 0} (cmp : K → K → Ordering) (keys : List (Option K)) wher
   read_at v d o lt e = slice_get-get_or keys v d lt ∙ ap Some e
 
   pub sees_none : (has : K → Bool) → ((q : K) → has q ≡ false) → SeesKeys cmp keys 0 has
-  sees_none has none q = ((λ h. absurd (true≢false (sym h ∙ none q))), (λ seen. absurd (let lt = seen.2 in omega arith)))
+  sees_none has none q = (
+    (λ h. absurd (true≢false (sym h ∙ none q))),
+    (λ seen. absurd (let lt = seen.2 in omega arith)),
+  )
 
   -- a place without a key
-  pub sees_skip : (v : ℕ) (has : K → Bool) → slice_get keys v ≡ Some None → SeesKeys cmp keys v has → SeesKeys cmp keys (v + 1) has
+  pub sees_skip : (v : ℕ) (has : K → Bool) → slice_get keys v ≡ Some None → SeesKeys cmp keys v has →
+      SeesKeys cmp keys (v + 1) has
   sees_skip v has at sees q = (
     (λ h. (let s = (sees q).0 h in (s.0, s.1, (let lt = s.2 in omega arith), s.3, s.4))),
     (λ s. elim (cases_lt s.0 v) [
       | inl before ↦ (sees q).1 (s.0, s.1, before, s.3, s.4)
-      | inr last ↦ absurd (let is : s.0 ≡ v = (let lt = s.2 in omega arith) in let clash : Some None ≡ Some (Some s.1) = sym at ∙ (ap (slice_get keys) (sym is) ∙ s.3) in cc)
+      | inr last ↦ absurd (let is : s.0 ≡ v = (let lt = s.2 in omega arith) in
+          let clash : Some None ≡ Some (Some s.1) = sym at ∙ (ap (slice_get keys) (sym is) ∙ s.3) in cc)
     ]),
   )
 
   -- a place with one
-  pub sees_more : (v : ℕ) (key : K) (old new : K → Bool) → slice_get keys v ≡ Some (Some key) → ((q : K) → new q ≡ cond (is_eq (cmp key q)) true (old q)) → SeesKeys cmp keys v old → SeesKeys cmp keys (v + 1) new
+  pub sees_more : (v : ℕ) (key : K) (old new : K → Bool) → slice_get keys v ≡ Some (Some key) →
+      ((q : K) → new q ≡ cond (is_eq (cmp key q)) true (old q)) → SeesKeys cmp keys v old →
+      SeesKeys cmp keys (v + 1) new
   sees_more v key old new at adds sees q = (
     (λ h. elim (cases_Bool (is_eq (cmp key q))) [
       | inl same ↦ (v, key, omega arith, at, (Equal-is (cmp key q)).0 same)
-      | inr differ ↦ (let s = (sees q).0 (sym (ap (λ b. cond b true (old q)) differ) ∙ (sym (adds q) ∙ h)) in (s.0, s.1, (let lt = s.2 in omega arith), s.3, s.4))
+      | inr differ ↦ (let s = (sees q).0 (sym (ap (λ b. cond b true (old q)) differ) ∙ (sym (adds q) ∙ h)) in
+          (s.0, s.1, (let lt = s.2 in omega arith), s.3, s.4))
     ]),
     (λ s. adds q ∙ elim (cases_lt s.0 v) [
       | inl before ↦ either (is_eq (cmp key q)) (old q) ((sees q).1 (s.0, s.1, before, s.3, s.4))
       | inr last ↦ (
           let is : s.0 ≡ v = (let lt = s.2 in omega arith) in
-          let same : s.1 ≡ key = (let e : Some (Some s.1) ≡ Some (Some key) = sym s.3 ∙ (ap (slice_get keys) is ∙ at) in cc) in
+          let same : s.1 ≡ key = (let e : Some (Some s.1) ≡ Some (Some key) = sym s.3
+          ∙ (ap (slice_get keys) is ∙ at) in cc) in
           ap (λ b. cond b true (old q)) ((Equal-is (cmp key q)).1 (ap (λ k. cmp k q) (sym same) ∙ s.4)))
     ]),
   )
@@ -55,10 +65,12 @@ module _ {K : Type 0} (cmp : K → K → Ordering) (keys : List (Option K)) wher
       either true b h = refl
       either false b h = h
 
-  pub repeated_here : (v : ℕ) (key : K) (has : K → Bool) → slice_get keys v ≡ Some (Some key) → SeesKeys cmp keys v has → has key ≡ true → IsRepeated cmp keys v
+  pub repeated_here : (v : ℕ) (key : K) (has : K → Bool) → slice_get keys v ≡ Some (Some key) →
+      SeesKeys cmp keys v has → has key ≡ true → IsRepeated cmp keys v
   repeated_here v key has at sees h = let s = (sees key).0 h in (s.0, s.1, key, s.2, s.3, at, s.4)
 
-  pub new_here : (v : ℕ) (key : K) (has : K → Bool) → slice_get keys v ≡ Some (Some key) → SeesKeys cmp keys v has → has key ≡ false → IsRepeated cmp keys v → ⊥
+  pub new_here : (v : ℕ) (key : K) (has : K → Bool) → slice_get keys v ≡ Some (Some key) → SeesKeys cmp keys v has →
+      has key ≡ false → IsRepeated cmp keys v → ⊥
   new_here v key has at sees h bad =
       let same : bad.2 ≡ key = (let e : Some (Some bad.2) ≡ Some (Some key) = sym bad.5 ∙ at in cc) in
       true≢false (sym ((sees key).1 (bad.0, bad.1, bad.3, bad.4, ap (cmp bad.1) (sym same) ∙ bad.6)) ∙ h)

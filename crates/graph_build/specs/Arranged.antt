@@ -26,22 +26,26 @@ pub record HasTexts (list : List RawVertex) (texts : Texts) : Type 0 where
 
 -- the kind of the vertex at the place that the order has for k is this one
 abbrev pub HasKindAt : List Vertex → List ℕ → ℕ → ℕ → Type 0
-HasKindAt vertices order k kind = (i : ℕ) × (x : Vertex) × (slice_get order k ≡ Some i) × (slice_get vertices i ≡ Some x) × (x.kind ≡ kind)
+HasKindAt vertices order k kind = (i : ℕ) × (x : Vertex) × (slice_get order k ≡ Some i)
+    × (slice_get vertices i ≡ Some x) × (x.kind ≡ kind)
 
 -- the kind has this new number
 abbrev pub IsNumbered : KindNumbering → ℕ → ℕ → Type 0
 IsNumbered numbering kind j = slice_get numbering.numbers.items kind ≡ Some (Some j)
 
 -- The types that the first so many vertices of the order use are numbered by their first vertices.
-pub record IsKindNumbering (kinds : List (List ℕ)) (vertices : List Vertex) (order : List ℕ) (most : ℕ) (numbering : KindNumbering) : Type 0 where
+pub record IsKindNumbering (kinds : List (List ℕ)) (vertices : List Vertex) (order : List ℕ) (most : ℕ)
+    (numbering : KindNumbering) : Type 0 where
   pub as_many : length numbering.numbers.items ≡ length kinds
   pub few : length numbering.kinds.items ≤ length kinds
   pub named : (kind j : ℕ) → IsNumbered numbering kind j → slice_get numbering.kinds.items j ≡ slice_get kinds kind
   pub within : (kind j : ℕ) → IsNumbered numbering kind j → j < length numbering.kinds.items
   pub apart : (a b j : ℕ) → IsNumbered numbering a j → IsNumbered numbering b j → a ≡ b
-  pub used : (j : ℕ) → j < length numbering.kinds.items → (k : ℕ) × (kind : ℕ) × (k < most) × HasKindAt vertices order k kind × IsNumbered numbering kind j
+  pub used : (j : ℕ) → j < length numbering.kinds.items → (k : ℕ) × (kind : ℕ) × (k < most)
+      × HasKindAt vertices order k kind × IsNumbered numbering kind j
   pub seen : (k kind : ℕ) → k < most → HasKindAt vertices order k kind → (j : ℕ) × IsNumbered numbering kind j
-  pub rising : (k kind j lesser : ℕ) → k < most → HasKindAt vertices order k kind → IsNumbered numbering kind j → lesser < j →
+  pub rising : (k kind j lesser : ℕ) → k < most → HasKindAt vertices order k kind → IsNumbered numbering kind j →
+      lesser < j →
       (u : ℕ) × (other : ℕ) × (u < k) × HasKindAt vertices order u other × IsNumbered numbering other lesser
 
 -- no kind has a number
@@ -59,7 +63,8 @@ AddsKind kinds kind old new =
 
 -- each vertex's kind has a new number
 abbrev pub HasKindNumbers : List Vertex → List (Option ℕ) → Type 0
-HasKindNumbers vertices numbers = (i : ℕ) (x : Vertex) → slice_get vertices i ≡ Some x → (j : ℕ) × (slice_get numbers x.kind ≡ Some (Some j))
+HasKindNumbers vertices numbers = (i : ℕ) (x : Vertex) → slice_get vertices i ≡ Some x → (j : ℕ)
+    × (slice_get numbers x.kind ≡ Some (Some j))
 
 -- y is x with its numbers looked up
 pub record IsMadeFrom (numbers : List ℕ) (kind_numbers : List (Option ℕ)) (x y : Vertex) : Type 0 where
@@ -69,7 +74,10 @@ pub record IsMadeFrom (numbers : List ℕ) (kind_numbers : List (Option ℕ)) (x
   pub parent : y.parent ≡ option_map (slice_index numbers) x.parent
 
 -- the first so many vertices of the order, with their numbers looked up
-pub record HasMadeTo (kinds : List (List ℕ)) (vertices : List Vertex) (order numbers : List ℕ) (kind_numbers : List (Option ℕ)) (most : ℕ) (made : List Vertex) : Type 0 where
+pub record HasMadeTo (kinds : List (List ℕ)) (vertices : List Vertex) (order numbers : List ℕ)
+    (kind_numbers : List (Option ℕ)) (most : ℕ) (made : List Vertex) : Type 0 where
   pub as_many : length made ≡ most
-  pub each : (k i : ℕ) (x y : Vertex) → slice_get order k ≡ Some i → slice_get vertices i ≡ Some x → slice_get made k ≡ Some y → IsMadeFrom numbers kind_numbers x y
-  pub ranks : (k i : ℕ) (x y : Vertex) → slice_get order k ≡ Some i → slice_get vertices i ≡ Some x → slice_get made k ≡ Some y → y.rank ≡ rank_of kinds vertices order k x
+  pub each : (k i : ℕ) (x y : Vertex) → slice_get order k ≡ Some i → slice_get vertices i ≡ Some x →
+      slice_get made k ≡ Some y → IsMadeFrom numbers kind_numbers x y
+  pub ranks : (k i : ℕ) (x y : Vertex) → slice_get order k ≡ Some i → slice_get vertices i ≡ Some x →
+      slice_get made k ≡ Some y → y.rank ≡ rank_of kinds vertices order k x

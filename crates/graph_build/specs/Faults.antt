@@ -28,7 +28,8 @@ IsSecondRoot g v = IsRoot g v × ((u : ℕ) × (u < v) × IsRoot g u)
 
 -- its chain of parents never reaches the root: it is longer than the graph
 abbrev pub NeverEnds : ResourceGraph → ℕ → Type 0
-NeverEnds g v = (v < length g.vertices) × (length g.vertices < length (chain g.vertices (suc (length g.vertices)) (Some v)))
+NeverEnds g v = (v < length g.vertices) ×
+    (length g.vertices < length (chain g.vertices (suc (length g.vertices)) (Some v)))
 
 -- more than 16 vertices from the root to it, both counted
 abbrev pub IsDeep : ResourceGraph → ℕ → Type 0
@@ -36,7 +37,8 @@ IsDeep g v = (v < length g.vertices) × (16 < length (line_of g.vertices v))
 
 -- a vertex above has its kind
 abbrev pub IsNestedInKind : ResourceGraph → ℕ → Type 0
-IsNestedInKind g v = (u : ℕ) × (kind : ℕ) × HasKind g.vertices kind v × HasKind g.vertices kind u × IsTrue (is_below g.vertices v u)
+IsNestedInKind g v = (u : ℕ) × (kind : ℕ) × HasKind g.vertices kind v × HasKind g.vertices kind u
+    × IsTrue (is_below g.vertices v u)
 
 -- its type is called slot
 abbrev pub IsReserved : ResourceGraph → ℕ → Type 0
@@ -69,12 +71,14 @@ HasNoId g v = IsDevice g v × IsSomeAnd (slice_get g.vertices v) (λ x. x.id ≡
 -- an earlier core (or gpu) of its node has its id
 abbrev pub HasDoubleId : ResourceGraph → ℕ → Type 0
 HasDoubleId g v = IsDevice g v × ((u : ℕ) × (u < v) × (kind : ℕ) × HasKind g.vertices kind v × HasKind g.vertices kind u
-    × (id : ℕ) × HasId g id v × HasId g id u × (n : ℕ) × IsNodeType g n × IsTrue (is_below g.vertices v n) × IsTrue (is_below g.vertices u n))
+    × (id : ℕ) × HasId g id v × HasId g id u × (n : ℕ) × IsNodeType g n × IsTrue (is_below g.vertices v n)
+    × IsTrue (is_below g.vertices u n))
 
 -- an earlier sibling has its name, or it is a node and an earlier node has
 abbrev pub HasDoubleName : ResourceGraph → List (List ℕ) → ℕ → Type 0
 HasDoubleName g names v = (u : ℕ) × (u < v) × (slice_get names u ≡ slice_get names v)
-    × ((IsSome (parent_of g.vertices v) × (parent_of g.vertices u ≡ parent_of g.vertices v)) ⊎ (IsNodeType g u × IsNodeType g v))
+    × ((IsSome (parent_of g.vertices v) × (parent_of g.vertices u ≡ parent_of g.vertices v)) ⊎
+    (IsNodeType g u × IsNodeType g v))
 
 -- some node has a rank
 abbrev pub RanksSome : ResourceGraph → Type 0
@@ -83,4 +87,5 @@ RanksSome g = (v : ℕ) × IsNodeType g v × ((rank : ℕ) × HasRank g rank v)
 -- some node has a rank, and this node has none, or that of an earlier node
 abbrev pub HasBadRank : ResourceGraph → ℕ → Type 0
 HasBadRank g v = RanksSome g × IsNodeType g v
-    × (IsSomeAnd (slice_get g.vertices v) (λ x. x.rank ≡ None) ⊎ ((u : ℕ) × (u < v) × IsNodeType g u × (rank : ℕ) × HasRank g rank v × HasRank g rank u))
+    × (IsSomeAnd (slice_get g.vertices v) (λ x. x.rank ≡ None) ⊎
+    ((u : ℕ) × (u < v) × IsNodeType g u × (rank : ℕ) × HasRank g rank v × HasRank g rank u))

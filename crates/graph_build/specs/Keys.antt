@@ -14,7 +14,8 @@ use Rattle.graph_build.specs.declared.doubles.SiblingKey.{SiblingKey}
 
 -- an earlier place has the key of this one
 abbrev pub IsRepeated : {K : Type 0} → (K → K → Ordering) → List (Option K) → ℕ → Type 0
-IsRepeated {K} cmp keys v = (u : ℕ) × (a : K) × (b : K) × (u < v) × (slice_get keys u ≡ Some (Some a)) × (slice_get keys v ≡ Some (Some b)) × (cmp a b ≡ Equal)
+IsRepeated {K} cmp keys v = (u : ℕ) × (a : K) × (b : K) × (u < v) × (slice_get keys u ≡ Some (Some a))
+    × (slice_get keys v ≡ Some (Some b)) × (cmp a b ≡ Equal)
 
 -- the lesser of two places, of which either may be missing
 abbrev pub lesser : Option ℕ → Option ℕ → Option ℕ
@@ -31,19 +32,23 @@ pub record HasEach {X : Type 0} (Is : ℕ → X → Type 0) (most : ℕ) (list :
 abbrev pub IsDeviceKey : ResourceGraph → ℕ → Option DeviceKey → Type 0
 IsDeviceKey g v key =
     MatchOption key ((n id : ℕ) → IsDevice g v → IsNodeType g n → IsTrue (is_below g.vertices v n) → HasId g id v → ⊥)
-    (λ k. IsDevice g v × IsNodeType g k.node × IsTrue (is_below g.vertices v k.node) × HasKind g.vertices k.kind v × HasId g k.id v)
+    (λ k. IsDevice g v × IsNodeType g k.node × IsTrue (is_below g.vertices v k.node) × HasKind g.vertices k.kind v
+    × HasId g k.id v)
 
 -- the vertex's parent and its name; none exactly where it has no parent
 abbrev pub IsSiblingKey : List RawVertex → ℕ → Option SiblingKey → Type 0
-IsSiblingKey raw v key = MatchOption key (parent_of (map shape_of raw) v ≡ None) (λ k. (parent_of (map shape_of raw) v ≡ Some k.parent) × (slice_get (raw_names raw) v ≡ Some k.name.now))
+IsSiblingKey raw v key = MatchOption key (parent_of (map shape_of raw) v ≡ None)
+    (λ k. (parent_of (map shape_of raw) v ≡ Some k.parent) × (slice_get (raw_names raw) v ≡ Some k.name.now))
 
 -- the node's name; none exactly where the vertex is no node
 abbrev pub IsNodeName : List (List ℕ) → List RawVertex → ℕ → Option (Bor (List ℕ)) → Type 0
-IsNodeName kinds raw v key = MatchOption key (IsNodeType (raw_graph kinds raw) v → ⊥) (λ name. IsNodeType (raw_graph kinds raw) v × (slice_get (raw_names raw) v ≡ Some name.now))
+IsNodeName kinds raw v key = MatchOption key (IsNodeType (raw_graph kinds raw) v → ⊥)
+    (λ name. IsNodeType (raw_graph kinds raw) v × (slice_get (raw_names raw) v ≡ Some name.now))
 
 -- the node's rank; none exactly where the vertex is no node or has none
 abbrev pub IsNodeRank : ResourceGraph → ℕ → Option ℕ → Type 0
-IsNodeRank g v key = MatchOption key ((rank : ℕ) → IsNodeType g v → HasRank g rank v → ⊥) (λ rank. IsNodeType g v × HasRank g rank v)
+IsNodeRank g v key = MatchOption key ((rank : ℕ) → IsNodeType g v → HasRank g rank v → ⊥)
+    (λ rank. IsNodeType g v × HasRank g rank v)
 
 -- a node without a rank
 abbrev pub IsUnranked : ResourceGraph → ℕ → Type 0

@@ -37,10 +37,12 @@ some_ranked kinds vertices = list_any (λ x. is_node_of kinds x && is_some x.ran
 abbrev pub nodes_among : List (List ℕ) → List Vertex → List ℕ → ℕ
 nodes_among kinds vertices places = count_by (λ i. option_map_or (is_node_of kinds) (slice_get vertices i) false) places
 
--- The rank of the vertex x with this number: none where it is no node; its own where some node has one; and else the number of nodes before it.
+-- The rank of the vertex x with this number: none where it is no node; its own where some node has one; and else the
+-- number of nodes before it.
 abbrev pub rank_of : List (List ℕ) → List Vertex → List ℕ → ℕ → Vertex → Option ℕ
 rank_of kinds vertices order k x =
-    cond (is_node_of kinds x) (cond (some_ranked kinds vertices) x.rank (Some (nodes_among kinds vertices (take k order)))) None
+    cond (is_node_of kinds x) (cond (some_ranked kinds vertices) x.rank
+    (Some (nodes_among kinds vertices (take k order)))) None
 
 -- y is x with the numbers of the built graph: its type is called the same, and its parent is the vertex that x names
 pub record IsRenumbered (kinds : List (List ℕ)) (g : ResourceGraph) (order : List ℕ) (x y : Vertex) : Type 0 where
@@ -50,24 +52,33 @@ pub record IsRenumbered (kinds : List (List ℕ)) (g : ResourceGraph) (order : L
   pub parent : MatchOption x.parent (y.parent ≡ None) (λ i. IsSomeAnd y.parent (λ p. slice_get order p ≡ Some i))
 
 -- `order` has for each number of the built graph the place of its vertex in the raw list
-pub record IsArranged (kinds : List (List ℕ)) (vertices : List Vertex) (order : List ℕ) (g : ResourceGraph) : Type 0 where
-  pub places : IsOrderOf (length vertices) order
-  pub as_many : length g.vertices ≡ length vertices
-  pub renumbered : (k i : ℕ) (x y : Vertex) → slice_get order k ≡ Some i → slice_get vertices i ≡ Some x → slice_get g.vertices k ≡ Some y → IsRenumbered kinds g order x y
-  pub ranks : (k i : ℕ) (x y : Vertex) → slice_get order k ≡ Some i → slice_get vertices i ≡ Some x → slice_get g.vertices k ≡ Some y → y.rank ≡ rank_of kinds vertices order k x
+pub record IsArranged (kinds : List (List ℕ)) (vertices : List Vertex) (order : List ℕ) (g : ResourceGraph) : Type 0
+  where
+    pub places : IsOrderOf (length vertices) order
+    pub as_many : length g.vertices ≡ length vertices
+    pub renumbered : (k i : ℕ) (x y : Vertex) → slice_get order k ≡ Some i → slice_get vertices i ≡ Some x →
+        slice_get g.vertices k ≡ Some y → IsRenumbered kinds g order x y
+    pub ranks : (k i : ℕ) (x y : Vertex) → slice_get order k ≡ Some i → slice_get vertices i ≡ Some x →
+        slice_get g.vertices k ≡ Some y → y.rank ≡ rank_of kinds vertices order k x
 
 -- siblings stand in the order of the raw list
 abbrev pub KeepsSiblings : List ℕ → ResourceGraph → Type 0
-KeepsSiblings order g = (j k u v : ℕ) → j < k → parent_of g.vertices j ≡ parent_of g.vertices k → slice_get order j ≡ Some u → slice_get order k ≡ Some v → u < v
+KeepsSiblings order g = (j k u v : ℕ) → j < k → parent_of g.vertices j ≡ parent_of g.vertices k →
+    slice_get order j ≡ Some u → slice_get order k ≡ Some v → u < v
 
 -- each vertex has the texts of its raw vertex
 pub record KeepsTexts (raw : List RawVertex) (order : List ℕ) (g : NamedGraph) : Type 0 where
-  pub names : (k : ℕ) → slice_get g.names k ≡ option_and_then (λ i. option_map (λ r. r.name) (slice_get raw i)) (slice_get order k)
-  pub bases : (k : ℕ) → slice_get g.bases k ≡ option_and_then (λ i. option_map (λ r. r.base) (slice_get raw i)) (slice_get order k)
-  pub units : (k : ℕ) → slice_get g.units k ≡ option_and_then (λ i. option_map (λ r. r.unit) (slice_get raw i)) (slice_get order k)
-  pub properties : (k : ℕ) → slice_get g.properties k ≡ option_and_then (λ i. option_map (λ r. r.properties) (slice_get raw i)) (slice_get order k)
+  pub names : (k : ℕ) → slice_get g.names k ≡ option_and_then (λ i. option_map (λ r. r.name) (slice_get raw i))
+      (slice_get order k)
+  pub bases : (k : ℕ) → slice_get g.bases k ≡ option_and_then (λ i. option_map (λ r. r.base) (slice_get raw i))
+      (slice_get order k)
+  pub units : (k : ℕ) → slice_get g.units k ≡ option_and_then (λ i. option_map (λ r. r.unit) (slice_get raw i))
+      (slice_get order k)
+  pub properties : (k : ℕ) → slice_get g.properties k ≡ option_and_then
+      (λ i. option_map (λ r. r.properties) (slice_get raw i)) (slice_get order k)
 
--- The graph is built from the raw list: valid, and so with its vertices in preorder and its types by their first vertices, siblings in the
+-- The graph is built from the raw list: valid, and so with its vertices in preorder and its types by their first
+-- vertices, siblings in the
 -- order of the list, each vertex with what its raw vertex has.
 pub record IsBuiltFrom (kinds : List (List ℕ)) (raw : List RawVertex) (g : NamedGraph) : Type 0 where
   pub whole : IsWhole g

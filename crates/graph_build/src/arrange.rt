@@ -172,7 +172,8 @@ pub(crate) fn vertices_of(
     requires parents { KnowsParents vertices.now }
     requires whole { length numbers.now ≡ length vertices.now }
     requires numbered { HasKindNumbers vertices.now kind_numbers.now }
-    ensures { IfOk result (λ made. HasMadeTo kinds.now vertices.now order.now numbers.now kind_numbers.now (length order.now) made.items) }
+    ensures { IfOk result (λ made. HasMadeTo kinds.now vertices.now order.now numbers.now kind_numbers.now
+        (length order.now) made.items) }
 {
     let ranked = ranks_given(kinds, vertices);
     let mut nodes = 0u32;

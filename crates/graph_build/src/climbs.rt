@@ -59,7 +59,8 @@ fn advanced(
     odd: bool,
 ) -> Result<Vec<Option<u32>>, AllocError>
     requires { LeadsWithin reached.items (length jumps.now) }
-    ensures { IfOk result (λ climbs. (vertices : List Vertex) (a b : ℕ) → HasClimbs vertices a reached.items → HasClimbs vertices b jumps.now → HasClimbs vertices (cond odd (a + b) a) climbs.items) }
+    ensures { IfOk result (λ climbs. (vertices : List Vertex) (a b : ℕ) → HasClimbs vertices a reached.items →
+        HasClimbs vertices b jumps.now → HasClimbs vertices (cond odd (a + b) a) climbs.items) }
 {
     if !odd {
         return Ok(reached);
@@ -74,7 +75,8 @@ fn followed(
     second: &[Option<u32>],
 ) -> Result<Vec<Option<u32>>, AllocError>
     requires { LeadsWithin first.now (length second.now) }
-    ensures { IfOk result (λ climbs. (vertices : List Vertex) (a b : ℕ) → HasClimbs vertices a first.now → HasClimbs vertices b second.now → HasClimbs vertices (a + b) climbs.items) }
+    ensures { IfOk result (λ climbs. (vertices : List Vertex) (a b : ℕ) → HasClimbs vertices a first.now →
+        HasClimbs vertices b second.now → HasClimbs vertices (a + b) climbs.items) }
 {
     let mut climbs = Vec::with_capacity(alloc, first.len())?;
     for v in 0..first.len() {

@@ -58,7 +58,8 @@ fn device_keys(
     houses: &[Option<u32>],
 ) -> Result<Vec<Option<DeviceKey>>, AllocError>
     requires houses { HasHouses (graph_in kinds.now vertices.now) (length vertices.now) houses.now }
-    ensures { IfOk result (λ keys. HasEach (IsDeviceKey (graph_in kinds.now vertices.now)) (length vertices.now) keys.items) }
+    ensures { IfOk result (λ keys. HasEach (IsDeviceKey (graph_in kinds.now vertices.now)) (length vertices.now)
+        keys.items) }
 {
     let mut keys = Vec::with_capacity(alloc, vertices.len())?;
     for v in 0..vertices.len() {
@@ -158,7 +159,8 @@ fn node_ranks(
     kinds: &[Text],
     vertices: &[Vertex],
 ) -> Result<Vec<Option<u32>>, AllocError>
-    ensures { IfOk result (λ keys. HasEach (IsNodeRank (graph_in kinds.now vertices.now)) (length vertices.now) keys.items) }
+    ensures { IfOk result (λ keys. HasEach (IsNodeRank (graph_in kinds.now vertices.now)) (length vertices.now)
+        keys.items) }
 {
     let mut keys = Vec::with_capacity(alloc, vertices.len())?;
     for v in 0..vertices.len() {

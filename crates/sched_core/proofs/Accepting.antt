@@ -42,7 +42,8 @@ open_without : (a w : Bool) → IsTrue (not (a || w)) → IsTrue (not (a || fals
 open_without true w h = h
 open_without false w h = refl
 
-free_without : (a w : Bool) (q n : ℕ) → IsTrue (nat_le q (if a || w then 0 else n)) → IsTrue (nat_le q (if a || false then 0 else n))
+free_without : (a w : Bool) (q n : ℕ) → IsTrue (nat_le q (if a || w then 0 else n)) →
+    IsTrue (nat_le q (if a || false then 0 else n))
 free_without true w q n h = h
 free_without false true q n h = grind (arith, nat_tests)
 free_without false false q n h = h
@@ -51,9 +52,11 @@ module _ (vertices : List Vertex) (jobs : List Job) (barred : List ℕ) where
   abbrev scene : Scene
   scene = record { vertices = vertices; jobs = jobs; barred = barred }
 
-  unbarred_at : (m : ℕ) (c : Claim) → IsTrue (is_available_at scene m c) → IsTrue (is_available_at (no_bars vertices jobs) m c)
+  unbarred_at : (m : ℕ) (c : Claim) → IsTrue (is_available_at scene m c) →
+      IsTrue (is_available_at (no_bars vertices jobs) m c)
   unbarred_at m (Take v q) h =
-      free_without (some_live_claim jobs m (holds_over vertices v)) (is_withheld scene v) q (if is_pool vertices v then (size_of vertices v - taken_at jobs m v) else 1) h
+      free_without (some_live_claim jobs m (holds_over vertices v)) (is_withheld scene v) q
+      (if is_pool vertices v then (size_of vertices v - taken_at jobs m v) else 1) h
   unbarred_at m (Hold v) h =
       let b = and_parts (not (is_closed scene m v)) (not (is_touched scene m v)) h in
       and_from _ _ (open_without (some_live_claim jobs m (holds_over vertices v)) (is_withheld scene v) b.0)
@@ -69,44 +72,57 @@ pool_of vertices (Hold v) h = h
 pool_of vertices (Pass v) h = h
 
 -- a window that counts isn't empty, and ends at the horizon or before
-spans : (horizon : ℕ) (ask : Ask) (start : ℕ) → CountsWithin horizon ask start → (start < (window_of horizon ask start).to) × ((window_of horizon ask start).to ≤ horizon)
+spans : (horizon : ℕ) (ask : Ask) (start : ℕ) → CountsWithin horizon ask start →
+    (start < (window_of horizon ask start).to) × ((window_of horizon ask start).to ≤ horizon)
 spans horizon ask start counts = elim (eqb_tells ask.duration 0) [
-  | inl y ↦ subst (λ (n : ℕ). (start < n) × (n ≤ horizon)) (sym (ap (λ b. if b then horizon else start + ask.duration) y.0)) (counts.0, omega arith)
-  | inr n ↦ subst (λ (n : ℕ). (start < n) × (n ≤ horizon)) (sym (ap (λ b. if b then horizon else start + ask.duration) n.0)) (positive ask.duration start n.1, counts.1)
+  | inl y ↦ subst (λ (n : ℕ). (start < n) × (n ≤ horizon))
+      (sym (ap (λ b. if b then horizon else start + ask.duration) y.0)) (counts.0, omega arith)
+  | inr n ↦ subst (λ (n : ℕ). (start < n) × (n ≤ horizon))
+      (sym (ap (λ b. if b then horizon else start + ask.duration) n.0)) (positive ask.duration start n.1, counts.1)
 ]
   where
     positive : (d s : ℕ) → (d ≡ 0 → ⊥) → s < s + d
     positive d s ne = elim (cases_lt 0 d) [ inl lt ↦ omega arith | inr ge ↦ absurd (ne (omega arith)) ]
 
-same_window : (a b c d : ℕ) → a ≡ c → b ≡ d → (let x : Window = record { from = a; to = b } in let y : Window = record { from = c; to = d } in x ≡ y)
+same_window : (a b c d : ℕ) → a ≡ c → b ≡ d →
+    (let x : Window = record { from = a; to = b } in let y : Window = record { from = c; to = d } in x ≡ y)
 same_window a b c d e f = cc
 
-module _ (g : Setting) (names : List (List ℕ)) (valid : IsValidGraph g.graph names) (journal : List Entry) (s : State) (book : BookState) (at : IsBookAt journal s book)
+module _ (g : Setting) (names : List (List ℕ)) (valid : IsValidGraph g.graph names) (journal : List Entry) (s : State)
+    (book : BookState) (at : IsBookAt journal s book)
     (over : vertices_of book ≡ g.graph.vertices) (until : horizon_of book ≡ g.horizon) where
   -- an accepted job may be added to the book
-  may_add : (id start : ℕ) (ask : Ask) (job : Job) → IsProperAsk g.graph.vertices ask → CountsWithin g.horizon ask start → (Contains s.used id → ⊥) → IsAcceptedAs g s id start ask job → MayAdd book job
+  may_add : (id start : ℕ) (ask : Ask) (job : Job) → IsProperAsk g.graph.vertices ask →
+      CountsWithin g.horizon ask start → (Contains s.used id → ⊥) → IsAcceptedAs g s id start ask job → MayAdd book job
   may_add id start ask job proper counts fresh is =
       let vs = g.graph.vertices in
       let w : Window = record { from = job.start; to = job.end } in
       let sp = spans g.horizon ask start counts in
       let low : IsLowestFirst vs s.jobs ask w job.claims =
-      subst (λ (x : Window). IsLowestFirst vs s.jobs ask x job.claims) (same_window start (window_of g.horizon ask start).to job.start job.end (sym is.start-is) (sym is.end-is)) is.lowest in
+      subst (λ (x : Window). IsLowestFirst vs s.jobs ask x job.claims)
+      (same_window start (window_of g.horizon ask start).to job.start job.end (sym is.start-is) (sym is.end-is))
+      is.lowest in
       let ok = IsAvailable (scene_of vs s.jobs ask) w in
       let fit = lowest_fits vs s.jobs ask w job.claims low in
       let had = fits_had vs ok 1 Everywhere ask.needs proper.needs job.claims fit in
       record {
-        begins = subst (λ (n : ℕ). job.start < n) (sym is.end-is) (subst (λ (n : ℕ). n < (window_of g.horizon ask start).to) (sym is.start-is) sp.0);
+        begins = subst (λ (n : ℕ). job.start < n) (sym is.end-is)
+            (subst (λ (n : ℕ). n < (window_of g.horizon ask start).to) (sym is.start-is) sp.0);
         ends = subst (λ (n : ℕ). job.end ≤ n) (sym until) (subst (λ (n : ℕ). n ≤ g.horizon) (sym is.end-is) sp.1);
-        on_vertices = subst (λ (x : List Vertex). AllByRecursion (λ c. vertex_of c < length x) job.claims) (sym over) (fits_on vs ok 1 Everywhere ask.needs job.claims fit);
+        on_vertices = subst (λ (x : List Vertex). AllByRecursion (λ c. vertex_of c < length x) job.claims) (sym over)
+            (fits_on vs ok 1 Everywhere ask.needs job.claims fit);
         from_pools = subst (λ (x : List Vertex). AllByRecursion (TakesFromPool x) job.claims) (sym over)
             (all_along (IsHad vs ok) (TakesFromPool vs) (λ c h. pool_of vs c h.1) job.claims had);
-        separate = subst (λ (x : List Vertex). AreAllSeparate x job.claims) (sym over) (separate_fits g.graph names valid ok 1 Everywhere ask.needs proper.needs job.claims fit);
+        separate = subst (λ (x : List Vertex). AreAllSeparate x job.claims) (sym over)
+            (separate_fits g.graph names valid ok 1 Everywhere ask.needs proper.needs job.claims fit);
         available = λ jobs stands.
             subst (λ (x : List Vertex). AllByRecursion (IsAvailable (no_bars x jobs) w) job.claims) (sym over)
-            (subst (λ (js : List Job). AllByRecursion (IsAvailable (no_bars vs js) w) job.claims) (stood book s.jobs at.jobs ∙ sym (stood book jobs stands))
+            (subst (λ (js : List Job). AllByRecursion (IsAvailable (no_bars vs js) w) job.claims)
+            (stood book s.jobs at.jobs ∙ sym (stood book jobs stands))
             (all_along (IsHad vs ok) (IsAvailable (no_bars vs s.jobs) w)
             (λ c h. unbarred vs s.jobs ask.barred w c h.0) job.claims had));
-        fresh = fresh_row journal s job.id (get (rows_of book) job.id) (at.table job.id) (subst (λ (n : ℕ). Contains s.used n → ⊥) (sym is.id-is) fresh);
+        fresh = fresh_row journal s job.id (get (rows_of book) job.id) (at.table job.id)
+            (subst (λ (n : ℕ). Contains s.used n → ⊥) (sym is.id-is) fresh);
       }
 
   -- what is owed of a reply
@@ -119,30 +135,44 @@ module _ (g : Setting) (names : List (List ℕ)) (valid : IsValidGraph g.graph n
   within : (a b : ℕ) → (a < b → ⊥) → b ≤ a
   within a b n = elim (cases_lt a b) [ inl lt ↦ absurd (n lt) | inr ge ↦ ge ]
 
-  accepted : (c : Command) (job : Job) (b : Bool) → MayAdd book job → s.claim_count + length job.claims ≤ g.claim_limit → Owed c (if b then reply.Allocated job else reply.Reserved job)
+  accepted : (c : Command) (job : Job) (b : Bool) → MayAdd book job →
+      s.claim_count + length job.claims ≤ g.claim_limit → Owed c (if b then reply.Allocated job else reply.Reserved job)
   accepted c job true may room = (may, room)
   accepted c job false may room = (may, room)
 
-  accepted_or_full : (c : Command) (id start : ℕ) (ask : Ask) (r : Reply) → IsProperAsk g.graph.vertices ask → CountsWithin g.horizon ask start → (Contains s.used id → ⊥) → AcceptedOrFull g s id ask start r → Owed c r
+  accepted_or_full : (c : Command) (id start : ℕ) (ask : Ask) (r : Reply) → IsProperAsk g.graph.vertices ask →
+      CountsWithin g.horizon ask start → (Contains s.used id → ⊥) → AcceptedOrFull g s id ask start r → Owed c r
   accepted_or_full c id start ask r proper counts fresh (job, is, inl full) = refused c r reply.Full full.1 (tt, tt)
   accepted_or_full c id start ask r proper counts fresh (job, is, inr fits) =
-      refused c r (accepted_reply s.moment job) fits.1 (accepted c job (job.start == s.moment) (may_add id start ask job proper counts fresh is) (within g.claim_limit (s.claim_count + length job.claims) fits.0))
+      refused c r (accepted_reply s.moment job) fits.1
+      (accepted c job (job.start == s.moment) (may_add id start ask job proper counts fresh is)
+      (within g.claim_limit (s.claim_count + length job.claims) fits.0))
 
-  informed : (id : ℕ) (found : Option Job) (r : Reply) → MatchOption found (r ≡ reply.Absent) (λ job. r ≡ info_at s.moment job) → Owed (command.Info id) r
+  informed : (id : ℕ) (found : Option Job) (r : Reply) →
+      MatchOption found (r ≡ reply.Absent) (λ job. r ≡ info_at s.moment job) → Owed (command.Info id) r
   informed id None r h = refused (command.Info id) r reply.Absent h (tt, tt)
   informed id (Some job) r h = refused (command.Info id) r (info_at s.moment job) h (tt, tt)
 
-  pub owed : (c : Command) (r : Reply) → IsProper g.graph.vertices c → Replies g s c r → MayFollow book s c r × HasRoom g.claim_limit s.claim_count r
+  pub owed : (c : Command) (r : Reply) → IsProper g.graph.vertices c → Replies g s c r → MayFollow book s c r
+      × HasRoom g.claim_limit s.claim_count r
   owed (command.Allocate id ask) r proper (inl x) = refused (command.Allocate id ask) r reply.Exists x.1 (tt, tt)
-  owed (command.Allocate id ask) r proper (inr (_, inl x)) = refused (command.Allocate id ask) r reply.Unsatisfiable x.1 (tt, tt)
-  owed (command.Allocate id ask) r proper (inr (_, inr (_, inl x))) = refused (command.Allocate id ask) r reply.TooLong x.1 (tt, tt)
-  owed (command.Allocate id ask) r proper (inr (_, inr (_, inr (_, inl x)))) = refused (command.Allocate id ask) r reply.Busy x.1 (tt, tt)
-  owed (command.Allocate id ask) r proper (inr (fresh, inr (_, inr (counts, inr x)))) = accepted_or_full (command.Allocate id ask) id s.moment ask r proper counts fresh x.1
+  owed (command.Allocate id ask) r proper (inr (_, inl x)) = refused (command.Allocate id ask) r reply.Unsatisfiable
+      x.1 (tt, tt)
+  owed (command.Allocate id ask) r proper (inr (_, inr (_, inl x))) = refused (command.Allocate id ask) r
+      reply.TooLong x.1 (tt, tt)
+  owed (command.Allocate id ask) r proper (inr (_, inr (_, inr (_, inl x)))) = refused (command.Allocate id ask) r
+      reply.Busy x.1 (tt, tt)
+  owed (command.Allocate id ask) r proper (inr (fresh, inr (_, inr (counts, inr x)))) =
+      accepted_or_full (command.Allocate id ask) id s.moment ask r proper counts fresh x.1
   owed (command.Reserve id ask) r proper (inl x) = refused (command.Reserve id ask) r reply.Exists x.1 (tt, tt)
-  owed (command.Reserve id ask) r proper (inr (_, inl x)) = refused (command.Reserve id ask) r reply.Unsatisfiable x.1 (tt, tt)
-  owed (command.Reserve id ask) r proper (inr (_, inr (_, inl x))) = refused (command.Reserve id ask) r reply.TooLong x.1 (tt, tt)
-  owed (command.Reserve id ask) r proper (inr (_, inr (_, inr (_, inl x)))) = refused (command.Reserve id ask) r reply.NoStart x.1 (tt, tt)
-  owed (command.Reserve id ask) r proper (inr (fresh, inr (_, inr (_, inr x)))) = accepted_or_full (command.Reserve id ask) id x.1.0 ask r proper x.1.1.starts.0 fresh x.1.2
+  owed (command.Reserve id ask) r proper (inr (_, inl x)) = refused (command.Reserve id ask) r reply.Unsatisfiable x.1
+      (tt, tt)
+  owed (command.Reserve id ask) r proper (inr (_, inr (_, inl x))) = refused (command.Reserve id ask) r reply.TooLong
+      x.1 (tt, tt)
+  owed (command.Reserve id ask) r proper (inr (_, inr (_, inr (_, inl x)))) = refused (command.Reserve id ask) r
+      reply.NoStart x.1 (tt, tt)
+  owed (command.Reserve id ask) r proper (inr (fresh, inr (_, inr (_, inr x)))) =
+      accepted_or_full (command.Reserve id ask) id x.1.0 ask r proper x.1.1.starts.0 fresh x.1.2
   owed (command.Satisfy ask) r proper (inl x) = refused (command.Satisfy ask) r reply.Unsatisfiable x.1 (tt, tt)
   owed (command.Satisfy ask) r proper (inr x) = refused (command.Satisfy ask) r reply.Satisfiable x.1 (tt, tt)
   owed (command.Cancel id) r proper (inl x) = refused (command.Cancel id) r reply.Absent x.1 (tt, tt)

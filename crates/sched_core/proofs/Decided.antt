@@ -14,16 +14,25 @@ use Rattle.sched_core.specs.declared.finding.Starts.{Starts}
 use Rattle.sched_core.specs.declared.finding.Starts.TheVariants as starts
 use Rattle.sched_core.specs.Answered.{FindsAt, command_of, none_at, IsOfJob, Answers}
 
-pub given_found : (g : Setting) (s : State) (id : ℕ) (ask : Ask) (start : ℕ) (claims : List Claim) (none r : Reply) (m k : ℕ) → s.moment ≡ m → s.claim_count ≡ k →
-    Where (g.claim_limit < k + length claims) reply.Full (λ x. x ≡ accepted_reply m (job_of g id ask start claims)) r → YieldsJob g s id ask none (Found start claims) r
+pub given_found : (g : Setting) (s : State) (id : ℕ) (ask : Ask) (start : ℕ) (claims : List Claim) (none r : Reply)
+    (m k : ℕ) → s.moment ≡ m → s.claim_count ≡ k →
+    Where (g.claim_limit < k + length claims) reply.Full (λ x. x ≡ accepted_reply m (job_of g id ask start claims))
+    r → YieldsJob g s id ask none (Found start claims) r
 given_found g s id ask start claims none r m k em ek h =
-    subst (λ (x : ℕ). Where (g.claim_limit < s.claim_count + length claims) reply.Full (λ y. y ≡ accepted_reply x (job_of g id ask start claims)) r) (sym em)
-    (subst (λ (x : ℕ). Where (g.claim_limit < x + length claims) reply.Full (λ y. y ≡ accepted_reply m (job_of g id ask start claims)) r) (sym ek) h)
+    subst (λ (x : ℕ). Where (g.claim_limit < s.claim_count + length claims) reply.Full
+    (λ y. y ≡ accepted_reply x (job_of g id ask start claims)) r) (sym em)
+    (subst (λ (x : ℕ). Where (g.claim_limit < x + length claims) reply.Full
+    (λ y. y ≡ accepted_reply m (job_of g id ask start claims)) r) (sym ek) h)
 
 module _ (g : Setting) (s : State) (id : ℕ) (ask : Ask) where
-  accepts : (start : ℕ) (claims : List Claim) (none r : Reply) → IsLowestFirst g.graph.vertices s.jobs ask (window_of g.horizon ask start) claims →
+  accepts : (start : ℕ) (claims : List Claim) (none r : Reply) →
+      IsLowestFirst g.graph.vertices s.jobs ask (window_of g.horizon ask start) claims →
       YieldsJob g s id ask none (Found start claims) r → AcceptedOrFull g s id ask start r
-  accepts start claims none r low h = (job_of g id ask start claims, record { id-is = refl; start-is = refl; end-is = refl; lowest = low }, h)
+  accepts start claims none r low h = (
+    job_of g id ask start claims,
+    record { id-is = refl; start-is = refl; end-is = refl; lowest = low },
+    h,
+  )
 
   by : (none : Reply) (v w : Verdict) (r : Reply) → v ≡ w → Answers g s id ask none v r → Answers g s id ask none w r
   by none v w r e h = subst (λ (x : Verdict). Answers g s id ask none x r) e h
@@ -33,7 +42,8 @@ module _ (g : Setting) (s : State) (id : ℕ) (ask : Ask) where
   now_decided v r (inl (used, e)) h = inl (used, by reply.Busy v _ r e h)
   now_decided v r (inr (n, inl (un, e))) h = inr (n, inl (un, by reply.Busy v _ r e h))
   now_decided v r (inr (n, inr (sat, inl (long, e)))) h = inr (n, inr (sat, inl (long, by reply.Busy v _ r e h)))
-  now_decided v r (inr (n, inr (sat, inr (k, inl (none, e))))) h = inr (n, inr (sat, inr (k, inl (none, by reply.Busy v _ r e h))))
+  now_decided v r (inr (n, inr (sat, inr (k, inl (none, e))))) h =
+      inr (n, inr (sat, inr (k, inl (none, by reply.Busy v _ r e h))))
   now_decided v r (inr (n, inr (sat, inr (k, inr (fit, (claims, low, e)))))) h =
       inr (n, inr (sat, inr (k, inr (fit, accepts s.moment claims reply.Busy r low (by reply.Busy v _ r e h)))))
 
@@ -42,9 +52,26 @@ module _ (g : Setting) (s : State) (id : ℕ) (ask : Ask) where
   start_decided v r (inl (used, e)) h = inl (used, by reply.NoStart v _ r e h)
   start_decided v r (inr (n, inl (un, e))) h = inr (n, inl (un, by reply.NoStart v _ r e h))
   start_decided v r (inr (n, inr (sat, inl (long, e)))) h = inr (n, inr (sat, inl (long, by reply.NoStart v _ r e h)))
-  start_decided v r (inr (n, inr (sat, inr (k, inl (none, e))))) h = inr (n, inr (sat, inr (k, inl (none, by reply.NoStart v _ r e h))))
+  start_decided v r (inr (n, inr (sat, inr (k, inl (none, e))))) h =
+      inr (n, inr (sat, inr (k, inl (none, by reply.NoStart v _ r e h))))
   start_decided v r (inr (n, inr (sat, inr (k, inr (some, (t, early, (claims, low, e))))))) h =
-      inr (n, inr (sat, inr (k, inr (some, (t, early, accepts t claims reply.NoStart r low (by reply.NoStart v _ r e h))))))
+      inr (
+        n,
+        inr (
+          sat,
+          inr (
+            k,
+            inr (
+              some,
+              (
+                t,
+                early,
+                accepts t claims reply.NoStart r low (by reply.NoStart v _ r e h),
+              ),
+            ),
+          ),
+        ),
+      )
 
   pub decided : (at : Starts) (v : Verdict) (r : Reply) → FindsJob g s id ask (FindsAt at g s ask) v →
       Answers g s id ask (none_at at) v r → Replies g s (command_of at id ask) r

@@ -23,10 +23,12 @@ book_none : (book : BookState) → moment_of book ≡ 0 → rows_of book ≡ emp
 book_none book moment rows jobs = record {
   jobs = jobs;
   moment = moment;
-  table = λ id. subst (Told [] first_state id) (sym (ap (λ r. get r id) rows ∙ get-empty nat_cmp id)) (record { unused = nothing id; none = refl });
+  table = λ id. subst (Told [] first_state id) (sym (ap (λ r. get r id) rows ∙ get-empty nat_cmp id))
+      (record { unused = nothing id; none = refl });
 }
 
-pub first_core : (site : Site) (kept : Kept) → IsWhole (graph_at site) → graph_of kept.book ≡ graph_at site → horizon_of kept.book ≡ site.horizon → moment_of kept.book ≡ 0 → rows_of kept.book ≡ empty →
+pub first_core : (site : Site) (kept : Kept) → IsWhole (graph_at site) → graph_of kept.book ≡ graph_at site →
+    horizon_of kept.book ≡ site.horizon → moment_of kept.book ≡ 0 → rows_of kept.book ≡ empty →
     StandsFor kept.book [] → journal_in kept ≡ [] → kept.claim_count ≡ 0 → IsCore site kept
 first_core site kept whole graph horizon moment rows jobs none claims = record {
   whole = whole;
@@ -39,9 +41,14 @@ first_core site kept whole graph horizon moment rows jobs none claims = record {
 }
 
 -- after each entry no vertex is oversubscribed
-pub sound_throughout : (site : Site) (kept : Kept) → IsCore site kept → IsSoundThroughout (vertices_at site) (journal_in kept)
-sound_throughout site kept core = legal_keeps (setting_in site kept) (graph_at site).names core.whole.valid (journal_in kept) core.proper core.legal
+pub sound_throughout : (site : Site) (kept : Kept) → IsCore site kept →
+    IsSoundThroughout (vertices_at site) (journal_in kept)
+sound_throughout site kept core = legal_keeps (setting_in site kept) (graph_at site).names core.whole.valid
+    (journal_in kept) core.proper core.legal
 
-pub sound_last : (site : Site) (kept : Kept) → IsCore site kept → IsSound (vertices_at site) (left_by (journal_in kept)).jobs
+pub sound_last : (site : Site) (kept : Kept) → IsCore site kept →
+    IsSound (vertices_at site) (left_by (journal_in kept)).jobs
 sound_last site kept core =
-    subst (λ (j : List Entry). IsSound (vertices_at site) (left_by j).jobs) (take_all (length (journal_in kept)) (journal_in kept) (omega arith)) (sound_throughout site kept core (length (journal_in kept)))
+    subst (λ (j : List Entry). IsSound (vertices_at site) (left_by j).jobs)
+    (take_all (length (journal_in kept)) (journal_in kept) (omega arith))
+    (sound_throughout site kept core (length (journal_in kept)))

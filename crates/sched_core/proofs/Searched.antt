@@ -17,7 +17,8 @@ pub test_no : (A : Type 0) (b : Bool) → (IsTrue b ↔ A) → b ≡ false → A
 test_no A b h e x = true≢false (sym (h.1 x) ∙ e)
 
 -- exactly the ids that were accepted have rows
-pub has_row : (journal : List Entry) (s : State) (id : ℕ) (found : Option Row) → MatchOption found (IsNew s id) (IsRowOf journal s id) → (IsSome found ↔ Contains s.used id)
+pub has_row : (journal : List Entry) (s : State) (id : ℕ) (found : Option Row) →
+    MatchOption found (IsNew s id) (IsRowOf journal s id) → (IsSome found ↔ Contains s.used id)
 has_row journal s id None new = (λ h. absurd (true≢false (sym h)), λ used. absurd (new.unused used))
 has_row journal s id (Some row) is = (λ h. is.used, λ used. refl)
 

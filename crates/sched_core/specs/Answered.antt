@@ -72,4 +72,5 @@ pub record IsDecided (old new : Course) (client line : ℕ) (command : Command) 
   pub setting : new.setting ≡ old.setting
   pub answer : Reply
   pub replies : Replies old.setting (state_of old) command answer
-  pub journal : new.journal ≡ old.journal ++ record { client = client; line = line; command = command; reply = answer } ∷ []
+  pub journal : new.journal ≡ old.journal ++ record
+      { client = client; line = line; command = command; reply = answer } ∷ []

@@ -38,7 +38,8 @@ pair_of rule = (rule.high, rule.low)
 
 -- the setting of these four
 abbrev pub setting_of : ResourceGraph → List Rule → ℕ → ℕ → Setting
-setting_of graph rules horizon limit = record { graph = graph; rules = map pair_of rules; horizon = horizon; claim_limit = limit }
+setting_of graph rules horizon limit = record
+    { graph = graph; rules = map pair_of rules; horizon = horizon; claim_limit = limit }
 
 -- a course without an entry
 abbrev pub empty_course : ResourceGraph → List Rule → ℕ → ℕ → Course
@@ -60,7 +61,8 @@ pub record IsNew (s : State) (id : ℕ) : Type 0 where
   pub unused : Contains s.used id → ⊥
   pub none : job_with id s.jobs ≡ None
 
--- The book stands for the jobs of the state, at its moment; and exactly the ids that were ever accepted have rows, which
+-- The book stands for the jobs of the state, at its moment; and exactly the ids that were ever accepted have rows,
+-- which
 -- tell of the journal's entries.
 pub record IsBookAt (journal : List Entry) (s : State) (book : BookState) : Type 0 where
   pub jobs : StandsFor book s.jobs
@@ -86,7 +88,8 @@ journal_in kept = kept.journal
 abbrev pub setting_in : Site → Kept → Setting
 setting_in site kept = setting_of (arc_value site.graph).resources (rules_of kept.book) site.horizon site.claim_limit
 
--- The graph is valid; the journal is a legal history of proper commands over it; and the book and the count of claims are
+-- The graph is valid; the journal is a legal history of proper commands over it; and the book and the count of claims
+-- are
 -- those of the journal.
 pub record IsCore (site : Site) (kept : Kept) : Type 0 where
   pub whole : IsWhole (graph_at site)

@@ -15,7 +15,8 @@ use std::sync::ledger::Ledger;
 /// How many claims the accepted jobs had after this reply.
 fn claims_after(limit: u64, claims: u64, reply: &Reply) -> u64
     requires room { HasRoom limit claims reply.now }
-    ensures { (s : State) (command : Command) → s.claim_count ≡ claims → result ≡ (after s command reply.now).claim_count }
+    ensures { (s : State) (command : Command) → s.claim_count ≡ claims →
+        result ≡ (after s command reply.now).claim_count }
 {
     match reply {
         Reply::Allocated(job) => claims + job.claims.len() as u64,

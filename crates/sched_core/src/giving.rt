@@ -26,7 +26,8 @@ fn accept(reached: Reached, id: u64, ask: &Ask, start: u64, claims: List<Claim>)
     requires { CountsWithin reached.horizon ask.now start }
     ensures { (graph : ResourceGraph) (rules : List Rule) →
         Where (reached.claim_limit < reached.claim_count + length claims) reply.Full
-        (λ r. r ≡ accepted_reply reached.moment (job_of (setting_of graph rules reached.horizon reached.claim_limit) id ask.now start claims)) result }
+        (λ r. r ≡ accepted_reply reached.moment (job_of (setting_of graph rules reached.horizon reached.claim_limit)
+        id ask.now start claims)) result }
 {
     if u128::from(reached.claim_count) + claims.len() as u128 > u128::from(reached.claim_limit) {
         return Reply::Full;
@@ -48,7 +49,8 @@ fn accept(reached: Reached, id: u64, ask: &Ask, start: u64, claims: List<Claim>)
 /// The reply to an allocate or a reserve by what was found now; `none` is the reply where nothing fits.
 pub(crate) fn give(reached: Reached, id: u64, ask: &Ask, none: Reply, verdict: Verdict) -> Reply
     requires { IsOfJob reached.horizon ask.now verdict }
-    ensures { (graph : ResourceGraph) (rules : List Rule) (s : State) → s.moment ≡ reached.moment → s.claim_count ≡ reached.claim_count →
+    ensures { (graph : ResourceGraph) (rules : List Rule) (s : State) → s.moment ≡ reached.moment →
+        s.claim_count ≡ reached.claim_count →
         Answers (setting_of graph rules reached.horizon reached.claim_limit) s id ask.now none verdict result }
 {
     match verdict {

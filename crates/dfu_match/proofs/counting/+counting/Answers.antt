@@ -22,10 +22,13 @@ copies-reach-reached-requires g t c κs h =
     let items : List Need = c.items-need-items.result.now in
     let i = c.loop-need.need-index in
     let need = c.need-item.result in
-    let split : drop i items ≡ need ∷ drop (i + 1) items = laws.item_split items i need c.loop-need-test.true c.need-item.is in
-    let valid : AreValidNeeds c.args.s.now.graph.now.resources.vertices items = rw c.items-need-items.ensures c.requires.valid in
+    let split : drop i items ≡ need ∷ drop (i + 1) items = laws.item_split items i need c.loop-need-test.true
+    c.need-item.is in
+    let valid : AreValidNeeds c.args.s.now.graph.now.resources.vertices items = rw c.items-need-items.ensures
+    c.requires.valid in
     let small : amount_of need < 2 ^ 64 = rw (← c.amount-amount.ensures) c.amount-amount.type_inv in
-    let size : the_size need ≤ most the_size c.args.needs.now = size_item c.args.needs.now i need (drop (i + 1) items) (rw (← c.items-need-items.ensures) split) in (
+    let size : the_size need ≤ most the_size c.args.needs.now = size_item c.args.needs.now i need (drop (i + 1) items)
+    (rw (← c.items-need-items.ensures) split) in (
       omega (arith, size, c.decreases),
       (
         search rules,
@@ -36,7 +39,8 @@ copies-reach-reached-requires g t c κs h =
             (
               laws.valid_at c.args.s.now.graph.now.resources.vertices items i need (drop (i + 1) items) split valid,
               rw (c.from.ensures, c.from-in-loop-need.ensures, c.amount-amount.ensures)
-                  (laws.may_ask_at c.args.most c.loop-need.best items i need (drop (i + 1) items) c.loop-need.invariant.within split small (rw c.items-need-items.ensures c.requires.may)),
+                  (laws.may_ask_at c.args.most c.loop-need.best items i need (drop (i + 1) items)
+                  c.loop-need.invariant.within split small (rw c.items-need-items.ensures c.requires.may)),
             ),
           ),
         ),
@@ -48,8 +52,10 @@ copies-whole_times-best-requires-clause-some g t c =
     let items : List Need = c.items-need-items.result.now in
     let i = c.loop-need.need-index in
     let need = c.need-item.result in
-    let split : drop i items ≡ need ∷ drop (i + 1) items = laws.item_split items i need c.loop-need-test.true c.need-item.is in
-    let valid : AreValidNeeds c.args.s.now.graph.now.resources.vertices items = rw c.items-need-items.ensures c.requires.valid in
+    let split : drop i items ≡ need ∷ drop (i + 1) items = laws.item_split items i need c.loop-need-test.true
+    c.need-item.is in
+    let valid : AreValidNeeds c.args.s.now.graph.now.resources.vertices items = rw c.items-need-items.ensures
+    c.requires.valid in
     rw c.amount-amount.ensures (laws.amount_some c.args.s.now.graph.now.resources.vertices need
     (laws.valid_at c.args.s.now.graph.now.resources.vertices items i need (drop (i + 1) items) split valid))
 
@@ -60,7 +66,8 @@ copies-returns-then-best-eq0-clause-greatest g t c = λ jobs stands.
     let items : List Need = c.items-need-items.result.now in
     let i = c.loop-need.need-index in
     let need = c.need-item.result in
-    let split : drop i items ≡ need ∷ drop (i + 1) items = laws.item_split items i need c.loop-need-test.true c.need-item.is in
+    let split : drop i items ≡ need ∷ drop (i + 1) items = laws.item_split items i need c.loop-need-test.true
+    c.need-item.is in
     let greatest = rw (c.from.ensures, c.from-in-loop-need.ensures, c.amount-amount.ensures) at
     (c.reach-reached.ensures.greatest jobs stands) in
     let high = rw c.amount-amount.ensures at c.whole_times-best.ensures.high in
@@ -76,11 +83,13 @@ copies-loop-need-preserved g t c =
     let items : List Need = c.items-need-items.result.now in
     let i = c.loop-need.need-index in
     let need = c.need-item.result in
-    let split : drop i items ≡ need ∷ drop (i + 1) items = laws.item_split items i need c.loop-need-test.true c.need-item.is in
+    let split : drop i items ≡ need ∷ drop (i + 1) items = laws.item_split items i need c.loop-need-test.true
+    c.need-item.is in
     let low = rw c.amount-amount.ensures at c.whole_times-best.ensures.low in
     let high = rw c.amount-amount.ensures at c.whole_times-best.ensures.high in
     record {
-      within = (let few = c.whole_times-best.ensures.within in let before = c.loop-need.invariant.within in omega arith);
+      within = (let few = c.whole_times-best.ensures.within in let before = c.loop-need.invariant.within in
+          omega arith);
       enough = λ jobs stands.
           let ok : Claim → Type 0 = open_to vs jobs c.args.s.now.barred.now c.args.s.now.window in
           let greatest = rw (c.from.ensures, c.from-in-loop-need.ensures, c.amount-amount.ensures) at
@@ -104,7 +113,8 @@ copies-returns-clause-greatest g t c = λ jobs stands.
     let items : List Need = c.items-need-items.result.now in
     laws.copies_end vs ok (scope_of c.args.scope) items c.args.needs.now (drop c.loop-need.need-index items)
     c.args.most c.loop-need.best c.items-need-items.ensures
-    (drop_all c.loop-need.need-index items c.loop-need-test.false) c.loop-need.invariant.within (c.loop-need.invariant.enough jobs stands) (c.loop-need.invariant.full jobs stands)
+    (drop_all c.loop-need.need-index items c.loop-need-test.false) c.loop-need.invariant.within
+    (c.loop-need.invariant.enough jobs stands) (c.loop-need.invariant.full jobs stands)
 
 pub reach-returns-in_default-clause-greatest : goal.reach-returns-in_default-clause-greatest
 reach-returns-in_default-clause-greatest g t c = λ jobs stands.
@@ -115,7 +125,8 @@ reach-returns-in_default-clause-greatest g t c = λ jobs stands.
     let never = none_at_all vs ok scope need c.in_default.ensures.of_need in
     greatest_along _ _ c.args.most 0 (group_from vs ok scope need) (group_to vs ok scope need)
     (reached_end _ (serves_less vs ok (takes_less _ _) scope need) c.args.most 0 0 (λ v q lo some can. never v q can)
-    (reached_start _ (serves_less vs ok (takes_less _ _) scope need) c.args.most 0 (λ v q lo hi some can. never v q can)))
+    (reached_start _ (serves_less vs ok (takes_less _ _) scope need) c.args.most 0
+    (λ v q lo hi some can. never v q can)))
 
 pub reach-loop-reached-init : goal.reach-loop-reached-init
 reach-loop-reached-init g t c =
@@ -126,8 +137,10 @@ reach-loop-reached-init g t c =
       reached = λ jobs stands.
           let ok : Claim → Type 0 = open_to vs jobs c.args.s.now.barred.now c.args.s.now.window in
           let scope = scope_of c.args.scope in
-          reached_start _ (serves_less vs ok (takes_less _ _) scope c.args.need.now) c.args.most c.span_of-span.result.from
-          (none_before vs ok scope c.args.need.now c.span_of-span.result.from c.span_of-span.result.to c.span_of-span.ensures.covers);
+          reached_start _ (serves_less vs ok (takes_less _ _) scope c.args.need.now) c.args.most
+          c.span_of-span.result.from
+          (none_before vs ok scope c.args.need.now c.span_of-span.result.from c.span_of-span.result.to
+          c.span_of-span.ensures.covers);
     }
 
 pub reach-returns-in_default-next_of_kind-clause-greatest : goal.reach-returns-in_default-next_of_kind-clause-greatest
@@ -139,7 +152,8 @@ reach-returns-in_default-next_of_kind-clause-greatest g t c = λ jobs stands.
     let of_kind = rw c.in-Some.is at c.kind_of.ensures.of_need in
     greatest_along _ _ c.args.most c.loop-reached.reached (group_from vs ok scope need) (group_to vs ok scope need)
     (reached_end _ (serves_less vs ok (takes_less _ _) scope need) c.args.most c.loop-reached.at c.loop-reached.reached
-    (none_after vs ok scope need c.in-Some.kind c.span_of-span.result.from c.loop-reached.at c.span_of-span.result.to c.span_of-span.ensures.covers of_kind c.in_default-next_of_kind.ensures)
+    (none_after vs ok scope need c.in-Some.kind c.span_of-span.result.from c.loop-reached.at c.span_of-span.result.to
+    c.span_of-span.ensures.covers of_kind c.in_default-next_of_kind.ensures)
     (c.loop-reached.invariant.reached jobs stands))
 
 pub reach-loop-reached-preserved : goal.reach-loop-reached-preserved
@@ -149,17 +163,22 @@ reach-loop-reached-preserved g t c =
     let of_kind = rw c.in-Some.is at c.kind_of.ensures.of_need in
     let next = rw c.in-Some-next_of_kind.is at c.next_of_kind.ensures in
     let low = next.low in
-    let is = found vs (λ claim. ⊥) (scope_of c.args.scope) need c.in-Some.kind c.span_of-span.result.from c.loop-reached.at c.span_of-span.result.to c.in-Some-next_of_kind.vertex c.span_of-span.ensures.covers
+    let is = found vs (λ claim. ⊥) (scope_of c.args.scope) need c.in-Some.kind c.span_of-span.result.from
+    c.loop-reached.at c.span_of-span.result.to c.in-Some-next_of_kind.vertex c.span_of-span.ensures.covers
     c.loop-reached.invariant.from c.span_of-span.ensures.within of_kind next in
     record {
-      within = (let few = c.serves.ensures.within in let same = c.from-reached.ensures in let before = c.loop-reached.invariant.within in omega arith);
+      within = (let few = c.serves.ensures.within in let same = c.from-reached.ensures in
+          let before = c.loop-reached.invariant.within in omega arith);
       from = (let before = c.loop-reached.invariant.from in omega arith);
       reached = λ jobs stands.
           let ok : Claim → Type 0 = open_to vs jobs c.args.s.now.barred.now c.args.s.now.window in
           let scope = scope_of c.args.scope in
-          reached_next _ (serves_less vs ok (takes_less _ _) scope need) c.args.most c.in-Some-next_of_kind.vertex c.loop-reached.reached c.from-reached.result
-          (reached_over _ (serves_less vs ok (takes_less _ _) scope need) c.args.most c.loop-reached.at c.in-Some-next_of_kind.vertex c.loop-reached.reached low
-          (none_skipped vs ok scope need c.in-Some.kind c.loop-reached.at c.span_of-span.result.to c.in-Some-next_of_kind.vertex of_kind next) (c.loop-reached.invariant.reached jobs stands))
+          reached_next _ (serves_less vs ok (takes_less _ _) scope need) c.args.most c.in-Some-next_of_kind.vertex
+          c.loop-reached.reached c.from-reached.result
+          (reached_over _ (serves_less vs ok (takes_less _ _) scope need) c.args.most c.loop-reached.at
+          c.in-Some-next_of_kind.vertex c.loop-reached.reached low
+          (none_skipped vs ok scope need c.in-Some.kind c.loop-reached.at c.span_of-span.result.to
+          c.in-Some-next_of_kind.vertex of_kind next) (c.loop-reached.invariant.reached jobs stands))
           (rw c.from-reached.ensures (c.serves.ensures.greatest jobs stands scope is.1));
     }
 
@@ -170,20 +189,23 @@ reach-returns-clause-greatest g t c = λ jobs stands.
     let scope = scope_of c.args.scope in
     let need = c.args.need.now in
     greatest_along _ _ c.args.most c.loop-reached.reached (group_from vs ok scope need) (group_to vs ok scope need)
-    (reached_all _ (serves_less vs ok (takes_less _ _) scope need) c.args.most c.loop-reached.at c.loop-reached.reached c.loop-reached-test.false (c.loop-reached.invariant.reached jobs stands))
+    (reached_all _ (serves_less vs ok (takes_less _ _) scope need) c.args.most c.loop-reached.at
+    c.loop-reached.reached c.loop-reached-test.false (c.loop-reached.invariant.reached jobs stands))
 
 pub serves-returns-then-not-admits-clause-greatest : goal.serves-returns-then-not-admits-clause-greatest
 serves-returns-then-not-admits-clause-greatest g t c = λ jobs stands scope within.
     let vs = c.args.s.now.graph.now.resources.vertices in
     let ok : Claim → Type 0 = open_to vs jobs c.args.s.now.barred.now c.args.s.now.window in
-    let none = laws.vertex_closed vs ok scope c.in-Vert.kind c.in-Vert.count c.in-Vert.hold c.in-Vert.needs c.args.vertex c.args.most
+    let none = laws.vertex_closed vs ok scope c.in-Vert.kind c.in-Vert.count c.in-Vert.hold c.in-Vert.needs
+    c.args.vertex c.args.most
     (λ may. true≢false (sym ((c.admits.ensures jobs stands).1 may) ∙ c.if-not-admits.true)) in
     rw c.in-Vert.is none
 
 pub serves-copies-requires : goal.serves-copies-requires
 serves-copies-requires g t c κs h =
     let vs = c.args.s.now.graph.now.resources.vertices in
-    let lt : most the_size c.in-Vert.needs < the_size c.args.need.now = rw c.in-Vert.is (size_Vert c.in-Vert.kind c.in-Vert.count c.in-Vert.hold c.in-Vert.needs) in (
+    let lt : most the_size c.in-Vert.needs < the_size c.args.need.now =
+    rw c.in-Vert.is (size_Vert c.in-Vert.kind c.in-Vert.count c.in-Vert.hold c.in-Vert.needs) in (
       omega (arith, lt, c.decreases),
       (
         search rules,
@@ -192,7 +214,8 @@ serves-copies-requires g t c κs h =
           (
             c.requires.vertex,
             (
-              laws.valid_inside vs c.in-Vert.kind c.in-Vert.count c.in-Vert.hold c.in-Vert.needs (rw c.in-Vert.is at c.requires.valid),
+              laws.valid_inside vs c.in-Vert.kind c.in-Vert.count c.in-Vert.hold c.in-Vert.needs
+                  (rw c.in-Vert.is at c.requires.valid),
               inl refl,
             ),
           ),
@@ -203,7 +226,8 @@ serves-copies-requires g t c κs h =
 pub serves-copies-requires-in-Spread : goal.serves-copies-requires-in-Spread
 serves-copies-requires-in-Spread g t c κs h =
     let vs = c.args.s.now.graph.now.resources.vertices in
-    let lt : most the_size c.in-Spread.needs < the_size c.args.need.now = rw c.in-Spread.is (size_Spread c.in-Spread.count c.in-Spread.needs) in
+    let lt : most the_size c.in-Spread.needs < the_size c.args.need.now =
+    rw c.in-Spread.is (size_Spread c.in-Spread.count c.in-Spread.needs) in
     let valid = rw c.in-Spread.is at c.requires.valid in (
       omega (arith, lt, c.decreases),
       (
@@ -226,7 +250,8 @@ serves-returns-else-not-admits-clause-greatest g t c = λ jobs stands scope with
     let vs = c.args.s.now.graph.now.resources.vertices in
     let ok : Claim → Type 0 = open_to vs jobs c.args.s.now.barred.now c.args.s.now.window in
     let is = rw c.in-Vert.is at c.requires.of_need in
-    let one = laws.vertex_open vs ok scope c.in-Vert.kind c.in-Vert.count c.in-Vert.hold c.in-Vert.needs c.args.vertex c.args.most c.copies.result c.requires.some within is
+    let one = laws.vertex_open vs ok scope c.in-Vert.kind c.in-Vert.count c.in-Vert.hold c.in-Vert.needs c.args.vertex
+    c.args.most c.copies.result c.requires.some within is
     ((c.admits.ensures jobs stands).0 c.if-not-admits.false) (c.copies.ensures.greatest jobs stands) in
     rw c.in-Vert.is one
 
@@ -235,8 +260,10 @@ serves-returns-in-Pool-clause-greatest g t c = λ jobs stands scope within.
     let vs = c.args.s.now.graph.now.resources.vertices in
     let ok : Claim → Type 0 = open_to vs jobs c.args.s.now.barred.now c.args.s.now.window in
     let is = rw c.in-Pool.is at c.requires.of_need in
-    let some = laws.pool_serves vs ok scope c.in-Pool.kind c.in-Pool.quantity c.args.vertex c.args.most c.free.result c.min.result within is
-    (λ q. available_take (meets vs jobs c.args.s.now.barred.now) c.args.s.now.window c.args.vertex q c.free.result (c.free.ensures jobs stands)) (rw c.from.ensures at c.min.ensures) in
+    let some = laws.pool_serves vs ok scope c.in-Pool.kind c.in-Pool.quantity c.args.vertex c.args.most c.free.result
+    c.min.result within is
+    (λ q. available_take (meets vs jobs c.args.s.now.barred.now) c.args.s.now.window c.args.vertex q c.free.result
+    (c.free.ensures jobs stands)) (rw c.from.ensures at c.min.ensures) in
     rw c.in-Pool.is some
 
 pub serves-returns-then-not-admits-2-clause-greatest : goal.serves-returns-then-not-admits-2-clause-greatest
@@ -252,6 +279,8 @@ serves-returns-else-not-admits-2-clause-greatest g t c = λ jobs stands scope wi
     let vs = c.args.s.now.graph.now.resources.vertices in
     let ok : Claim → Type 0 = open_to vs jobs c.args.s.now.barred.now c.args.s.now.window in
     let is = rw c.in-Spread.is at c.requires.of_need in
-    let some = laws.node_open vs ok scope c.in-Spread.count c.in-Spread.needs c.args.vertex c.args.most c.copies-in-Spread.result within is
-    ((c.admits-in-Spread.ensures jobs stands).0 c.if-not-admits-2.false) (c.copies-in-Spread.ensures.greatest jobs stands) in
+    let some = laws.node_open vs ok scope c.in-Spread.count c.in-Spread.needs c.args.vertex c.args.most
+    c.copies-in-Spread.result within is
+    ((c.admits-in-Spread.ensures jobs stands).0 c.if-not-admits-2.false)
+    (c.copies-in-Spread.ensures.greatest jobs stands) in
     rw c.in-Spread.is some

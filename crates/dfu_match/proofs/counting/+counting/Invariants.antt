@@ -28,7 +28,9 @@ invariant-reach-loop-reached g l = record {
   within : l.reached ≤ l.most;
   from : l.span.from ≤ l.at;
   reached : (jobs : List Job) → g.F.FreeView.stands_for l.s.view.now jobs →
-      Reached (CanServe l.s.graph.now.resources.vertices (open_to l.s.graph.now.resources.vertices jobs l.s.barred.now l.s.window) (scope_of l.fn.scope) l.need) l.most l.at l.reached;
+      Reached (CanServe l.s.graph.now.resources.vertices
+      (open_to l.s.graph.now.resources.vertices jobs l.s.barred.now l.s.window) (scope_of l.fn.scope) l.need)
+      l.most l.at l.reached;
 }
 
 abbrev pub decreases-reach-loop-reached : goal.decreases-reach-loop-reached

@@ -40,7 +40,9 @@ returns c =
     let graph = c.args.graph.now in (
       λ t. apart_from graph.resources graph.names c.is_valid.ensures.valid c.args.need.now c.args.other.now
           c.in-Some.kind c.in-Some-kind_of.other_kind c.in-Some.ensures.only c.in-Some-kind_of.ensures.only
-          (λ s. true≢false (sym (c.are_spreads.ensures.1 s) ∙ c.if-are_spreads.false)) c.if-kind-other_kind.false (λ n. true≢false (sym (c.nests.ensures.1 n) ∙ c.if-nests.false)) (λ n. not_to c.nests-2.result t (c.nests-2.ensures.1 n)),
+          (λ s. true≢false (sym (c.are_spreads.ensures.1 s) ∙ c.if-are_spreads.false)) c.if-kind-other_kind.false
+          (λ n. true≢false (sym (c.nests.ensures.1 n) ∙ c.if-nests.false))
+          (λ n. not_to c.nests-2.result t (c.nests-2.ensures.1 n)),
       λ p. not_from c.nests-2.result (λ n. nested_kind graph.resources graph.names c.is_valid.ensures.valid
           c.args.need.now c.args.other.now c.in-Some.kind c.in-Some-kind_of.other_kind
           c.in-Some.ensures.only c.in-Some-kind_of.ensures.only (c.nests-2.ensures.0 n) p),

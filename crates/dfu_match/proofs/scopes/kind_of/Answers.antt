@@ -9,7 +9,9 @@ use Rattle.dfu_match.proofs.ScopeLaws.{node_kind, no_node}
 use Rattle.dfu_match.proofs.ProperLaws.{only_Spread}
 use Rattle.dfu_match.proofs.scopes.kind_of.Goals as goal
 
-kind_of_spread : (g : ResourceGraph) (names : List (List ℕ)) → IsValidGraph g names → (count : ℕ) (needs : List need.Need) (found : Option ℕ) → IsNamedKind g (codes "node") found → IsKindOfNeed g.vertices (Spread count needs) found
+kind_of_spread : (g : ResourceGraph) (names : List (List ℕ)) → IsValidGraph g names →
+    (count : ℕ) (needs : List need.Need) (found : Option ℕ) → IsNamedKind g (codes "node") found →
+    IsKindOfNeed g.vertices (Spread count needs) found
 kind_of_spread g names valid count needs None none = no_node g names valid none
 kind_of_spread g names valid count needs (Some k) is = node_kind g names valid k is
 

@@ -8,7 +8,8 @@ use Rattle.graph_build.proofs.above.child_table.Goals.{in-Some, in_default}
 
 pub index_mut-requires : goal.index_mut-requires
 index_mut-requires c =
-    let parent : parent_of c.args.vertices.now c.loop-v.v ≡ Some c.in-Some.parent = sym (parent_at c.args.vertices.now c.loop-v.v no_vertex (omega arith)) ∙ c.in-Some.is in
+    let parent : parent_of c.args.vertices.now c.loop-v.v ≡ Some c.in-Some.parent =
+    sym (parent_at c.args.vertices.now c.loop-v.v no_vertex (omega arith)) ∙ c.in-Some.is in
     let low : c.in-Some.parent < length c.args.vertices.now = c.requires c.loop-v.v c.in-Some.parent parent in
     omega (arith, c.loop-v.invariant.as_many)
 
@@ -19,10 +20,13 @@ loop-v-preserved c =
     let v_in : v < length vertices = omega arith in
     elim c.match-vertices-v.branch [
       | in-Some w ↦
-          (let parent : parent_of vertices v ≡ Some w.in-Some.parent = sym (parent_at vertices v no_vertex v_in) ∙ w.in-Some.is in
+          (let parent : parent_of vertices v ≡ Some w.in-Some.parent = sym (parent_at vertices v no_vertex v_in)
+          ∙ w.in-Some.is in
           subst (λ (l : Vec Bool Global). HasChildren vertices (v + 1) l.items) (sym w.children-is)
-          (children_more vertices v w.in-Some.parent c.loop-v.children.items (c.requires v w.in-Some.parent parent) parent c.loop-v.invariant))
+          (children_more vertices v w.in-Some.parent c.loop-v.children.items (c.requires v w.in-Some.parent parent)
+          parent c.loop-v.invariant))
       | in_default w ↦
           subst (λ (l : Vec Bool Global). HasChildren vertices (v + 1) l.items) (sym w.children-is)
-          (children_same vertices v c.loop-v.children.items (parent_at_none vertices v v_in w.in_default.not-Some) c.loop-v.invariant)
+          (children_same vertices v c.loop-v.children.items (parent_at_none vertices v v_in w.in_default.not-Some)
+          c.loop-v.invariant)
     ]

@@ -4,7 +4,8 @@ use Rattle.graph_build.proofs.OwnLaws.{nested_within}
 use Rattle.graph_build.proofs.above.first_nested.Goals as goal
 
 pub loop-v-preserved : goal.loop-v-preserved
-loop-v-preserved c = below_more _ _ c.loop-v.invariant (λ bad. both_ways _ c.if-is_nested.false (c.is_nested.ensures.1 bad))
+loop-v-preserved c = below_more _ _ c.loop-v.invariant
+    (λ bad. both_ways _ c.if-is_nested.false (c.is_nested.ensures.1 bad))
 
 pub returns-clause-first : goal.returns-clause-first
 returns-clause-first c = λ v bad.

@@ -7,7 +7,8 @@ pub returns-then-is_parent_pool-clause-first : goal.returns-then-is_parent_pool-
 returns-then-is_parent_pool-clause-first c = (c.is_parent_pool.ensures.0 c.if-is_parent_pool.true, c.loop-v.invariant)
 
 pub loop-v-preserved : goal.loop-v-preserved
-loop-v-preserved c = below_more _ _ c.loop-v.invariant (λ bad. both_ways _ c.if-is_parent_pool.false (c.is_parent_pool.ensures.1 bad))
+loop-v-preserved c = below_more _ _ c.loop-v.invariant
+    (λ bad. both_ways _ c.if-is_parent_pool.false (c.is_parent_pool.ensures.1 bad))
 
 pub returns-clause-first : goal.returns-clause-first
 returns-clause-first c = λ v bad.

@@ -4,4 +4,6 @@ use Rattle.graph_build.proofs.AboveLaws.{parent_pool}
 use Rattle.graph_build.proofs.above.is_parent_pool.Goals as goal
 
 pub returns : goal.returns
-returns c = parent_pool c.args.vertices.now c.args.v _ c.requires.within (c.requires.pools (get_or c.args.vertices.now c.args.v no_vertex).kind) ((c.requires.children.each c.args.v c.requires.within).0 c.if-not-children-v.false)
+returns c = parent_pool c.args.vertices.now c.args.v _ c.requires.within
+    (c.requires.pools (get_or c.args.vertices.now c.args.v no_vertex).kind)
+    ((c.requires.children.each c.args.v c.requires.within).0 c.if-not-children-v.false)

@@ -8,5 +8,6 @@ abbrev pub invariant-loop-place : goal.invariant-loop-place
 invariant-loop-place l = record {
   taken : IsArrangedList l.fn.raw.items l.order l.place-index l.list.items;
   as_many : length l.slots.items ≡ length l.fn.raw.items;
-  left : (k i : ℕ) → l.place-index ≤ k → slice_get l.order k ≡ Some i → slice_get l.slots.items i ≡ option_map (λ r. Some r) (slice_get l.fn.raw.items i);
+  left : (k i : ℕ) → l.place-index ≤ k → slice_get l.order k ≡ Some i →
+      slice_get l.slots.items i ≡ option_map (λ r. Some r) (slice_get l.fn.raw.items i);
 }

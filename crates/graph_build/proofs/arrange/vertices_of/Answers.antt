@@ -16,7 +16,8 @@ loop-place-preserved c =
     let within : i < length vertices = c.requires.places.known most i at in
     let x = get_or vertices i no_vertex in
     let at_x : slice_get vertices i ≡ Some x = slice_get-get_or vertices i no_vertex within in
-    let rank = rank_made c.args.kinds.now vertices order most x c.is_node-node.result c.ranks_given-ranked.result c.loop-place.nodes c.rank_for-rank.result
+    let rank = rank_made c.args.kinds.now vertices order most x c.is_node-node.result c.ranks_given-ranked.result
+    c.loop-place.nodes c.rank_for-rank.result
     c.is_node-node.ensures c.ranks_given-ranked.ensures c.loop-place.invariant.counted c.rank_for-rank.ensures in
     let one : c.one_if-nodes.result ≡ cond c.is_node-node.result 1 0 = c.one_if-nodes.ensures in
     let little : c.one_if-nodes.result ≤ 1 = elim (cases_Bool c.is_node-node.result) [
@@ -24,9 +25,12 @@ loop-place-preserved c =
       | inr other ↦ (let e : c.one_if-nodes.result ≡ 0 = one ∙ ap (λ t. cond t 1 0) other in omega arith)
     ] in
     record {
-      made = made_more c.args.kinds.now vertices order c.args.numbers.now c.args.kind_numbers.now most i c.loop-place.made.items c.push.new.self.items x c.renumbered.result at at_x
-          c.renumbered.ensures.made (c.renumbered.ensures.ranked ∙ rank) c.in_ok-push.ensures.items c.loop-place.invariant.made;
-      counted = nodes_more c.args.kinds.now vertices order most i x c.is_node-node.result c.loop-place.nodes c.one_if-nodes.result at at_x c.is_node-node.ensures c.loop-place.invariant.counted one;
+      made = made_more c.args.kinds.now vertices order c.args.numbers.now c.args.kind_numbers.now most i
+          c.loop-place.made.items c.push.new.self.items x c.renumbered.result at at_x
+          c.renumbered.ensures.made (c.renumbered.ensures.ranked ∙ rank) c.in_ok-push.ensures.items
+          c.loop-place.invariant.made;
+      counted = nodes_more c.args.kinds.now vertices order most i x c.is_node-node.result c.loop-place.nodes
+          c.one_if-nodes.result at at_x c.is_node-node.ensures c.loop-place.invariant.counted one;
       few = omega (arith, c.loop-place.invariant.few);
     }
 
@@ -34,15 +38,19 @@ pub renumbered-requires-clause-parent : goal.renumbered-requires-clause-parent
 renumbered-requires-clause-parent c = λ p e.
     let order = c.args.order.now in
     let i = get_or order c.loop-place.place-index 0 in
-    let at : slice_get order c.loop-place.place-index ≡ Some i = slice_get-get_or order c.loop-place.place-index 0 (omega arith) in
+    let at : slice_get order c.loop-place.place-index ≡ Some i = slice_get-get_or order c.loop-place.place-index 0
+    (omega arith) in
     let within : i < length c.args.vertices.now = c.requires.places.known c.loop-place.place-index i at in
-    let low : p < length c.args.vertices.now = c.requires.parents i p (sym (parent_at c.args.vertices.now i no_vertex within) ∙ e) in
+    let low : p < length c.args.vertices.now =
+    c.requires.parents i p (sym (parent_at c.args.vertices.now i no_vertex within) ∙ e) in
     omega (arith, c.requires.whole)
 
 pub renumbered-requires-clause-kind : goal.renumbered-requires-clause-kind
 renumbered-requires-clause-kind c =
     let order = c.args.order.now in
     let i = get_or order c.loop-place.place-index 0 in
-    let at : slice_get order c.loop-place.place-index ≡ Some i = slice_get-get_or order c.loop-place.place-index 0 (omega arith) in
+    let at : slice_get order c.loop-place.place-index ≡ Some i = slice_get-get_or order c.loop-place.place-index 0
+    (omega arith) in
     let within : i < length c.args.vertices.now = c.requires.places.known c.loop-place.place-index i at in
-    c.requires.numbered i (get_or c.args.vertices.now i no_vertex) (slice_get-get_or c.args.vertices.now i no_vertex within)
+    c.requires.numbered i (get_or c.args.vertices.now i no_vertex)
+    (slice_get-get_or c.args.vertices.now i no_vertex within)

@@ -6,8 +6,10 @@ use Rattle.graph_build.proofs.climbs.parents.Goals as goal
 
 pub loop-vertex-preserved : goal.loop-vertex-preserved
 loop-vertex-preserved c =
-    entries_more (λ (u : ℕ) (o : Option ℕ). o ≡ parent_of c.args.vertices.now u) c.loop-vertex.vertex-index c.loop-vertex.climbs.items c.push.new.self.items
-    (get_or c.args.vertices.now c.loop-vertex.vertex-index no_vertex).parent c.loop-vertex.invariant.0 c.loop-vertex.invariant.1
+    entries_more (λ (u : ℕ) (o : Option ℕ). o ≡ parent_of c.args.vertices.now u) c.loop-vertex.vertex-index
+    c.loop-vertex.climbs.items c.push.new.self.items
+    (get_or c.args.vertices.now c.loop-vertex.vertex-index no_vertex).parent c.loop-vertex.invariant.0
+    c.loop-vertex.invariant.1
     (parent_at c.args.vertices.now c.loop-vertex.vertex-index no_vertex (omega arith)) c.in_ok-push.ensures.items
 
 pub returns : goal.returns

@@ -4,4 +4,5 @@ use Rattle.graph_build.specs.Checks.{climb}
 use Rattle.graph_build.proofs.climbs.parents.Given as goal
 
 abbrev pub invariant-loop-vertex : goal.invariant-loop-vertex
-invariant-loop-vertex l = (length l.climbs.items ≡ l.vertex-index) × ((u : ℕ) (o : Option ℕ) → slice_get l.climbs.items u ≡ Some o → o ≡ climb l.vertices 1 (Some u))
+invariant-loop-vertex l = (length l.climbs.items ≡ l.vertex-index)
+    × ((u : ℕ) (o : Option ℕ) → slice_get l.climbs.items u ≡ Some o → o ≡ climb l.vertices 1 (Some u))

@@ -10,7 +10,8 @@ use Rattle.graph_build.proofs.ValidLaws.{ranks_some}
 use Rattle.graph_build.proofs.doubles.first_bad_rank.Goals as goal
 
 pub returns-then-not-ranks_given-clause-first : goal.returns-then-not-ranks_given-clause-first
-returns-then-not-ranks_given-clause-first c = λ v bad. no_ranks c.args.kinds.now c.args.vertices.now (sym c.ranks_given.ensures ∙ c.if-not-ranks_given.true) bad.0
+returns-then-not-ranks_given-clause-first c = λ v bad. no_ranks c.args.kinds.now c.args.vertices.now
+    (sym c.ranks_given.ensures ∙ c.if-not-ranks_given.true) bad.0
 
 pub returns-clause-first : goal.returns-clause-first
 returns-clause-first c =
@@ -18,5 +19,8 @@ returns-clause-first c =
     let vertices = c.args.vertices.now in
     subst (IsFirstOf (HasBadRank (graph_in kinds vertices))) (sym c.lesser.ensures)
     (finds_bad_rank kinds vertices nat_cmp same_number itself_number c.as_slice.result.now
-    (subst (HasEach (IsNodeRank (graph_in kinds vertices)) (length vertices)) (sym c.as_slice.ensures.value) c.in_ok-ranks.ensures)
-    (ranks_some kinds vertices (sym c.ranks_given.ensures ∙ c.if-not-ranks_given.false)) c.first_unranked-unranked.result c.in_ok-repeated.repeated c.first_unranked-unranked.ensures.first c.in_ok-repeated.ensures.first)
+    (subst (HasEach (IsNodeRank (graph_in kinds vertices)) (length vertices)) (sym c.as_slice.ensures.value)
+    c.in_ok-ranks.ensures)
+    (ranks_some kinds vertices (sym c.ranks_given.ensures ∙ c.if-not-ranks_given.false))
+    c.first_unranked-unranked.result c.in_ok-repeated.repeated c.first_unranked-unranked.ensures.first
+    c.in_ok-repeated.ensures.first)

@@ -17,6 +17,9 @@ returns-clause-first c =
     subst (IsFirstOf (HasDoubleName (raw_graph kinds raw) (raw_names raw))) (sym c.lesser.ensures)
     (finds_double_name kinds raw c.in_ok-sibling.sibling c.in_ok-node.node
     (finds_sibling kinds raw order.cmp-value.it same_sibling itself_sibling c.as_slice.result.now
-    (subst (HasEach (IsSiblingKey raw) (length raw)) (sym c.as_slice.ensures.value) c.in_ok-siblings.ensures) c.in_ok-sibling.sibling c.in_ok-sibling.ensures.first)
-    (finds_node kinds raw (λ a b. slice_cmp nat_cmp a.now b.now) (λ a b. same_text a.now b.now) (λ a b. itself_text a.now b.now) c.as_slice-2.result.now
-    (subst (HasEach (IsNodeName kinds raw) (length raw)) (sym c.as_slice-2.ensures.value) c.in_ok-nodes.ensures) c.in_ok-node.node c.in_ok-node.ensures.first))
+    (subst (HasEach (IsSiblingKey raw) (length raw)) (sym c.as_slice.ensures.value) c.in_ok-siblings.ensures)
+    c.in_ok-sibling.sibling c.in_ok-sibling.ensures.first)
+    (finds_node kinds raw (λ a b. slice_cmp nat_cmp a.now b.now) (λ a b. same_text a.now b.now)
+    (λ a b. itself_text a.now b.now) c.as_slice-2.result.now
+    (subst (HasEach (IsNodeName kinds raw) (length raw)) (sym c.as_slice-2.ensures.value) c.in_ok-nodes.ensures)
+    c.in_ok-node.node c.in_ok-node.ensures.first))

@@ -14,7 +14,8 @@ there kinds k some = go (slice_get kinds k) refl some
 pub loop-k-preserved : goal.loop-k-preserved
 loop-k-preserved c =
     let first = c.in-Some.ensures.found in
-    below_more _ _ c.loop-k.invariant (λ j lt same. first.1 j (omega arith) (same ∙ (ap (slice_get c.args.kinds.now) (sym c.if-first-k.false) ∙ first.0)))
+    below_more _ _ c.loop-k.invariant (λ j lt same. first.1 j (omega arith)
+    (same ∙ (ap (slice_get c.args.kinds.now) (sym c.if-first-k.false) ∙ first.0)))
 
 pub returns : goal.returns
 returns c = λ _ j k some same.

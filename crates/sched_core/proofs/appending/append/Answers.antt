@@ -24,5 +24,6 @@ returns-in-Ok-push-clause-ok g c =
     let kept = c.args.kept.now in
     let core = c.requires.core in
     let entry : Entry = c.args.entry in
-    grows c.args.site.now kept core entry c.requires.proper c.requires.reply _ c.in-Ok.ensures.setting (c.in-Ok.ensures.book entry refl refl) c.in-Ok-push.ensures.ok
+    grows c.args.site.now kept core entry c.requires.proper c.requires.reply _ c.in-Ok.ensures.setting
+    (c.in-Ok.ensures.book entry refl refl) c.in-Ok-push.ensures.ok
     (c.claims_after-claims.ensures (left_by (journal_in kept)) entry.command (sym core.claims-are))

@@ -30,10 +30,12 @@ pub returns-in-Cancel : goal.returns-in-Cancel
 returns-in-Cancel g c =
     let site = c.args.site.now in
     let kept = c.args.kept.now in
-    subst (λ (x : Command). Replies (setting_in site kept) (left_by (journal_in kept)) x c.cancel.result) (sym c.in-Cancel.is) (c.cancel.ensures (setting_in site kept))
+    subst (λ (x : Command). Replies (setting_in site kept) (left_by (journal_in kept)) x c.cancel.result)
+    (sym c.in-Cancel.is) (c.cancel.ensures (setting_in site kept))
 
 pub returns-in-Info : goal.returns-in-Info
 returns-in-Info g c =
     let site = c.args.site.now in
     let kept = c.args.kept.now in
-    subst (λ (x : Command). Replies (setting_in site kept) (left_by (journal_in kept)) x c.info.result) (sym c.in-Info.is) (c.info.ensures (setting_in site kept))
+    subst (λ (x : Command). Replies (setting_in site kept) (left_by (journal_in kept)) x c.info.result)
+    (sym c.in-Info.is) (c.info.ensures (setting_in site kept))
