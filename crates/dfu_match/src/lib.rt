@@ -1,6 +1,5 @@
-//! The matcher: the lowest-first claims of an ask over what a view has free. It goes down the graph depth first,
-    need by
-//! need, and looks at each vertex of a need once, or twice where it counts copies before it writes them.
+//! The matcher: the lowest-first claims of an ask over what a view has free. It goes down the graph depth first, need
+//! by need, and looks at each vertex of a need once, or twice where it counts copies before it writes them.
 #![tactic(auto)]
 
 mod bars;

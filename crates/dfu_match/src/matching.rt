@@ -12,9 +12,8 @@ use resource_graph::Graph;
 use std::alloc::{AllocError, Global};
 use std::sync::ledger::Ledger;
 
-/// Whether some claims of the ask fit over the window, in seconds,
-    where `view` tells what is free of the graph. It takes
-/// no memory.
+/// Whether some claims of the ask fit over the window, in seconds, where `view` tells what is free of the graph. It
+/// takes no memory.
 pub fn some_fit<F: FreeView, L: Ledger>(
     graph: &Graph,
     view: &F,

@@ -8,9 +8,8 @@ use crate::scopes::kind_of;
 use flux_defs::{Ask, List, Need};
 use resource_graph::Graph;
 
-/// Whether the ask is proper for the graph: its needs are valid, and it bars nodes of the graph in
-    rising order. A search
-/// for claims asks for it (RFC 14).
+/// Whether the ask is proper for the graph: its needs are valid, and it bars nodes of the graph in rising order. A
+/// search for claims asks for it (RFC 14).
 pub fn is_proper(graph: &Graph, ask: &Ask) -> bool
     ensures { IsTrue result ↔ IsProperAsk graph.now.resources.vertices ask.now }
 {

@@ -16,9 +16,8 @@ use flux_defs::{Claim, FreeView, List, Need, Steps};
 use std::alloc::AllocError;
 use std::sync::ledger::Ledger;
 
-/// Writes the lowest-first claims of the needs scaled by `k` in
-    the scope. `false` exactly where no claims fit; what was
-/// written by then is of no use.
+/// Writes the lowest-first claims of the needs scaled by `k` in the scope. `false` exactly where no claims fit; what
+/// was written by then is of no use.
 #[cycle(writing)]
 pub(crate) fn write_needs<F: FreeView, L: Ledger>(
     s: &Search<F>,

@@ -148,8 +148,7 @@ const REFUSED: [(&[u8], GraphFault); 24] = [
         GraphFault::Sized { vertex: 2 },
     ),
     (
-        b"cluster cluster0 -\nmemory memory0 0 - - 70368744177664\nmemory memory1 0 - - 70368744177665\nmemory memory2
-            0 - - 70368744177666",
+        b"cluster cluster0 -\nmemory memory0 0 - - 70368744177664\nmemory memory1 0 - - 70368744177665\nmemory memory2 0 - - 70368744177666",
         GraphFault::Large { vertex: 2 },
     ),
     (

@@ -6,9 +6,8 @@ use resource_graph::Graph;
 use std::alloc::Global;
 use std::sync::Arc;
 
-/// What never changes: where memory comes from, the graph, the horizon in seconds,
-    and how many claims all accepted jobs
-/// may have.
+/// What never changes: where memory comes from, the graph, the horizon in seconds, and how many claims all accepted
+/// jobs may have.
 #[derive(Drop)]
 pub(crate) struct Site {
     pub alloc: Global,

@@ -19,10 +19,9 @@ use std::marker::{Brand, Model};
 use std::sync::Arc;
 use std::sync::ledger::{Blank, Ledger};
 
-/// The scheduler of one thread: each command gets its reply in the state that the journal leaves, and one entry of the
-/// journal. Contracts see its setting (graph, filter rules, horizon in seconds, limit of claims),
-    which never changes, and
-/// its journal.
+/// The scheduler of one thread: each command gets its reply in the state that the journal leaves, and one entry of
+/// the journal. Contracts see its setting (graph, filter rules, horizon in seconds, limit of claims), which never
+/// changes, and its journal.
 #[derive(Drop)]
 pub struct Core {
     site: Site,
@@ -100,9 +99,8 @@ impl Core {
         self.kept.journal.items()
     }
 
-    /// A law: the journal is a legal history of proper commands,
-        and after each of its entries no vertex is oversubscribed.
-    /// It does nothing.
+    /// A law: the journal is a legal history of proper commands, and after each of its entries no vertex is
+    /// oversubscribed. It does nothing.
     pub fn is_sound(&self)
         ensures legal { IsLegal self.now.setting self.now.journal }
         ensures proper { HasProperCommands self.now.setting.graph.vertices self.now.journal }
@@ -112,9 +110,8 @@ impl Core {
         let _ = &self.kept.claim_count;
     }
 
-    /// Appends the entry of a command, with the scheduler's reply, and answers its place. On want of memory,
-        which is the
-    /// only error, the command comes back and nothing is changed.
+    /// Appends the entry of a command, with the scheduler's reply, and answers its place. On want of memory, which is
+    /// the only error, the command comes back and nothing is changed.
     pub fn decide(
         &mut self,
         client: u32,
