@@ -2,4 +2,3 @@ pub mod BarLaws
 pub mod ScopeLaws
 pub mod CountLaws
 pub mod WriteLaws
-pub mod ProperLaws

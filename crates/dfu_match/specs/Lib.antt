@@ -1,3 +1,2 @@
 pub mod Searches
 pub mod Bars
-pub mod Kinds

@@ -5,10 +5,8 @@
 mod bars;
 mod counting;
 mod matching;
-mod proper;
 mod scopes;
 mod search;
 mod writing;
 
 pub use matching::{match_at, some_fit};
-pub use proper::is_proper;

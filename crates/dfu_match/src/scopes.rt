@@ -1,7 +1,6 @@
 //! Which vertices a need is looked for among.
 ghost use Rattle.std.specs.Prelude.{◌≡◌, ◌≤◌, length};
 ghost use Rattle.dfu_match.specs.Searches.{scope_of, IsScope, Covers, IsKindOfNeed};
-ghost use Rattle.dfu_match.specs.Kinds.{IsOnlyKind};
 
 use flux_defs::Need;
 use resource_graph::Graph;
@@ -34,8 +33,7 @@ pub(crate) fn span_of(graph: &Graph, scope: Option<u32>) -> Span
 
 /// The kind of the need's vertices, that of nodes for a spread; none where the graph has no nodes.
 pub(crate) fn kind_of(graph: &Graph, need: &Need) -> Option<u32>
-    ensures of_need { IsKindOfNeed graph.now.resources.vertices need.now result }
-    ensures only { IsOnlyKind graph.now.resources.vertices need.now result }
+    ensures { IsKindOfNeed graph.now.resources.vertices need.now result }
 {
     graph.is_valid();
     match need {

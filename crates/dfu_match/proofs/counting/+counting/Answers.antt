@@ -122,7 +122,7 @@ reach-returns-in_default-clause-greatest g t c = λ jobs stands.
     let ok : Claim → Type 0 = open_to vs jobs c.args.s.now.barred.now c.args.s.now.window in
     let scope = scope_of c.args.scope in
     let need = c.args.need.now in
-    let never = none_at_all vs ok scope need c.in_default.ensures.of_need in
+    let never = none_at_all vs ok scope need c.in_default.ensures in
     greatest_along _ _ c.args.most 0 (group_from vs ok scope need) (group_to vs ok scope need)
     (reached_end _ (serves_less vs ok (takes_less _ _) scope need) c.args.most 0 0 (λ v q lo some can. never v q can)
     (reached_start _ (serves_less vs ok (takes_less _ _) scope need) c.args.most 0
@@ -149,7 +149,7 @@ reach-returns-in_default-next_of_kind-clause-greatest g t c = λ jobs stands.
     let ok : Claim → Type 0 = open_to vs jobs c.args.s.now.barred.now c.args.s.now.window in
     let scope = scope_of c.args.scope in
     let need = c.args.need.now in
-    let of_kind = rw c.in-Some.is at c.kind_of.ensures.of_need in
+    let of_kind = rw c.in-Some.is at c.kind_of.ensures in
     greatest_along _ _ c.args.most c.loop-reached.reached (group_from vs ok scope need) (group_to vs ok scope need)
     (reached_end _ (serves_less vs ok (takes_less _ _) scope need) c.args.most c.loop-reached.at c.loop-reached.reached
     (none_after vs ok scope need c.in-Some.kind c.span_of-span.result.from c.loop-reached.at c.span_of-span.result.to
@@ -160,7 +160,7 @@ pub reach-loop-reached-preserved : goal.reach-loop-reached-preserved
 reach-loop-reached-preserved g t c =
     let vs = c.args.s.now.graph.now.resources.vertices in
     let need = c.args.need.now in
-    let of_kind = rw c.in-Some.is at c.kind_of.ensures.of_need in
+    let of_kind = rw c.in-Some.is at c.kind_of.ensures in
     let next = rw c.in-Some-next_of_kind.is at c.next_of_kind.ensures in
     let low = next.low in
     let is = found vs (λ claim. ⊥) (scope_of c.args.scope) need c.in-Some.kind c.span_of-span.result.from

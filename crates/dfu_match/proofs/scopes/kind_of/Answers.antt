@@ -6,7 +6,6 @@ use Rattle.flux_defs.specs.declared.requests.Need as need
 use Rattle.resource_graph.specs.Tables.{IsNamedKind}
 use Rattle.dfu_match.specs.Searches.{IsKindOfNeed}
 use Rattle.dfu_match.proofs.ScopeLaws.{node_kind, no_node}
-use Rattle.dfu_match.proofs.ProperLaws.{only_Spread}
 use Rattle.dfu_match.proofs.scopes.kind_of.Goals as goal
 
 kind_of_spread : (g : ResourceGraph) (names : List (List ℕ)) → IsValidGraph g names →
@@ -15,14 +14,8 @@ kind_of_spread : (g : ResourceGraph) (names : List (List ℕ)) → IsValidGraph 
 kind_of_spread g names valid count needs None none = no_node g names valid none
 kind_of_spread g names valid count needs (Some k) is = node_kind g names valid k is
 
-pub returns-in-Spread-clause-of_need : goal.returns-in-Spread-clause-of_need
-returns-in-Spread-clause-of_need c =
+pub returns-in-Spread : goal.returns-in-Spread
+returns-in-Spread c =
     let graph = c.args.graph.now in
     rw c.in-Spread.is (kind_of_spread graph.resources graph.names c.is_valid.ensures.valid c.in-Spread.count
-    c.in-Spread.needs c.kind_of.result c.kind_of.ensures)
-
-pub returns-in-Spread-clause-only : goal.returns-in-Spread-clause-only
-returns-in-Spread-clause-only c =
-    let graph = c.args.graph.now in
-    rw c.in-Spread.is (only_Spread graph.resources graph.names c.is_valid.ensures.valid c.in-Spread.count
     c.in-Spread.needs c.kind_of.result c.kind_of.ensures)

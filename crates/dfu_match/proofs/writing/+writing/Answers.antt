@@ -189,7 +189,7 @@ write_group-returns-in_default g t c =
     let ok : Claim → Type 0 = open_to vs jobs c.args.s.now.barred.now c.args.s.now.window in
     let scope = scope_of c.args.scope in
     let need = c.args.need.now in
-    let never = none_at_all vs ok scope need c.in_default.ensures.of_need in
+    let never = none_at_all vs ok scope need c.in_default.ensures in
     filled_none _ (serves_less vs ok (takes_less _ _) scope need) (λ v q cs. ⊥) (c.args.k * amount_of need) 0
     (c.args.k * amount_of need) [] (λ v q lo h can. never v q can)
     (laws.some_scaled c.args.k (amount_of need) c.requires.some (counts.amount_some vs need c.requires.valid))
@@ -221,7 +221,7 @@ write_group-returns-in_default-next_of_kind g t c =
           let ok : Claim → Type 0 = open_to vs jobs c.args.s.now.barred.now c.args.s.now.window in
           let scope = scope_of c.args.scope in
           let need = c.args.need.now in
-          let of_kind = rw c.in-Some.is at c.kind_of.ensures.of_need in
+          let of_kind = rw c.in-Some.is at c.kind_of.ensures in
           filled_none _ (serves_less vs ok (takes_less _ _) scope need) _ (c.args.k * amount_of need)
           c.loop-missing.at c.loop-missing.missing wrote.0
           (none_after vs ok scope need c.in-Some.kind c.span_of-span.result.from c.loop-missing.at
@@ -233,7 +233,7 @@ pub write_group-loop-missing-preserved : goal.write_group-loop-missing-preserved
 write_group-loop-missing-preserved g t c =
     let vs = c.args.s.now.graph.now.resources.vertices in
     let need = c.args.need.now in
-    let of_kind = rw c.in-Some.is at c.kind_of.ensures.of_need in
+    let of_kind = rw c.in-Some.is at c.kind_of.ensures in
     let next = rw c.in-Some-next_of_kind.is at c.next_of_kind.ensures in
     let low = next.low in
     let is = found vs (λ claim. ⊥) (scope_of c.args.scope) need c.in-Some.kind c.span_of-span.result.from
