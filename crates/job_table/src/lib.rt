@@ -5,6 +5,3 @@ mod parts;
 mod tables;
 
 pub use tables::{JobTable, Row};
-
-#[cfg(test)]
-mod tests;

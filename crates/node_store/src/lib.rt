@@ -11,6 +11,3 @@ mod sixteen;
 
 pub use node::{Node, Share};
 pub use sixteen::{Sixteen, Vacant};
-
-#[cfg(test)]
-mod tests;

@@ -94,12 +94,22 @@ impl<T: Drop> Node<T> {
 impl<T: Share + Drop> Node<T> {
     /// Makes this a node that no other holds, by a copy where another does. It holds the same value, after want of
     /// memory too.
+    #[inline]
     pub fn own(&mut self, alloc: Global) -> Result<(), AllocError>
         ensures { self.new ≡ self.old }
     {
         if Arc::strong_count(&self.arc) == 1 {
             return Ok(());
         }
+        self.copy(alloc)
+    }
+
+    /// Makes this another node, which holds an equal value. It stands alone, so that a call of `own` that copies nothing
+    /// has no room to clear for a copy.
+    #[inline(never)]
+    fn copy(&mut self, alloc: Global) -> Result<(), AllocError>
+        ensures { self.new ≡ self.old }
+    {
         let copy = T::share(&self.arc)?;
         match Node::new(alloc, copy) {
             Ok(node) => {

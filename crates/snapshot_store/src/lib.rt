@@ -6,6 +6,3 @@ mod pages;
 mod parts;
 
 pub use pages::Pages;
-
-#[cfg(test)]
-mod tests;

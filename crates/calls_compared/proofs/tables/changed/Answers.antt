@@ -1,7 +1,7 @@
 use Rattle.std.proofs.Common.{◌≡◌, true, Some, sym, ◌∙◌, ap}
 use Rattle.job_table.specs.declared.tables.Row.{Row}
 use Rattle.job_table.specs.Rows.{live_row}
-use Rattle.job_table.proofs.tests.changed.Goals as goal
+use Rattle.calls_compared.proofs.tables.changed.Goals as goal
 
 a_live_row : (row : Row) → row.live ≡ true → row ≡ live_row row.at
 a_live_row row e = λ i. record { at = row.at; live = e i }

@@ -1,4 +1,0 @@
-use Rattle.snapshot_store.proofs.tests.a_thousand_changes_are_those_of_a_plain_list.Given as goal
-
-abbrev pub ghosts-compared : goal.ghosts-compared
-ghosts-compared g a = record { name = a.blank.name; parts = a.blank.parts }
