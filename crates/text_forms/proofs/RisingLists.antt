@@ -4,7 +4,7 @@ use Rattle.std.proofs.lemmas.Bool.{cases_lt}
 use Rattle.std.specs.List.Sorted.{IsNonDecreasingBy, IsPartitionPoint}
 use Rattle.std.specs.List.Sorted.{IsStrictlyIncreasing}
 use Rattle.std.proofs.lemmas.Map.Keys.{sorted_from_strictly_increasing, below_from_sorted}
-use Rattle.resource_graph.specs.Tables.{IsPlaceOf}
+use Rattle.text_forms.specs.Rising.{IsIndexOf}
 use borrow.Author.Tests.{ltb-true, ltb-false}
 
 -- each number of a rising list is less than each later one
@@ -29,9 +29,12 @@ not_less list up i j le lt = not_less_by list up i j 0 le lt
 pub IsNonDecreasingBy-rising : (list : List ℕ) → IsStrictlyIncreasing list → IsNonDecreasingBy (λ v. v) list
 IsNonDecreasingBy-rising list up i j d le lt = not_less_by list up i j d le lt
 
-pub IsPlaceOf-point : (list : List ℕ) (from place : ℕ) → place ≤ length list → IsPartitionPoint (λ y. ltb y from ≡ true) (λ y. ltb y from ≡ false) list place → IsPlaceOf list from place
-IsPlaceOf-point list from place le point = record {
+pub IsIndexOf-point : (list : List ℕ) (from index : ℕ) → index ≤ length list →
+    IsPartitionPoint (λ y. ltb y from ≡ true) (λ y. ltb y from ≡ false) list index → IsIndexOf list from index
+IsIndexOf-point list from index le point = record {
   within = le;
-  before = λ i lt. let e : ltb (get_or list i 0) from ≡ true = point.0 i 0 (omega arith) lt in omega (arith, ltb-true _ _ e);
-  after = λ i ge lt. let e : ltb (get_or list i 0) from ≡ false = point.1 i 0 ge lt in omega (arith, ltb-false _ _ e);
+  before = λ i lt. let e : ltb (get_or list i 0) from ≡ true = point.0 i 0 (omega arith) lt in
+      omega (arith, ltb-true _ _ e);
+  after = λ i ge lt. let e : ltb (get_or list i 0) from ≡ false = point.1 i 0 ge lt in
+      omega (arith, ltb-false _ _ e);
 }
