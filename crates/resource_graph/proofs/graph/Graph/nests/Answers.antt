@@ -12,9 +12,9 @@ returns c =
     let upper_in : c.args.upper < kinds = omega (arith, c.len-kinds.ensures) in
     let lower_in : c.args.lower < kinds = omega (arith, c.len-kinds.ensures) in
     let each = c.self.invariant.nested.each c.args.upper c.args.lower upper_in lower_in in
-    let place : c.args.upper * c.len-kinds.result + c.args.lower ≡ c.args.upper * kinds + c.args.lower = ap (λ n. c.args.upper * n + c.args.lower) c.len-kinds.ensures in
+    let cell : c.args.upper * c.len-kinds.result + c.args.lower ≡ c.args.upper * kinds + c.args.lower = ap (λ n. c.args.upper * n + c.args.lower) c.len-kinds.ensures in
     let within : c.args.upper * kinds + c.args.lower < length table = omega (arith, mul-add-lt c.args.upper kinds c.args.lower kinds upper_in lower_in, c.self.invariant.nested.as_many) in
-    let read : c.index.result.now ≡ get_or table (c.args.upper * kinds + c.args.lower) c.index.result.now = c.index.ensures ∙ ap (λ n. get_or table n c.index.result.now) place in
+    let read : c.index.result.now ≡ get_or table (c.args.upper * kinds + c.args.lower) c.index.result.now = c.index.ensures ∙ ap (λ n. get_or table n c.index.result.now) cell in
     let at : c.index.result.now ≡ get_or table (c.args.upper * kinds + c.args.lower) false = get_or_read table _ c.index.result.now within read false in
     rw (← c.self.view_is)
     (nests_is c.self.inside.vertices c.args.upper c.args.lower c.index.result.now
