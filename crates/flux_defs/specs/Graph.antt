@@ -35,6 +35,10 @@ is_below vertices v u = is_at_or_below vertices v u && not (v == u)
 abbrev pub HasKind : List Vertex → ℕ → ℕ → Type 0
 HasKind vertices kind v = IsSomeAnd (slice_get vertices v) (λ x. x.kind ≡ kind)
 
+-- some lower vertex is below some upper one
+abbrev pub Contains : List Vertex → (ℕ → Type 0) → (ℕ → Type 0) → Type 0
+Contains vertices Upper Lower = (u : ℕ) × (v : ℕ) × Upper u × Lower v × IsTrue (is_below vertices v u)
+
 -- v is a node: exactly the nodes have a rank
 abbrev pub IsNode : List Vertex → ℕ → Type 0
 IsNode vertices v = IsSomeAnd (slice_get vertices v) (λ x. is_some x.rank ≡ true)

@@ -1,11 +1,11 @@
 -- Needs of a request (RFC 14), scaling, and which needs are valid.
 -- The inner needs of a need appear here as a row (`end_of-Need`, `more_of-Need`), which is a list of needs within a need.
-use Rattle.std.specs.Prelude.{◌≡◌, ℕ, suc, ◌*◌, ◌≤◌, true, false, List, [], ◌∷◌, map, IsTrue}
+use Rattle.std.specs.Prelude.{◌≡◌, ℕ, suc, ◌*◌, ◌≤◌, true, false, List, [], ◌∷◌, map, Option, Some, None, MatchOption}
 use Rattle.std.specs.List.{AllByRecursion}
 use Rattle.flux_defs.specs.declared.vertices.Vertex.{Vertex}
 use Rattle.flux_defs.specs.declared.requests.Need.{Need, Vert', Pool, Spread', Row_of-Need, end_of-Need, more_of-Need}
 use Rattle.flux_defs.specs.declared.requests.Ask.{Ask}
-use Rattle.flux_defs.specs.Graph.{HasKind, IsNode, is_below, is_pool_kind}
+use Rattle.flux_defs.specs.Graph.{HasKind, IsNode, Contains, is_pool_kind}
 
 -- the count or the quantity of a need
 abbrev pub amount_of : Need → ℕ
@@ -23,11 +23,15 @@ scaled_need k (Spread' count m needs) = Spread' (k * count) m needs
 abbrev pub scaled : ℕ → List Need → List Need
 scaled k needs = map (scaled_need k) needs
 
+-- the kind of a need; a spread, which is of nodes, names none
+abbrev pub kind_of : Need → Option ℕ
+kind_of (Vert' kind count hold m needs) = Some kind
+kind_of (Pool kind quantity) = Some kind
+kind_of (Spread' count m needs) = None
+
 -- v is of the need's kind; a spread has the kind of nodes
 abbrev pub IsOfNeed : List Vertex → Need → ℕ → Type 0
-IsOfNeed vertices (Vert' kind count hold m needs) v = HasKind vertices kind v
-IsOfNeed vertices (Pool kind quantity) v = HasKind vertices kind v
-IsOfNeed vertices (Spread' count m needs) v = IsNode vertices v
+IsOfNeed vertices need v = MatchOption (kind_of need) (IsNode vertices v) (λ kind. HasKind vertices kind v)
 
 -- this kind is that of nodes
 abbrev pub IsNodeKind : List Vertex → ℕ → Type 0
@@ -35,9 +39,7 @@ IsNodeKind vertices kind = (v : ℕ) × IsNode vertices v × HasKind vertices ki
 
 -- the need has this kind; a spread has that of nodes
 abbrev pub HasNeedKind : List Vertex → Need → ℕ → Type 0
-HasNeedKind vertices (Vert' kind count hold m needs) k = kind ≡ k
-HasNeedKind vertices (Pool kind quantity) k = kind ≡ k
-HasNeedKind vertices (Spread' count m needs) k = IsNodeKind vertices k
+HasNeedKind vertices need k = MatchOption (kind_of need) (IsNodeKind vertices k) (λ kind. kind ≡ k)
 
 -- the need is a spread
 abbrev pub IsSpread : Need → Type 0
@@ -49,8 +51,8 @@ IsSpread (Spread' count m needs) = Unit {0}
 pub record AreApartKinds (vertices : List Vertex) (a b : Need) : Type 0 where
   pub spreads : IsSpread a → IsSpread b → ⊥
   pub kinds : (k : ℕ) → HasNeedKind vertices a k → HasNeedKind vertices b k → ⊥
-  pub nests : (v u : ℕ) → IsOfNeed vertices a v → IsOfNeed vertices b u → IsTrue (is_below vertices u v) → ⊥
-  pub nested : (v u : ℕ) → IsOfNeed vertices a v → IsOfNeed vertices b u → IsTrue (is_below vertices v u) → ⊥
+  pub nests : Contains vertices (IsOfNeed vertices a) (IsOfNeed vertices b) → ⊥
+  pub nested : Contains vertices (IsOfNeed vertices b) (IsOfNeed vertices a) → ⊥
 
 -- the need is well apart from each need of a row
 abbrev pub AreApartKindsRow : List Vertex → Need → {m : _} → Row_of-Need m → Type 0

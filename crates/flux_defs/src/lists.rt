@@ -69,7 +69,7 @@ impl<T> List<T> {
         self.held.is_empty()
     }
 
-    /// The item at a place from 0, and `None` exactly from the list's end on.
+    /// The item at an index from 0, and `None` exactly from the list's end on.
     pub fn get(&self, at: usize) -> Option<&T>
         ensures value { option_copied result ≡ slice_get self.now at }
         ensures within { OnSome result (at < length self.now) }
@@ -84,7 +84,7 @@ impl<T> List<T> {
         self.held.pop()
     }
 
-    /// Stores the item at a place of the list, and gives the one that stood there. It takes no memory.
+    /// Stores the item at an index of the list, and gives the one that stood there. It takes no memory.
     pub fn put(&mut self, at: usize, item: T) -> T
         requires { at < length self.old }
         ensures old { slice_get self.old at ≡ Some result }

@@ -1,6 +1,6 @@
 //! What a jobspec asks for, as needs.
 ghost use Rattle.std.specs.Prelude.{◌≡◌, IfOk};
-ghost use Rattle.flux_defs.specs.Needs.{amount_of};
+ghost use Rattle.flux_defs.specs.Needs.{amount_of, kind_of};
 
 use crate::lists::List;
 use std::alloc::{AllocError, Global};
@@ -37,6 +37,17 @@ impl Need {
             Need::Vert { count, .. } => *count,
             Need::Pool { quantity, .. } => *quantity,
             Need::Spread { count, .. } => *count,
+        }
+    }
+
+    /// Its kind; none for a spread, which is of nodes.
+    pub fn kind(&self) -> Option<u32>
+        ensures { result ≡ kind_of self.now }
+    {
+        match self {
+            Need::Vert { kind, .. } => Some(*kind),
+            Need::Pool { kind, .. } => Some(*kind),
+            Need::Spread { .. } => None,
         }
     }
 }

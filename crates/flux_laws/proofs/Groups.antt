@@ -57,7 +57,8 @@ module _ (vertices : List Vertex) (first : ParentsFirst vertices) (unnested : No
   pub siblings_disjoint : (n m : Need) (a b : ℕ) → AreApartKinds vertices n m → IsOfNeed vertices n a → IsOfNeed vertices m b → AreDisjoint a b
   siblings_disjoint n m a b apart ha hb =
       let ne : a ≢ b = λ e. kinds_meet n m b apart (subst (IsOfNeed vertices n) e ha) hb in
-      from_line a b (λ h. apart.nested a b ha hb (below_from vertices first a b ne h)) (λ h. apart.nests a b ha hb (below_from vertices first b a (λ e. ne (sym e)) h))
+      from_line a b (λ h. apart.nested (b, a, hb, ha, below_from vertices first a b ne h))
+      (λ h. apart.nests (a, b, ha, hb, below_from vertices first b a (λ e. ne (sym e)) h))
 
   -- a claim at or below a vertex
   abbrev pub Under : ℕ → Claim → Type 0

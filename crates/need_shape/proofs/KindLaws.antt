@@ -11,7 +11,7 @@ use Rattle.std.specs.Option.{IsSomeAnd}
 use Rattle.flux_defs.specs.declared.vertices.Vertex.{Vertex}
 use Rattle.flux_defs.specs.Graph.{ResourceGraph, HasKind, IsNode}
 use Rattle.flux_defs.specs.ValidGraph.{IsValidGraph}
-use Rattle.text_table.specs.Tables.{with_text, with_texts, place_of}
+use Rattle.text_table.specs.Tables.{with_text, with_texts, index_of}
 
 -- no two of the texts are equal
 abbrev pub AreApart : List (List ℕ) → Type 0
@@ -63,14 +63,14 @@ first_ones texts (text ∷ more) =
         by true = ([], sym (append-nil texts))
         by false = (text ∷ [], refl)
 
--- the place of a text that is there stays its place
-pub place_stays : (texts more : List (List ℕ)) (k : ℕ) (text : List ℕ) → AreApart texts → slice_get texts k ≡ Some text → place_of (with_texts texts more) text ≡ k
-place_stays texts more k text apart at =
+-- the index of a text that is there stays its index
+pub index_stays : (texts more : List (List ℕ)) (k : ℕ) (text : List ℕ) → AreApart texts → slice_get texts k ≡ Some text → index_of (with_texts texts more) text ≡ k
+index_stays texts more k text apart at =
     let within : k < length texts = slice_get_within texts k text at in
     let same : get_or texts k text ≡ text = (let is : Some (get_or texts k text) ≡ Some text = sym (slice_get-get_or texts k text within) ∙ at in cc) in
     let later = first_ones texts more in
     let all = texts ++ later.0 in
-    ap (λ ts. place_of ts text) later.1 ∙ position_or_len_is (bytes_eq text) all k text (rw (length-append texts later.0) (omega (arith, within)))
+    ap (λ ts. index_of ts text) later.1 ∙ position_or_len_is (bytes_eq text) all k text (rw (length-append texts later.0) (omega (arith, within)))
     (λ j less. rw (get_or_append_left texts later.0 text j (omega (arith, less, within))) (differs j less within))
     (λ _. rw (get_or_append_left texts later.0 text k within, same) ((bytes_eq-Decides text text).1 refl))
   where
@@ -86,12 +86,12 @@ place_stays texts more k text apart at =
         omega (arith, less, one))
 
 -- the nodes of a valid graph are the vertices of the type that is called so
-pub nodes_kind : (g : ResourceGraph) (names more : List (List ℕ)) → IsValidGraph g names → (v : ℕ) → IsNode g.vertices v → HasKind g.vertices (place_of (with_texts g.kinds more) (codes "node")) v
+pub nodes_kind : (g : ResourceGraph) (names more : List (List ℕ)) → IsValidGraph g names → (v : ℕ) → IsNode g.vertices v → HasKind g.vertices (index_of (with_texts g.kinds more) (codes "node")) v
 nodes_kind g names more valid v node = by (slice_get g.vertices v) refl node
   where
     named : (x : Vertex) → slice_get g.vertices v ≡ Some x → slice_get g.kinds x.kind ≡ Some (codes "node")
     named x at = subst (λ (o : Option Vertex). IsSomeAnd o (λ y. slice_get g.kinds y.kind ≡ Some (codes "node"))) at ((valid.nodes v x at).0 node)
 
-    by : (o : Option Vertex) → slice_get g.vertices v ≡ o → IsSomeAnd o (λ x. is_some x.rank ≡ true) → IsSomeAnd o (λ x. x.kind ≡ place_of (with_texts g.kinds more) (codes "node"))
+    by : (o : Option Vertex) → slice_get g.vertices v ≡ o → IsSomeAnd o (λ x. is_some x.rank ≡ true) → IsSomeAnd o (λ x. x.kind ≡ index_of (with_texts g.kinds more) (codes "node"))
     by None at h = absurd h
-    by (Some x) at h = sym (place_stays g.kinds more x.kind (codes "node") valid.kinds.apart (named x at))
+    by (Some x) at h = sym (index_stays g.kinds more x.kind (codes "node") valid.kinds.apart (named x at))

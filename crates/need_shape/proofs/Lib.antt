@@ -1,5 +1,4 @@
 pub mod Rows
-pub mod NestLaws
 pub mod KindLaws
 pub mod ShapeLaws
 pub mod ValidLaws

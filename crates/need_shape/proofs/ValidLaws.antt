@@ -15,10 +15,11 @@ use Rattle.need_shape.specs.declared.raw.ShapeFault.{ShapeFault}
 use Rattle.need_shape.specs.declared.raw.ShapeFault.TheVariants.{SameSiblings, NestedSiblings}
 use Rattle.need_shape.specs.declared.shaping.Within.{Within}
 use Rattle.need_shape.specs.Requests.{is_slot, IsRequest, AreRequestsRow, IsSomeRow, AreRequests}
-use Rattle.need_shape.specs.Types.{Types, number_of, contains_kind}
+use Rattle.resource_graph.specs.Tables.{contains_kind}
+use Rattle.need_shape.specs.Types.{Types, number_of}
 use Rattle.need_shape.specs.Shapes.{in_slot, in_type, is_multiplied, slot_needs, type_need, needs_of, needs_row, needs_in}
 use Rattle.need_shape.specs.Faults.{kind_in, name_in, pair_fault, row_fault, pairs_fault, is_some_row, slot_fault, type_fault, pool_fault, is_pool_type, fault_of, members_fault, members_fault_in, list_fault}
-use Rattle.need_shape.proofs.NestLaws.{contains_is}
+use Rattle.resource_graph.proofs.NestLaws.{contains_is}
 
 no_first : (a b : Option ShapeFault) → option_or a b ≡ None → a ≡ None
 no_first None b none = refl
@@ -79,9 +80,9 @@ module _ (vertices : List Vertex) (names : List (List ℕ)) where
         record {
           spreads = λ h g. not_both (kind_in types a == kind_in types b) (eq-eqb _ _ (both_spreads a b h g)) c.0;
           kinds = λ k h g. not_both (kind_in types a == kind_in types b) (eq-eqb _ _ (its_kind nodes a k h ∙ sym (its_kind nodes b k g))) c.0;
-          nests = λ v u h g below. not_both (contains_kind vertices (kind_in types a) (kind_in types b))
+          nests = λ (v, u, h, g, below). not_both (contains_kind vertices (kind_in types a) (kind_in types b))
               ((contains_is vertices (kind_in types a) (kind_in types b)).1 (v, u, of_kind nodes a v h, of_kind nodes b u g, below)) c.1;
-          nested = λ v u h g below. not_both (contains_kind vertices (kind_in types b) (kind_in types a))
+          nested = λ (u, v, g, h, below). not_both (contains_kind vertices (kind_in types b) (kind_in types a))
               ((contains_is vertices (kind_in types b) (kind_in types a)).1 (u, v, of_kind nodes b u g, of_kind nodes a v h, below)) c.2;
         }
 

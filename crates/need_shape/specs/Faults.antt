@@ -2,29 +2,26 @@
 use Rattle.flux_defs.specs.declared.limits.TheConstants.{GREATEST_NUMBER}
 use Rattle.std.specs.Prelude.{◌≡◌, ◌⊎◌, ℕ, ◌*◌, ◌^◌, Bool, true, false, ◌||◌, ◌==◌, nat_lt, List, [], ◌∷◌, if◌then◌else◌, Option, Some, None, slice_get, unwrap_or, codes}
 use Rattle.std.specs.List.{list_any}
-use Rattle.std.specs.Option.{option_or}
+use Rattle.std.specs.Option.{option_or, option_map_or}
 use Rattle.flux_defs.specs.declared.requests.Need.{Need, Vert', Pool, Spread'}
 use Rattle.flux_defs.specs.Graph.{is_pool_kind}
-use Rattle.flux_defs.specs.Needs.{amount_of}
+use Rattle.flux_defs.specs.Needs.{amount_of, kind_of}
 use Rattle.need_shape.specs.declared.raw.RawNeed.{RawNeed, RawNeed', Row_of-RawNeed, end_of-RawNeed, more_of-RawNeed, out-RawNeed}
 use Rattle.need_shape.specs.declared.raw.ShapeFault.{ShapeFault}
 use Rattle.need_shape.specs.declared.raw.ShapeFault.TheVariants.{SameSiblings, NestedSiblings, HeldPool, PoolWith, CountLimit, Memory}
 use Rattle.need_shape.specs.declared.shaping.Within.{Within}
 use Rattle.need_shape.specs.Requests.{is_slot, types_in}
-use Rattle.need_shape.specs.Types.{Types, number_of, contains_kind, is_upper}
+use Rattle.resource_graph.specs.Tables.{contains_kind}
+use Rattle.need_shape.specs.Types.{Types, number_of, is_upper}
 use Rattle.need_shape.specs.Shapes.{in_slot, in_type, is_multiplied, needs_row, needs_in}
 
 -- the number of a need's type; a spread has that of nodes
 abbrev pub kind_in : Types → Need → ℕ
-kind_in types (Vert' kind count hold m needs) = kind
-kind_in types (Pool kind quantity) = kind
-kind_in types (Spread' count m needs) = number_of types (codes "node")
+kind_in types need = unwrap_or (kind_of need) (number_of types (codes "node"))
 
 -- what a need's type is called
 abbrev pub name_in : Types → Need → List ℕ
-name_in types (Vert' kind count hold m needs) = unwrap_or (slice_get types.names kind) []
-name_in types (Pool kind quantity) = unwrap_or (slice_get types.names kind) []
-name_in types (Spread' count m needs) = codes "node"
+name_in types need = option_map_or (λ kind. unwrap_or (slice_get types.names kind) []) (kind_of need) (codes "node")
 
 -- two siblings: the first fault of the pair
 abbrev pub pair_fault : Types → Need → Need → Option ShapeFault

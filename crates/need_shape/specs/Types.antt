@@ -1,11 +1,10 @@
 -- The types of a graph and of a request: their numbers, and which contain which.
-use Rattle.std.specs.Prelude.{ℕ, Bool, ◌||◌, ◌&&◌, ◌==◌, false, List, length, slice_get, codes, bytes_eq}
-use Rattle.std.specs.List.{list_any, range_with_len}
-use Rattle.std.specs.Option.{option_map_or}
+use Rattle.std.specs.Prelude.{ℕ, Bool, ◌||◌, List, codes, bytes_eq}
 use Rattle.flux_defs.specs.declared.vertices.Vertex.{Vertex}
-use Rattle.flux_defs.specs.Graph.{ResourceGraph, is_below}
+use Rattle.flux_defs.specs.Graph.{ResourceGraph}
 use Rattle.resource_graph.specs.NamedGraph.{NamedGraph}
-use Rattle.text_table.specs.Tables.{place_of, with_texts}
+use Rattle.resource_graph.specs.Tables.{contains_kind}
+use Rattle.text_table.specs.Tables.{index_of, with_texts}
 use Rattle.need_shape.specs.declared.raw.RawNeed.{RawNeed}
 use Rattle.need_shape.specs.Requests.{types_in}
 
@@ -24,16 +23,7 @@ types_for g request = record { vertices = g.vertices; names = with_texts g.kinds
 
 -- the number of the type that is called so
 abbrev pub number_of : Types → List ℕ → ℕ
-number_of types kind = place_of types.names kind
-
--- whether v is a vertex of this kind
-abbrev pub has_kind : List Vertex → ℕ → ℕ → Bool
-has_kind vertices kind v = option_map_or (λ x. x.kind == kind) (slice_get vertices v) false
-
--- whether some vertex of the lower kind is below some vertex of the upper one
-abbrev pub contains_kind : List Vertex → ℕ → ℕ → Bool
-contains_kind vertices upper lower =
-    list_any (λ u. list_any (λ v. has_kind vertices upper u && (has_kind vertices lower v && is_below vertices v u)) (range_with_len 0 (length vertices))) (range_with_len 0 (length vertices))
+number_of types kind = index_of types.names kind
 
 -- whether the type of one name contains that of the other
 abbrev pub contains : Types → List ℕ → List ℕ → Bool

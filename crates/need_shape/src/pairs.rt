@@ -4,7 +4,7 @@ ghost use Rattle.need_shape.specs.Types.{types_at};
 ghost use Rattle.need_shape.specs.Faults.{kind_in, name_in, pair_fault, row_fault, pairs_fault, IsFirstFault};
 
 use crate::raw::ShapeFault;
-use crate::types::{contains_kind, number_of};
+use crate::types::number_of;
 use flux_defs::{Need, Text};
 use resource_graph::Graph;
 use std::alloc::{AllocError, Global};
@@ -16,10 +16,9 @@ fn kind_in(graph: &Graph, table: &TextTable, need: &Need) -> u32
     ensures { result ≡ kind_in (types_at graph.now table.now) need.now }
 {
     let _ = graph;
-    match need {
-        Need::Vert { kind, .. } => *kind,
-        Need::Pool { kind, .. } => *kind,
-        Need::Spread { .. } => number_of(table, b"node"),
+    match need.kind() {
+        Some(kind) => kind,
+        None => number_of(table, b"node"),
     }
 }
 
@@ -28,10 +27,8 @@ fn name_in(alloc: Global, graph: &Graph, table: &TextTable, need: &Need) -> Resu
     ensures { IfOk result (λ name. name ≡ name_in (types_at graph.now table.now) need.now) }
 {
     let _ = graph;
-    let kind = match need {
-        Need::Vert { kind, .. } => *kind,
-        Need::Pool { kind, .. } => *kind,
-        Need::Spread { .. } => return Text::of(alloc, b"node"),
+    let Some(kind) = need.kind() else {
+        return Text::of(alloc, b"node");
     };
     match table.text(kind as usize) {
         Some(name) => Text::of(alloc, name),
@@ -72,10 +69,10 @@ fn pair_fault(
         let kind = name_in(alloc, graph, table, first)?;
         return Ok(Some(ShapeFault::SameSiblings { kind }));
     }
-    if contains_kind(graph, one, other) {
+    if graph.nests(one, other) {
         return Ok(Some(nested(alloc, graph, table, first, second)?));
     }
-    if contains_kind(graph, other, one) {
+    if graph.nests(other, one) {
         return Ok(Some(nested(alloc, graph, table, second, first)?));
     }
     Ok(None)

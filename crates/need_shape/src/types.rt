@@ -1,9 +1,9 @@
 //! The types of a graph and of a request: their numbers, and which contain which.
 ghost use Rattle.std.specs.Prelude.{◌≡◌, ◌<◌, ◌^◌, length, bytes_eq, codes, IfOk, OnOk};
 ghost use Rattle.std.specs.List.{list_any};
-ghost use Rattle.text_table.specs.Tables.{place_of, with_texts};
+ghost use Rattle.text_table.specs.Tables.{index_of, with_texts};
 ghost use Rattle.need_shape.specs.Requests.{is_slot, types_of, types_in};
-ghost use Rattle.need_shape.specs.Types.{types_at, contains_kind, is_inner, is_upper};
+ghost use Rattle.need_shape.specs.Types.{types_at, is_inner, is_upper};
 
 use crate::raw::RawNeed;
 use flux_defs::List;
@@ -61,16 +61,9 @@ fn add_types_of(alloc: Global, table: &mut TextTable, raw: &RawNeed) -> Result<(
 /// The number of the type that is called so.
 pub(crate) fn number_of(table: &TextTable, kind: &[u8]) -> u32
     requires { length table.now < 2 ^ 32 }
-    ensures { result ≡ place_of table.now kind.now }
+    ensures { result ≡ index_of table.now kind.now }
 {
-    table.place_of(kind) as u32
-}
-
-/// Whether some vertex of the lower kind is below some vertex of the upper one.
-pub(crate) fn contains_kind(graph: &Graph, upper: u32, lower: u32) -> bool
-    ensures { result ≡ contains_kind graph.now.resources.vertices upper lower }
-{
-    graph.nests(upper, lower)
+    table.index_of(kind) as u32
 }
 
 /// Whether the type is that of nodes, or nodes contain it.
@@ -79,7 +72,7 @@ pub(crate) fn is_inner(graph: &Graph, table: &TextTable, kind: &[u8]) -> bool
     ensures { result ≡ is_inner (types_at graph.now table.now) kind.now }
 {
     kind == b"node".as_slice()
-        || contains_kind(graph, number_of(table, b"node"), number_of(table, kind))
+        || graph.nests(number_of(table, b"node"), number_of(table, kind))
 }
 
 /// Whether the type is that of nodes, or contains nodes.
@@ -88,7 +81,7 @@ fn is_upper(graph: &Graph, table: &TextTable, kind: &[u8]) -> bool
     ensures { result ≡ is_upper (types_at graph.now table.now) kind.now }
 {
     kind == b"node".as_slice()
-        || contains_kind(graph, number_of(table, kind), number_of(table, b"node"))
+        || graph.nests(number_of(table, kind), number_of(table, b"node"))
 }
 
 /// Whether the request vertices name the type of nodes or one that contains nodes, at any depth.

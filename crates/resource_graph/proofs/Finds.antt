@@ -1,4 +1,4 @@
--- From the place that a search stops at to the first item that passes.
+-- From the index that a search stops at to the first item that passes.
 use Rattle.std.proofs.Common.{◌≡◌, ℕ, zero, suc, ◌<◌, ◌≤◌, Bool, true, false, cond, List, [], ◌∷◌, length, Option, Some, None, refl, sym, ◌∙◌, ap, subst, arith, ltb}
 use Rattle.std.specs.Prelude.{slice_get, position}
 use Rattle.std.specs.List.{position_or_len}
@@ -9,7 +9,7 @@ use Rattle.std.proofs.lemmas.Option.{slice_get_within, get_or_from_slice_get}
 use Rattle.resource_graph.specs.Finds.{IsFirstOf}
 use Rattle.resource_graph.proofs.Values.{value_of, from_value}
 
--- the test is true of the item at the place
+-- the test is true of the item at the index
 abbrev pub Passes : {X : Type 0} → (X → Bool) → List X → ℕ → Type 0
 Passes {X} p xs v = IsSomeAnd (slice_get xs v) (λ (x : X). p x ≡ true)
 

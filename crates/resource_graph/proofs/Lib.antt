@@ -1,5 +1,5 @@
-pub mod Lists
 pub mod Values
+pub mod NestLaws
 pub mod Finds
 pub mod Queries
 pub mod LineLaws

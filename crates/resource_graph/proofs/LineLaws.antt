@@ -53,7 +53,7 @@ parent_read vertices v x e = ap (option_and_then (λ y. y.parent)) e
 abbrev pub no_vertex : Vertex
 no_vertex = record { kind = 0; size = 0; parent = None; id = None; rank = None }
 
--- the parent of a vertex within the list, however its place is read
+-- the parent of a vertex within the list, however its index is read
 pub parent_at : (vertices : List Vertex) (v : ℕ) (d : Vertex) → v < length vertices → (get_or vertices v d).parent ≡ parent_of vertices v
 parent_at vertices v d lt = sym (parent_read vertices v (get_or vertices v d) (slice_get-get_or vertices v d lt))
 

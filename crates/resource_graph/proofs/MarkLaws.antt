@@ -13,7 +13,7 @@ use Rattle.resource_graph.specs.Preorder.{plain, InPreorder, KnowsKinds}
 use Rattle.resource_graph.specs.Holds.{LiesIn, AddsNested}
 use Rattle.resource_graph.proofs.LineLaws.{no_vertex}
 
--- what a place of the list has as its kind
+-- what an index of the list has as its kind
 pub kind_here : (vertices : List Vertex) (v : ℕ) → v < length vertices → HasKind vertices (get_or vertices v no_vertex).kind v
 kind_here vertices v lt = subst (λ (o : Option Vertex). IsSomeAnd o (λ x. x.kind ≡ (get_or vertices v no_vertex).kind)) (sym (slice_get-get_or vertices v no_vertex lt)) refl
 
@@ -70,23 +70,23 @@ module _ (vertices : List Vertex) (o : InPreorder vertices) (kinds : ℕ) (known
       let u_in : u < length vertices = omega arith in
       let p : upper < kinds = kind_low u u_in in
       let q : lower < kinds = kind_low v lt in
-      let place = upper * kinds + lower in
-      let place_in : place < length new = omega (arith, mul-add-lt upper kinds lower kinds p q, marks.as_many) in
-      let here : IsTrue (get_or (set new place true) place false) = get_or-set_same new place true false place_in in
-      let keep : (i : ℕ) → IsTrue (get_or new i false) → IsTrue (get_or (set new place true) i false) = λ i h.
-      elim (cases_eq i place) [
-        | inl same ↦ subst (λ (j : ℕ). IsTrue (get_or (set new place true) j false)) (sym same) here
-        | inr differ ↦ get_or-set_other new place i true false differ ∙ h
+      let cell = upper * kinds + lower in
+      let cell_in : cell < length new = omega (arith, mul-add-lt upper kinds lower kinds p q, marks.as_many) in
+      let here : IsTrue (get_or (set new cell true) cell false) = get_or-set_same new cell true false cell_in in
+      let keep : (i : ℕ) → IsTrue (get_or new i false) → IsTrue (get_or (set new cell true) i false) = λ i h.
+      elim (cases_eq i cell) [
+        | inl same ↦ subst (λ (j : ℕ). IsTrue (get_or (set new cell true) j false)) (sym same) here
+        | inr differ ↦ get_or-set_other new cell i true false differ ∙ h
       ] in
       record {
-        as_many = length-set new place true ∙ marks.as_many;
+        as_many = length-set new cell true ∙ marks.as_many;
         kept = λ i h. keep i (marks.kept i h);
         sound = λ a b a_in b_in h.
-            elim (cases_eq (a * kinds + b) place) [
+            elim (cases_eq (a * kinds + b) cell) [
               | inl same ↦ (
                   let parts = same_from_place a b upper lower kinds b_in q same in
                   inr (u, subst (λ (k : ℕ). HasKind vertices k u) (sym parts.0) (kind_here vertices u u_in), subst (λ (k : ℕ). HasKind vertices k v) (sym parts.1) (kind_here vertices v lt), below))
-              | inr differ ↦ marks.sound a b a_in b_in (sym (get_or-set_other new place (a * kinds + b) true false differ) ∙ h)
+              | inr differ ↦ marks.sound a b a_in b_in (sym (get_or-set_other new cell (a * kinds + b) true false differ) ∙ h)
             ];
         done = λ x h.
             elim (marks.done x h) [
@@ -98,7 +98,7 @@ module _ (vertices : List Vertex) (o : InPreorder vertices) (kinds : ℕ) (known
                         let has_u : HasKind vertices a u = subst (λ (w : ℕ). HasKind vertices a w) (sym same) has_a in
                         let ea : a ≡ upper = kind_is vertices a u u_in has_u in
                         let eb : b ≡ lower = kind_is vertices b v lt has_b in
-                        subst (λ (j : ℕ). IsTrue (get_or (set new place true) j false)) (sym (ap (λ n. n * kinds + b) ea ∙ ap (λ n. upper * kinds + n) eb)) here)
+                        subst (λ (j : ℕ). IsTrue (get_or (set new cell true) j false)) (sym (ap (λ n. n * kinds + b) ea ∙ ap (λ n. upper * kinds + n) eb)) here)
                     | inr differ ↦ inl (parent_below vertices first u x u_in (below_from vertices first u x differ at))
                   ])
               | inr marked ↦ inr (λ a b has_a has_b. keep (a * kinds + b) (marked a b has_a has_b))

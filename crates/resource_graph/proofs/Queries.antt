@@ -1,5 +1,5 @@
 -- From the tables to what the queries answer.
-use Rattle.std.proofs.Common.{◌≡◌, ℕ, ◌<◌, ◌≤◌, Bool, true, false, List, length, get_or, Option, Some, None, refl, sym, subst, arith, ltb, IsTrue, MatchOption, true≢false}
+use Rattle.std.proofs.Common.{◌≡◌, ℕ, ◌<◌, ◌≤◌, false, List, length, get_or, Option, Some, None, refl, sym, subst, arith, ltb, MatchOption}
 use Rattle.std.specs.Prelude.{slice_get}
 use Rattle.std.specs.Option.{IsSomeAnd}
 use Rattle.std.proofs.lemmas.Bool.{false_from_ne_true, lt-ltb, ltb-true}
@@ -9,15 +9,10 @@ use Rattle.flux_defs.specs.Graph.{ResourceGraph, is_below, HasKind}
 use Rattle.flux_defs.specs.ValidGraph.{IsValidGraph, StandsInPreorder}
 use Rattle.graph_laws.proofs.Containment.{ParentsFirst, below_le, below_from, below_to}
 use Rattle.graph_laws.proofs.Preorder.{parents_first, has_parent}
+use Rattle.list_laws.proofs.Tests.{same_tests}
 use Rattle.resource_graph.specs.Lines.{line_of, KnowsParents}
 use Rattle.resource_graph.specs.Preorder.{InPreorder}
 use Rattle.resource_graph.specs.Tables.{IsPast, IsNextOfKind, HasNoneOfKind, IsNextIn, HasNoneIn, ListsKind}
-
-pub same_tests : (a b : Bool) → (IsTrue a → IsTrue b) → (IsTrue b → IsTrue a) → a ≡ b
-same_tests true true f g = refl
-same_tests true false f g = absurd (true≢false (sym (f refl)))
-same_tests false true f g = absurd (true≢false (sym (g refl)))
-same_tests false false f g = refl
 
 module _ (vertices : List Vertex) (first : ParentsFirst vertices) where
   -- nothing is below a vertex that does not stand before it

@@ -4,9 +4,9 @@ use Rattle.std.specs.Ordering.{nat_cmp}
 use Rattle.std.specs.BTreeMap.{BTreeMap, get}
 use Rattle.std.specs.declared.alloc.Global.{Global}
 use Rattle.flux_defs.specs.declared.vertices.Vertex.{Vertex}
-use Rattle.flux_defs.specs.Graph.{is_pool_kind, is_below, HasKind}
+use Rattle.flux_defs.specs.Graph.{is_pool_kind, is_below, HasKind, Contains}
 use Rattle.resource_graph.specs.Preorder.{plain}
-use Rattle.resource_graph.specs.Tables.{IsPast, IsNodeOf, IsRanked, Nests, ListsKind}
+use Rattle.resource_graph.specs.Tables.{IsPast, IsNodeOf, IsRanked, ListsKind}
 
 -- by vertex, the number after the last vertex at or below it
 pub record HasPasts (vertices : List Vertex) (past : List ℕ) : Type 0 where
@@ -34,7 +34,7 @@ HasPools vertices pools = (k : ℕ) → slice_index_or pools k false ≡ is_pool
 -- by two types, row by row, whether the first contains the second
 pub record HasNested (vertices : List Vertex) (kinds : ℕ) (nested : List Bool) : Type 0 where
   pub as_many : length nested ≡ kinds * kinds
-  pub each : (upper lower : ℕ) → upper < kinds → lower < kinds → (IsTrue (slice_index_or nested (upper * kinds + lower) false) ↔ Nests vertices upper lower)
+  pub each : (upper lower : ℕ) → upper < kinds → lower < kinds → (IsTrue (slice_index_or nested (upper * kinds + lower) false) ↔ Contains vertices (HasKind vertices upper) (HasKind vertices lower))
 
 -- the numbers from 1 to the count
 pub record CountsUp (numbers : List ℕ) (count : ℕ) : Type 0 where

@@ -1,5 +1,7 @@
 -- What the queries of a graph answer, and what its tables hold.
-use Rattle.std.specs.Prelude.{◌≡◌, ◌≢◌, ℕ, ◌<◌, ◌≤◌, List, length, Option, Some, MatchOption, [], option_and_then, unwrap_or, slice_get, slice_index, IsTrue}
+use Rattle.std.specs.Prelude.{◌≡◌, ◌≢◌, ℕ, ◌<◌, ◌≤◌, Bool, false, ◌&&◌, ◌==◌, List, length, Option, Some, MatchOption, [], option_and_then, unwrap_or, slice_get, slice_index, IsTrue}
+use Rattle.std.specs.List.{list_any, range_with_len}
+use Rattle.std.specs.Option.{option_map_or}
 use Rattle.std.specs.List.Sorted.{IsStrictlyIncreasing}
 use Rattle.flux_defs.specs.declared.vertices.Vertex.{Vertex}
 use Rattle.flux_defs.specs.Graph.{ResourceGraph, is_at_or_below, is_below, HasKind, IsNode}
@@ -34,9 +36,15 @@ name_at g v = unwrap_or (slice_get g.names v) []
 abbrev pub IsNamedKind : ResourceGraph → List ℕ → Option ℕ → Type 0
 IsNamedKind g name found = MatchOption found ((k : ℕ) → slice_get g.kinds k ≢ Some name) (λ k. slice_get g.kinds k ≡ Some name)
 
--- some vertex of the lower kind is below some vertex of the upper one
-abbrev pub Nests : List Vertex → ℕ → ℕ → Type 0
-Nests vertices upper lower = (u : ℕ) × (v : ℕ) × HasKind vertices upper u × HasKind vertices lower v × IsTrue (is_below vertices v u)
+-- whether v is a vertex of this kind
+abbrev pub has_kind : List Vertex → ℕ → ℕ → Bool
+has_kind vertices kind v = option_map_or (λ x. x.kind == kind) (slice_get vertices v) false
+
+-- whether some vertex of the lower kind is below some vertex of the upper one
+abbrev pub contains_kind : List Vertex → ℕ → ℕ → Bool
+contains_kind vertices upper lower =
+    list_any (λ u. list_any (λ v. has_kind vertices upper u && (has_kind vertices lower v && is_below vertices v u))
+    (range_with_len 0 (length vertices))) (range_with_len 0 (length vertices))
 
 -- v is the least vertex of the kind from `from` on and before `to`
 pub record IsNextOfKind (vertices : List Vertex) (kind from to v : ℕ) : Type 0 where
@@ -48,12 +56,6 @@ pub record IsNextOfKind (vertices : List Vertex) (kind from to v : ℕ) : Type 0
 -- no vertex of the kind stands from `from` on and before `to`
 abbrev pub HasNoneOfKind : List Vertex → ℕ → ℕ → ℕ → Type 0
 HasNoneOfKind vertices kind from to = (u : ℕ) → HasKind vertices kind u → from ≤ u → u < to → ⊥
-
--- the numbers before the place are less than `from`, and those from it on are not
-pub record IsPlaceOf (list : List ℕ) (from place : ℕ) : Type 0 where
-  pub within : place ≤ length list
-  pub before : (i : ℕ) → i < place → slice_index list i < from
-  pub after : (i : ℕ) → place ≤ i → i < length list → from ≤ slice_index list i
 
 -- v is the least number of the list from `from` on and before `to`
 pub record IsNextIn (list : List ℕ) (from to v : ℕ) : Type 0 where
@@ -72,8 +74,8 @@ pub record ListsKind (vertices : List Vertex) (kind : ℕ) (list : List ℕ) : T
   pub all : (v : ℕ) → HasKind vertices kind v → (i : ℕ) × (i < length list) × (slice_index list i ≡ v)
   pub rising : IsStrictlyIncreasing list
 
--- the first place of the text, and none exactly where it stands at no place
-abbrev pub IsFirstPlace : List (List ℕ) → List ℕ → Option ℕ → Type 0
-IsFirstPlace texts wanted found =
+-- the first index of the text, and none exactly where it stands at no index
+abbrev pub IsFirstIndex : List (List ℕ) → List ℕ → Option ℕ → Type 0
+IsFirstIndex texts wanted found =
     MatchOption found ((k : ℕ) → slice_get texts k ≢ Some wanted)
     (λ k. (slice_get texts k ≡ Some wanted) × ((j : ℕ) → j < k → slice_get texts j ≢ Some wanted))

@@ -1,21 +1,21 @@
 //! The graph and its queries.
-ghost use Rattle.std.specs.Prelude.{◌≡◌, ℕ, ◌<◌, ◌≤◌, ◌↔◌, IsTrue, IfOk, length, reverse, slice_get, MatchOption};
+ghost use Rattle.std.specs.Prelude.{◌≡◌, ℕ, ◌<◌, ◌≤◌, IfOk, length, reverse, slice_get, MatchOption};
 ghost use Rattle.std.specs.Option.{option_copied};
 ghost use Rattle.std.specs.List.{flat_map};
 ghost use Rattle.flux_defs.specs.Graph.{is_below, is_pool_kind};
 ghost use Rattle.resource_graph.specs.Lines.{AllBelow};
 ghost use Rattle.resource_graph.specs.NamedGraph.{IsWhole, name_step, path_text};
 ghost use Rattle.resource_graph.specs.Made.{named_graph};
-ghost use Rattle.resource_graph.specs.Tables.{IsPast, IsNodeOf, IsRanked, IsNamedKind, Nests, IsNextOfKind, HasNoneOfKind, IsNextIn, HasNoneIn, IsFirstPlace, rank_at, name_at};
+ghost use Rattle.resource_graph.specs.Tables.{IsPast, IsNodeOf, IsRanked, IsNamedKind, contains_kind, IsNextOfKind, HasNoneOfKind, IsNextIn, HasNoneIn, IsFirstIndex, rank_at, name_at};
 ghost use Rattle.std.specs.List.Sorted.{IsStrictlyIncreasing};
 
 use crate::lines::line_up;
-use crate::rising::place_of;
 use crate::tables::{list_table, nested_table, node_table, past_table, pool_table, rank_table};
 use flux_defs::{List, Text, Vertex};
 use std::alloc::{AllocError, Global};
 use std::collections::BTreeMap;
 use std::marker::Model;
+use text_forms::index_of;
 
 /// A valid resource graph: vertices in preorder, with their texts. Contracts see its types and vertices, and by the
 /// vertex's number its name, basename, unit and properties.
@@ -122,7 +122,7 @@ impl Graph {
     pub fn kind_of(&self, name: &[u8]) -> Option<u32>
         ensures { IsNamedKind self.now.resources name.now result }
     {
-        let kind = text_at(self.kinds.items(), name)?;
+        let kind = index_of_text(self.kinds.items(), name)?;
         Some(kind as u32)
     }
 
@@ -142,7 +142,7 @@ impl Graph {
 
     /// Whether some vertex of the lower type is below some vertex of the upper one.
     pub fn nests(&self, upper: u32, lower: u32) -> bool
-        ensures { IsTrue result ↔ Nests self.now.resources.vertices upper lower }
+        ensures { result ≡ contains_kind self.now.resources.vertices upper lower }
     {
         let kinds = self.kinds.len();
         if upper as usize >= kinds || lower as usize >= kinds {
@@ -268,13 +268,13 @@ fn path_along(alloc: Global, names: &[Text], line: &[u32]) -> Result<Text, Alloc
     Ok(Text::of_vec(path))
 }
 
-/// The first place of the text.
-pub fn text_at(texts: &[Text], wanted: &[u8]) -> Option<usize>
-    ensures found { IsFirstPlace texts.now wanted.now result }
+/// The first index of the text.
+pub fn index_of_text(texts: &[Text], wanted: &[u8]) -> Option<usize>
+    ensures found { IsFirstIndex texts.now wanted.now result }
 {
-    for (place, text) in texts.iter().enumerate() {
+    for (index, text) in texts.iter().enumerate() {
         if text.bytes() == wanted {
-            return Some(place);
+            return Some(index);
         }
     }
     None
@@ -285,11 +285,11 @@ fn next_in(list: &[u32], from: u32, to: u32) -> Option<u32>
     requires { IsStrictlyIncreasing list.now }
     ensures { MatchOption result (HasNoneIn list.now from to) (λ v. IsNextIn list.now from to v) }
 {
-    let place = place_of(list, from);
-    if place >= list.len() {
+    let index = index_of(list, from);
+    if index >= list.len() {
         return None;
     }
-    let v = list[place];
+    let v = list[index];
     if v >= to {
         return None;
     }

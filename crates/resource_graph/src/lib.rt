@@ -3,7 +3,6 @@
 
 pub mod graph;
 pub mod lines;
-pub mod rising;
 pub mod tables;
 
 pub use graph::{Graph, Texts};

@@ -167,12 +167,12 @@ fn mark_above(vertices: &[Vertex], kinds: usize, v: usize, nested: &mut Vec<bool
     }
 }
 
-/// Where a pair of types stands in a table of rows.
+/// The index of a pair of types in a table with a row for each upper one.
 fn cell_of(kinds: usize, upper: usize, lower: usize) -> usize
     requires few { kinds ≤ 256 }
     requires upper_in { upper < kinds }
     requires lower_in { lower < kinds }
-    ensures place { result ≡ upper * kinds + lower }
+    ensures index { result ≡ upper * kinds + lower }
     ensures within { result < kinds * kinds }
 {
     upper * kinds + lower

@@ -8,9 +8,9 @@ use Rattle.std.specs.declared.alloc.Global.{Global}
 abbrev pub texts_of : List (Vec ℕ Global) → List (List ℕ)
 texts_of = map (λ v. v.items)
 
--- the text's place, or, where it is not among them, the place past the last
-abbrev pub place_of : List (List ℕ) → List ℕ → ℕ
-place_of texts text = position_or_len (bytes_eq text) texts
+-- the text's index, or, where it is not among them, the one past the last
+abbrev pub index_of : List (List ℕ) → List ℕ → ℕ
+index_of texts text = position_or_len (bytes_eq text) texts
 
 -- the texts with one more at the end, unless it is among them
 abbrev pub with_text : List (List ℕ) → List ℕ → List (List ℕ)

@@ -1,14 +1,14 @@
 //! Texts, numbered in the order in which they were first seen.
 ghost use Rattle.std.specs.Prelude.{◌≡◌, ◌≤◌, [], length, position, slice_get, option_map, IfOk, OnOk, OnErr};
 ghost use Rattle.std.specs.Str.{bytes_eq};
-ghost use Rattle.text_table.specs.Tables.{place_of, texts_of, with_text};
+ghost use Rattle.text_table.specs.Tables.{index_of, texts_of, with_text};
 
 use indexmap::IndexSet;
 use std::alloc::{AllocError, Global};
 use std::marker::Model;
 
 /// Texts, none twice. Contracts see the list of them, in the order in which they were added; a text's number is its
-/// place there, from 0.
+/// index there, from 0.
 #[derive(Drop)]
 pub struct TextTable {
     set: IndexSet<Vec<u8>>,
@@ -52,7 +52,7 @@ impl TextTable {
     /// Adds the text where it is not there yet, and answers its number. A text that is there takes no memory.
     pub fn add(&mut self, alloc: Global, text: &[u8]) -> Result<usize, AllocError>
         ensures ok { OnOk result (self.new ≡ with_text self.old text.now) }
-        ensures number { IfOk result (λ number. number ≡ place_of self.old text.now) }
+        ensures number { IfOk result (λ number. number ≡ index_of self.old text.now) }
         ensures err { OnErr result (self.new ≡ self.old) }
     {
         if let Some(number) = self.number_of(text) {
@@ -70,8 +70,8 @@ impl TextTable {
     }
 
     /// The text's number, or, where it is not there, the number that it would get.
-    pub fn place_of(&self, text: &[u8]) -> usize
-        ensures place { result ≡ place_of self.now text.now }
+    pub fn index_of(&self, text: &[u8]) -> usize
+        ensures index { result ≡ index_of self.now text.now }
         ensures within { result ≤ length self.now }
     {
         match self.number_of(text) {

@@ -1,7 +1,7 @@
 use Rattle.std.proofs.Common.{◌≡◌, List, [], ◌∷◌, ◌++◌, Option, None, OnOk, IfErr, refl, sym, ◌∙◌, ap, subst}
 use Rattle.flux_defs.specs.declared.requests.Need.{Need}
 use Rattle.flux_defs.specs.Graph.{is_pool_kind}
-use Rattle.text_table.specs.Tables.{place_of}
+use Rattle.text_table.specs.Tables.{index_of}
 use Rattle.need_shape.specs.declared.raw.RawNeed.{out-RawNeed}
 use Rattle.need_shape.specs.declared.raw.ShapeFault.{ShapeFault}
 use Rattle.need_shape.specs.Requests.{is_slot}
@@ -30,7 +30,7 @@ add_member-returns-then-is_slot-clause-told t c =
 pub shape_type-returns-then-is_pool-clause-told : goal.shape_type-returns-then-is_pool-clause-told
 shape_type-returns-then-is_pool-clause-told t c =
     let types = types_at c.args.graph.now c.args.table.now in
-    let pool = ap (λ k. is_pool_kind types.vertices (place_of types.names k)) (sym c.bytes.ensures) ∙ (ap (is_pool_kind types.vertices) (sym c.number_of-kind.ensures) ∙ (sym c.is_pool.ensures ∙ c.if-is_pool.true)) in
+    let pool = ap (λ k. is_pool_kind types.vertices (index_of types.names k)) (sym c.bytes.ensures) ∙ (ap (is_pool_kind types.vertices) (sym c.number_of-kind.ensures) ∙ (sym c.is_pool.ensures ∙ c.if-is_pool.true)) in
     pool_told types c.args.within c.args.raw.now c.shape_pool.result pool c.shape_pool.ensures.told
 
 pub add_member-returns-in_ok-push_need-in-Ok-clause-ok : goal.add_member-returns-in_ok-push_need-in-Ok-clause-ok
@@ -51,22 +51,22 @@ add_member-returns-in-Err-clause-told t c =
 pub shape_type-returns-in-Ok-clause-need : goal.shape_type-returns-in-Ok-clause-need
 shape_type-returns-in-Ok-clause-need t c =
     let types = types_at c.args.graph.now c.args.table.now in
-    let pool = ap (λ k. is_pool_kind types.vertices (place_of types.names k)) (sym c.bytes.ensures) ∙ (ap (is_pool_kind types.vertices) (sym c.number_of-kind.ensures) ∙ (sym c.is_pool.ensures ∙ c.if-is_pool.false)) in
+    let pool = ap (λ k. is_pool_kind types.vertices (index_of types.names k)) (sym c.bytes.ensures) ∙ (ap (is_pool_kind types.vertices) (sym c.number_of-kind.ensures) ∙ (sym c.is_pool.ensures ∙ c.if-is_pool.false)) in
     let inside = c.in_type-inside.ensures ∙ ap (in_type types c.args.within) c.bytes-2.ensures in
-    vert_need types c.args.within c.args.raw.now c.number_of-kind.result c.unwrap_or.result c.in-Ok.needs pool (c.number_of-kind.ensures ∙ ap (place_of types.names) c.bytes.ensures) c.unwrap_or.ensures
+    vert_need types c.args.within c.args.raw.now c.number_of-kind.result c.unwrap_or.result c.in-Ok.needs pool (c.number_of-kind.ensures ∙ ap (index_of types.names) c.bytes.ensures) c.unwrap_or.ensures
     (c.in-Ok.ensures.needs ∙ ap (λ w. needs_in types w (out-RawNeed c.args.raw.now).with) inside)
 
 pub shape_type-returns-in-Ok-clause-fine : goal.shape_type-returns-in-Ok-clause-fine
 shape_type-returns-in-Ok-clause-fine t c = λ _.
     let types = types_at c.args.graph.now c.args.table.now in
-    let pool = ap (λ k. is_pool_kind types.vertices (place_of types.names k)) (sym c.bytes.ensures) ∙ (ap (is_pool_kind types.vertices) (sym c.number_of-kind.ensures) ∙ (sym c.is_pool.ensures ∙ c.if-is_pool.false)) in
+    let pool = ap (λ k. is_pool_kind types.vertices (index_of types.names k)) (sym c.bytes.ensures) ∙ (ap (is_pool_kind types.vertices) (sym c.number_of-kind.ensures) ∙ (sym c.is_pool.ensures ∙ c.if-is_pool.false)) in
     let inside = c.in_type-inside.ensures ∙ ap (in_type types c.args.within) c.bytes-2.ensures in
     sym (vert_fault types c.args.within c.args.raw.now pool) ∙ (ap (λ w. list_fault types w (out-RawNeed c.args.raw.now).with) (sym inside) ∙ c.in-Ok.ensures.fine refl)
 
 pub shape_type-returns-in-Err-clause-told : goal.shape_type-returns-in-Err-clause-told
 shape_type-returns-in-Err-clause-told t c =
     let types = types_at c.args.graph.now c.args.table.now in
-    let pool = ap (λ k. is_pool_kind types.vertices (place_of types.names k)) (sym c.bytes.ensures) ∙ (ap (is_pool_kind types.vertices) (sym c.number_of-kind.ensures) ∙ (sym c.is_pool.ensures ∙ c.if-is_pool.false)) in
+    let pool = ap (λ k. is_pool_kind types.vertices (index_of types.names k)) (sym c.bytes.ensures) ∙ (ap (is_pool_kind types.vertices) (sym c.number_of-kind.ensures) ∙ (sym c.is_pool.ensures ∙ c.if-is_pool.false)) in
     let inside = c.in_type-inside.ensures ∙ ap (in_type types c.args.within) c.bytes-2.ensures in
     subst (λ (o : Option ShapeFault). IsFirstFault o c.in-Err.fault)
     (ap (λ w. list_fault types w (out-RawNeed c.args.raw.now).with) inside ∙ vert_fault types c.args.within c.args.raw.now pool) c.in-Err.ensures.told

@@ -7,7 +7,7 @@ use Rattle.std.proofs.lemmas.Option.{slice_get_read, slice_get-get_or}
 use Rattle.resource_graph.specs.NamedGraph.{name_step}
 use Rattle.resource_graph.proofs.graph.path_along.Goals as goal
 
--- the step of the vertex at a place stands before those of the vertices after it
+-- the step of the vertex at an index stands before those of the vertices after it
 path_more : (names : List (List ℕ)) (line : List ℕ) (left : ℕ) (path name after : List ℕ) → 0 < left → left ≤ length line →
     path ≡ flat_map (name_step names) (reverse (drop left line)) → get_or line (left - 1) 0 < length names →
     name ≡ get_or names (get_or line (left - 1) 0) name → after ≡ (path ++ 47 ∷ []) ++ name →

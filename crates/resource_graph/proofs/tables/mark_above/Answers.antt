@@ -47,7 +47,7 @@ loop-above-preserved c =
     let marks : Marks vertices c.args.kinds v (Some u) old c.loop-above.nested.items = subst (λ (o : Option ℕ). Marks vertices c.args.kinds v o old c.loop-above.nested.items) c.in-Some.is c.loop-above.invariant in
     let more = marks_more vertices c.requires.order c.args.kinds c.requires.known v u old c.loop-above.nested.items c.requires.within c.requires.whole marks in
     subst (λ (o : Option ℕ). Marks vertices c.args.kinds v o old (set c.loop-above.nested.items c.cell_of-cell.result true)) (sym (parent_at vertices u no_vertex within))
-    (subst (λ (i : ℕ). Marks vertices c.args.kinds v (parent_of vertices u) old (set c.loop-above.nested.items i true)) (sym c.cell_of-cell.ensures.place) more)
+    (subst (λ (i : ℕ). Marks vertices c.args.kinds v (parent_of vertices u) old (set c.loop-above.nested.items i true)) (sym c.cell_of-cell.ensures.index) more)
 
 pub returns : goal.returns
 returns c = marks_all c.args.vertices.now c.requires.order c.args.kinds c.requires.known c.args.v c.loop-above.above c.args.nested.now.items c.loop-above.nested.items c.in_default.not-Some c.loop-above.invariant

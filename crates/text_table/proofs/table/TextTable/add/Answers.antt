@@ -1,6 +1,6 @@
 use Rattle.std.proofs.Common.{ℕ, List, ap, sym, ◌∙◌}
-use Rattle.text_table.specs.Tables.{texts_of, with_text, place_of}
-use Rattle.text_table.proofs.Texts.{texts-added, place-texts, found_text}
+use Rattle.text_table.specs.Tables.{texts_of, with_text, index_of}
+use Rattle.text_table.proofs.Texts.{texts-added, index-texts, found_text}
 use Rattle.text_table.proofs.table.TextTable.add.Goals as goal
 
 pub returns-clause-ok : goal.returns-clause-ok
@@ -10,8 +10,8 @@ returns-clause-ok c = ap texts_of c.in_ok-number.ensures.keys
 
 pub returns-clause-number : goal.returns-clause-number
 returns-clause-number c = c.in_ok-number.ensures.index
-    ∙ (place-texts c.in_ok-from_slice.field-0.items c.self.inside.set.keys
-    ∙ (ap (λ (t : List ℕ). place_of (texts_of c.self.inside.set.keys) t) c.in_ok-from_slice.ensures.items ∙ ap (λ (ts : List (List ℕ)). place_of ts c.args.text.now) c.self.view_is))
+    ∙ (index-texts c.in_ok-from_slice.field-0.items c.self.inside.set.keys
+    ∙ (ap (λ (t : List ℕ). index_of (texts_of c.self.inside.set.keys) t) c.in_ok-from_slice.ensures.items ∙ ap (λ (ts : List (List ℕ)). index_of ts c.args.text.now) c.self.view_is))
 
 pub returns-in-Some-clause-ok : goal.returns-in-Some-clause-ok
 returns-in-Some-clause-ok c =
