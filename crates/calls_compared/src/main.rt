@@ -26,7 +26,7 @@ pub struct Differing {
 
 /// What all calls answered.
 #[derive(Clone, Copy)]
-struct Played {
+struct Answers {
     lent: [Option<u64>; 4],
     parts: (u64, u64),
     items: [Option<u64>; 3],
@@ -35,13 +35,13 @@ struct Played {
     tables: Differing,
 }
 
-fn played<L: Ledger>(alloc: Global, blank: Blank) -> Result<Played, AllocError>
+fn played<L: Ledger>(alloc: Global, blank: Blank) -> Result<Answers, AllocError>
     requires name { blank.name ≡ L.name }
     requires parts { blank.parts ≡ L.parts }
     requires some { 0 < blank.parts }
 {
     let mut steps: Steps<L> = Steps::new(blank);
-    Ok(Played {
+    Ok(Answers {
         lent: nodes::lent(alloc)?,
         parts: nodes::parts()?,
         items: pages::told(alloc, &mut steps)?,
@@ -56,7 +56,9 @@ fn main(rt: HostRuntime) -> io::Result<()> {
         return println!(rt; "no memory");
     };
     let [held, new, kept, stored] = told.lent;
-    println!(rt; "a node that two hold: {held:?}; the new one {new:?}, the old one {kept:?}, then {stored:?}")?;
+    println!(rt;
+        "a node that two hold: {held:?}; the new one {new:?}, the old one {kept:?}, then {stored:?}"
+    )?;
     let (differing, emptied) = told.parts;
     println!(rt; "sixteen parts: {differing} differ, the emptied one holds {emptied}")?;
     let [new, old, past] = told.items;
@@ -66,6 +68,8 @@ fn main(rt: HostRuntime) -> io::Result<()> {
     let Differing { now, old } = told.pages;
     println!(rt; "lists: {now} items differ after 1000 changes, {old} of the list of 700 changes")?;
     let Differing { now, old } = told.tables;
-    println!(rt; "tables: {now} rows differ after 1000 changes, {old} of the table of 700 changes")?;
+    println!(rt;
+        "tables: {now} rows differ after 1000 changes, {old} of the table of 700 changes"
+    )?;
     Ok(())
 }

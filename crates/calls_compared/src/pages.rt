@@ -61,7 +61,10 @@ pub fn compared<L: Ledger>(alloc: Global, steps: &mut Steps<L>) -> Result<Differ
 }
 
 /// What the lists 10, 20 and 10, 30 hold at 1, of which the second is made of the first, and the second past its end.
-pub fn told<L: Ledger>(alloc: Global, steps: &mut Steps<L>) -> Result<[Option<u64>; 3], AllocError> {
+pub fn told<L: Ledger>(
+    alloc: Global,
+    steps: &mut Steps<L>,
+) -> Result<[Option<u64>; 3], AllocError> {
     let first = with_item(alloc, &Pages::empty(), 0, 10, steps)?;
     let old = with_item(alloc, &first, 1, 20, steps)?;
     let new = with_item(alloc, &old, 1, 30, steps)?;

@@ -1,6 +1,7 @@
 //! Random numbers that are the same in each run.
 
 /// A source of numbers.
+#[derive(Drop)]
 pub struct Seed {
     state: u64,
 }

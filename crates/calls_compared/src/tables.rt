@@ -84,7 +84,10 @@ pub fn compared<L: Ledger>(alloc: Global, steps: &mut Steps<L>) -> Result<Differ
 }
 
 /// The rows of 7 and of 8 after 7 was accepted by entry 0 and then cancelled, and that of 7 in the table before that.
-pub fn told<L: Ledger>(alloc: Global, steps: &mut Steps<L>) -> Result<[Option<Row>; 3], AllocError> {
+pub fn told<L: Ledger>(
+    alloc: Global,
+    steps: &mut Steps<L>,
+) -> Result<[Option<Row>; 3], AllocError> {
     let first = changed(alloc, &JobTable::empty(), 7, 0, steps)?;
     let last = changed(alloc, &first, 7, 1, steps)?;
     Ok([
