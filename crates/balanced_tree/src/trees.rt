@@ -209,12 +209,13 @@ impl<E: Share + Drop, M: Measure<E>> Tree<E, M> {
 impl<E: Share + Drop, M: Measure<E>> Tree<E, M> {
     ghost use Rattle.balanced_tree.specs.Sides.{AreSides, DifferByAtMost, Settles};
 
-    /// Takes the two sides out of a tree, or copies of them where another tree holds them too. It takes one step.
+    /// Takes the two sides out of a tree, or copies of them where another tree holds them too, and gives with them a
+    /// node for two other sides. It takes one step.
     fn into_sides<L: Ledger>(
         self,
         alloc: Global,
         steps: &mut Steps<L>,
-    ) -> Result<(Tree<E, M>, Tree<E, M>), AllocError>
+    ) -> Result<(Tree<E, M>, Tree<E, M>, Node<Sides<E, M>>), AllocError>
         requires { 0 < self.1 }
         ensures sides { IfOk result (λ sides. AreSides self sides.0 sides.1) }
         ensures work { steps.new ≡ steps.old + 1 }
@@ -230,7 +231,31 @@ impl<E: Share + Drop, M: Measure<E>> Tree<E, M> {
         };
         let left = mem::replace(&mut sides.left, Tree::empty());
         let right = mem::replace(&mut sides.right, Tree::empty());
-        Ok((left, right))
+        Ok((left, right, node))
+    }
+
+    /// The two trees one after the other, in a node that is there already.
+    fn refork(
+        alloc: Global,
+        mut node: Node<Sides<E, M>>,
+        left: Tree<E, M>,
+        right: Tree<E, M>,
+    ) -> Result<Tree<E, M>, AllocError>
+        requires some_left { 0 < length left.0 }
+        requires some_right { 0 < length right.0 }
+        requires near { DifferByAtMost 1 left.1 right.1 }
+        ensures { IfOk result (λ both. both ≡ (left.0 ++ right.0, max left.1 right.1 + 1)) }
+    {
+        let outline = Tree::outline(&left, &right)?;
+        match node.set(alloc, Sides { left, right }) {
+            Ok(()) => Ok(Tree {
+                height: outline.height,
+                len: outline.len,
+                sum: outline.sum,
+                body: Body::Fork(node),
+            }),
+            Err((_, refused)) => Err(refused),
+        }
     }
 
     /// The two trees one after the other, of which the left is higher by two.
@@ -247,12 +272,12 @@ impl<E: Share + Drop, M: Measure<E>> Tree<E, M> {
         ensures most { IfOk result (λ both. both.1 ≤ left.1 + 1) }
         ensures work { steps.new ≤ steps.old + 2 }
     {
-        let (a, b) = left.into_sides(alloc, steps)?;
+        let (a, b, _) = left.into_sides(alloc, steps)?;
         if a.height() >= b.height() {
             let inner = Tree::fork(alloc, b, right)?;
             return Tree::fork(alloc, a, inner);
         }
-        let (c, d) = b.into_sides(alloc, steps)?;
+        let (c, d, _) = b.into_sides(alloc, steps)?;
         let outer = Tree::fork(alloc, a, c)?;
         let inner = Tree::fork(alloc, d, right)?;
         Tree::fork(alloc, outer, inner)
@@ -272,20 +297,21 @@ impl<E: Share + Drop, M: Measure<E>> Tree<E, M> {
         ensures most { IfOk result (λ both. both.1 ≤ right.1 + 1) }
         ensures work { steps.new ≤ steps.old + 2 }
     {
-        let (a, b) = right.into_sides(alloc, steps)?;
+        let (a, b, _) = right.into_sides(alloc, steps)?;
         if b.height() >= a.height() {
             let inner = Tree::fork(alloc, left, a)?;
             return Tree::fork(alloc, inner, b);
         }
-        let (c, d) = a.into_sides(alloc, steps)?;
+        let (c, d, _) = a.into_sides(alloc, steps)?;
         let inner = Tree::fork(alloc, left, c)?;
         let outer = Tree::fork(alloc, d, b)?;
         Tree::fork(alloc, inner, outer)
     }
 
-    /// The two trees one after the other, in balance, of which one may be empty.
+    /// The two trees one after the other, in balance, of which one may be empty; the node is there for them.
     fn joined<L: Ledger>(
         alloc: Global,
+        node: Node<Sides<E, M>>,
         left: Tree<E, M>,
         right: Tree<E, M>,
         steps: &mut Steps<L>,
@@ -307,7 +333,7 @@ impl<E: Share + Drop, M: Measure<E>> Tree<E, M> {
         } else if l < r && r - l > 1 {
             Tree::lean_right(alloc, left, right, steps)
         } else {
-            Tree::fork(alloc, left, right)
+            Tree::refork(alloc, node, left, right)
         }
     }
 }
@@ -337,8 +363,8 @@ impl<E: Share + Drop, M: Measure<E>> Tree<E, M> {
         }
     }
 
-    /// The tree in the place of an item.
-    fn edited_leaf(alloc: Global, edit: Edit<E>) -> Result<Tree<E, M>, AllocError>
+    /// The tree of what stands in the place of an item. It takes a node where that is two items.
+    pub fn made(alloc: Global, edit: Edit<E>) -> Result<Tree<E, M>, AllocError>
         ensures items { IfOk result (λ tree. tree.0 ≡ made edit) }
         ensures height { IfOk result (λ tree. tree.1 ≤ 1) }
     {
@@ -370,15 +396,15 @@ impl<E: Share + Drop, M: Measure<E>> Tree<E, M> {
         ensures work { steps.new ≤ steps.old + 3 * self.1 }
     {
         if self.height == 0 {
-            return Tree::edited_leaf(alloc, edit);
+            return Tree::made(alloc, edit);
         }
-        let (left, right) = self.into_sides(alloc, steps)?;
+        let (left, right, node) = self.into_sides(alloc, steps)?;
         let middle = left.len();
         if at < middle {
             let left = left.edited(alloc, at, edit, steps)?;
-            return Tree::joined(alloc, left, right, steps);
+            return Tree::joined(alloc, node, left, right, steps);
         }
         let right = right.edited(alloc, at - middle, edit, steps)?;
-        return Tree::joined(alloc, left, right, steps);
+        return Tree::joined(alloc, node, left, right, steps);
     }
 }
