@@ -113,11 +113,12 @@ impl<E: Share + Drop, M: Measure<E>> Tree<E, M> {
         }
     }
 
-    /// The tree of one item. It takes no node.
-    pub fn leaf(item: E) -> Result<Tree<E, M>, AllocError>
-        ensures { IfOk result (λ tree. tree ≡ (item ∷ [], 0)) }
+    /// The tree of one item. It takes no node, and at most one step.
+    pub fn leaf<L: Ledger>(item: E, steps: &mut Steps<L>) -> Result<Tree<E, M>, AllocError>
+        ensures value { IfOk result (λ tree. tree ≡ (item ∷ [], 0)) }
+        ensures work { steps.new ≤ steps.old + 1 }
     {
-        let sum = M::of_item(&item)?;
+        let sum = M::of_item(&item, steps)?;
         Ok(Tree {
             height: 0,
             len: 1,
@@ -364,15 +365,20 @@ impl<E: Share + Drop, M: Measure<E>> Tree<E, M> {
     }
 
     /// The tree of what stands in the place of an item. It takes a node where that is two items.
-    pub fn made(alloc: Global, edit: Edit<E>) -> Result<Tree<E, M>, AllocError>
+    pub fn made<L: Ledger>(
+        alloc: Global,
+        edit: Edit<E>,
+        steps: &mut Steps<L>,
+    ) -> Result<Tree<E, M>, AllocError>
         ensures items { IfOk result (λ tree. tree.0 ≡ made edit) }
         ensures height { IfOk result (λ tree. tree.1 ≤ 1) }
+        ensures work { steps.new ≤ steps.old + 2 }
     {
         match edit {
-            Edit::Put(item) => Tree::leaf(item),
+            Edit::Put(item) => Tree::leaf(item, steps),
             Edit::Pair(first, second) => {
-                let left = Tree::leaf(first)?;
-                let right = Tree::leaf(second)?;
+                let left = Tree::leaf(first, steps)?;
+                let right = Tree::leaf(second, steps)?;
                 Tree::fork(alloc, left, right)
             }
             Edit::Cut => Ok(Tree::empty()),
@@ -393,10 +399,10 @@ impl<E: Share + Drop, M: Measure<E>> Tree<E, M> {
         ensures least { IfOk result (λ tree. self.1 ≤ tree.1 + 1) }
         ensures most { IfOk result (λ tree. tree.1 ≤ self.1 + 1) }
         ensures emptied { IfOk result (λ tree. length tree.0 ≡ 0 → self.1 ≡ 0) }
-        ensures work { steps.new ≤ steps.old + 3 * self.1 }
+        ensures work { steps.new ≤ steps.old + 3 * self.1 + 2 }
     {
         if self.height == 0 {
-            return Tree::made(alloc, edit);
+            return Tree::made(alloc, edit, steps);
         }
         let (left, right, node) = self.into_sides(alloc, steps)?;
         let middle = left.len();
