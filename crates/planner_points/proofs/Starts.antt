@@ -1,9 +1,10 @@
 -- What is free changes only where a span starts or ends, so the first start is the asked moment or one of these.
-use Rattle.std.proofs.Common.{◌≡◌, ℕ, ◌-◌, ◌<◌, ◌≤◌, List, [], ◌∷◌, refl, sym, ◌∙◌, ap, arith, cond, inl, inr, true, false}
+use Rattle.std.proofs.Common.{◌≡◌, ℕ, ◌-◌, ◌<◌, ◌≤◌, List, [], ◌∷◌, min, refl, sym, ◌∙◌, ap, subst, arith, cond, inl, inr, true, false}
 use Rattle.std.proofs.lemmas.Bool.{cases_lt}
 use Rattle.std.proofs.lemmas.Bool.Decides.{nat_tests}
 use Rattle.std.proofs.lemmas.List.Sums.{sum_by-cons}
 use Rattle.flux_defs.specs.declared.claims.Window.{Window}
+use Rattle.flux_defs.specs.Free.{IsLeastIn}
 use Rattle.planner_points.specs.declared.spans.Span.{Span}
 use Rattle.planner_points.specs.Spans.{is_in, used_at, free_at, IsEnd, IsNextEnd, MayStart, IsFirstStart}
 
@@ -102,3 +103,45 @@ module _ (total horizon : ℕ) (spans : List Span) (duration quantity : ℕ) whe
       starts = s;
       least = λ u a h. elim (cases_lt u t) [ inl lt ↦ absurd (none u a lt h) | inr ge ↦ ge ];
     }
+
+-- so much is the least that is free from the one moment up to the other
+pub record IsLeastTo (total : ℕ) (spans : List Span) (from t least : ℕ) : Type 0 where
+  pub each : (m : ℕ) → from ≤ m → m ≤ t → least ≤ free_at total spans m
+  pub reached : (m : ℕ) × (from ≤ m) × (m ≤ t) × (free_at total spans m ≡ least)
+
+module _ (total : ℕ) (spans : List Span) (from : ℕ) where
+  pub least_first : (least : ℕ) → least ≡ free_at total spans from → IsLeastTo total spans from from least
+  least_first least e = record {
+    each = λ m a b. (let s : m ≡ from = omega arith in subst (λ n. least ≤ free_at total spans n) (sym s) (omega arith));
+    reached = (from, omega arith, omega arith, sym e);
+  }
+
+  pub least_next : (t next least free more : ℕ) → from ≤ t → IsLeastTo total spans from t least → IsNextEnd spans t next →
+      free ≡ free_at total spans next → more ≡ min least free → IsLeastTo total spans from next more
+  least_next t next least free more le is end e f = record {
+    each = λ m a b. elim (cases_lt t m) [
+      | inr early ↦ (let l = is.each m a early in omega arith)
+      | inl late ↦ elim (cases_lt m next) [
+        | inl lt ↦ (let s = same_free total spans t m (omega arith) (λ u x y z. absurd (let l = end.least u x z in omega arith)) in
+            let l = is.each t le (omega arith) in omega arith)
+        | inr ge ↦ (let s : m ≡ next = omega arith in
+            subst (λ n. more ≤ free_at total spans n) (sym s) (omega arith))
+      ]
+    ];
+    reached = elim (cases_lt free least) [
+      | inl less ↦ (let l = end.later in (next, omega arith, omega arith, sym e ∙ omega arith))
+      | inr most ↦ (let l = end.later in
+          (is.reached.0, is.reached.1, (let r = is.reached.2 in omega arith), is.reached.3 ∙ omega arith))
+    ];
+  }
+
+  pub least_last : (t to least : ℕ) → from ≤ t → t < to → IsLeastTo total spans from t least →
+      ((e : ℕ) → t < e → e < to → IsEnd spans e → ⊥) → IsLeastIn (record { from = from; to = to }) (λ m. free_at total spans m) least
+  least_last t to least le lt is none = record {
+    each = λ m a b. elim (cases_lt t m) [
+      | inr early ↦ is.each m a early
+      | inl late ↦ (let s = same_free total spans t m (omega arith) (λ u x y z. none u x (omega arith) z) in
+          let l = is.each t le (omega arith) in omega arith)
+    ];
+    reached = (is.reached.0, is.reached.1, (let r = is.reached.2 in omega arith), is.reached.3);
+  }

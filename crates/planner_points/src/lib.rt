@@ -5,7 +5,9 @@
 #![tactic(auto)]
 
 mod planners;
+mod span_list;
 mod spans;
 
 pub use planners::Planner;
+pub use span_list::SpanList;
 pub use spans::Span;
