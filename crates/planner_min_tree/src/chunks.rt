@@ -56,11 +56,18 @@ pub fn copied<const N: usize>(points: &[Point]) -> Result<ArrayVec<Point, N>, Al
 }
 
 impl Chunk {
-    /// A node of these points.
-    pub fn of(alloc: Global, points: &[Point]) -> Result<Chunk, AllocError>
+    /// A node of copies of these points.
+    pub fn copied(alloc: Global, points: &[Point]) -> Result<Chunk, AllocError>
         ensures { IfOk result (λ chunk. chunk ≡ points.now) }
     {
         let points = copied(points)?;
+        Chunk::of(alloc, points)
+    }
+
+    /// A node of these points.
+    pub fn of(alloc: Global, points: ArrayVec<Point, 8>) -> Result<Chunk, AllocError>
+        ensures { IfOk result (λ chunk. chunk ≡ points.items) }
+    {
         match Node::new(alloc, Block { points }) {
             Ok(node) => Ok(Chunk { node }),
             Err((_, refused)) => Err(refused),

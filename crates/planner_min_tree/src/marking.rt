@@ -52,7 +52,11 @@ fn added_to(old: Point, mark: Mark) -> Result<Point, AllocError>
 }
 
 /// A new point at its place. A full array is answered as want of memory.
-fn put_fresh(points: &mut ArrayVec<Point, 10>, at: usize, mark: Mark) -> Result<(), AllocError>
+fn put_fresh<const N: usize>(
+    points: &mut ArrayVec<Point, N>,
+    at: usize,
+    mark: Mark,
+) -> Result<(), AllocError>
     requires { at ≤ array_vec_len points.old }
     ensures { IfOk result (λ _. points.new.items ≡ insert points.old.items at (fresh mark)) }
 {
@@ -73,7 +77,7 @@ fn put_fresh(points: &mut ArrayVec<Point, 10>, at: usize, mark: Mark) -> Result<
 
 /// One end of a span more.
 #[tactic(auto, using(crate::proofs::ArrayLaws::mark_facts))]
-fn add_mark(points: &mut ArrayVec<Point, 10>, mark: Mark) -> Result<(), AllocError>
+fn add_mark<const N: usize>(points: &mut ArrayVec<Point, N>, mark: Mark) -> Result<(), AllocError>
     ensures { IfOk result (λ _. points.new.items ≡ marked mark points.old.items) }
 {
     let at = count_before(points.as_slice(), mark.time);
@@ -95,7 +99,7 @@ fn add_mark(points: &mut ArrayVec<Point, 10>, mark: Mark) -> Result<(), AllocErr
 
 /// One end of a span less.
 #[tactic(auto, using(crate::proofs::ArrayLaws::unmark_facts))]
-fn remove_mark(points: &mut ArrayVec<Point, 10>, mark: Mark)
+fn remove_mark<const N: usize>(points: &mut ArrayVec<Point, N>, mark: Mark)
     ensures { points.new.items ≡ unmarked mark points.old.items }
 {
     let at = count_before(points.as_slice(), mark.time);
@@ -130,7 +134,7 @@ impl Change {
     }
 
     /// Makes the change of a few points.
-    fn apply(self, points: &mut ArrayVec<Point, 10>) -> Result<(), AllocError>
+    fn apply<const N: usize>(self, points: &mut ArrayVec<Point, N>) -> Result<(), AllocError>
         ensures { IfOk result (λ _. points.new.items ≡ changed self points.old.items) }
     {
         match self {
@@ -143,26 +147,71 @@ impl Change {
     }
 }
 
-/// What stands in the place of a chunk: no chunk, one, or two of about the same length.
-#[tactic(auto, using(crate::proofs::ChunkLaws::made_facts))]
-fn edit_of(alloc: Global, points: &[Point]) -> Result<Edit<Chunk>, AllocError>
-    ensures items { IfOk result (λ edit. flat (made edit) ≡ points.now) }
+/// What stands in the place of a chunk of so few points: that chunk, or none.
+fn put_few(alloc: Global, points: ArrayVec<Point, 8>) -> Result<Edit<Chunk>, AllocError>
+    ensures items { IfOk result (λ edit. flat (made edit) ≡ points.items) }
     ensures filled { IfOk result (λ edit. AreFilled (made edit)) }
 {
     if points.is_empty() {
         return Ok(Edit::Cut);
     }
+    let chunk = Chunk::of(alloc, points)?;
+    Ok(Edit::Put(chunk))
+}
+
+/// What stands in the place of a chunk: as `put_few`, or two chunks of about the same length.
+fn put_many(alloc: Global, points: &[Point]) -> Result<Edit<Chunk>, AllocError>
+    ensures items { IfOk result (λ edit. flat (made edit) ≡ points.now) }
+    ensures filled { IfOk result (λ edit. AreFilled (made edit)) }
+{
     if points.len() <= 8 {
-        let chunk = Chunk::of(alloc, points)?;
-        return Ok(Edit::Put(chunk));
+        let few = copied(points)?;
+        return put_few(alloc, few);
     }
     let (front, back) = points.split_at(points.len() / 2);
-    let first = Chunk::of(alloc, front)?;
-    let second = Chunk::of(alloc, back)?;
+    let first = Chunk::copied(alloc, front)?;
+    let second = Chunk::copied(alloc, back)?;
     Ok(Edit::Pair(first, second))
 }
 
-/// The points of a tree without sides after two changes, which are both made in one array.
+/// What stands in the place of a chunk after a change of its points.
+fn changed(alloc: Global, points: &[Point], change: Change) -> Result<Edit<Chunk>, AllocError>
+    ensures items { IfOk result (λ edit. flat (made edit) ≡ changed change points.now) }
+    ensures filled { IfOk result (λ edit. AreFilled (made edit)) }
+{
+    if points.len() < 8 {
+        let mut few = copied::<8>(points)?;
+        change.apply(&mut few)?;
+        return put_few(alloc, few);
+    }
+    let mut many = copied::<10>(points)?;
+    change.apply(&mut many)?;
+    put_many(alloc, many.as_slice())
+}
+
+/// What stands in the place of a chunk after two changes of its points, which are both made in one array.
+fn changed_twice(
+    alloc: Global,
+    points: &[Point],
+    first: Change,
+    second: Change,
+) -> Result<Edit<Chunk>, AllocError>
+    ensures items { IfOk result (λ edit. flat (made edit) ≡ changed second (changed first points.now)) }
+    ensures filled { IfOk result (λ edit. AreFilled (made edit)) }
+{
+    if points.len() < 7 {
+        let mut few = copied::<8>(points)?;
+        first.apply(&mut few)?;
+        second.apply(&mut few)?;
+        return put_few(alloc, few);
+    }
+    let mut many = copied::<10>(points)?;
+    first.apply(&mut many)?;
+    second.apply(&mut many)?;
+    put_many(alloc, many.as_slice())
+}
+
+/// The points of a tree without sides after two changes.
 #[tactic(auto, using(crate::proofs::ChunkLaws::made_facts))]
 fn few_changed<L: Ledger>(
     alloc: Global,
@@ -176,26 +225,27 @@ fn few_changed<L: Ledger>(
     ensures filled { IfOk result (λ new. AreFilled new.0) }
     ensures work { steps.new ≤ steps.old + 3 }
 {
-    let mut points = few_points(tree, steps)?;
-    first.apply(&mut points)?;
-    second.apply(&mut points)?;
-    let edit = edit_of(alloc, points.as_slice())?;
+    let edit = few_edit(alloc, tree, first, second, steps)?;
     Tree::made(alloc, edit, steps)
 }
 
-/// The points of a tree without sides.
+/// What a tree without sides becomes by two changes.
 #[tactic(auto, using(crate::proofs::ChunkLaws::made_facts))]
-fn few_points<L: Ledger>(
+fn few_edit<L: Ledger>(
+    alloc: Global,
     tree: &Tree<Chunk, Dip>,
+    first: Change,
+    second: Change,
     steps: &mut Steps<L>,
-) -> Result<ArrayVec<Point, 10>, AllocError>
+) -> Result<Edit<Chunk>, AllocError>
     requires { tree.now.1 ≡ 0 }
-    ensures items { IfOk result (λ points. points.items ≡ flat tree.now.0) }
+    ensures items { IfOk result (λ edit. flat (made edit) ≡ changed second (changed first (flat tree.now.0))) }
+    ensures filled { IfOk result (λ edit. AreFilled (made edit)) }
     ensures work { steps.new ≤ steps.old + 1 }
 {
     match tree.shape(steps) {
-        Shape::Empty => Ok(ArrayVec::new()),
-        Shape::Leaf(chunk) => copied(chunk.look(steps)),
+        Shape::Empty => changed_twice(alloc, &[], first, second),
+        Shape::Leaf(chunk) => changed_twice(alloc, chunk.look(steps), first, second),
         Shape::Fork(_, _) => unreachable!(),
     }
 }
@@ -215,15 +265,11 @@ fn many_changed<L: Ledger>(
     ensures work { steps.new ≤ steps.old + 5 * tree.1 + 4 }
 {
     if tree.len() == 0 {
-        let mut points = ArrayVec::new();
-        change.apply(&mut points)?;
-        let edit = edit_of(alloc, points.as_slice())?;
+        let edit = changed(alloc, &[], change)?;
         return Tree::made(alloc, edit, steps);
     }
     let at = chunk_at(Side { tree: &tree }, change.time(), steps);
-    let mut points = copied(tree.get(at, steps).look(steps))?;
-    change.apply(&mut points)?;
-    let edit = edit_of(alloc, points.as_slice())?;
+    let edit = changed(alloc, tree.get(at, steps).look(steps), change)?;
     tree.edited(alloc, at, edit, steps)
 }
 
