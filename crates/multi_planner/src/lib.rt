@@ -2,5 +2,7 @@
 #![tactic(auto)]
 
 mod planners;
+#[cfg(test)]
+mod tests;
 
 pub use planners::MultiPlanner;
