@@ -8,6 +8,8 @@ mod chunks;
 mod marking;
 mod planner;
 mod points;
+#[cfg(test)]
+mod tests;
 mod walks;
 
 pub use planner::{MinTree, has_few_points};
