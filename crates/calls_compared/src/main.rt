@@ -7,11 +7,14 @@ ghost use Rattle.std.specs.Prelude.{◌≡◌, ◌<◌};
 
 mod nodes;
 mod pages;
+mod planners;
 mod seeds;
+mod side_by_side;
 mod tables;
 
 use flux_defs::Steps;
 use job_table::Row;
+use planner_points::SpanList;
 use std::alloc::{AllocError, Global};
 use std::io;
 use std::marker::Brand;
@@ -31,8 +34,11 @@ struct Answers {
     parts: (u64, u64),
     items: [Option<u64>; 3],
     rows: [Option<Row>; 3],
+    spans: ([u64; 3], [Option<u64>; 6]),
+    totals: [u64; 4],
     pages: Differing,
     tables: Differing,
+    planners: (u64, u64),
 }
 
 fn played<L: Ledger>(alloc: Global, blank: Blank) -> Result<Answers, AllocError>
@@ -46,8 +52,11 @@ fn played<L: Ledger>(alloc: Global, blank: Blank) -> Result<Answers, AllocError>
         parts: nodes::parts()?,
         items: pages::told(alloc, &mut steps)?,
         rows: tables::told(alloc, &mut steps)?,
+        spans: planners::told(alloc, &mut steps)?,
+        totals: side_by_side::told::<SpanList, L>(alloc, &mut steps)?,
         pages: pages::compared(alloc, &mut steps)?,
         tables: tables::compared(alloc, &mut steps)?,
+        planners: planners::compared(alloc, &mut steps)?,
     })
 }
 
@@ -65,11 +74,26 @@ fn main(rt: HostRuntime) -> io::Result<()> {
     println!(rt; "the new list has {new:?} at 1, the old one {old:?}; at 2 {past:?}")?;
     let [row, other, before] = told.rows;
     println!(rt; "cancelled: {row:?}; not there: {other:?}; before: {before:?}")?;
+    let ([all, of_share, of_less], found) = told.spans;
+    println!(rt;
+        "a planner: {all} at least, a share {of_share}, without the first span {of_less}"
+    )?;
+    let [ten, fifty, sixty, next, later, last] = found;
+    println!(rt;
+        "first for 10, 50, 60 seconds: {ten:?}, {fifty:?}, {sixty:?}; next: {next:?}, {later:?}, {last:?}"
+    )?;
+    let [first, second, first_again, second_again] = told.totals;
+    println!(rt; "two totals: {first} and {second}, then {first_again} and {second_again}")?;
     let Differing { now, old } = told.pages;
     println!(rt; "lists: {now} items differ after 1000 changes, {old} of the list of 700 changes")?;
     let Differing { now, old } = told.tables;
     println!(rt;
         "tables: {now} rows differ after 1000 changes, {old} of the table of 700 changes"
+    )?;
+    let (differing, spans) = told.planners;
+    println!(rt;
+        "planners: {differing} answers differ in 2000 turns; more than 16 spans at the end: {}",
+        spans > 16
     )?;
     Ok(())
 }

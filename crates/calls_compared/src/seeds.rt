@@ -1,4 +1,5 @@
 //! Random numbers that are the same in each run.
+ghost use Rattle.std.specs.Prelude.{◌<◌};
 
 /// A source of numbers.
 #[derive(Drop)]
@@ -13,7 +14,9 @@ impl Seed {
     }
 
     /// The next number, less than `end`, or 0 where `end` is 0.
-    pub fn below(&mut self, end: u64) -> u64 {
+    pub fn below(&mut self, end: u64) -> u64
+        ensures { 0 < end → result < end }
+    {
         self.state = self
             .state
             .wrapping_mul(6364136223846793005)

@@ -3,7 +3,7 @@ use Rattle.std.proofs.Common.{◌≡◌, ◌≢◌, ℕ, ◌+◌, ◌<◌, ◌==
 use Rattle.std.specs.List.{list_any, position_or_len}
 use Rattle.std.proofs.lemmas.Bool.{ne_eqb}
 use Rattle.std.specs.Str.{bytes_eq}
-use Rattle.text_table.specs.Tables.{place_of, with_text}
+use Rattle.text_table.specs.Tables.{index_of, with_text}
 use Rattle.text_forms.specs.Cuts.{Lacks}
 use Rattle.fluxion_lines.specs.Lines.{BeginsWithLine, lines_of, with_byte}
 
@@ -50,7 +50,7 @@ place_in p [] t = omega arith
 place_in p (x ∷ xs) t = place_by p (p x) x xs t (place_in p xs t)
 
 -- a text's place is in the table that has it
-pub place_within : (texts : List (List ℕ)) (t : List ℕ) → place_of texts t < length (with_text texts t)
+pub place_within : (texts : List (List ℕ)) (t : List ℕ) → index_of texts t < length (with_text texts t)
 place_within texts t = place_in (bytes_eq t) texts t
 
 pub empty_is : (xs : List ℕ) → length xs ≡ 0 → xs ≡ []

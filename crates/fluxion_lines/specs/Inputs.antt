@@ -3,7 +3,7 @@ use Rattle.std.specs.Prelude.{ℕ, ◌+◌, nat_lt, Bool, true, false, List, [],
 use Rattle.std.specs.Option.{option_or}
 use Rattle.flux_defs.specs.declared.limits.Limits.{Limits}
 use Rattle.resource_graph.specs.NamedGraph.{NamedGraph}
-use Rattle.text_table.specs.Tables.{place_of, with_text, with_texts}
+use Rattle.text_table.specs.Tables.{index_of, with_text, with_texts}
 use Rattle.fluxion_lines.specs.declared.commands.Form.{Form}
 use Rattle.fluxion_lines.specs.Lines.{lines_of, read_of}
 use Rattle.fluxion_lines.specs.Commands.{client_of, command_of, bars_of_command}
@@ -21,7 +21,7 @@ clients_of bytes = with_texts [] (map client_in (lines_of bytes))
 
 -- the line at a number, where these are the clients of the lines before it
 abbrev pub line_at : NamedGraph → Form → List (List ℕ) → ℕ → List ℕ → ClientLine
-line_at g form clients at raw = record { client = place_of clients (client_in raw); line = at; command = command_of g form (read_of raw) }
+line_at g form clients at raw = record { client = index_of clients (client_in raw); line = at; command = command_of g form (read_of raw) }
 
 -- the lines from a number on, behind lines of these clients
 abbrev pub lines_from : NamedGraph → Form → List (List ℕ) → ℕ → List (List ℕ) → List ClientLine

@@ -1,5 +1,5 @@
 -- Lists that grow by one place with the relation at it.
-use Rattle.std.proofs.Common.{◌≡◌, ℕ, zero, suc, ◌+◌, ◌≤◌, List, [], ◌∷◌, ◌++◌, length, refl, sym, ◌∙◌, ap, subst, arith, Some, slice_get, take, ◌⊎◌, inl, inr}
+use Rattle.std.proofs.Common.{◌≡◌, ℕ, zero, suc, ◌+◌, ◌<◌, ◌≤◌, List, [], ◌∷◌, ◌++◌, length, refl, sym, ◌∙◌, ap, subst, arith, Some, slice_get, take, ◌⊎◌, inl, inr}
 use Rattle.std.specs.Prelude.{sum_by}
 use Rattle.std.proofs.lemmas.List.Sums.{sum_by-cons}
 use Rattle.multi_planner.specs.Places.{AtEach, AtEachThree}
@@ -65,3 +65,23 @@ sum_rest f [] (suc place) = omega arith
 sum_rest f (x ∷ xs) zero = omega arith
 sum_rest f (x ∷ xs) (suc place) =
     omega (arith, sum_by-cons f x xs, sum_by-cons f x (take place xs), sum_rest f xs place)
+
+get_some : {X : Type 0} (xs : List X) (place : ℕ) → place < length xs → (x : X) × (slice_get xs place ≡ Some x)
+get_some [] place l = absurd (omega arith)
+get_some (x ∷ xs) zero l = (x, refl)
+get_some (x ∷ xs) (suc place) l = get_some xs place (omega arith)
+
+get_in : {X : Type 0} (xs : List X) (place : ℕ) (x : X) → slice_get xs place ≡ Some x → place < length xs
+get_in [] place x e = absurd (cc)
+get_in (y ∷ xs) zero x e = omega arith
+get_in (y ∷ xs) (suc place) x e = omega (arith, get_in xs place x e)
+
+-- what leads from the old items at each place to the new ones
+pub through : {T P A : Type 0} (R : P → Type 0) (S : P → A → Type 0) (totals : List T) (olds news : List P)
+    (amounts : List A) → length olds ≡ length totals → length news ≡ length olds → AtEach (λ total old. R old) totals olds →
+    AtEachThree (λ old amount new. R old → S new amount) olds amounts news → AtEach S news amounts
+through R S totals olds news amounts a b each three place new amount e f =
+    let inside = get_in news place new e in
+    let old = get_some olds place (omega arith) in
+    let total = get_some totals place (omega arith) in
+    three place old.0 amount new old.1 f e (each place total.0 old.0 total.1 old.1)

@@ -1,5 +1,5 @@
 use Rattle.std.proofs.Common.{rules, ◌≡◌, ◌<◌, ◌^◌, sym, ◌∙◌, ap, inr, refl, Some, None, length, arith}
-use Rattle.text_table.specs.Tables.{with_text, place_of}
+use Rattle.text_table.specs.Tables.{with_text, index_of}
 use Rattle.fluxion_lines.specs.Lines.{read_of}
 use Rattle.fluxion_lines.specs.Commands.{client_of, command_of}
 use Rattle.fluxion_lines.specs.Inputs.{client_in, over_size, line_over_size}
@@ -30,7 +30,7 @@ overflow_cast-result c =
 pub returns-clause-line : goal.returns-clause-line
 returns-clause-line c =
     let client : c.client_of.result.now ≡ client_in c.args.raw.now = c.client_of.ensures ∙ ap client_of c.without_return-text.ensures in
-    let number : c.in_ok-client.client ≡ place_of c.args.table.now (client_in c.args.raw.now) = c.in_ok-client.ensures.number ∙ ap (place_of c.args.table.now) client in
+    let number : c.in_ok-client.client ≡ index_of c.args.table.now (client_in c.args.raw.now) = c.in_ok-client.ensures.number ∙ ap (index_of c.args.table.now) client in
     let command : c.in_ok-command.command ≡ command_of c.args.graph.now c.args.form (read_of c.args.raw.now) = c.in_ok-command.ensures.command ∙ ap (command_of c.args.graph.now c.args.form) c.without_return-text.ensures in
     λ i. record { client = number i; line = c.args.at; command = command i }
 
