@@ -14,14 +14,15 @@ use Rattle.flux_defs.specs.ValidGraph.{IsValidGraph}
 use Rattle.graph_laws.proofs.Containment.{below_le, line, below_from}
 use Rattle.graph_laws.proofs.Preorder.{parents_first}
 use Rattle.flux_laws.proofs.Valid.{nodes_alike}
-use Rattle.resource_graph.specs.Tables.{IsPlaceOf, IsPast}
+use Rattle.resource_graph.specs.Tables.{IsPast}
+use Rattle.text_forms.specs.Rising.{IsIndexOf}
 use Rattle.dfu_match.specs.Bars.{is_node_at, AreNodesOf, IsLeastFrom, IsLeastOrNone}
 use Rattle.std.specs.List.Sorted.{IsStrictlyIncreasing}
-use Rattle.resource_graph.proofs.Lists.{less_later}
+use Rattle.text_forms.proofs.RisingLists.{less_later}
 use Rattle.list_laws.proofs.Tests.{false_from}
 
 -- the least number from `from` on stands at the index before which all are less
-pub least_at_index : (list : List ℕ) (from index : ℕ) → IsStrictlyIncreasing list → IsPlaceOf list from index →
+pub least_at_index : (list : List ℕ) (from index : ℕ) → IsStrictlyIncreasing list → IsIndexOf list from index →
     index < length list → IsLeastFrom list from (slice_index list index)
 least_at_index list from index up at lt = record {
   there = (index, lt, refl);
@@ -37,7 +38,7 @@ least_at_index list from index up at lt = record {
   ];
 }
 
-pub none_from_index : (list : List ℕ) (from index : ℕ) → IsPlaceOf list from index → index ≡ length list → (i : ℕ) →
+pub none_from_index : (list : List ℕ) (from index : ℕ) → IsIndexOf list from index → index ≡ length list → (i : ℕ) →
     i < length list → slice_index list i < from
 none_from_index list from index at over i lt = at.before i (omega arith)
 

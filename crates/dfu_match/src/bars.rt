@@ -2,14 +2,14 @@
 ghost use Rattle.std.specs.List.Sorted.{IsStrictlyIncreasing};
 ghost use Rattle.dfu_match.specs.Bars.{IsLeastOrNone};
 
-use resource_graph::rising::place_of;
+use text_forms::index_of;
 
 /// The least number of a rising list from `from` on.
 pub(crate) fn least_from(list: &[u32], from: u32) -> Option<u32>
     requires { IsStrictlyIncreasing list.now }
     ensures { IsLeastOrNone list.now from result }
 {
-    let index = place_of(list, from);
+    let index = index_of(list, from);
     if index == list.len() {
         return None;
     }

@@ -36,9 +36,8 @@ pub(crate) fn kind_of(graph: &Graph, need: &Need) -> Option<u32>
     ensures { IsKindOfNeed graph.now.resources.vertices need.now result }
 {
     graph.is_valid();
-    match need {
-        Need::Vert { kind, .. } => Some(*kind),
-        Need::Pool { kind, .. } => Some(*kind),
-        Need::Spread { .. } => graph.kind_of(b"node"),
+    match need.kind() {
+        Some(kind) => Some(kind),
+        None => graph.kind_of(b"node"),
     }
 }

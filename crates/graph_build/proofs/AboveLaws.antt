@@ -10,7 +10,6 @@ use Rattle.std.proofs.lemmas.Option.{slice_get-get_or, slice_get_within, get_or_
 use Rattle.flux_defs.specs.declared.vertices.Vertex.{Vertex}
 use Rattle.flux_defs.specs.Graph.{ResourceGraph, parent_of, is_at_or_below, is_below, HasKind, is_pool, is_pool_kind}
 use Rattle.graph_laws.proofs.Containment.{at_or_below-opens}
-use Rattle.graph_laws.proofs.Preorder.{has_parent}
 use Rattle.resource_graph.specs.Lines.{line_of}
 use Rattle.graph_build.specs.Faults.{IsNodeType, IsNestedInKind, IsHoused}
 use Rattle.graph_build.specs.Checks.{graph_in, IsHouse, HasHouses, HasChildTo, HasChildren}
@@ -19,7 +18,7 @@ use Rattle.graph_build.proofs.OwnLaws.{fact_here, fact_read}
 use Rattle.resource_graph.proofs.TableLaws.{push_cases}
 
 module _ (vertices : List Vertex) where
-  -- what is below another has that one in its line, at some place
+  -- what is below another has that one in its line, at some index
   pub in_line : (v u : ℕ) → IsTrue (is_below vertices v u) → ((i : ℕ) × (slice_get (line_of vertices v) i ≡ Some u))
       × (u ≢ v)
   in_line v u h =

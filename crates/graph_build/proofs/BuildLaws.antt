@@ -21,7 +21,7 @@ use Rattle.graph_build.specs.declared.arrange.KindNumbering.{KindNumbering}
 use Rattle.resource_graph.proofs.LineLaws.{no_vertex, parent_read}
 use Rattle.graph_build.proofs.ValidLaws.{rooted_of_faultless, valid_of_faultless}
 use Rattle.resource_graph.proofs.Values.{from_value}
-use Rattle.graph_build.proofs.ArrangeLaws.{place_of, place_at, place_is, parent_place}
+use Rattle.graph_build.proofs.ArrangeLaws.{index_of, index_at, index_is, parent_index}
 
 module _ (kinds : List (List ℕ)) (names : List (List ℕ)) (vertices : List Vertex)
     (fine : Facts (record { kinds = kinds; vertices = vertices }) names) where
@@ -36,12 +36,12 @@ module _ (kinds : List (List ℕ)) (names : List (List ℕ)) (vertices : List Ve
   rooted = rooted_of_faultless (record { kinds = kinds; vertices = vertices }) names fine
 
 module _ (kinds : List (List ℕ)) (vertices : List Vertex) (order : List ℕ)
-    (places : IsOrderOf (length vertices) order) (numbering : KindNumbering)
+    (indices : IsOrderOf (length vertices) order) (numbering : KindNumbering)
     (numbered : IsKindNumbering kinds vertices order (length order) numbering) where
   -- every vertex's kind has a number
   pub kind_numbers : HasKindNumbers vertices numbering.numbers.items
   kind_numbers i x e =
-      let k = places.each i (slice_get_within vertices i x e) in
+      let k = indices.each i (slice_get_within vertices i x e) in
       numbered.seen k.0 x.kind (slice_get_within order k.0 i k.1) (i, x, k.1, e, refl)
 
   module _ (numbers : List ℕ) (has_numbers : HasNumbers order (length order) numbers) (known : KnowsParents vertices)
@@ -60,15 +60,15 @@ module _ (kinds : List (List ℕ)) (vertices : List Vertex) (order : List ℕ)
         go None f h = h
         go (Some j) f h =
             let j_in : j < length vertices = known i j (parent_read vertices i x at ∙ f) in
-            let k = places.each j j_in in
+            let k = indices.each j j_in in
             let number : get_or numbers j 0 ≡ k.0 = has_numbers.each k.0 j (slice_get_within order k.0 j k.1) k.1 in
             from_value y.parent (λ p. slice_get order p ≡ Some j) (get_or numbers j 0) h
             (ap (slice_get order) number ∙ k.1)
 
     pub arranged_made : IsArranged kinds vertices order (record { kinds = numbering.kinds.items; vertices = made })
     arranged_made = record {
-      places = places;
-      as_many = built.as_many ∙ places.as_many;
+      indices = indices;
+      as_many = built.as_many ∙ indices.as_many;
       renumbered = λ k i x y at_i at_x at_y.
           let from = built.each k i x y at_i at_x at_y in
           record {
@@ -81,16 +81,16 @@ module _ (kinds : List (List ℕ)) (vertices : List Vertex) (order : List ℕ)
     }
 
     -- a built vertex and where it comes from
-    from_place : (v : ℕ) (y : Vertex) → slice_get made v ≡ Some y →
+    from_index : (v : ℕ) (y : Vertex) → slice_get made v ≡ Some y →
         HasKindAt vertices order v (get_or vertices (get_or order v 0) no_vertex).kind
         × IsNumbered numbering (get_or vertices (get_or order v 0) no_vertex).kind y.kind × (v < length order)
-    from_place v y e =
+    from_index v y e =
         let v_in : v < length order = (let lt : v < length made = slice_get_within made v y e in
         let long = built.as_many in omega arith) in
         let i = get_or order v 0 in
         let at_i : slice_get order v ≡ Some i = slice_get-get_or order v 0 v_in in
         let x = get_or vertices i no_vertex in
-        let at_x : slice_get vertices i ≡ Some x = slice_get-get_or vertices i no_vertex (places.known v i at_i) in
+        let at_x : slice_get vertices i ≡ Some x = slice_get-get_or vertices i no_vertex (indices.known v i at_i) in
         ((i, x, at_i, at_x, refl), (built.each v i x y at_i at_x e).kind, v_in)
 
     -- what was seen with a kind has its number
@@ -107,17 +107,17 @@ module _ (kinds : List (List ℕ)) (vertices : List Vertex) (order : List ℕ)
 
     pub numbers_kinds : KindsApart kinds → NumbersKinds (record { kinds = numbering.kinds.items; vertices = made })
     numbers_kinds apart = record {
-      known = λ v y e. (let from = from_place v y e in numbered.within _ y.kind from.1);
+      known = λ v y e. (let from = from_index v y e in numbered.within _ y.kind from.1);
       apart = λ j k some same. one_number j k some same;
       used = λ j lt. (let u = numbered.used j lt in (u.0, kind_made u.0 u.1 j u.3 u.4));
       rising = λ v y e lesser lt.
-          let from = from_place v y e in
+          let from = from_index v y e in
           let r = numbered.rising v _ y.kind lesser from.2 from.0 from.1 lt in
           (r.0, r.2, kind_made r.0 r.1 lesser r.3 r.4);
     }
       where
-        place_in : (j : ℕ) → IsSome (slice_get numbering.kinds.items j) → j < length numbering.kinds.items
-        place_in j some = elim (cases_lt j (length numbering.kinds.items)) [
+        index_in : (j : ℕ) → IsSome (slice_get numbering.kinds.items j) → j < length numbering.kinds.items
+        index_in j some = elim (cases_lt j (length numbering.kinds.items)) [
           | inl less ↦ less
           | inr past ↦ absurd (let none : IsSome {T = List ℕ} None =
               subst IsSome (slice_get_past numbering.kinds.items j past) some in cc)
@@ -126,8 +126,8 @@ module _ (kinds : List (List ℕ)) (vertices : List Vertex) (order : List ℕ)
         one_number : (j k : ℕ) → IsSome (slice_get numbering.kinds.items j) →
             slice_get numbering.kinds.items j ≡ slice_get numbering.kinds.items k → j ≡ k
         one_number j k some same =
-            let j_in = place_in j some in
-            let k_in = place_in k (subst IsSome same some) in
+            let j_in = index_in j some in
+            let k_in = index_in k (subst IsSome same some) in
             let uj = numbered.used j j_in in
             let uk = numbered.used k k_in in
             let nj = numbered.named uj.1 j uj.4 in
@@ -139,53 +139,39 @@ module _ (kinds : List (List ℕ)) (vertices : List Vertex) (order : List ℕ)
 pub siblings_kept : (kinds : List (List ℕ)) (vertices : List Vertex) (order : List ℕ) (g : ResourceGraph) →
     IsArranged kinds vertices order g → IsPreorderOf vertices order → KeepsSiblings order g
 siblings_kept kinds vertices order g arranged pre j k u v lt same at_u at_v =
-    let place = place_of kinds vertices order g arranged in
-    let pj : parent_of vertices u ≡ option_map place (parent_of g.vertices j) =
-    ap (parent_of vertices) (sym (place_is kinds vertices order g arranged j u at_u))
-    ∙ parent_place kinds vertices order g arranged j in
-    let pk : parent_of vertices v ≡ option_map place (parent_of g.vertices k) =
-    ap (parent_of vertices) (sym (place_is kinds vertices order g arranged k v at_v))
-    ∙ parent_place kinds vertices order g arranged k in
-    pre.siblings j k u v lt at_u at_v (pj ∙ (ap (option_map place) same ∙ sym pk))
+    let index = index_of kinds vertices order g arranged in
+    let pj : parent_of vertices u ≡ option_map index (parent_of g.vertices j) =
+    ap (parent_of vertices) (sym (index_is kinds vertices order g arranged j u at_u))
+    ∙ parent_index kinds vertices order g arranged j in
+    let pk : parent_of vertices v ≡ option_map index (parent_of g.vertices k) =
+    ap (parent_of vertices) (sym (index_is kinds vertices order g arranged k v at_v))
+    ∙ parent_index kinds vertices order g arranged k in
+    pre.siblings j k u v lt at_u at_v (pj ∙ (ap (option_map index) same ∙ sym pk))
 
--- a text of the arranged list is that of the raw list
-text_at : (raw list : List RawVertex) (order : List ℕ) (text : RawVertex → List ℕ) → IsOrderOf (length raw) order →
-    IsArrangedList raw order (length order) list → (k : ℕ) →
-    slice_get (map text list) k ≡ option_and_then (λ i. option_map text (slice_get raw i)) (slice_get order k)
-text_at raw list order text places arranged k = slice_get-map text list k ∙ at (slice_get order k) refl
-  where
-    at : (o : Option ℕ) → slice_get order k ≡ o →
-        option_map text (slice_get list k) ≡ option_and_then (λ i. option_map text (slice_get raw i)) o
-    at None e = ap (option_map text) (slice_get_past list k (elim (cases_lt k (length order)) [
-      | inl within ↦ absurd (let clash : None ≡ Some (get_or order k 0) = sym e ∙ slice_get-get_or order k 0 within in
-          cc)
-      | inr past ↦ (let long = arranged.as_many in omega arith)
-    ]))
-    at (Some i) e = ap (option_map text) (arranged.each k i (slice_get_within order k i e) e)
-
-texts_at : (raw list : List RawVertex) (order : List ℕ) (text : RawVertex → List (List ℕ)) →
+-- what the arranged list says of a vertex is what the raw list says
+said_at : {X : Type 0} (raw list : List RawVertex) (order : List ℕ) (said : RawVertex → X) →
     IsOrderOf (length raw) order → IsArrangedList raw order (length order) list → (k : ℕ) →
-    slice_get (map text list) k ≡ option_and_then (λ i. option_map text (slice_get raw i)) (slice_get order k)
-texts_at raw list order text places arranged k = slice_get-map text list k ∙ at (slice_get order k) refl
+    slice_get (map said list) k ≡ option_and_then (λ i. option_map said (slice_get raw i)) (slice_get order k)
+said_at {X} raw list order said indices arranged k = slice_get-map said list k ∙ at (slice_get order k) refl
   where
     at : (o : Option ℕ) → slice_get order k ≡ o →
-        option_map text (slice_get list k) ≡ option_and_then (λ i. option_map text (slice_get raw i)) o
-    at None e = ap (option_map text) (slice_get_past list k (elim (cases_lt k (length order)) [
+        option_map said (slice_get list k) ≡ option_and_then (λ i. option_map said (slice_get raw i)) o
+    at None e = ap (option_map said) (slice_get_past list k (elim (cases_lt k (length order)) [
       | inl within ↦ absurd (let clash : None ≡ Some (get_or order k 0) = sym e ∙ slice_get-get_or order k 0 within in
           cc)
       | inr past ↦ (let long = arranged.as_many in omega arith)
     ]))
-    at (Some i) e = ap (option_map text) (arranged.each k i (slice_get_within order k i e) e)
+    at (Some i) e = ap (option_map said) (arranged.each k i (slice_get_within order k i e) e)
 
 pub texts_kept : (raw list : List RawVertex) (order : List ℕ) (g : ResourceGraph) (texts : Texts) →
     IsOrderOf (length raw) order → IsArrangedList raw order (length order) list → HasTexts list texts →
     KeepsTexts raw order (named_graph g.kinds g.vertices texts)
-texts_kept raw list order g texts places arranged has = record {
-  names = λ k. ap (λ l. slice_get l k) has.names ∙ text_at raw list order (λ r. r.name) places arranged k;
-  bases = λ k. ap (λ l. slice_get l k) has.bases ∙ text_at raw list order (λ r. r.base) places arranged k;
-  units = λ k. ap (λ l. slice_get l k) has.units ∙ text_at raw list order (λ r. r.unit) places arranged k;
+texts_kept raw list order g texts indices arranged has = record {
+  names = λ k. ap (λ l. slice_get l k) has.names ∙ said_at raw list order (λ r. r.name) indices arranged k;
+  bases = λ k. ap (λ l. slice_get l k) has.bases ∙ said_at raw list order (λ r. r.base) indices arranged k;
+  units = λ k. ap (λ l. slice_get l k) has.units ∙ said_at raw list order (λ r. r.unit) indices arranged k;
   properties = λ k. ap (λ l. slice_get l k) has.properties
-      ∙ texts_at raw list order (λ r. r.properties) places arranged k;
+      ∙ said_at raw list order (λ r. r.properties) indices arranged k;
 }
 
 -- the graph that was built is whole, and built from the list
@@ -202,11 +188,11 @@ built_whole kinds raw list order numbers numbering made texts apart fine pre has
     let vertices = map shape_of raw in
     let root = rooted kinds (raw_names raw) vertices fine in
     let g : ResourceGraph = record { kinds = numbering.kinds.items; vertices = made } in
-    let arranged = arranged_made kinds vertices order pre.places numbering numbered numbers has_numbers root.known
+    let arranged = arranged_made kinds vertices order pre.indices numbering numbered numbers has_numbers root.known
     made built in
     let long : length vertices ≡ length raw = length-map raw shape_of in
-    let places : IsOrderOf (length raw) order = subst (λ (n : ℕ). IsOrderOf n order) long pre.places in
-    let kept = texts_kept raw list order g texts places arranged_list has in
+    let indices : IsOrderOf (length raw) order = subst (λ (n : ℕ). IsOrderOf n order) long pre.indices in
+    let kept = texts_kept raw list order g texts indices arranged_list has in
     let list_long : length list ≡ length made = arranged_list.as_many ∙ sym built.as_many in
     let few : length numbering.kinds.items ≤ 256 =
     (let a : length numbering.kinds.items ≤ length kinds = numbered.few in
@@ -215,9 +201,9 @@ built_whole kinds raw list order numbers numbering made texts apart fine pre has
     arranged texts.names
     (ap length has.names ∙ (length-map list (λ (r : RawVertex). r.name) ∙ (list_long ∙ arranged.as_many)))
     (λ k lt. kept.names k ∙ (ap (option_and_then (λ i. option_map (λ r. r.name) (slice_get raw i)))
-    (place_at kinds vertices order g arranged k lt)
-    ∙ sym (slice_get-map (λ (r : RawVertex). r.name) raw (place_of kinds vertices order g arranged k))))
-    (numbers_kinds kinds vertices order pre.places numbering numbered numbers has_numbers root.known made built apart)
+    (index_at kinds vertices order g arranged k lt)
+    ∙ sym (slice_get-map (λ (r : RawVertex). r.name) raw (index_of kinds vertices order g arranged k))))
+    (numbers_kinds kinds vertices order pre.indices numbering numbered numbers has_numbers root.known made built apart)
     few pre in
     record {
       whole = record {

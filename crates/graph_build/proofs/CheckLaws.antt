@@ -1,15 +1,13 @@
 -- From what a search finds to the first bad vertex.
-use Rattle.std.proofs.Common.{◌≡◌, ℕ, zero, suc, ◌<◌, ◌≤◌, not, Bool, true, false, cond, List, [], ◌∷◌, length, get_or, Option, Some, None, inl, inr, refl, sym, ◌∙◌, ap, subst, arith, true≢false, option_and_then, ltb, leb}
+use Rattle.std.proofs.Common.{◌≡◌, ◌↔◌, IsTrue, ℕ, ◌<◌, not, Bool, true, false, List, length, get_or, Option, Some, None, inl, inr, refl, sym, ◌∙◌, ap, arith, true≢false, option_and_then, leb}
 use Rattle.std.specs.Prelude.{slice_get, is_some, position}
-use Rattle.std.specs.List.{position_or_len}
-use Rattle.std.specs.Option.{IsSomeAnd, option_map_or}
-use Rattle.std.proofs.lemmas.Bool.{cases_lt, both_ways, ltb-true, ltb-false, leb-true, le-leb}
-use Rattle.std.proofs.lemmas.List.Sums.{fails_before_first, passes_at_first}
-use Rattle.std.proofs.lemmas.Option.{slice_get_within, get_or_from_slice_get}
+use Rattle.std.specs.Option.{option_map_or}
+use Rattle.std.proofs.lemmas.Bool.{cases_lt, leb-true, le-leb}
 use Rattle.flux_defs.specs.declared.vertices.Vertex.{Vertex}
-use Rattle.graph_build.specs.Faults.{HasUnknownParent, HasUnknownKind, IsRoot, IsSecondRoot}
+use Rattle.graph_build.specs.Faults.{HasUnknownParent, IsRoot, IsSecondRoot}
 use Rattle.graph_build.specs.Checks.{graph_in, has_parent_from}
 use Rattle.resource_graph.specs.Finds.{IsFirstOf}
+use Rattle.resource_graph.specs.Preorder.{plain}
 use Rattle.resource_graph.proofs.LineLaws.{parent_read, parent_at, no_vertex}
 use Rattle.resource_graph.proofs.Finds.{Passes, finds_position, finds_same}
 use Rattle.resource_graph.proofs.Values.{from_value, value_of}
@@ -43,37 +41,26 @@ pub finds_unknown_parent : (kinds : List (List ℕ)) (vertices : List Vertex) (f
 finds_unknown_parent kinds vertices found e = finds_same _ _ found (parent_to kinds vertices)
     (parent_from kinds vertices) (finds_position (has_parent_from (length vertices)) vertices found e)
 
-module _ (kinds : List (List ℕ)) (vertices : List Vertex) (first : ℕ) (root : IsRoot (graph_in kinds vertices) first)
-    (least : (u : ℕ) → u < first → IsRoot (graph_in kinds vertices) u → ⊥) where
-  -- a second root comes after the first
-  after_first : (v : ℕ) → IsSecondRoot (graph_in kinds vertices) v → first < v
-  after_first v second = elim (cases_lt first v) [
-    | inl less ↦ less
-    | inr not_less ↦ absurd (least second.1.0 (let lt : second.1.0 < v = second.1.1 in omega arith) second.1.2)
-  ]
+-- a second root comes after the first
+pub after_first : (vertices : List Vertex) (first : ℕ) → IsRoot (plain vertices) first →
+    ((u : ℕ) → u < first → IsRoot (plain vertices) u → ⊥) → (v : ℕ) → IsSecondRoot (plain vertices) v → first < v
+after_first vertices first root least v second = elim (cases_lt first v) [
+  | inl less ↦ less
+  | inr not_less ↦ absurd (least second.1.0 (let lt : second.1.0 < v = second.1.1 in omega arith) second.1.2)
+]
 
-  pub second_found : (v : ℕ) → first < v → IsRoot (graph_in kinds vertices) v →
-      ((u : ℕ) → first < u → u < v → IsRoot (graph_in kinds vertices) u → ⊥) →
-      IsFirstOf (IsSecondRoot (graph_in kinds vertices)) (Some v)
-  second_found v after at none = (
-    (at, (first, after, root)),
-    (λ u lt second. none u (after_first u second) lt second.0),
-  )
-
-  pub second_none : (v : ℕ) → length vertices ≤ v →
-      ((u : ℕ) → first < u → u < v → IsRoot (graph_in kinds vertices) u → ⊥) →
-      IsFirstOf (IsSecondRoot (graph_in kinds vertices)) None
-  second_none v all none u second = let lt : u < length vertices = second.0.0 in
-      none u (after_first u second) (omega arith) second.0
-
-module _ (kinds : List (List ℕ)) (vertices : List Vertex) (v : ℕ) (lt : v < length vertices) where
-  pub root_here : is_some (get_or vertices v no_vertex).parent ≡ false → IsRoot (graph_in kinds vertices) v
-  root_here h = go (get_or vertices v no_vertex).parent refl h
-    where
-      go : (o : Option ℕ) → (get_or vertices v no_vertex).parent ≡ o → is_some o ≡ false →
-          IsRoot (graph_in kinds vertices) v
-      go None e t = (lt, sym (parent_at vertices v no_vertex lt) ∙ e)
-      go (Some p) e t = absurd (true≢false t)
-
-  pub no_root_here : is_some (get_or vertices v no_vertex).parent ≡ true → IsRoot (graph_in kinds vertices) v → ⊥
-  no_root_here h root = true≢false (sym h ∙ ap is_some (parent_at vertices v no_vertex lt ∙ root.1))
+-- the test of its parent tells whether a vertex is a root
+pub root_test : (vertices : List Vertex) (v : ℕ) → v < length vertices → (b : Bool) →
+    is_some (get_or vertices v no_vertex).parent ≡ not b → IsTrue b ↔ IsRoot (plain vertices) v
+root_test vertices v lt true t = (
+  λ h. (lt, sym (parent_at vertices v no_vertex lt) ∙ none_of (get_or vertices v no_vertex).parent t),
+  λ root. refl,
+)
+  where
+    none_of : (o : Option ℕ) → is_some o ≡ false → o ≡ None
+    none_of None t = refl
+    none_of (Some p) t = absurd (true≢false t)
+root_test vertices v lt false t = (
+  λ h. absurd (true≢false (sym h)),
+  λ root. absurd (true≢false (sym t ∙ ap is_some (parent_at vertices v no_vertex lt ∙ root.1))),
+)

@@ -25,12 +25,11 @@ use Rattle.graph_build.specs.declared.doubles.SiblingKey.{SiblingKey}
 use Rattle.graph_build.proofs.AboveLaws.{in_line}
 use Rattle.resource_graph.proofs.Finds.{finds_same}
 use Rattle.graph_build.proofs.OwnLaws.{type_within, device_within}
-use Rattle.resource_graph.proofs.Values.{fact_within}
 use Rattle.resource_graph.proofs.TableLaws.{push_cases}
 use Rattle.graph_build.proofs.Facts.{node_tested}
 use Rattle.resource_graph.proofs.Values.{value_of, at_value, from_value}
 
--- one place more
+-- one index more
 pub each_more : {X : Type 0} (Is : ℕ → X → Type 0) (v : ℕ) (list grown : List X) (x : X) → HasEach Is v list →
     Is v x → grown ≡ list ++ x ∷ [] → HasEach Is (v + 1) grown
 each_more {X} Is v list grown x to here is = record {
@@ -42,7 +41,7 @@ each_more {X} Is v list grown x to here is = record {
   ];
 }
 
--- a place within the list that can't be without a key has one
+-- an index within the list that can't be without a key has one
 pub key_at : {K : Type 0} (Is : ℕ → Option K → Type 0) (most : ℕ) (keys : List (Option K)) (v : ℕ) →
     HasEach Is most keys → v < most → (Is v None → ⊥) → (k : K) × (slice_get keys v ≡ Some (Some k)) × Is v (Some k)
 key_at {K} Is most keys v has lt some = go (get_or keys v None)

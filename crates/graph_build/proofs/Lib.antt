@@ -7,6 +7,7 @@ pub mod ValidLaws
 pub mod KindLaws
 pub mod MadeLaws
 pub mod BuildLaws
+pub mod FindLaws
 pub mod CheckLaws
 pub mod ClimbLaws
 pub mod OwnLaws

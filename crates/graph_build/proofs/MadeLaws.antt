@@ -49,15 +49,15 @@ arranged_more raw order most i list grown vertex at slot is to = record {
   ];
 }
 
--- the slots of later places stay
+-- the slots of later indices stay
 pub slots_stay : (raw : List RawVertex) (order : List ℕ) (count most i : ℕ) (slots : List (Option RawVertex))
     (empty : Option RawVertex) → IsOrderOf count order → slice_get order most ≡ Some i →
     ((k j : ℕ) → most ≤ k → slice_get order k ≡ Some j →
     slice_get slots j ≡ option_map (λ r. Some r) (slice_get raw j)) →
     (k j : ℕ) → most + 1 ≤ k → slice_get order k ≡ Some j →
     slice_get (set slots i empty) j ≡ option_map (λ r. Some r) (slice_get raw j)
-slots_stay raw order count most i slots empty places at left k j le e =
-    let differ : j ≢ i = λ same. (let one : most ≡ k = places.apart most k i at (e ∙ ap Some same) in omega arith) in
+slots_stay raw order count most i slots empty indices at left k j le e =
+    let differ : j ≢ i = λ same. (let one : most ≡ k = indices.apart most k i at (e ∙ ap Some same) in omega arith) in
     same_elsewhere slots i j empty differ ∙ left k j (omega arith) e
   where
     same_elsewhere : (xs : List (Option RawVertex)) (a b : ℕ) (x : Option RawVertex) → b ≢ a →
@@ -93,8 +93,8 @@ made_more kinds vertices order numbers kind_numbers most i made grown x y at_i a
   where
     same : (k j : ℕ) (u : Vertex) → k ≡ length made → slice_get order k ≡ Some j → slice_get vertices j ≡ Some u → x ≡ u
     same k j u here at_j at_u =
-        let place : i ≡ j = same_Some _ _ (sym at_i ∙ (ap (slice_get order) (sym to.as_many ∙ sym here) ∙ at_j)) in
-        same_Some _ _ (sym at_x ∙ (ap (slice_get vertices) place ∙ at_u))
+        let index : i ≡ j = same_Some _ _ (sym at_i ∙ (ap (slice_get order) (sym to.as_many ∙ sym here) ∙ at_j)) in
+        same_Some _ _ (sym at_x ∙ (ap (slice_get vertices) index ∙ at_u))
 
 pub rank_made : (kinds : List (List ℕ)) (vertices : List Vertex) (order : List ℕ) (most : ℕ) (x : Vertex)
     (node ranked : Bool) (nodes : ℕ) (rank : Option ℕ) →

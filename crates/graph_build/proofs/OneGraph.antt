@@ -12,7 +12,7 @@ use Rattle.graph_laws.proofs.Preorder.{parents_first, between_below}
 use Rattle.resource_graph.specs.NamedGraph.{NamedGraph}
 use Rattle.graph_build.specs.Raw.{IsArranged, IsRenumbered, KeepsSiblings, KeepsTexts, IsBuiltFrom, shape_of, rank_of}
 use Rattle.graph_build.specs.declared.raw.RawVertex.{RawVertex}
-use Rattle.graph_build.proofs.ArrangeLaws.{place_at, place_in, place_past, same_place, number_of, parent_back, parent_forth, parent_place}
+use Rattle.graph_build.proofs.ArrangeLaws.{index_at, index_in, index_past, same_index, number_of, parent_back, parent_forth, parent_index}
 use Rattle.resource_graph.proofs.LineLaws.{no_vertex}
 use Rattle.resource_graph.proofs.Values.{value_of, at_value}
 
@@ -42,7 +42,7 @@ module _ (kinds : List (List ℕ)) (vertices : List Vertex) (order : List ℕ) (
   there = get_or other k (length vertices)
 
   not_before : (m : ℕ) → m < k → get_or other m (length vertices) ≡ here → ⊥
-  not_before m lt e = let is : m ≡ k = same_place kinds vertices order g ag m k (omega arith) (same m lt ∙ e) in
+  not_before m lt e = let is : m ≡ k = same_index kinds vertices order g ag m k (omega arith) (same m lt ∙ e) in
       omega arith
 
   moved_parent : (m : ℕ) → get_or other m (length vertices) ≡ here → parent_of h.vertices m ≡ Some p
@@ -50,8 +50,8 @@ module _ (kinds : List (List ℕ)) (vertices : List Vertex) (order : List ℕ) (
       let raw : parent_of vertices (get_or other m (length vertices)) ≡ Some (get_or other p (length vertices)) =
       ap (parent_of vertices) e ∙ (parent_back kinds vertices order g ag k p parent_g ∙ ap Some (same p p_lt)) in
       let found = parent_forth kinds vertices other h ah m (get_or other p (length vertices))
-      (place_in kinds vertices other h ah p (omega arith)) raw in
-      let is : found.0 ≡ p = same_place kinds vertices other h ah found.0 p found.3 found.2 in
+      (index_in kinds vertices other h ah p (omega arith)) raw in
+      let is : found.0 ≡ p = same_index kinds vertices other h ah found.0 p found.3 found.2 in
       found.1 ∙ ap Some is
 
   later : (m : ℕ) → m < length vertices → k < m → get_or other m (length vertices) ≡ here → (p ≤ q)
@@ -70,13 +70,13 @@ module _ (kinds : List (List ℕ)) (vertices : List Vertex) (order : List ℕ) (
         λ pq.
             let less : there < get_or other m (length vertices) =
             kh k m there (get_or other m (length vertices)) lt (parent_h ∙ (ap Some (sym pq) ∙ sym up))
-            (place_at kinds vertices other h ah k within) (place_at kinds vertices other h ah m m_in) in
+            (index_at kinds vertices other h ah k within) (index_at kinds vertices other h ah m m_in) in
             omega arith,
       )
 
   half : (here ≡ there) ⊎ ((p ≤ q) × (p ≡ q → there < here))
   half =
-      let found = number_of kinds vertices other h ah here (place_in kinds vertices order g ag k within) in
+      let found = number_of kinds vertices other h ah here (index_in kinds vertices order g ag k within) in
       elim (cases_lt found.0 k) [
         | inl before ↦ absurd (not_before found.0 before found.2)
         | inr le ↦ elim (cases_lt k found.0) [
@@ -96,10 +96,10 @@ module _ (kinds : List (List ℕ)) (vertices : List Vertex) (order : List ℕ) (
   -- the root stands first
   first_same : 0 < length vertices → get_or order 0 (length vertices) ≡ get_or other 0 (length vertices)
   first_same within = let found = number_of kinds vertices other h ah (get_or order 0 (length vertices))
-      (place_in kinds vertices order g ag 0 within) in at found.0 found.1 found.2
+      (index_in kinds vertices order g ag 0 within) in at found.0 found.1 found.2
     where
       root : parent_of vertices (get_or order 0 (length vertices)) ≡ None
-      root = parent_place kinds vertices order g ag 0 ∙ ap (option_map (λ v. get_or order v (length vertices))) sg.root
+      root = parent_index kinds vertices order g ag 0 ∙ ap (option_map (λ v. get_or order v (length vertices))) sg.root
 
       at : (m : ℕ) → m < length vertices → get_or other m (length vertices) ≡ get_or order 0 (length vertices) →
           get_or order 0 (length vertices) ≡ get_or other 0 (length vertices)
@@ -110,7 +110,7 @@ module _ (kinds : List (List ℕ)) (vertices : List Vertex) (order : List ℕ) (
           (get_or other next.0 (length vertices)) (ap (parent_of vertices) e ∙ root)
           (parent_back kinds vertices other h ah (suc m) next.0 next.1))
 
-  -- where they agree before a place they agree there
+  -- where they agree before an index they agree there
   next_same : (k : ℕ) → suc k < length vertices →
       ((j : ℕ) → j < suc k → get_or order j (length vertices) ≡ get_or other j (length vertices)) →
       get_or order (suc k) (length vertices) ≡ get_or other (suc k) (length vertices)
@@ -150,7 +150,7 @@ module _ (kinds : List (List ℕ)) (vertices : List Vertex) (order : List ℕ) (
       ]
     where
       past : (k : ℕ) → length vertices ≤ k → get_or order k (length vertices) ≡ get_or other k (length vertices)
-      past k le = place_past kinds vertices order g ag k le ∙ sym (place_past kinds vertices other h ah k le)
+      past k le = index_past kinds vertices order g ag k le ∙ sym (index_past kinds vertices other h ah k le)
 
       at_last : (k : ℕ) → ((j : ℕ) → j < k → get_or order j (length vertices) ≡ get_or other j (length vertices)) →
           get_or order k (length vertices) ≡ get_or other k (length vertices)
@@ -158,19 +158,19 @@ module _ (kinds : List (List ℕ)) (vertices : List Vertex) (order : List ℕ) (
       at_last (suc k) same = elim (cases_lt (suc k) (length vertices))
           [ inl within ↦ next_same k within same | inr le ↦ past (suc k) le ]
 
-  pub same_places : (k : ℕ) → get_or order k (length vertices) ≡ get_or other k (length vertices)
-  same_places k = same_to (suc k) k (omega arith)
+  pub same_indices : (k : ℕ) → get_or order k (length vertices) ≡ get_or other k (length vertices)
+  same_indices k = same_to (suc k) k (omega arith)
 
   pub same_order : order ≡ other
   same_order = same_items order other at
     where
       at : (k : ℕ) → slice_get order k ≡ slice_get other k
       at k =
-          let long_a : length order ≡ length vertices = ag.places.as_many in
-          let long_b : length other ≡ length vertices = ah.places.as_many in
+          let long_a : length order ≡ length vertices = ag.indices.as_many in
+          let long_b : length other ≡ length vertices = ah.indices.as_many in
           elim (cases_lt k (length vertices)) [
-            | inl within ↦ place_at kinds vertices order g ag k within
-                ∙ (ap Some (same_places k) ∙ sym (place_at kinds vertices other h ah k within))
+            | inl within ↦ index_at kinds vertices order g ag k within
+                ∙ (ap Some (same_indices k) ∙ sym (index_at kinds vertices other h ah k within))
             | inr le ↦ slice_get_past order k (omega arith) ∙ sym (slice_get_past other k (omega arith))
           ]
 
@@ -190,7 +190,7 @@ module _ (kinds : List (List ℕ)) (vertices : List Vertex) (order : List ℕ) (
 
   raw_at : slice_get vertices (get_or order v (length vertices)) ≡ Some raw
   raw_at = slice_get-get_or vertices (get_or order v (length vertices)) no_vertex
-      (place_in kinds vertices order g ag v within)
+      (index_in kinds vertices order g ag v within)
 
   made_at : slice_get g.vertices v ≡ Some (get_or g.vertices v no_vertex)
   made_at = slice_get-get_or g.vertices v no_vertex
@@ -198,11 +198,11 @@ module _ (kinds : List (List ℕ)) (vertices : List Vertex) (order : List ℕ) (
 
   renumbered_at : IsRenumbered kinds g order raw (get_or g.vertices v no_vertex)
   renumbered_at = ag.renumbered v (get_or order v (length vertices)) raw (get_or g.vertices v no_vertex)
-      (place_at kinds vertices order g ag v within) raw_at made_at
+      (index_at kinds vertices order g ag v within) raw_at made_at
 
   ranked_at : (get_or g.vertices v no_vertex).rank ≡ rank_of kinds vertices order v raw
   ranked_at = ag.ranks v (get_or order v (length vertices)) raw (get_or g.vertices v no_vertex)
-      (place_at kinds vertices order g ag v within) raw_at made_at
+      (index_at kinds vertices order g ag v within) raw_at made_at
 
 module _ (kinds : List (List ℕ)) (vertices : List Vertex) (order : List ℕ) (g : ResourceGraph)
     (ag : IsArranged kinds vertices order g) (h : ResourceGraph) (ah : IsArranged kinds vertices order h) where
@@ -272,14 +272,14 @@ module _ (kinds : List (List ℕ)) (vertices : List Vertex) (order : List ℕ) (
       ap (slice_get g.kinds) (sym is) ∙ (same_called kinds vertices order g ag h ah used.0 v_in
       ∙ ap (slice_get h.kinds) (sym (same_kind used.0 v_in) ∙ is))
 
-  -- the parent's number is the place of the raw parent
+  -- the parent's number is the index of the raw parent
   same_parent : (a b c : Option ℕ) → MatchOption a (b ≡ None) (λ i. IsSomeAnd b (λ p. slice_get order p ≡ Some i)) →
       MatchOption a (c ≡ None) (λ i. IsSomeAnd c (λ p. slice_get order p ≡ Some i)) → b ≡ c
   same_parent None b c e f = e ∙ sym f
   same_parent (Some i) b c e f =
       let p = value_of b (λ p. slice_get order p ≡ Some i) e in
       let q = value_of c (λ p. slice_get order p ≡ Some i) f in
-      p.1 ∙ (ap Some (ag.places.apart p.0 q.0 i p.2 q.2) ∙ sym q.1)
+      p.1 ∙ (ap Some (ag.indices.apart p.0 q.0 i p.2 q.2) ∙ sym q.1)
 
   same_fields : (x y : Vertex) → x.kind ≡ y.kind → x.size ≡ y.size → x.parent ≡ y.parent → x.id ≡ y.id →
       x.rank ≡ y.rank → x ≡ y

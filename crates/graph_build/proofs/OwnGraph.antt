@@ -203,8 +203,8 @@ module _ (n : ℕ) where
   order_is : (k i : ℕ) → slice_get order k ≡ Some i → i ≡ k
   order_is k i e = same_Some i k (sym e ∙ order_at k (order_within k i e))
 
-  order_places : IsOrderOf n order
-  order_places = record {
+  order_indices : IsOrderOf n order
+  order_indices = record {
     as_many = counting-length 0 n;
     known = λ k i e. let lt : k < n = order_within k i e in let is : i ≡ k = order_is k i e in omega arith;
     apart = λ j k i e f. sym (order_is j i e) ∙ order_is k i f;
@@ -269,7 +269,7 @@ module _ (g : NamedGraph) (whole : IsWhole g) where
 
   own_arranged : IsArranged kinds g.resources.vertices (order size) g.resources
   own_arranged = record {
-    places = order_places size;
+    indices = order_indices size;
     as_many = refl;
     renumbered = λ k i x y at_k at_x at_y.
         subst (λ (z : Vertex). IsRenumbered kinds g.resources (order size) z y)

@@ -1,6 +1,6 @@
 -- What is wrong with a vertex is wrong with one of the list.
-use Rattle.std.proofs.Common.{◌≡◌, ◌≢◌, ℕ, ◌<◌, ◌^◌, List, length, get_or, Some, None, Option, inl, inr, refl, sym, ◌∙◌, ap, IsTrue, Bool, true≢false, true, false}
-use Rattle.std.specs.Prelude.{slice_get, codes, is_some}
+use Rattle.std.proofs.Common.{◌≡◌, ℕ, ◌<◌, List, length, get_or, Some, None, Option, inl, inr, refl, sym, ◌∙◌, ap, IsTrue, Bool, true≢false, true, false}
+use Rattle.std.specs.Prelude.{slice_get, codes}
 use Rattle.std.specs.Option.{IsSomeAnd, option_map_or}
 use Rattle.std.proofs.lemmas.Option.{slice_get_within, slice_get-get_or, same_Some}
 use Rattle.std.proofs.lemmas.Slice.Eq.{bytes_eq-Decides}
@@ -8,7 +8,7 @@ use Rattle.std.specs.Str.{bytes_eq}
 use Rattle.flux_defs.specs.declared.vertices.Vertex.{Vertex}
 use Rattle.flux_defs.specs.Graph.{is_pool_kind}
 use Rattle.flux_defs.specs.ValidGraph.{HasType, IsDevice}
-use Rattle.graph_build.specs.Faults.{IsReserved, IsSized, IsLarge, HasNoId, IsNestedInKind, IsPoolWithChild, IsLoose}
+use Rattle.graph_build.specs.Faults.{IsNestedInKind, IsPoolWithChild, IsLoose}
 use Rattle.graph_build.specs.Checks.{graph_in}
 use Rattle.resource_graph.proofs.LineLaws.{no_vertex}
 use Rattle.resource_graph.proofs.Values.{from_value, at_value, fact_within}

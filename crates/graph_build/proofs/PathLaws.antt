@@ -138,7 +138,7 @@ module _ (vertices : List Vertex) (rooted : IsRooted vertices) where
 
   -- an order by the paths
   pub record IsByPath (order : List ℕ) : Type 0 where
-    pub places : IsOrderOf (length vertices) order
+    pub indices : IsOrderOf (length vertices) order
     pub sorted : (a b i j : ℕ) → a ≤ b → slice_get order a ≡ Some i → slice_get order b ≡ Some j →
         stands_before (path_to j) (path_to i) ≡ false
 
@@ -149,7 +149,7 @@ module _ (vertices : List Vertex) (rooted : IsRooted vertices) where
         elim (cases_lt m k) [
           | inl less ↦ less
           | inr more ↦ (
-              let j_in : j < length vertices = by.places.known k j at_k in
+              let j_in : j < length vertices = by.indices.known k j at_k in
               let below = path_below j p j_in e in
               absurd (true≢false (sym (ap (stands_before (path_to p)) below ∙ before_longer (path_to p) j [])
               ∙ by.sorted k m j p more at_k at_m)))
@@ -161,7 +161,7 @@ module _ (vertices : List Vertex) (rooted : IsRooted vertices) where
         go : (o : Option ℕ) → parent_of vertices i ≡ o → parent_of vertices i ≡ None
         go None e = e
         go (Some p) e =
-            let there = by.places.each p (rooted.known i p e) in
+            let there = by.indices.each p (rooted.known i p e) in
             let less : there.0 < 0 = parent_first there.0 0 p i there.1 at e in absurd (omega arith)
 
     next_below : (k i j : ℕ) → slice_get list k ≡ Some i → slice_get list (suc k) ≡ Some j → (p : ℕ)
@@ -176,17 +176,17 @@ module _ (vertices : List Vertex) (rooted : IsRooted vertices) where
             × IsTrue (is_at_or_below vertices i p)
         go None e =
             let f = first_at list i at_next in
-            let same : f.0 ≡ j = rooted.alone f.0 j (by.places.known 0 f.0 f.1) (by.places.known (suc k) j at_next)
+            let same : f.0 ≡ j = rooted.alone f.0 j (by.indices.known 0 f.0 f.1) (by.indices.known (suc k) j at_next)
             (root_first f.0 f.1) e in
-            let place : 0 ≡ suc k = by.places.apart 0 (suc k) j (f.1 ∙ ap Some same) at_next in
+            let index : 0 ≡ suc k = by.indices.apart 0 (suc k) j (f.1 ∙ ap Some same) at_next in
             absurd (omega arith)
         go (Some p) e =
             let p_in : p < length vertices = rooted.known j p e in
-            let there = by.places.each p p_in in
+            let there = by.indices.each p p_in in
             let less : there.0 < suc k = parent_first there.0 (suc k) p j there.1 at_next e in
             let low : stands_before (path_to i) (path_to p) ≡ false = by.sorted there.0 k p i (omega arith) there.1
             at_k in
-            let below = path_below j p (by.places.known (suc k) j at_next) e in
+            let below = path_below j p (by.indices.known (suc k) j at_next) e in
             let high : stands_before (path_to p ++ j ∷ []) (path_to i) ≡ false = ap (λ l. stands_before l (path_to i))
             (sym below) ∙ by.sorted k (suc k) i j (omega arith) at_k at_next in
             let begins = begins_between (path_to p) (path_to i) j low high in
@@ -196,7 +196,7 @@ module _ (vertices : List Vertex) (rooted : IsRooted vertices) where
         parent_of vertices u ≡ parent_of vertices v → u < v
     siblings_rise j k u v lt at_j at_k same =
         elim (cases_order u v) [
-          | inl equal ↦ absurd (let place : j ≡ k = by.places.apart j k v (at_j ∙ ap Some equal) at_k in omega arith)
+          | inl equal ↦ absurd (let index : j ≡ k = by.indices.apart j k v (at_j ∙ ap Some equal) at_k in omega arith)
           | inr differ ↦ elim differ [
             | inl less ↦ less
             | inr more ↦ go (parent_of vertices v) refl more
@@ -204,10 +204,10 @@ module _ (vertices : List Vertex) (rooted : IsRooted vertices) where
         ]
       where
         u_in : u < length vertices
-        u_in = by.places.known j u at_j
+        u_in = by.indices.known j u at_j
 
         v_in : v < length vertices
-        v_in = by.places.known k v at_k
+        v_in = by.indices.known k v at_k
 
         go : (o : Option ℕ) → parent_of vertices v ≡ o → v < u → u < v
         go None e more = absurd (let one : u ≡ v = rooted.alone u v u_in v_in (same ∙ e) e in omega arith)
@@ -220,7 +220,7 @@ module _ (vertices : List Vertex) (rooted : IsRooted vertices) where
 
     pub preorder_by_path : IsPreorderOf vertices list
     preorder_by_path = record {
-      places = by.places;
+      indices = by.indices;
       first = root_first;
       next = next_below;
       before =

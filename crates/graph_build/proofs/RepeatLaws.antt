@@ -1,4 +1,4 @@
--- The keys that were seen, one place more at a time.
+-- The keys that were seen, one index more at a time.
 use Rattle.std.proofs.Common.{◌≡◌, ℕ, ◌+◌, ◌<◌, ◌↔◌, Bool, true, false, cond, List, length, get_or, Option, Some, None, inl, inr, refl, sym, ◌∙◌, ap, arith, true≢false}
 use Rattle.std.specs.Prelude.{slice_get}
 use Rattle.std.specs.Ordering.{is_eq}
@@ -9,17 +9,17 @@ use Rattle.std.specs.declared.cmp.Ordering.{Ordering}
 use Rattle.std.specs.declared.cmp.Ordering.TheVariants.{Equal}
 use Rattle.graph_build.specs.Keys.{IsRepeated}
 
--- one of the first so many places has this key
+-- one of the first so many indices has this key
 abbrev pub HasSeen : {K : Type 0} → (K → K → Ordering) → List (Option K) → ℕ → K → Type 0
 HasSeen {K} cmp keys most key = (u : ℕ) × (a : K) × (u < most) × (slice_get keys u ≡ Some (Some a))
     × (cmp a key ≡ Equal)
 
--- exactly the keys of the first so many places pass the test
+-- exactly the keys of the first so many indices pass the test
 abbrev pub SeesKeys : {K : Type 0} → (K → K → Ordering) → List (Option K) → ℕ → (K → Bool) → Type 0
 SeesKeys {K} cmp keys most has = (key : K) → has key ≡ true ↔ HasSeen cmp keys most key
 
 module _ {K : Type 0} (cmp : K → K → Ordering) (keys : List (Option K)) where
-  -- what was read at a place
+  -- what was read at an index
   pub read_at : (v : ℕ) (d o : Option K) → v < length keys → get_or keys v d ≡ o → slice_get keys v ≡ Some o
   read_at v d o lt e = slice_get-get_or keys v d lt ∙ ap Some e
 
@@ -29,7 +29,7 @@ module _ {K : Type 0} (cmp : K → K → Ordering) (keys : List (Option K)) wher
     (λ seen. absurd (let lt = seen.2 in omega arith)),
   )
 
-  -- a place without a key
+  -- an index without a key
   pub sees_skip : (v : ℕ) (has : K → Bool) → slice_get keys v ≡ Some None → SeesKeys cmp keys v has →
       SeesKeys cmp keys (v + 1) has
   sees_skip v has at sees q = (
@@ -41,7 +41,7 @@ module _ {K : Type 0} (cmp : K → K → Ordering) (keys : List (Option K)) wher
     ]),
   )
 
-  -- a place with one
+  -- an index with one
   pub sees_more : (v : ℕ) (key : K) (old new : K → Bool) → slice_get keys v ≡ Some (Some key) →
       ((q : K) → new q ≡ cond (is_eq (cmp key q)) true (old q)) → SeesKeys cmp keys v old →
       SeesKeys cmp keys (v + 1) new

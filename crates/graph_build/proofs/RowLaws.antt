@@ -1,11 +1,10 @@
 -- What rows of the table of faults say together, and what those that were checked say of the vertices.
-use Rattle.std.proofs.Common.{◌≡◌, ℕ, suc, ◌<◌, ◌≤◌, ◌⊎◌, ◌++◌, Bool, true, false, List, [], ◌∷◌, length, Option, Some, None, inl, inr, refl, arith}
+use Rattle.std.proofs.Common.{◌≡◌, ℕ, ◌++◌, List, [], ◌∷◌, length, inl, inr}
 use Rattle.std.proofs.lemmas.Bool.{cases_lt}
-use Rattle.flux_defs.specs.declared.vertices.Vertex.{Vertex}
 use Rattle.flux_defs.specs.Graph.{ResourceGraph}
-use Rattle.resource_graph.specs.Finds.{Nowhere, IsLeast}
-use Rattle.resource_graph.specs.Lines.{line_of, KnowsParents}
-use Rattle.graph_build.specs.Faults.{IsDeep, HasUnknownParent}
+use Rattle.resource_graph.specs.Finds.{Nowhere}
+use Rattle.resource_graph.specs.Lines.{KnowsParents}
+use Rattle.graph_build.specs.Faults.{HasUnknownParent}
 use Rattle.graph_build.specs.Table.{Row, row, NoneHolds, IsFirstRow, IsFirstIn, IsFirstFault, IsFaultless, table}
 use Rattle.graph_build.specs.declared.raw.GraphFault.{GraphFault}
 use Rattle.graph_build.specs.declared.raw.GraphFault.TheVariants.{Memory}

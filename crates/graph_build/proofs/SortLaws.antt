@@ -57,10 +57,10 @@ module _ (vertices : List Vertex) (rooted : IsRooted vertices) (paths sorted : L
 
   module _ (ends : List ℕ) (rises : IsSortedBy (λ x y. is_lt (slice_cmp nat_cmp x.items y.items)) sorted)
       (ended : HasEnds sorted (length sorted) ends) where
-    -- what stands at a place of the ends
-    at_place : (k i : ℕ) → slice_get ends k ≡ Some i → (path : Vec ℕ Global) × (slice_get sorted k ≡ Some path)
+    -- what stands at an index of the ends
+    at_index : (k i : ℕ) → slice_get ends k ≡ Some i → (path : Vec ℕ Global) × (slice_get sorted k ≡ Some path)
         × (i < length vertices) × (path.items ≡ path_to vertices rooted i) × (i ≡ last path)
-    at_place k i e =
+    at_index k i e =
         let k_in : k < length ends = slice_get_within ends k i e in
         let long = ended.as_many in
         elim (slice_get_cases sorted k).1 [
@@ -79,13 +79,13 @@ module _ (vertices : List Vertex) (rooted : IsRooted vertices) (paths sorted : L
         ]
 
     known : (k i : ℕ) → slice_get ends k ≡ Some i → i < length vertices
-    known k i e = (at_place k i e).2
+    known k i e = (at_index k i e).2
 
     sorted_by : (a b i j : ℕ) → a ≤ b → slice_get ends a ≡ Some i → slice_get ends b ≡ Some j →
         stands_before (path_to vertices rooted j) (path_to vertices rooted i) ≡ false
     sorted_by a b i j le at_a at_b =
-        let p = at_place a i at_a in
-        let q = at_place b j at_b in
+        let p = at_index a i at_a in
+        let q = at_index b j at_b in
         let far = sorted_far (λ x y. is_lt (slice_cmp nat_cmp x.items y.items))
         (ranks_by nat_list_cmp_total (λ (v : Vec ℕ Global). v.items)) sorted rises a b p.0 le
         (slice_get_within sorted b q.0 q.1) in
@@ -139,8 +139,8 @@ module _ (vertices : List Vertex) (rooted : IsRooted vertices) (paths sorted : L
 
         clash : (a b v : ℕ) → a < b → slice_get ends a ≡ Some v → slice_get ends b ≡ Some v → ⊥
         clash a b v lt at_a at_b =
-            let p = at_place a v at_a in
-            let q = at_place b v at_b in
+            let p = at_index a v at_a in
+            let q = at_index b v at_b in
             let distinct = IsDistinct-IsPermutation (λ x y. nat_eq (last x) (last y)) (λ x y. flips (last x) (last y))
             paths sorted moved (IsDistinct-from_apart (λ x y. nat_eq (last x) (last y)) paths paths_apart) in
             let differ = apart_from_distinct (λ x y. nat_eq (last x) (last y)) sorted a b p.0 distinct lt
@@ -153,7 +153,7 @@ module _ (vertices : List Vertex) (rooted : IsRooted vertices) (paths sorted : L
 
     pub preorder_of_sorted : IsPreorderOf vertices ends
     preorder_of_sorted = preorder_by_path vertices rooted ends (record {
-      places = record {
+      indices = record {
         as_many = ended.as_many ∙ (length_permutation paths sorted moved ∙ has.as_many);
         known = known;
         apart = apart;

@@ -1,14 +1,12 @@
 -- A list of vertices with which nothing is wrong gives a valid graph.
 use Rattle.std.proofs.Common.{◌≡◌, ◌≢◌, ℕ, zero, suc, ◌+◌, ◌-◌, ◌^◌, ◌<◌, ◌≤◌, ◌⊎◌, ◌&&◌, ◌==◌, not, Bool, true, false, cond, List, [], length, get_or, take, Option, Some, None, inl, inr, refl, sym, ◌∙◌, ap, subst, arith, IsTrue, true≢false, option_and_then}
 use Rattle.std.specs.Prelude.{slice_get, is_some, count_by, codes, IsSome}
-use Rattle.std.specs.Option.{IsSomeAnd, option_map_or}
-use Rattle.std.specs.Str.{bytes_eq}
+use Rattle.std.specs.Option.{option_map_or}
 use Rattle.std.proofs.lemmas.Bool.{cases_lt, cases_eq, cases_order, cases_Bool, false_from_ne_true, and_parts, and_from, eqb-true, eq-eqb}
 use Rattle.std.proofs.lemmas.List.{take_all}
 use Rattle.std.proofs.lemmas.List.Sums.{count_by_more_yes, count_by_more_no}
 use Rattle.std.proofs.lemmas.List.Folds.{Any-from_list_any, list_any_at}
 use Rattle.std.proofs.lemmas.Option.{slice_get-get_or, slice_get_within, slice_get_past, get_or_from_slice_get, same_Some}
-use Rattle.std.proofs.lemmas.Slice.Eq.{bytes_eq-Decides}
 use Rattle.flux_defs.specs.declared.vertices.Vertex.{Vertex}
 use Rattle.flux_defs.specs.Graph.{ResourceGraph, parent_of, chain, is_below, HasKind, IsNode, is_pool, is_pool_kind}
 use Rattle.flux_defs.specs.ValidGraph.{IsValidGraph, HasType, HasId, HasRank, IsDevice, NumbersKinds, HasFairSizes, NumbersDevices}
@@ -18,7 +16,7 @@ use Rattle.graph_build.specs.Faults.{IsNodeType, HasDoubleName}
 use Rattle.graph_build.specs.Raw.{IsArranged, IsRenumbered, KindsApart, is_node_of, some_ranked, nodes_among, rank_of}
 use Rattle.resource_graph.proofs.Values.{value_of, at_value, from_value}
 use Rattle.graph_build.proofs.Facts.{Facts, node_test, node_tested}
-use Rattle.graph_build.proofs.ArrangeLaws.{place_of, place_at, place_in, same_place, number_of, both_of, same_below, same_line_length, parent_back, preorder_arranged}
+use Rattle.graph_build.proofs.ArrangeLaws.{index_of, index_at, index_in, same_index, number_of, both_of, same_below, same_line_length, parent_back, preorder_arranged}
 
 -- a list with which nothing is wrong hangs on one root
 pub rooted_of_faultless : (g : ResourceGraph) (names : List (List ℕ)) → Facts g names → IsRooted g.vertices
@@ -106,10 +104,10 @@ module _ (kinds : List (List ℕ)) (vertices : List Vertex) (names : List (List 
   raw : ResourceGraph
   raw = record { kinds = kinds; vertices = vertices }
 
-  abbrev place : ℕ → ℕ
-  place = place_of kinds vertices order g arranged
+  abbrev index : ℕ → ℕ
+  index = index_of kinds vertices order g arranged
 
-  abbrev both : (k : ℕ) → k < length vertices → (x : Vertex) × (y : Vertex) × (slice_get vertices (place k) ≡ Some x)
+  abbrev both : (k : ℕ) → k < length vertices → (x : Vertex) × (y : Vertex) × (slice_get vertices (index k) ≡ Some x)
       × (slice_get g.vertices k ≡ Some y) × IsRenumbered kinds g order x y
   both = both_of kinds vertices order g arranged
 
@@ -119,26 +117,26 @@ module _ (kinds : List (List ℕ)) (vertices : List Vertex) (names : List (List 
 
   -- a fact on the built vertex is one on its raw vertex
   type_back : (k : ℕ) (name : List ℕ) → HasType g name k → (k < length vertices)
-      × HasType (record { kinds = kinds; vertices = vertices }) name (place k)
+      × HasType (record { kinds = kinds; vertices = vertices }) name (index k)
   type_back k name h =
       let v = value_of (slice_get g.vertices k) (λ x. slice_get g.kinds x.kind ≡ Some name) h in
       let k_in = within k v.0 v.1 in
       let b = both k k_in in
       let same : v.0 ≡ b.1 = same_Some _ _ (sym v.1 ∙ b.3) in (
         k_in,
-        from_value (slice_get vertices (place k)) (λ x. slice_get kinds x.kind ≡ Some name) b.0 b.2
+        from_value (slice_get vertices (index k)) (λ x. slice_get kinds x.kind ≡ Some name) b.0 b.2
             (sym b.4.kind ∙ (ap (λ (y : Vertex). slice_get g.kinds y.kind) (sym same) ∙ v.2)),
       )
 
   type_forth : (k : ℕ) (name : List ℕ) → k < length vertices →
-      HasType (record { kinds = kinds; vertices = vertices }) name (place k) → HasType g name k
+      HasType (record { kinds = kinds; vertices = vertices }) name (index k) → HasType g name k
   type_forth k name k_in h =
       let b = both k k_in in
       from_value (slice_get g.vertices k) (λ x. slice_get g.kinds x.kind ≡ Some name) b.1 b.3
-      (b.4.kind ∙ at_value (slice_get vertices (place k)) (λ x. slice_get kinds x.kind ≡ Some name) b.0 b.2 h)
+      (b.4.kind ∙ at_value (slice_get vertices (index k)) (λ x. slice_get kinds x.kind ≡ Some name) b.0 b.2 h)
 
   device_back : (k : ℕ) → IsDevice g k → (k < length vertices)
-      × IsDevice (record { kinds = kinds; vertices = vertices }) (place k)
+      × IsDevice (record { kinds = kinds; vertices = vertices }) (index k)
   device_back k (inl core) = let t = type_back k (codes "core") core in (t.0, inl t.1)
   device_back k (inr gpu) = let t = type_back k (codes "gpu") gpu in (t.0, inr t.1)
 
@@ -152,7 +150,7 @@ module _ (kinds : List (List ℕ)) (vertices : List Vertex) (names : List (List 
 
   same_kind : (v u kind : ℕ) → HasKind g.vertices kind v → HasKind g.vertices kind u →
       (v < length vertices) × (u < length vertices)
-      × ((k : ℕ) × HasKind vertices k (place v) × HasKind vertices k (place u))
+      × ((k : ℕ) × HasKind vertices k (index v) × HasKind vertices k (index u))
   same_kind v u kind at_v at_u =
       let yv = value_of (slice_get g.vertices v) (λ x. x.kind ≡ kind) at_v in
       let yu = value_of (slice_get g.vertices u) (λ x. x.kind ≡ kind) at_u in
@@ -167,24 +165,24 @@ module _ (kinds : List (List ℕ)) (vertices : List Vertex) (names : List (List 
       let name_u : slice_get kinds bu.0.kind ≡ slice_get g.kinds kind = sym bu.4.kind
       ∙ (ap (λ (y : Vertex). slice_get g.kinds y.kind) (sym eu) ∙ ap (slice_get g.kinds) yu.2) in
       let there : IsSome (slice_get kinds bv.0.kind) =
-      subst IsSome (sym (slice_get-get_or kinds bv.0.kind [] (kind_of bv.0 (place v) bv.2))) refl in
+      subst IsSome (sym (slice_get-get_or kinds bv.0.kind [] (kind_of bv.0 (index v) bv.2))) refl in
       let same : bv.0.kind ≡ bu.0.kind = apart bv.0.kind bu.0.kind there (name_v ∙ sym name_u) in (
         v_in,
         u_in,
         (
           bv.0.kind,
-          from_value (slice_get vertices (place v)) (λ x. x.kind ≡ bv.0.kind) bv.0 bv.2 refl,
-          from_value (slice_get vertices (place u)) (λ x. x.kind ≡ bv.0.kind) bu.0 bu.2 (sym same),
+          from_value (slice_get vertices (index v)) (λ x. x.kind ≡ bv.0.kind) bv.0 bv.2 refl,
+          from_value (slice_get vertices (index u)) (λ x. x.kind ≡ bv.0.kind) bu.0 bu.2 (sym same),
         ),
       )
 
   below_back : (v u : ℕ) → v < length vertices → u < length vertices → IsTrue (is_below g.vertices v u) →
-      IsTrue (is_below vertices (place v) (place u))
+      IsTrue (is_below vertices (index v) (index u))
   below_back v u v_in u_in h = same_below kinds vertices order g arranged v u v_in u_in ∙ h
 
   rank_is : (k : ℕ) (k_in : k < length vertices) → (both k k_in).1.rank ≡ rank_of kinds vertices order k (both k k_in).0
-  rank_is k k_in = let b = both k k_in in arranged.ranks k (place k) b.0 b.1
-      (place_at kinds vertices order g arranged k k_in) b.2 b.3
+  rank_is k k_in = let b = both k k_in in arranged.ranks k (index k) b.0 b.1
+      (index_at kinds vertices order g arranged k k_in) b.2 b.3
 
   node_types : (k : ℕ) → IsNode g.vertices k → HasType g (codes "node") k
   node_types k node =
@@ -228,15 +226,15 @@ module _ (kinds : List (List ℕ)) (vertices : List Vertex) (names : List (List 
             none)
       ])
     where
-      has_rank : (x : Vertex) → slice_get vertices (place k) ≡ Some x → some_ranked kinds vertices ≡ true →
-          IsNodeType (record { kinds = kinds; vertices = vertices }) (place k) → is_some x.rank ≡ true
+      has_rank : (x : Vertex) → slice_get vertices (index k) ≡ Some x → some_ranked kinds vertices ≡ true →
+          IsNodeType (record { kinds = kinds; vertices = vertices }) (index k) → is_some x.rank ≡ true
       has_rank x at some node = go x.rank refl
         where
           go : (o : Option ℕ) → x.rank ≡ o → is_some o ≡ true
-          go None e = absurd (fine.ranks (place k) (
+          go None e = absurd (fine.ranks (index k) (
             ranks_some kinds vertices some,
             node,
-            inl (from_value (slice_get vertices (place k)) (λ z. z.rank ≡ None) x at e),
+            inl (from_value (slice_get vertices (index k)) (λ z. z.rank ≡ None) x at e),
           ))
           go (Some rank) e = refl
 
@@ -271,26 +269,26 @@ module _ (kinds : List (List ℕ)) (vertices : List Vertex) (names : List (List 
         | inl some ↦ (
             let bv = both v v_in in
             let bu = both u u_in in
-            let raw_v : HasRank (record { kinds = kinds; vertices = vertices }) rank (place v) =
-            from_value (slice_get vertices (place v)) (λ x. x.rank ≡ Some rank) bv.0 bv.2
+            let raw_v : HasRank (record { kinds = kinds; vertices = vertices }) rank (index v) =
+            from_value (slice_get vertices (index v)) (λ x. x.rank ≡ Some rank) bv.0 bv.2
             (sym (ap (λ t. cond t bv.0.rank (Some (nodes_among kinds vertices (take v order)))) some) ∙ rv) in
-            let raw_u : HasRank (record { kinds = kinds; vertices = vertices }) rank (place u) =
-            from_value (slice_get vertices (place u)) (λ x. x.rank ≡ Some rank) bu.0 bu.2
+            let raw_u : HasRank (record { kinds = kinds; vertices = vertices }) rank (index u) =
+            from_value (slice_get vertices (index u)) (λ x. x.rank ≡ Some rank) bu.0 bu.2
             (sym (ap (λ t. cond t bu.0.rank (Some (nodes_among kinds vertices (take u order)))) some) ∙ ru) in
             let node_v = (type_back v (codes "node") (rank_node v rank at_v)).1 in
             let node_u = (type_back u (codes "node") (rank_node u rank at_u)).1 in
-            elim (cases_order (place v) (place u)) [
-              | inl same ↦ (let e : v ≡ u = same_place kinds vertices order g arranged v u v_in same in omega arith)
+            elim (cases_order (index v) (index u)) [
+              | inl same ↦ (let e : v ≡ u = same_index kinds vertices order g arranged v u v_in same in omega arith)
               | inr differ ↦ elim differ [
-                | inl less ↦ fine.ranks (place u) (
+                | inl less ↦ fine.ranks (index u) (
                   ranks_some kinds vertices some,
                   node_u,
-                  inr (place v, less, node_v, rank, raw_u, raw_v),
+                  inr (index v, less, node_v, rank, raw_u, raw_v),
                 )
-                | inr more ↦ fine.ranks (place v) (
+                | inr more ↦ fine.ranks (index v) (
                   ranks_some kinds vertices some,
                   node_v,
-                  inr (place u, more, node_u, rank, raw_v, raw_u),
+                  inr (index u, more, node_u, rank, raw_v, raw_u),
                 )
               ]
             ])
@@ -301,21 +299,21 @@ module _ (kinds : List (List ℕ)) (vertices : List Vertex) (names : List (List 
             let cu : nodes_among kinds vertices (take u order) ≡ rank =
             same_Some _ _ (sym (ap (λ t. cond t (both u u_in).0.rank
             (Some (nodes_among kinds vertices (take u order)))) none) ∙ ru) in
-            let here : option_map_or (is_node_of kinds) (slice_get vertices (place v)) false ≡ true =
+            let here : option_map_or (is_node_of kinds) (slice_get vertices (index v)) false ≡ true =
             ap (λ o. option_map_or (is_node_of kinds) o false) (both v v_in).2
             ∙ node_type_at v v_in (rank_node v rank at_v) in
             let rise = counts_rise (λ i. option_map_or (is_node_of kinds) (slice_get vertices i) false) order v u
-            (length vertices) lt (let long = arranged.places.as_many in omega arith) here in
+            (length vertices) lt (let long = arranged.indices.as_many in omega arith) here in
             omega (arith, rise, cv, cu))
       ]
 
   -- pools
-  pool_back : (k : ℕ) → IsTrue (is_pool g.vertices k) → (k < length vertices) × IsTrue (is_pool vertices (place k))
+  pool_back : (k : ℕ) → IsTrue (is_pool g.vertices k) → (k < length vertices) × IsTrue (is_pool vertices (index k))
   pool_back k h = go (slice_get g.vertices k) refl h
     where
       go : (o : Option Vertex) → slice_get g.vertices k ≡ o →
           option_map_or (λ x. is_pool_kind g.vertices x.kind) o false ≡ true → (k < length vertices)
-          × IsTrue (is_pool vertices (place k))
+          × IsTrue (is_pool vertices (index k))
       go None e t = absurd (true≢false (sym t))
       go (Some y) e t =
           let any = Any-from_list_any (λ z. (z.kind == y.kind) && not (z.size == 1)) g.vertices t in
@@ -329,23 +327,23 @@ module _ (kinds : List (List ℕ)) (vertices : List Vertex) (names : List (List 
           let a_in = kinds_same.1 in
           let ba = both any.0 a_in in
           let bk = both k kinds_same.0 in
-          let xk : bk.0.kind ≡ kinds_same.2.0 = at_value (slice_get vertices (place k)) (λ x. x.kind ≡ kinds_same.2.0)
+          let xk : bk.0.kind ≡ kinds_same.2.0 = at_value (slice_get vertices (index k)) (λ x. x.kind ≡ kinds_same.2.0)
           bk.0 bk.2 kinds_same.2.1 in
-          let xa : ba.0.kind ≡ kinds_same.2.0 = at_value (slice_get vertices (place any.0))
+          let xa : ba.0.kind ≡ kinds_same.2.0 = at_value (slice_get vertices (index any.0))
           (λ x. x.kind ≡ kinds_same.2.0) ba.0 ba.2 kinds_same.2.2 in
           let size : any.1.size ≡ ba.0.size = ap (λ (z : Vertex). z.size) (same_Some _ _ (sym at ∙ ba.3)) ∙ ba.4.size in
           let odd : not (ba.0.size == 1) ≡ true = ap (λ n. not (n == 1)) (sym size) ∙ parts.1 in
-          let read : get_or vertices (place any.0) ba.0 ≡ ba.0 = get_or_from_slice_get vertices (place any.0) ba.0
+          let read : get_or vertices (index any.0) ba.0 ≡ ba.0 = get_or_from_slice_get vertices (index any.0) ba.0
           ba.0 ba.2 in
-          let test : ((get_or vertices (place any.0) ba.0).kind == bk.0.kind) && not
-          ((get_or vertices (place any.0) ba.0).size == 1) ≡ true =
+          let test : ((get_or vertices (index any.0) ba.0).kind == bk.0.kind) && not
+          ((get_or vertices (index any.0) ba.0).size == 1) ≡ true =
           ap (λ (z : Vertex). (z.kind == bk.0.kind) && not (z.size == 1)) read
           ∙ and_from (ba.0.kind == bk.0.kind) (not (ba.0.size == 1)) (eq-eqb ba.0.kind bk.0.kind (xa ∙ sym xk))
           odd in (
             kinds_same.0,
             ap (λ o. option_map_or (λ x. is_pool_kind vertices x.kind) o false) bk.2 ∙
-                list_any_at (λ z. (z.kind == bk.0.kind) && not (z.size == 1)) vertices (place any.0) ba.0
-                (slice_get_within vertices (place any.0) ba.0 ba.2) test,
+                list_any_at (λ z. (z.kind == bk.0.kind) && not (z.size == 1)) vertices (index any.0) ba.0
+                (slice_get_within vertices (index any.0) ba.0 ba.2) test,
           )
 
   has_parent_in : (k p : ℕ) → parent_of g.vertices k ≡ Some p → k < length vertices
@@ -359,13 +357,13 @@ module _ (kinds : List (List ℕ)) (vertices : List Vertex) (names : List (List 
   fair_sizes : HasFairSizes g
   fair_sizes = record {
     leaves = λ v p e. false_from_ne_true (is_pool g.vertices p)
-        (λ h. fine.leaves (place p) ((pool_back p h).1, (place v, parent_back kinds vertices order g arranged v p e)));
+        (λ h. fine.leaves (index p) ((pool_back p h).1, (index v, parent_back kinds vertices order g arranged v p e)));
     whole = λ v y at h.
         let v_in = within v y at in
         let b = both v v_in in
         let size : y.size ≡ b.0.size = ap (λ (z : Vertex). z.size) (same_Some _ _ (sym at ∙ b.3)) ∙ b.4.size in
-        let raw_type : IsNodeType (record { kinds = kinds; vertices = vertices }) (place v) ⊎ IsDevice
-        (record { kinds = kinds; vertices = vertices }) (place v) =
+        let raw_type : IsNodeType (record { kinds = kinds; vertices = vertices }) (index v) ⊎ IsDevice
+        (record { kinds = kinds; vertices = vertices }) (index v) =
         elim h [
           | inl node ↦ inl ((type_back v (codes "node") (node_types v node)).1)
           | inr device ↦ inr
@@ -373,26 +371,26 @@ module _ (kinds : List (List ℕ)) (vertices : List Vertex) (names : List (List 
         ] in
         size ∙ elim (cases_eq b.0.size 1) [
           | inl one ↦ one
-          | inr odd ↦ absurd (fine.whole (place v) (
+          | inr odd ↦ absurd (fine.whole (index v) (
             raw_type,
-            from_value (slice_get vertices (place v)) (λ x. x.size ≢ 1) b.0 b.2 odd,
+            from_value (slice_get vertices (index v)) (λ x. x.size ≢ 1) b.0 b.2 odd,
           ))
         ];
     most = λ v y at.
         let b = both v (within v y at) in
         let size : y.size ≡ b.0.size = ap (λ (z : Vertex). z.size) (same_Some _ _ (sym at ∙ b.3)) ∙ b.4.size in
         elim (cases_lt (2 ^ 46) b.0.size) [
-          | inl over ↦ absurd (fine.most (place v) (from_value (slice_get vertices (place v)) (λ x. 2 ^ 46 < x.size)
+          | inl over ↦ absurd (fine.most (index v) (from_value (slice_get vertices (index v)) (λ x. 2 ^ 46 < x.size)
               b.0 b.2 over))
           | inr le ↦ subst (λ (n : ℕ). n ≤ 2 ^ 46) (sym size) le
         ];
   }
 
   id_back : (k id : ℕ) → HasId g id k → (k_in : k < length vertices) →
-      HasId (record { kinds = kinds; vertices = vertices }) id (place k)
+      HasId (record { kinds = kinds; vertices = vertices }) id (index k)
   id_back k id h k_in =
       let b = both k k_in in
-      from_value (slice_get vertices (place k)) (λ x. x.id ≡ Some id) b.0 b.2
+      from_value (slice_get vertices (index k)) (λ x. x.id ≡ Some id) b.0 b.2
       (sym b.4.id ∙ at_value (slice_get g.vertices k) (λ x. x.id ≡ Some id) b.1 b.3 h)
 
   node_in : (n : ℕ) → IsNode g.vertices n → n < length vertices
@@ -409,67 +407,56 @@ module _ (kinds : List (List ℕ)) (vertices : List Vertex) (names : List (List 
       ∙ at_value (slice_get g.vertices v) (λ x. slice_get g.kinds x.kind ≡ Some name) yv.0 yv.1 h) in
       elim device [ inl core ↦ inl (move (codes "core") core) | inr gpu ↦ inr (move (codes "gpu") gpu) ]
 
+  -- a core or gpu has no id of another one of its kind and node that the list has before it
+  no_double : (v u n id kind : ℕ) → IsDevice g u → HasKind g.vertices kind v → HasKind g.vertices kind u →
+      IsNode g.vertices n → IsTrue (is_below g.vertices v n) → IsTrue (is_below g.vertices u n) → HasId g id v →
+      HasId g id u → index v < index u → ⊥
+  no_double v u n id kind device at_v at_u node v_below u_below id_v id_u less =
+      let same = same_kind v u kind at_v at_u in
+      let n_in = node_in n node in
+      fine.ids (index u) (
+        (device_back u device).1,
+        (
+          index v,
+          less,
+          same.2.0,
+          same.2.2,
+          same.2.1,
+          id,
+          id_back u id id_u same.1,
+          id_back v id id_v same.0,
+          index n,
+          (type_back n (codes "node") (node_types n node)).1,
+          below_back u n same.1 n_in u_below,
+          below_back v n same.0 n_in v_below,
+        ),
+      )
+
   numbered_devices : NumbersDevices g
   numbered_devices = record {
     housed = λ v device.
         let d = device_back v device in
-        let house = fine.housed (place v) d.1 in
+        let house = fine.housed (index v) d.1 in
         let node = value_of (slice_get vertices house.0) (λ x. slice_get kinds x.kind ≡ Some (codes "node")) house.1 in
         let n = number_of kinds vertices order g arranged house.0 (slice_get_within vertices house.0 node.0 node.1) in (
           n.0,
           types_node n.0 (type_forth n.0 (codes "node") n.1
               (subst (λ (i : ℕ). IsNodeType (record { kinds = kinds; vertices = vertices }) i) (sym n.2) house.1)),
           sym (same_below kinds vertices order g arranged v n.0 d.0 n.1)
-              ∙ subst (λ (i : ℕ). IsTrue (is_below vertices (place v) i)) (sym n.2) house.2,
+              ∙ subst (λ (i : ℕ). IsTrue (is_below vertices (index v) i)) (sym n.2) house.2,
         );
     named = λ v device.
         let d = device_back v device in
         let b = both v d.0 in
-        id_of v b.1 b.3 (λ none. fine.identified (place v)
-        (d.1, from_value (slice_get vertices (place v)) (λ x. x.id ≡ None) b.0 b.2 (sym b.4.id ∙ none)));
+        id_of v b.1 b.3 (λ none. fine.identified (index v)
+        (d.1, from_value (slice_get vertices (index v)) (λ x. x.id ≡ None) b.0 b.2 (sym b.4.id ∙ none)));
     apart = λ v u n id kind device at_v at_u node v_below u_below id_v id_u.
-        let same = same_kind v u kind at_v at_u in
-        let n_in = node_in n node in
-        let node_raw = (type_back n (codes "node") (node_types n node)).1 in
-        let bv = below_back v n same.0 n_in v_below in
-        let bu = below_back u n same.1 n_in u_below in
-        elim (cases_order (place v) (place u)) [
-          | inl equal ↦ same_place kinds vertices order g arranged v u same.0 equal
+        elim (cases_order (index v) (index u)) [
+          | inl equal ↦ same_index kinds vertices order g arranged v u (same_kind v u kind at_v at_u).0 equal
           | inr differ ↦ elim differ [
-            | inl less ↦ absurd (fine.ids (place u) (
-              (device_back u (device_kind v u kind device at_v at_u)).1,
-              (
-                place v,
-                less,
-                same.2.0,
-                same.2.2,
-                same.2.1,
-                id,
-                id_back u id id_u same.1,
-                id_back v id id_v same.0,
-                place n,
-                node_raw,
-                bu,
-                bv,
-              ),
-            ))
-            | inr more ↦ absurd (fine.ids (place v) (
-              (device_back v device).1,
-              (
-                place u,
-                more,
-                same.2.0,
-                same.2.1,
-                same.2.2,
-                id,
-                id_back v id id_v same.0,
-                id_back u id id_u same.1,
-                place n,
-                node_raw,
-                bv,
-                bu,
-              ),
-            ))
+            | inl less ↦ absurd (no_double v u n id kind (device_kind v u kind device at_v at_u) at_v at_u node v_below
+                u_below id_v id_u less)
+            | inr more ↦ absurd (no_double u v n id kind device at_u at_v node u_below v_below id_u id_v more)
           ]
         ];
   }
@@ -482,23 +469,23 @@ module _ (kinds : List (List ℕ)) (vertices : List Vertex) (names : List (List 
           go (Some id) e = (id, from_value (slice_get g.vertices v) (λ x. x.id ≡ Some id) y at e)
 
   module _ (built_names : List (List ℕ)) (long_names : length built_names ≡ length vertices)
-      (names_at : (k : ℕ) → k < length vertices → slice_get built_names k ≡ slice_get names (place k)) where
-    -- two numbers of one name are one, where a lesser place of that name is a fault
+      (names_at : (k : ℕ) → k < length vertices → slice_get built_names k ≡ slice_get names (index k)) where
+    -- two numbers of one name are one, where a lesser index of that name is a fault
     names_clash : (v u : ℕ) → v < length vertices → u < length vertices →
         slice_get built_names v ≡ slice_get built_names u →
-        (place v < place u → HasDoubleName (record { kinds = kinds; vertices = vertices }) names (place u)) →
-        (place u < place v → HasDoubleName (record { kinds = kinds; vertices = vertices }) names (place v)) → v ≡ u
+        (index v < index u → HasDoubleName (record { kinds = kinds; vertices = vertices }) names (index u)) →
+        (index u < index v → HasDoubleName (record { kinds = kinds; vertices = vertices }) names (index v)) → v ≡ u
     names_clash v u v_in u_in same first second =
-        elim (cases_order (place v) (place u)) [
-          | inl equal ↦ same_place kinds vertices order g arranged v u v_in equal
+        elim (cases_order (index v) (index u)) [
+          | inl equal ↦ same_index kinds vertices order g arranged v u v_in equal
           | inr differ ↦ elim differ [
-            | inl less ↦ absurd (fine.names_apart (place u) (first less))
-            | inr more ↦ absurd (fine.names_apart (place v) (second more))
+            | inl less ↦ absurd (fine.names_apart (index u) (first less))
+            | inr more ↦ absurd (fine.names_apart (index v) (second more))
           ]
         ]
 
     raw_same : (v u : ℕ) → v < length vertices → u < length vertices →
-        slice_get built_names v ≡ slice_get built_names u → slice_get names (place v) ≡ slice_get names (place u)
+        slice_get built_names v ≡ slice_get built_names u → slice_get names (index v) ≡ slice_get names (index u)
     raw_same v u v_in u_in same = sym (names_at v v_in) ∙ (same ∙ names_at u u_in)
 
     some_parent : (o : Option ℕ) → IsSome o → (p : ℕ) × (o ≡ Some p)
@@ -511,14 +498,14 @@ module _ (kinds : List (List ℕ)) (vertices : List Vertex) (names : List (List 
         let p = some_parent (parent_of g.vertices v) some in
         let v_in = has_parent_in v p.0 p.1 in
         let u_in = has_parent_in u p.0 (sym parents ∙ p.1) in
-        let pv : parent_of vertices (place v) ≡ Some (place p.0) = parent_back kinds vertices order g arranged v p.0
+        let pv : parent_of vertices (index v) ≡ Some (index p.0) = parent_back kinds vertices order g arranged v p.0
         p.1 in
-        let pu : parent_of vertices (place u) ≡ Some (place p.0) = parent_back kinds vertices order g arranged u p.0
+        let pu : parent_of vertices (index u) ≡ Some (index p.0) = parent_back kinds vertices order g arranged u p.0
         (sym parents ∙ p.1) in
         let is = raw_same v u v_in u_in same in
         names_clash v u v_in u_in same
-        (λ less. (place v, less, is, inl (subst IsSome (sym pu) refl, pv ∙ sym pu)))
-        (λ more. (place u, more, sym is, inl (subst IsSome (sym pv) refl, pu ∙ sym pv)))
+        (λ less. (index v, less, is, inl (subst IsSome (sym pu) refl, pv ∙ sym pu)))
+        (λ more. (index u, more, sym is, inl (subst IsSome (sym pv) refl, pu ∙ sym pv)))
 
     hosts_apart : (v u : ℕ) → IsNode g.vertices v → IsNode g.vertices u →
         slice_get built_names v ≡ slice_get built_names u → v ≡ u
@@ -528,8 +515,8 @@ module _ (kinds : List (List ℕ)) (vertices : List Vertex) (names : List (List 
         let is = raw_same v u v_in u_in same in
         let tv = (type_back v (codes "node") (node_types v node_v)).1 in
         let tu = (type_back u (codes "node") (node_types u node_u)).1 in
-        names_clash v u v_in u_in same (λ less. (place v, less, is, inr (tv, tu)))
-        (λ more. (place u, more, sym is, inr (tu, tv)))
+        names_clash v u v_in u_in same (λ less. (index v, less, is, inr (tv, tu)))
+        (λ more. (index u, more, sym is, inr (tu, tv)))
 
     pub valid_of_faultless : NumbersKinds g → length g.kinds ≤ 256 → IsPreorderOf vertices order →
         IsValidGraph g built_names
@@ -541,14 +528,14 @@ module _ (kinds : List (List ℕ)) (vertices : List Vertex) (names : List (List 
           kinds = numbers;
           preorder = preorder_arranged kinds vertices order g arranged rooted pre;
           shallow = λ v y at.
-              let short : length (line_of vertices (place v)) ≤ 16 =
-              rooted.short (place v) (place_in kinds vertices order g arranged v (within v y at)) in
+              let short : length (line_of vertices (index v)) ≤ 16 =
+              rooted.short (index v) (index_in kinds vertices order g arranged v (within v y at)) in
               subst (λ (n : ℕ). n ≤ 16) (sym (same_line_length kinds vertices order g arranged v)) short;
           unnested = λ v u kind at_v at_u below.
               let same = same_kind v u kind at_v at_u in
-              fine.unnested (place v) (place u, same.2.0, same.2.1, same.2.2, below_back v u same.0 same.1 below);
+              fine.unnested (index v) (index u, same.2.0, same.2.1, same.2.2, below_back v u same.0 same.1 below);
           unreserved = λ v y at slot.
-              fine.unreserved (place v) ((type_back v (codes "slot")
+              fine.unreserved (index v) ((type_back v (codes "slot")
               (from_value (slice_get g.vertices v) (λ x. slice_get g.kinds x.kind ≡ Some (codes "slot")) y at
               slot)).1);
           sizes = fair_sizes;

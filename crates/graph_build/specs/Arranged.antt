@@ -7,12 +7,12 @@ use Rattle.resource_graph.specs.declared.graph.Texts.{Texts}
 use Rattle.graph_build.specs.declared.raw.RawVertex.{RawVertex}
 use Rattle.graph_build.specs.declared.arrange.KindNumbering.{KindNumbering}
 
--- by place, its number among the first so many of the order
+-- by index, its number among the first so many of the order
 pub record HasNumbers (order : List ℕ) (most : ℕ) (numbers : List ℕ) : Type 0 where
   pub as_many : length numbers ≡ length order
   pub each : (k i : ℕ) → k < most → slice_get order k ≡ Some i → slice_index numbers i ≡ k
 
--- the list's items by the first so many places of the order
+-- the list's items by the first so many indices of the order
 pub record IsArrangedList (raw : List RawVertex) (order : List ℕ) (most : ℕ) (list : List RawVertex) : Type 0 where
   pub as_many : length list ≡ most
   pub each : (k i : ℕ) → k < most → slice_get order k ≡ Some i → slice_get list k ≡ slice_get raw i
@@ -24,7 +24,7 @@ pub record HasTexts (list : List RawVertex) (texts : Texts) : Type 0 where
   pub units : texts.units ≡ map (λ r. r.unit) list
   pub properties : texts.properties ≡ map (λ r. r.properties) list
 
--- the kind of the vertex at the place that the order has for k is this one
+-- the kind of the vertex at the index that the order has for k is this one
 abbrev pub HasKindAt : List Vertex → List ℕ → ℕ → ℕ → Type 0
 HasKindAt vertices order k kind = (i : ℕ) × (x : Vertex) × (slice_get order k ≡ Some i)
     × (slice_get vertices i ≡ Some x) × (x.kind ≡ kind)

@@ -1,5 +1,5 @@
 -- The tests by which a list of vertices is checked, and what a search for the first bad vertex finds.
-use Rattle.std.specs.Prelude.{◌≡◌, ℕ, zero, suc, ◌<◌, ◌↔◌, not, Bool, false, nat_le, List, length, Option, Some, None, is_some, slice_get, slice_index_or, MatchOption, IsTrue}
+use Rattle.std.specs.Prelude.{◌≡◌, ℕ, zero, suc, ◌<◌, ◌≤◌, ◌↔◌, Bool, true, false, nat_le, List, length, Option, Some, None, slice_get, slice_index_or, MatchOption, IsTrue}
 use Rattle.std.specs.Option.{option_map_or}
 use Rattle.flux_defs.specs.declared.vertices.Vertex.{Vertex}
 use Rattle.flux_defs.specs.Graph.{ResourceGraph, parent_of, is_below}
@@ -9,7 +9,13 @@ use Rattle.graph_build.specs.Faults.{IsNodeType, IsHoused}
 abbrev pub graph_in : List (List ℕ) → List Vertex → ResourceGraph
 graph_in kinds vertices = record { kinds = kinds; vertices = vertices }
 
--- its parent is at this place or past it
+-- by the answers of a test, the first number from `from` on and before `to` of which it is true, and none exactly where
+-- it is true of none of them
+pub record IsFirstWhere (Answers : ℕ → Bool → Type 0) (from to : ℕ) (found : Option ℕ) : Type 0 where
+  pub is : MatchOption found ((u : ℕ) → from ≤ u → u < to → Answers u false)
+      (λ v. (from ≤ v) × (v < to) × Answers v true × ((u : ℕ) → from ≤ u → u < v → Answers u false))
+
+-- its parent is at this index or past it
 abbrev pub has_parent_from : ℕ → Vertex → Bool
 has_parent_from count x = option_map_or (nat_le count) x.parent false
 

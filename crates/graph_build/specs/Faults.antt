@@ -1,5 +1,5 @@
 -- What may be wrong with a list of vertices, one vertex at a time. The vertices stand in any order; `names` are theirs.
-use Rattle.std.specs.Prelude.{◌≡◌, ◌≢◌, ℕ, suc, ◌^◌, ◌<◌, ◌≤◌, ◌⊎◌, List, length, Some, None, slice_get, codes, IsTrue, IsSome}
+use Rattle.std.specs.Prelude.{◌≡◌, ◌≢◌, ℕ, suc, ◌<◌, ◌≤◌, ◌⊎◌, List, length, Some, None, slice_get, codes, IsTrue, IsSome}
 use Rattle.std.specs.Option.{IsSomeAnd}
 use Rattle.flux_defs.specs.declared.limits.TheConstants.{GREATEST_NUMBER}
 use Rattle.flux_defs.specs.Graph.{ResourceGraph, parent_of, chain, is_below, HasKind, is_pool}
@@ -10,11 +10,11 @@ use Rattle.resource_graph.specs.Lines.{line_of}
 abbrev pub IsNodeType : ResourceGraph → ℕ → Type 0
 IsNodeType g v = HasType g (codes "node") v
 
--- its parent is no place of the list
+-- its parent is no index of the list
 abbrev pub HasUnknownParent : ResourceGraph → ℕ → Type 0
 HasUnknownParent g v = (p : ℕ) × (parent_of g.vertices v ≡ Some p) × (length g.vertices ≤ p)
 
--- its kind is no place of the list of types
+-- its kind is no index of the list of types
 abbrev pub HasUnknownKind : ResourceGraph → ℕ → Type 0
 HasUnknownKind g v = IsSomeAnd (slice_get g.vertices v) (λ x. length g.kinds ≤ x.kind)
 

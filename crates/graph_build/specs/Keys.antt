@@ -12,12 +12,12 @@ use Rattle.graph_build.specs.declared.raw.RawVertex.{RawVertex}
 use Rattle.graph_build.specs.declared.doubles.DeviceKey.{DeviceKey}
 use Rattle.graph_build.specs.declared.doubles.SiblingKey.{SiblingKey}
 
--- an earlier place has the key of this one
+-- an earlier index has the key of this one
 abbrev pub IsRepeated : {K : Type 0} → (K → K → Ordering) → List (Option K) → ℕ → Type 0
 IsRepeated {K} cmp keys v = (u : ℕ) × (a : K) × (b : K) × (u < v) × (slice_get keys u ≡ Some (Some a))
     × (slice_get keys v ≡ Some (Some b)) × (cmp a b ≡ Equal)
 
--- the lesser of two places, of which either may be missing
+-- the lesser of two indices, of which either may be missing
 abbrev pub lesser : Option ℕ → Option ℕ → Option ℕ
 lesser None other = other
 lesser (Some a) None = Some a

@@ -1,4 +1,4 @@
--- Lists of vertices that hang on one root, and the orders of their places.
+-- Lists of vertices that hang on one root, and the orders of their indices.
 use Rattle.std.specs.Prelude.{◌≡◌, ℕ, suc, ◌-◌, ◌<◌, ◌≤◌, List, length, reverse, Some, None, slice_get, slice_index, IsTrue, Vec}
 use Rattle.std.specs.declared.alloc.Global.{Global}
 use Rattle.flux_defs.specs.declared.vertices.Vertex.{Vertex}
@@ -16,18 +16,18 @@ pub record IsRooted (vertices : List Vertex) : Type 0 where
   pub alone : (u v : ℕ) → u < length vertices → v < length vertices → parent_of vertices u ≡ None →
       parent_of vertices v ≡ None → u ≡ v
 
--- the list has each number below the count at exactly one place
+-- the list has each number below the count at exactly one index
 pub record IsOrderOf (count : ℕ) (order : List ℕ) : Type 0 where
   pub as_many : length order ≡ count
   pub known : (k i : ℕ) → slice_get order k ≡ Some i → i < count
   pub apart : (j k i : ℕ) → slice_get order j ≡ Some i → slice_get order k ≡ Some i → j ≡ k
   pub each : (i : ℕ) → i < count → (k : ℕ) × (slice_get order k ≡ Some i)
 
--- The list has the vertices in preorder, siblings by their places: the first has no parent, the parent of each other
+-- The list has the vertices in preorder, siblings by their indices: the first has no parent, the parent of each other
 -- one is the vertex
 -- before it or one above that, and of two vertices with one parent the lesser one stands first.
 pub record IsPreorderOf (vertices : List Vertex) (order : List ℕ) : Type 0 where
-  pub places : IsOrderOf (length vertices) order
+  pub indices : IsOrderOf (length vertices) order
   pub first : (i : ℕ) → slice_get order 0 ≡ Some i → parent_of vertices i ≡ None
   pub next : (k i j : ℕ) → slice_get order k ≡ Some i → slice_get order (suc k) ≡ Some j → (p : ℕ)
       × (parent_of vertices j ≡ Some p) × IsTrue (is_at_or_below vertices i p)

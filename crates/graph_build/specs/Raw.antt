@@ -35,7 +35,7 @@ some_ranked kinds vertices = list_any (λ x. is_node_of kinds x && is_some x.ran
 
 -- how many of these vertices are nodes
 abbrev pub nodes_among : List (List ℕ) → List Vertex → List ℕ → ℕ
-nodes_among kinds vertices places = count_by (λ i. option_map_or (is_node_of kinds) (slice_get vertices i) false) places
+nodes_among kinds vertices indices = count_by (λ i. option_map_or (is_node_of kinds) (slice_get vertices i) false) indices
 
 -- The rank of the vertex x with this number: none where it is no node; its own where some node has one; and else the
 -- number of nodes before it.
@@ -51,10 +51,10 @@ pub record IsRenumbered (kinds : List (List ℕ)) (g : ResourceGraph) (order : L
   pub id : y.id ≡ x.id
   pub parent : MatchOption x.parent (y.parent ≡ None) (λ i. IsSomeAnd y.parent (λ p. slice_get order p ≡ Some i))
 
--- `order` has for each number of the built graph the place of its vertex in the raw list
+-- `order` has for each number of the built graph the index of its vertex in the raw list
 pub record IsArranged (kinds : List (List ℕ)) (vertices : List Vertex) (order : List ℕ) (g : ResourceGraph) : Type 0
   where
-    pub places : IsOrderOf (length vertices) order
+    pub indices : IsOrderOf (length vertices) order
     pub as_many : length g.vertices ≡ length vertices
     pub renumbered : (k i : ℕ) (x y : Vertex) → slice_get order k ≡ Some i → slice_get vertices i ≡ Some x →
         slice_get g.vertices k ≡ Some y → IsRenumbered kinds g order x y

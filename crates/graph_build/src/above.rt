@@ -7,6 +7,7 @@ ghost use Rattle.resource_graph.specs.Holds.{HasPools};
 ghost use Rattle.graph_build.specs.Checks.{graph_in, IsHouse, HasHouses, HasChildren};
 ghost use Rattle.resource_graph.specs.Finds.{IsFirstOf};
 
+use crate::finding::first_where;
 use crate::own::{is_device_at, is_node_at};
 use flux_defs::{Text, Vertex};
 use resource_graph::lines::line_up;
@@ -98,12 +99,7 @@ pub(crate) fn first_loose(
     ensures first { IsFirstOf (IsLoose (graph_in kinds.now vertices.now)) result }
     ensures within { IfSome result (λ v. v < length vertices.now) }
 {
-    for v in 0..vertices.len() {
-        if is_loose(kinds, vertices, houses, v) {
-            return Some(v);
-        }
-    }
-    None
+    first_where(0, vertices.len(), |v| is_loose(kinds, vertices, houses, v))
 }
 
 /// The first vertex of a pool type that has a child.
@@ -141,12 +137,11 @@ fn first_pool(vertices: &[Vertex], pools: &[bool], children: &[bool]) -> Option<
     ensures first { IsFirstOf (IsPoolWithChild (plain vertices.now)) result }
     ensures within { IfSome result (λ v. v < length vertices.now) }
 {
-    for v in 0..vertices.len() {
-        if is_parent_pool(vertices, pools, children, v) {
-            return Some(v);
-        }
-    }
-    None
+    first_where(
+        0,
+        vertices.len(),
+        |v| is_parent_pool(vertices, pools, children, v),
+    )
 }
 
 /// Whether the vertex is of a pool type and has a child.

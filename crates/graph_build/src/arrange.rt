@@ -29,10 +29,10 @@ pub(crate) fn shapes_of(alloc: Global, raw: &[RawVertex]) -> Result<Vec<Vertex>,
     Ok(shapes)
 }
 
-/// By place in the list, the number in the order.
+/// By index in the list, the number in the order.
 pub(crate) fn numbers_of(alloc: Global, order: &[u32]) -> Result<Vec<u32>, AllocError>
     requires few { length order.now ≤ 65536 }
-    requires places { IsOrderOf (length order.now) order.now }
+    requires indices { IsOrderOf (length order.now) order.now }
     ensures { IfOk result (λ numbers. HasNumbers order.now (length order.now) numbers.items) }
 {
     let mut numbers = vec![in alloc; 0u32; order.len()]?;
@@ -53,8 +53,8 @@ pub(crate) fn arranged(
 {
     let mut slots = slots_of(alloc, raw)?;
     let mut list = Vec::with_capacity(alloc, order.len())?;
-    for place in order {
-        let slot = slots[*place as usize].take();
+    for at in order {
+        let slot = slots[*at as usize].take();
         let Some(vertex) = slot else { unreachable!() };
         list.push(vertex)?;
     }
@@ -109,13 +109,13 @@ pub(crate) fn numbered_kinds(
     order: &[u32],
 ) -> Result<KindNumbering, AllocError>
     requires few_kinds { length kinds.now ≤ 256 }
-    requires places { IsOrderOf (length vertices.now) order.now }
+    requires indices { IsOrderOf (length vertices.now) order.now }
     requires known { KnowsKinds vertices.now (length kinds.now) }
     ensures { IfOk result (IsKindNumbering kinds.now vertices.now order.now (length order.now)) }
 {
     let mut numbering = no_numbers(alloc, kinds)?;
-    for place in order {
-        let kind = vertices[*place as usize].kind as usize;
+    for at in order {
+        let kind = vertices[*at as usize].kind as usize;
         use_kind(alloc, kinds, &mut numbering, kind)?;
     }
     Ok(numbering)
@@ -168,7 +168,7 @@ pub(crate) fn vertices_of(
     kind_numbers: &[Option<u32>],
 ) -> Result<Vec<Vertex>, AllocError>
     requires few { length vertices.now ≤ 65536 }
-    requires places { IsOrderOf (length vertices.now) order.now }
+    requires indices { IsOrderOf (length vertices.now) order.now }
     requires parents { KnowsParents vertices.now }
     requires whole { length numbers.now ≡ length vertices.now }
     requires numbered { HasKindNumbers vertices.now kind_numbers.now }
@@ -178,8 +178,8 @@ pub(crate) fn vertices_of(
     let ranked = ranks_given(kinds, vertices);
     let mut nodes = 0u32;
     let mut made = Vec::with_capacity(alloc, order.len())?;
-    for place in order {
-        let vertex = vertices[*place as usize];
+    for at in order {
+        let vertex = vertices[*at as usize];
         let node = is_node(kinds, &vertex);
         let rank = rank_for(node, ranked, vertex.rank, nodes);
         made.push(renumbered(vertex, numbers, kind_numbers, rank))?;
@@ -212,13 +212,13 @@ fn renumbered(
     }
 }
 
-/// The number of the parent at a place.
+/// The number of the parent with an index.
 fn number_of_parent(parent: Option<u32>, numbers: &[u32]) -> Option<u32>
     requires { (p : ℕ) → parent ≡ Some p → p < length numbers.now }
     ensures { result ≡ option_map (slice_index numbers.now) parent }
 {
     match parent {
-        Some(place) => Some(numbers[place as usize]),
+        Some(at) => Some(numbers[at as usize]),
         None => None,
     }
 }

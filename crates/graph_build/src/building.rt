@@ -1,5 +1,6 @@
 //! A graph from a list of vertices.
 ghost use Rattle.std.specs.Prelude.{◌≡◌, map, IfOk, IfErr, OnOk};
+ghost use Rattle.resource_graph.specs.Made.{named_graph};
 ghost use Rattle.graph_build.specs.Table.{IsFaultless, IsFirstFault};
 ghost use Rattle.graph_build.specs.Raw.{KindsApart, IsBuiltFrom, raw_graph, raw_names, shape_of};
 
@@ -8,20 +9,29 @@ use crate::checks::check_raw;
 use crate::order::preorder_of;
 use crate::raw::{GraphFault, RawVertex};
 use flux_defs::{List, Text, Vertex};
-use resource_graph::Graph;
+use resource_graph::{Graph, Texts};
 use std::alloc::{AllocError, Global};
 
-/// The graph of a list of vertices with which nothing is wrong. The shapes are the vertices without their texts.
-fn build_faultless(
+/// What a graph is made of.
+#[derive(Debug, Drop)]
+struct Parts {
+    kinds: List<Text>,
+    vertices: List<Vertex>,
+    texts: Texts,
+}
+
+/// What the graph of a list of vertices with which nothing is wrong is made of. The shapes are the vertices without
+/// their texts.
+fn parts_of(
     alloc: Global,
     kinds: &[Text],
     raw: List<RawVertex>,
     shapes: &[Vertex],
-) -> Result<Graph, AllocError>
+) -> Result<Parts, AllocError>
     requires apart { KindsApart kinds.now }
     requires shapes { shapes.now ≡ map shape_of raw }
     requires fine { IsFaultless (raw_graph kinds.now raw) (raw_names raw) }
-    ensures { IfOk result (λ graph. IsBuiltFrom kinds.now raw graph) }
+    ensures { IfOk result (λ parts. IsBuiltFrom kinds.now raw (named_graph parts.kinds parts.vertices parts.texts)) }
 {
     let order = preorder_of(alloc, shapes)?;
     let numbers = numbers_of(alloc, order.as_slice())?;
@@ -36,12 +46,27 @@ fn build_faultless(
     )?;
     let list = arranged(alloc, raw.into_vec(), order.as_slice())?;
     let texts = texts_of(alloc, list)?;
-    Graph::of(
-        alloc,
-        List::of_vec(numbering.kinds),
-        List::of_vec(made),
+    Ok(Parts {
+        kinds: List::of_vec(numbering.kinds),
+        vertices: List::of_vec(made),
         texts,
-    )
+    })
+}
+
+/// The graph of a list of vertices with which nothing is wrong.
+fn build_faultless(
+    alloc: Global,
+    kinds: &[Text],
+    raw: List<RawVertex>,
+    shapes: &[Vertex],
+) -> Result<Graph, AllocError>
+    requires apart { KindsApart kinds.now }
+    requires shapes { shapes.now ≡ map shape_of raw }
+    requires fine { IsFaultless (raw_graph kinds.now raw) (raw_names raw) }
+    ensures { IfOk result (λ graph. IsBuiltFrom kinds.now raw graph) }
+{
+    let parts = parts_of(alloc, kinds, raw, shapes)?;
+    Graph::of(alloc, parts.kinds, parts.vertices, parts.texts)
 }
 
 /// The graph of these types and vertices (RFC 4): vertices in preorder, siblings in the order of the list, types by

@@ -8,6 +8,7 @@ mod checks;
 mod climbs;
 mod doubles;
 mod endless;
+mod finding;
 mod laws;
 mod links;
 mod order;
@@ -18,6 +19,3 @@ mod repeats;
 pub use building::build;
 pub use laws::{a_graph_is_built_from_itself, a_list_has_one_graph};
 pub use raw::{GraphFault, RawVertex};
-
-#[cfg(test)]
-mod rows;

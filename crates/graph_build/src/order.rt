@@ -6,7 +6,7 @@ use flux_defs::Vertex;
 use resource_graph::lines::line_up;
 use std::alloc::{AllocError, Global};
 
-/// The places of the vertices in preorder, siblings by their places in the list.
+/// The indices of the vertices in preorder, siblings by their indices in the list.
 pub(crate) fn preorder_of(alloc: Global, vertices: &[Vertex]) -> Result<Vec<u32>, AllocError>
     requires few { length vertices.now ≤ 65536 }
     requires rooted { IsRooted vertices.now }

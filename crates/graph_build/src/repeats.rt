@@ -1,4 +1,4 @@
-//! The first place whose key an earlier place has.
+//! The first index whose key an earlier index has.
 ghost use Rattle.std.specs.Prelude.{◌≡◌, ◌<◌, IfOk, IfSome, length};
 ghost use Rattle.resource_graph.specs.Finds.{IsFirstOf};
 ghost use Rattle.graph_build.specs.Keys.{IsRepeated, lesser};
@@ -6,7 +6,7 @@ ghost use Rattle.graph_build.specs.Keys.{IsRepeated, lesser};
 use std::alloc::{AllocError, Global};
 use std::collections::BTreeSet;
 
-/// The first place whose key an earlier place has. A place without a key takes no part.
+/// The first index whose key an earlier index has. An index without a key takes no part.
 pub(crate) fn first_repeated<K: Ord + Copy>(
     alloc: Global,
     keys: &[Option<K>],
@@ -15,17 +15,17 @@ pub(crate) fn first_repeated<K: Ord + Copy>(
     ensures within { IfOk result (λ found. IfSome found (λ v. v < length keys.now)) }
 {
     let mut seen = BTreeSet::new(alloc);
-    for place in 0..keys.len() {
-        if let Some(key) = keys[place] {
+    for at in 0..keys.len() {
+        if let Some(key) = keys[at] {
             if !seen.insert(key)? {
-                return Ok(Some(place));
+                return Ok(Some(at));
             }
         }
     }
     Ok(None)
 }
 
-/// The lesser of two places, of which either may be missing.
+/// The lesser of two indices, of which either may be missing.
 pub(crate) fn lesser(one: Option<usize>, other: Option<usize>) -> Option<usize>
     ensures { result ≡ lesser one other }
 {

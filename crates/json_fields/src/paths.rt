@@ -24,6 +24,15 @@ pub fn index_path(alloc: Global, at: u64) -> Result<Text, AllocError>
     Ok(Text::of_vec(path))
 }
 
+/// A path, and another one behind it.
+pub fn joined_path(alloc: Global, front: &[u8], rest: &[u8]) -> Result<Text, AllocError>
+    ensures { IfOk result (λ path. path ≡ front.now ++ rest.now) }
+{
+    let mut path = Vec::from_slice(alloc, front)?;
+    push_bytes(&mut path, rest)?;
+    Ok(Text::of_vec(path))
+}
+
 /// The path of a member of the list at a path, with what stands behind it, as `resources[2].type`.
 pub fn member_path(alloc: Global, list: &[u8], at: u64, rest: &str) -> Result<Text, AllocError>
     ensures { IfOk result (λ path. path ≡ list.now ++ index at ++ rest.now) }

@@ -269,7 +269,7 @@ fn path_along(alloc: Global, names: &[Text], line: &[u32]) -> Result<Text, Alloc
 }
 
 /// The first index of the text.
-fn index_of_text(texts: &[Text], wanted: &[u8]) -> Option<usize>
+pub fn index_of_text(texts: &[Text], wanted: &[u8]) -> Option<usize>
     ensures found { IsFirstIndex texts.now wanted.now result }
 {
     for (index, text) in texts.iter().enumerate() {

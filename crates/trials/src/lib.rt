@@ -9,6 +9,10 @@ mod filters;
 #[cfg(test)]
 mod graph_files;
 #[cfg(test)]
+mod graph_lists;
+#[cfg(test)]
+mod graph_queries;
+#[cfg(test)]
 mod graphs;
 #[cfg(test)]
 mod id_texts;

@@ -1,21 +1,35 @@
-use Rattle.std.proofs.Common.{ℕ, List, Option, Some, None, codes}
-use Rattle.flux_defs.specs.Graph.{ResourceGraph}
+use Rattle.std.proofs.Common.{◌≡◌, ◌↔◌, ℕ, List, Option, Some, None, codes, sym, ◌∙◌, subst}
+use Rattle.std.specs.Prelude.{MatchOption}
+use Rattle.flux_defs.specs.Graph.{ResourceGraph, HasKind, IsNode}
+use Rattle.flux_defs.specs.Needs.{kind_of}
 use Rattle.flux_defs.specs.ValidGraph.{IsValidGraph}
-use Rattle.flux_defs.specs.declared.requests.Need.{Spread}
-use Rattle.flux_defs.specs.declared.requests.Need as need
+use Rattle.flux_defs.specs.declared.requests.Need.{Need}
 use Rattle.resource_graph.specs.Tables.{IsNamedKind}
 use Rattle.dfu_match.specs.Searches.{IsKindOfNeed}
 use Rattle.dfu_match.proofs.ScopeLaws.{node_kind, no_node}
 use Rattle.dfu_match.proofs.scopes.kind_of.Goals as goal
 
-kind_of_spread : (g : ResourceGraph) (names : List (List ℕ)) → IsValidGraph g names →
-    (count : ℕ) (needs : List need.Need) (found : Option ℕ) → IsNamedKind g (codes "node") found →
-    IsKindOfNeed g.vertices (Spread count needs) found
-kind_of_spread g names valid count needs None none = no_node g names valid none
-kind_of_spread g names valid count needs (Some k) is = node_kind g names valid k is
+module _ (g : ResourceGraph) (names : List (List ℕ)) (valid : IsValidGraph g names) (need : Need) where
+  -- v is of a need that names this kind, or none
+  abbrev Of : ℕ → Option ℕ → Type 0
+  Of v named = MatchOption named (IsNode g.vertices v) (λ kind. HasKind g.vertices kind v)
 
-pub returns-in-Spread : goal.returns-in-Spread
-returns-in-Spread c =
+  names_kind : (k : ℕ) → Some k ≡ kind_of need → IsKindOfNeed g.vertices need (Some k)
+  names_kind k e v = subst (λ named. Of v named ↔ HasKind g.vertices k v) e ((λ h. h), (λ h. h))
+
+  names_none : (found : Option ℕ) → None ≡ kind_of need → IsNamedKind g (codes "node") found →
+      IsKindOfNeed g.vertices need found
+  names_none None e none = λ v h. no_node g names valid none v (subst (Of v) (sym e) h)
+  names_none (Some k) e is = λ v. subst (λ named. Of v named ↔ HasKind g.vertices k v) e (node_kind g names valid k is v)
+
+pub returns-in-Some : goal.returns-in-Some
+returns-in-Some c =
     let graph = c.args.graph.now in
-    rw c.in-Spread.is (kind_of_spread graph.resources graph.names c.is_valid.ensures.valid c.in-Spread.count
-    c.in-Spread.needs c.kind_of.result c.kind_of.ensures)
+    names_kind graph.resources graph.names c.is_valid.ensures.valid c.args.need.now c.in-Some.kind
+    (sym c.in-Some.is ∙ c.kind.ensures)
+
+pub returns-in-None : goal.returns-in-None
+returns-in-None c =
+    let graph = c.args.graph.now in
+    names_none graph.resources graph.names c.is_valid.ensures.valid c.args.need.now c.kind_of.result
+    (sym c.in-None.is ∙ c.kind.ensures) c.kind_of.ensures

@@ -1,16 +1,12 @@
-use Rattle.std.proofs.Common.{[], below_more, arith, ◌<◌, length}
-use Rattle.std.proofs.lemmas.Bool.{both_ways}
+use Rattle.std.proofs.Common.{[], arith, rules}
+use Rattle.resource_graph.specs.Preorder.{plain}
+use Rattle.graph_build.specs.Faults.{IsPoolWithChild}
+use Rattle.graph_build.proofs.FindLaws.{first_fact}
 use Rattle.graph_build.proofs.OwnLaws.{parent_pool_within}
 use Rattle.graph_build.proofs.above.first_pool.Goals as goal
 
-pub returns-then-is_parent_pool-clause-first : goal.returns-then-is_parent_pool-clause-first
-returns-then-is_parent_pool-clause-first c = (c.is_parent_pool.ensures.0 c.if-is_parent_pool.true, c.loop-v.invariant)
-
-pub loop-v-preserved : goal.loop-v-preserved
-loop-v-preserved c = below_more _ _ c.loop-v.invariant
-    (λ bad. both_ways _ c.if-is_parent_pool.false (c.is_parent_pool.ensures.1 bad))
-
 pub returns-clause-first : goal.returns-clause-first
-returns-clause-first c = λ v bad.
-    let lt : v < length c.args.vertices.now = parent_pool_within [] c.args.vertices.now v bad in
-    c.loop-v.invariant v (omega arith) bad
+returns-clause-first c =
+    first_fact (IsPoolWithChild (plain c.args.vertices.now)) _ _ _ c.first_where.result
+    c.first_where.ensures (λ v b low high is. search rules)
+    (λ v pool. (omega arith, parent_pool_within [] c.args.vertices.now v pool))

@@ -4,10 +4,10 @@ use Rattle.std.specs.Option.{option_map}
 use Rattle.graph_build.specs.Arranged.{IsArrangedList}
 use Rattle.graph_build.proofs.arrange.arranged.Given as goal
 
-abbrev pub invariant-loop-place : goal.invariant-loop-place
-invariant-loop-place l = record {
-  taken : IsArrangedList l.fn.raw.items l.order l.place-index l.list.items;
+abbrev pub invariant-loop-at : goal.invariant-loop-at
+invariant-loop-at l = record {
+  taken : IsArrangedList l.fn.raw.items l.order l.at-index l.list.items;
   as_many : length l.slots.items ≡ length l.fn.raw.items;
-  left : (k i : ℕ) → l.place-index ≤ k → slice_get l.order k ≡ Some i →
+  left : (k i : ℕ) → l.at-index ≤ k → slice_get l.order k ≡ Some i →
       slice_get l.slots.items i ≡ option_map (λ r. Some r) (slice_get l.fn.raw.items i);
 }

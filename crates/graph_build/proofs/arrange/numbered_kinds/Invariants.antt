@@ -1,5 +1,5 @@
 use Rattle.graph_build.proofs.KindLaws.{Numbering}
 use Rattle.graph_build.proofs.arrange.numbered_kinds.Given as goal
 
-abbrev pub invariant-loop-place : goal.invariant-loop-place
-invariant-loop-place l = Numbering l.kinds l.vertices l.order l.place-index l.numbering
+abbrev pub invariant-loop-at : goal.invariant-loop-at
+invariant-loop-at l = Numbering l.kinds l.vertices l.order l.at-index l.numbering

@@ -2,7 +2,7 @@ use Rattle.std.proofs.Common.{◌≡◌, ℕ, ◌<◌, List, length, Option, Som
 use Rattle.std.specs.Prelude.{slice_get, IsSome}
 use Rattle.std.proofs.lemmas.Bool.{cases_order}
 use Rattle.std.proofs.lemmas.Option.{slice_get_within}
-use Rattle.graph_build.proofs.rows.are_apart.Goals as goal
+use Rattle.trials.proofs.graph_lists.are_apart.Goals as goal
 
 there : (kinds : List (List ℕ)) (k : ℕ) → IsSome (slice_get kinds k) → k < length kinds
 there kinds k some = go (slice_get kinds k) refl some
