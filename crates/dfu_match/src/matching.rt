@@ -6,6 +6,7 @@ ghost use Rattle.flux_defs.specs.Asks.{SomeFit, IsLowestFirst};
 
 use crate::counting::copies;
 use crate::search::Search;
+use crate::wanting::table_of;
 use crate::writing::write_needs;
 use flux_defs::{Ask, Claim, FreeView, List, Steps, Window};
 use resource_graph::Graph;
@@ -30,10 +31,12 @@ pub fn some_fit<F: FreeView, L: Ledger>(
     let search = Search {
         graph,
         view,
+        needs: &ask.needs,
+        wanted: &[],
         barred: &ask.barred,
         window,
     };
-    copies(&search, &ask.needs, None, 1, steps) > 0
+    copies(&search, &ask.needs, 0, None, 1, steps) > 0
 }
 
 /// The lowest-first claims of the ask over the window, in seconds, where `view` tells what is free of the graph; `None`
@@ -54,14 +57,17 @@ pub fn match_at<F: FreeView, L: Ledger>(
         (SomeFit graph.now.resources.vertices jobs ask.now window → ⊥)
         (IsLowestFirst graph.now.resources.vertices jobs ask.now window)) }
 {
+    let wanted = table_of(alloc, graph, &ask.needs)?;
     let search = Search {
         graph,
         view,
+        needs: &ask.needs,
+        wanted: wanted.items(),
         barred: &ask.barred,
         window,
     };
     let mut claims = Vec::new(alloc);
-    if !write_needs(&search, &ask.needs, 1, None, &mut claims, steps)? {
+    if !write_needs(&search, &ask.needs, 0, 1, None, &mut claims, steps)? {
         return Ok(None);
     }
     Ok(Some(List::of_vec(claims)))

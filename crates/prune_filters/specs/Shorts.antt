@@ -1,5 +1,6 @@
 -- When a vertex is short: a total that is kept there is below what is demanded.
-use Rattle.std.specs.Prelude.{◌≡◌, ℕ, ◌<◌, ◌≤◌, List, Any, Contains}
+use Rattle.std.specs.Prelude.{◌≡◌, ℕ, ◌<◌, ◌≤◌, ◌==◌, List, Any, Contains, IsTrue}
+use Rattle.std.specs.List.{list_any}
 use Rattle.flux_defs.specs.declared.vertices.Vertex.{Vertex}
 use Rattle.flux_defs.specs.declared.claims.Job.{Job}
 use Rattle.flux_defs.specs.declared.claims.Window.{Window}
@@ -35,4 +36,4 @@ module _ (vertices : List Vertex) (jobs : List Job) (w : Window) where
 -- The demands are those of one of the need: of each kind that it demands as much as it does.
 pub record AreDemandsOf (vertices : List Vertex) (need : Need) (demands : List Demand) : Type 0 where
   pub each : (d : Demand) → Contains demands d → d.amount ≡ capped (demand vertices d.kind 1 need)
-  pub all : (kind : ℕ) → 1 ≤ demand vertices kind 1 need → Any (λ d. d.kind ≡ kind) demands
+  pub all : (kind : ℕ) → 1 ≤ demand vertices kind 1 need → IsTrue (list_any (λ d. d.kind == kind) demands)
