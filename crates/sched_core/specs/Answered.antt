@@ -1,25 +1,40 @@
 -- What is found of a command, and how it is answered.
-use Rattle.std.specs.Prelude.{◌≡◌, ℕ, ◌+◌, ◌≤◌, [], ◌∷◌, ◌++◌, length, IsSome}
+use Rattle.std.specs.Prelude.{◌≡◌, ℕ, ◌+◌, ◌≤◌, List, [], ◌∷◌, ◌++◌, length, IsSome}
 use Rattle.flux_defs.specs.declared.requests.Ask.{Ask}
 use Rattle.flux_defs.specs.declared.journal.Command.{Command}
 use Rattle.flux_defs.specs.declared.journal.Command.TheVariants as command
+use Rattle.flux_defs.specs.declared.journal.Entry.{Entry}
 use Rattle.flux_defs.specs.declared.journal.Reply.{Reply}
 use Rattle.flux_defs.specs.declared.journal.Reply.TheVariants as reply
 use Rattle.flux_defs.specs.Asks.{CountsWithin}
+use Rattle.flux_defs.specs.Graph.{ResourceGraph}
+use Rattle.flux_defs.specs.Needs.{IsProperAsk}
 use Rattle.flux_defs.specs.Scheduler.{Setting, State, Replies, job_with}
 use Rattle.flux_defs.specs.declared.verdicts.Verdict.{Verdict}
 use Rattle.flux_defs.specs.declared.verdicts.Verdict.TheVariants as verdict
 use Rattle.flux_defs.specs.Verdicts.{FindsNow, FindsEarliest, YieldsJob}
+use Rattle.prune_filters.specs.declared.rules.Rule.{Rule}
 use Rattle.book_state.specs.declared.held.BookState.{BookState}
-use Rattle.book_state.specs.Books.{MayAdd}
+use Rattle.book_state.specs.Books.{MayAdd, vertices_of}
 use Rattle.sched_core.specs.declared.finding.Starts.{Starts}
 use Rattle.sched_core.specs.declared.finding.Starts.TheVariants as starts
-use Rattle.sched_core.specs.Courses.{Course, state_of}
+use Rattle.sched_core.specs.Courses.{Course, state_of, left_by, setting_of, IsBookOf}
 
 -- what is found of an ask at the starts that it may have
 abbrev pub FindsAt : Starts → Setting → State → Ask → Verdict → Type 0
 FindsAt starts.Now g s ask = FindsNow g s ask
 FindsAt starts.Earliest g s ask = FindsEarliest g s ask
+
+-- a book over the graph's vertices is searched for a proper ask
+pub record MayFind (g : ResourceGraph) (book : BookState) (ask : Ask) : Type 0 where
+  pub over : vertices_of book ≡ g.vertices
+  pub proper : IsProperAsk g.vertices ask
+
+-- it is found in each state that the book may be of at this moment, whatever the rules and the limit
+abbrev pub FoundIn : ResourceGraph → ℕ → BookState → ℕ → (Setting → State → Type 0) → Type 0
+FoundIn g horizon book moment Finds =
+    (rules : List Rule) (limit : ℕ) (journal : List Entry) → IsBookOf journal book → moment ≡ (left_by journal).moment →
+    Finds (setting_of g rules horizon limit) (left_by journal)
 
 -- the command that asks for a job at these starts, and its reply where nothing fits
 abbrev pub command_of : Starts → ℕ → Ask → Command

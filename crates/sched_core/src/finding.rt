@@ -5,9 +5,8 @@ ghost use Rattle.flux_defs.specs.Needs.{IsProperAsk};
 ghost use Rattle.flux_defs.specs.Asks.{CountsWithin, IsSatisfiable};
 ghost use Rattle.flux_defs.specs.Verdicts.{FindsNow, FindsEarliest, FindsJob};
 ghost use Rattle.prune_filters.specs.declared.rules.Rule.{Rule};
-ghost use Rattle.book_state.specs.Books.{vertices_of};
 ghost use Rattle.sched_core.specs.Courses.{left_by, setting_of, IsBookOf};
-ghost use Rattle.sched_core.specs.Answered.{FindsAt};
+ghost use Rattle.sched_core.specs.Answered.{FindsAt, MayFind, FoundIn};
 
 use book_state::BookState;
 use dfu_match::{match_at, some_fit};
@@ -54,12 +53,10 @@ fn find_now<L: Ledger>(
     moment: u64,
     steps: &mut Steps<L>,
 ) -> Result<Verdict, AllocError>
-    requires over { vertices_of book.now ≡ graph.now.resources.vertices }
-    requires proper { IsProperAsk graph.now.resources.vertices ask.now }
+    requires may { MayFind graph.now.resources book.now ask.now }
     requires counts { CountsWithin horizon ask.now moment }
-    ensures { IfOk result (λ v. (rules : List Rule) (limit : ℕ) (journal : List Entry) → IsBookOf journal book.now →
-        moment ≡ (left_by journal).moment →
-        FindsNow (setting_of graph.now.resources rules horizon limit) (left_by journal) ask.now v) }
+    ensures { IfOk result (λ v. FoundIn graph.now.resources horizon book.now moment
+        (λ g s. FindsNow g s ask.now v)) }
 {
     let window = window_at(horizon, ask, moment);
     match match_at(alloc, graph, book, ask, window, steps)? {
@@ -81,11 +78,9 @@ fn find_earliest<L: Ledger>(
     moment: u64,
     steps: &mut Steps<L>,
 ) -> Result<Verdict, AllocError>
-    requires over { vertices_of book.now ≡ graph.now.resources.vertices }
-    requires proper { IsProperAsk graph.now.resources.vertices ask.now }
-    ensures { IfOk result (λ v. (rules : List Rule) (limit : ℕ) (journal : List Entry) → IsBookOf journal book.now →
-        moment ≡ (left_by journal).moment →
-        FindsEarliest (setting_of graph.now.resources rules horizon limit) (left_by journal) ask.now v) }
+    requires may { MayFind graph.now.resources book.now ask.now }
+    ensures { IfOk result (λ v. FoundIn graph.now.resources horizon book.now moment
+        (λ g s. FindsEarliest g s ask.now v)) }
 {
     match earliest(alloc, graph, book, ask, moment, horizon, steps)? {
         None => Ok(Verdict::NoFit),
@@ -107,12 +102,10 @@ fn find_at<L: Ledger>(
     starts: Starts,
     steps: &mut Steps<L>,
 ) -> Result<Verdict, AllocError>
-    requires over { vertices_of book.now ≡ graph.now.resources.vertices }
-    requires proper { IsProperAsk graph.now.resources.vertices ask.now }
+    requires may { MayFind graph.now.resources book.now ask.now }
     requires counts { CountsWithin horizon ask.now moment }
-    ensures { IfOk result (λ v. (rules : List Rule) (limit : ℕ) (journal : List Entry) → IsBookOf journal book.now →
-        moment ≡ (left_by journal).moment →
-        FindsAt starts (setting_of graph.now.resources rules horizon limit) (left_by journal) ask.now v) }
+    ensures { IfOk result (λ v. FoundIn graph.now.resources horizon book.now moment
+        (λ g s. FindsAt starts g s ask.now v)) }
 {
     match starts {
         Starts::Now => find_now(alloc, graph, horizon, book, ask, moment, steps),
@@ -131,8 +124,7 @@ pub(crate) fn find_job<L: Ledger>(
     starts: Starts,
     steps: &mut Steps<L>,
 ) -> Result<Verdict, AllocError>
-    requires over { vertices_of book.now ≡ graph.now.resources.vertices }
-    requires proper { IsProperAsk graph.now.resources.vertices ask.now }
+    requires may { MayFind graph.now.resources book.now ask.now }
     ensures { IfOk result (λ v. (rules : List Rule) (limit : ℕ) (journal : List Entry) → IsBookOf journal book.now →
         FindsJob (setting_of graph.now.resources rules horizon limit) (left_by journal) id ask.now
         (FindsAt starts (setting_of graph.now.resources rules horizon limit) (left_by journal) ask.now) v) }

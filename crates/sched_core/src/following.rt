@@ -9,7 +9,7 @@ ghost use Rattle.book_state.specs.Books.{KeepsSetting, MayAdd};
 ghost use Rattle.sched_core.specs.Courses.{left_by, IsBookOf};
 ghost use Rattle.sched_core.specs.Answered.{ChangesNothing, MayFollow};
 
-use crate::settling::find_job;
+use crate::settling::live_job;
 use book_state::BookState;
 use flux_defs::{Command, Entry, Job, List, Reply, Steps};
 use std::alloc::{AllocError, Global};
@@ -45,7 +45,7 @@ fn after_cancelled<L: Ledger>(
     ensures setting { IfOk result (KeepsSetting book.now) }
     ensures book { IfOk result (λ next. (e : Entry) → e.command ≡ command.Cancel id → e.reply ≡ reply.Cancelled → IsBookOf (entries.now ++ e ∷ []) next) }
 {
-    match find_job(entries, book, id, steps) {
+    match live_job(entries, book, id, steps) {
         None => unreachable!(),
         Some(job) => {
             let next = book.after_remove(alloc, job, steps)?;

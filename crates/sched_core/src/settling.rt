@@ -35,7 +35,7 @@ fn job_at(entries: &List<Entry>, at: u64) -> Option<&Job>
 }
 
 /// The job of this id, if it was accepted and not cancelled.
-pub(crate) fn find_job<'a, L: Ledger>(
+pub(crate) fn live_job<'a, L: Ledger>(
     entries: &'a List<Entry>,
     book: &BookState,
     id: u64,
@@ -84,7 +84,7 @@ pub(crate) fn cancel<L: Ledger>(kept: &Kept, id: u64, steps: &mut Steps<L>) -> R
     requires { IsBookOf (journal_in kept.now) kept.now.book }
     ensures { (g : Setting) → Replies g (left_by (journal_in kept.now)) (command.Cancel id) result }
 {
-    match find_job(&kept.journal, &kept.book, id, steps) {
+    match live_job(&kept.journal, &kept.book, id, steps) {
         None => Reply::Absent,
         Some(_) => Reply::Cancelled,
     }
@@ -95,7 +95,7 @@ pub(crate) fn info<L: Ledger>(kept: &Kept, id: u64, steps: &mut Steps<L>) -> Rep
     requires { IsBookOf (journal_in kept.now) kept.now.book }
     ensures { (g : Setting) → Replies g (left_by (journal_in kept.now)) (command.Info id) result }
 {
-    match find_job(&kept.journal, &kept.book, id, steps) {
+    match live_job(&kept.journal, &kept.book, id, steps) {
         None => Reply::Absent,
         Some(job) => info_at(kept.book.now(), job),
     }

@@ -2,7 +2,7 @@ use Rattle.std.proofs.Common.{Option, Some, None, MatchOption, sym, ◌∙◌, a
 use Rattle.job_table.specs.declared.tables.Row.{Row}
 use Rattle.sched_core.specs.Courses.{left_by, IsRowOf, IsNew}
 use Rattle.sched_core.proofs.JobLaws.{row_found}
-use Rattle.sched_core.proofs.settling.find_job.Goals as goal
+use Rattle.sched_core.proofs.settling.live_job.Goals as goal
 
 pub returns-in-None : goal.returns-in-None
 returns-in-None g c =
