@@ -80,6 +80,18 @@ module _ (g : ResourceGraph) (names : List (List ℕ)) (valid : IsValidGraph g n
     λ h. node_from v (kind_from k (codes "node") (slice_get g.vertices v) e h),
   )
 
+  -- so each vertex of a node's kind is a node
+  pub alike_node : (u v kind : ℕ) → HasKind g.vertices kind v → IsNode g.vertices v → HasKind g.vertices kind u →
+      IsNode g.vertices u
+  alike_node u v kind is node there =
+      (node_kind kind (named (slice_get g.vertices v) is (node_to v node)) u).1 there
+    where
+      named : (x : Option Vertex) → IsSomeAnd x (λ y. y.kind ≡ kind) →
+          IsSomeAnd x (λ y. slice_get g.kinds y.kind ≡ Some (codes "node")) →
+              slice_get g.kinds kind ≡ Some (codes "node")
+      named None h k = elim h [ ]
+      named (Some y) h k = ap (slice_get g.kinds) (sym h) ∙ k
+
   -- and there are none where no type is
   pub no_node : ((k : ℕ) → slice_get g.kinds k ≢ Some (codes "node")) → (v : ℕ) → IsNode g.vertices v → ⊥
   no_node never v h = at_vertex (slice_get g.vertices v) (node_to v h)

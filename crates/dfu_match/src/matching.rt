@@ -4,6 +4,7 @@ ghost use Rattle.flux_defs.specs.declared.claims.Job.{Job};
 ghost use Rattle.flux_defs.specs.Needs.{IsProperAsk};
 ghost use Rattle.flux_defs.specs.Asks.{SomeFit, IsLowestFirst};
 
+use crate::bars::bars_all;
 use crate::counting::copies;
 use crate::search::Search;
 use crate::wanting::table_of;
@@ -28,12 +29,14 @@ pub fn some_fit<F: FreeView, L: Ledger>(
     ensures { (jobs : List Job) → F.stands_for view.now jobs →
         (IsTrue result ↔ SomeFit graph.now.resources.vertices jobs ask.now window) }
 {
+    let shut = bars_all(graph, ask.barred.items());
     let search = Search {
         graph,
         view,
         needs: &ask.needs,
         wanted: &[],
         barred: &ask.barred,
+        shut,
         window,
     };
     copies(&search, &ask.needs, 0, None, 1, steps) > 0
@@ -58,12 +61,14 @@ pub fn match_at<F: FreeView, L: Ledger>(
         (IsLowestFirst graph.now.resources.vertices jobs ask.now window)) }
 {
     let wanted = table_of(alloc, graph, &ask.needs)?;
+    let shut = bars_all(graph, ask.barred.items());
     let search = Search {
         graph,
         view,
         needs: &ask.needs,
         wanted: wanted.items(),
         barred: &ask.barred,
+        shut,
         window,
     };
     let mut claims = Vec::new(alloc);

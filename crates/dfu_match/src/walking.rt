@@ -125,6 +125,9 @@ pub(crate) fn next_open<F: FreeView, L: Ledger>(
         let Some(vertex) = s.graph.next_of_kind(kind, at, to) else {
             return None;
         };
+        if s.shut && s.graph.rank_at(vertex).is_some() {
+            return None;
+        }
         match top_short(s, need, index, at, vertex, steps) {
             None => return Some(vertex),
             Some(top) => at = s.graph.past(top),

@@ -10,6 +10,7 @@ invariant_of-search g c = record {
   tells = λ i need wanted at entry. absurd (cc);
   fits = omega arith;
   whole = λ some. absurd (some refl);
+  shuts = rw c.items.ensures at c.bars_all-shut.ensures;
   opens = c.requires.opens;
   rising = rises 0 c.args.ask.now.barred c.requires.proper.rising;
   nodes = nodes_of c.args.graph.now.resources.vertices c.args.ask.now.barred c.requires.proper.nodes;

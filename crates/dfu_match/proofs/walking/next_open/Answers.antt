@@ -1,6 +1,7 @@
-use Rattle.std.proofs.Common.{arith}
+use Rattle.std.proofs.Common.{arith, ap, sym, ◌∙◌, is_some}
 use Rattle.graph_laws.proofs.Containment.{below_le}
 use Rattle.graph_laws.proofs.Preorder.{parents_first}
+use Rattle.dfu_match.proofs.BarLaws.{rank_node}
 use Rattle.dfu_match.proofs.WalkLaws as laws
 use Rattle.dfu_match.proofs.walking.next_open.Goals as goal
 
@@ -51,3 +52,14 @@ look-preserved g c =
           c.args.need.now c.args.kind c.requires.of_kind c.args.from c.look.at c.args.to c.in-Some.vertex next
           (c.look.invariant.skipped jobs stands));
     }
+
+pub returns-then-is_some-clause-skipped : goal.returns-then-is_some-clause-skipped
+returns-then-is_some-clause-skipped g c = λ jobs stands.
+    let s = c.args.s.now in
+    let graph = s.graph.now in
+    let next = rw c.in-Some.is at c.next_of_kind.ensures in
+    laws.skipped_shut graph.resources graph.names c.is_valid.ensures.valid jobs s.barred.now s.window c.args.need.now
+    c.args.kind c.requires.of_kind c.in-Some.vertex c.args.from c.look.at c.args.to s.opens (s.shuts c.if-s.true)
+    next.of_kind (rank_node graph.resources.vertices c.in-Some.vertex
+    (ap is_some (sym c.rank_at.ensures) ∙ (sym c.is_some.ensures ∙ c.if-is_some.true)))
+        (c.look.invariant.skipped jobs stands)
