@@ -2,7 +2,8 @@
 use Rattle.std.proofs.Common.{◌≡◌, ◌≢◌, ℕ, zero, suc, ◌+◌, ◌<◌, ◌≤◌, Bool, true, false, List, [], ◌∷◌, length, get_or, nat_eq, Option, Some, None, slice_get, slice_index, is_some, IsTrue, true≢false, inl, inr, refl, sym, ◌∙◌, ap, subst, arith, nat_lt}
 use Rattle.std.specs.List.{list_any, AllByRecursion}
 use Rattle.std.specs.Option.{IsSomeAnd, option_map_or}
-use Rattle.std.proofs.lemmas.Bool.{cases_lt}
+use Rattle.std.specs.Prelude.{option_and_then}
+use Rattle.std.proofs.lemmas.Bool.{cases_lt, or_left, or_right}
 use Rattle.std.proofs.lemmas.Bool.Decides.{eqb_tells, nat_tests}
 use Rattle.std.proofs.lemmas.Option.{slice_get_past}
 use Rattle.std.proofs.lemmas.List.{get_or_default}
@@ -11,10 +12,10 @@ use Rattle.flux_defs.specs.declared.vertices.Vertex.{Vertex}
 use Rattle.flux_defs.specs.Graph.{ResourceGraph, is_at_or_below, IsNode}
 use Rattle.flux_defs.specs.Needs.{AreRisingFrom}
 use Rattle.flux_defs.specs.ValidGraph.{IsValidGraph}
-use Rattle.graph_laws.proofs.Containment.{below_le, line, below_from}
+use Rattle.graph_laws.proofs.Containment.{ParentsFirst, below_le, below_self, line, below_from}
 use Rattle.graph_laws.proofs.Preorder.{parents_first}
 use Rattle.flux_laws.proofs.Valid.{nodes_alike}
-use Rattle.resource_graph.specs.Tables.{IsPast}
+use Rattle.resource_graph.specs.Tables.{IsPast, rank_at}
 use Rattle.text_forms.specs.Rising.{IsIndexOf}
 use Rattle.dfu_match.specs.Bars.{is_node_at, AreNodesOf, IsLeastFrom, IsLeastOrNone}
 use Rattle.std.specs.List.Sorted.{IsStrictlyIncreasing}
@@ -161,3 +162,32 @@ module _ (g : ResourceGraph) (names : List (List ℕ)) (valid : IsValidGraph g n
 
       not_less : (a b : ℕ) → b ≤ a → nat_lt a b ≡ false
       not_less a b le = grind (arith, nat_tests)
+
+-- a vertex with a rank is a node, and one without is none
+pub rank_node : (vertices : List Vertex) (v : ℕ) → is_some (rank_at vertices v) ≡ true → IsNode vertices v
+rank_node vertices v h = by_vertex (slice_get vertices v) h
+  where
+    by_vertex : (o : Option Vertex) → is_some (option_and_then (λ x. x.rank) o) ≡ true →
+        IsSomeAnd o (λ x. is_some x.rank ≡ true)
+    by_vertex None e = absurd (true≢false (sym e))
+    by_vertex (Some x) e = e
+
+pub unranked : (vertices : List Vertex) (v : ℕ) → is_some (rank_at vertices v) ≡ false → IsNode vertices v → ⊥
+unranked vertices v h node = by_vertex (slice_get vertices v) h node
+  where
+    by_vertex : (o : Option Vertex) → is_some (option_and_then (λ x. x.rank) o) ≡ false →
+        IsSomeAnd o (λ x. is_some x.rank ≡ true) → ⊥
+    by_vertex None e k = elim k [ ]
+    by_vertex (Some x) e k = true≢false (sym k ∙ e)
+
+-- a barred vertex is barred, itself
+pub barred_itself : (vertices : List Vertex) (first : ParentsFirst vertices) (barred : List ℕ) (i v : ℕ) →
+    v < length vertices →
+    i < length barred → slice_index barred i ≡ v → IsTrue (list_any (is_at_or_below vertices v) barred)
+barred_itself vertices first [] i v lt within e = absurd (omega arith)
+barred_itself vertices first (u ∷ us) zero v lt within e =
+    or_left (is_at_or_below vertices v u) (list_any (is_at_or_below vertices v) us)
+    (subst (λ (x : ℕ). IsTrue (is_at_or_below vertices v x)) (sym e) (below_self vertices first v lt))
+barred_itself vertices first (u ∷ us) (suc i) v lt within e =
+    or_right (is_at_or_below vertices v u) (list_any (is_at_or_below vertices v) us)
+    (barred_itself vertices first us i v lt (omega arith) e)

@@ -1,7 +1,10 @@
 -- Which vertices are in a scope, and of a need.
-use Rattle.std.proofs.Common.{◌≡◌, ◌≢◌, ℕ, ◌+◌, ◌<◌, ◌≤◌, ◌↔◌, List, length, Option, Some, None, slice_get, refl, sym, ◌∙◌, ap, arith}
+use Rattle.std.proofs.Common.{◌≡◌, ◌≢◌, ℕ, zero, suc, ◌+◌, ◌<◌, ◌≤◌, ◌==◌, ◌&&◌, ◌↔◌, Bool, true, List, [], ◌∷◌, length, Option, Some, None, slice_get, is_some, inl, inr, refl, sym, ◌∙◌, ap, subst, arith, IsTrue, true≢false}
 use Rattle.std.specs.Prelude.{codes, IsSome}
 use Rattle.std.specs.Option.{IsSomeAnd}
+use Rattle.std.specs.List.{list_any}
+use Rattle.std.proofs.lemmas.Bool.{cases_lt, and_parts, and_from, or_cases, or_left, or_right}
+use Rattle.std.proofs.lemmas.Option.{slice_get_past}
 use Rattle.flux_defs.specs.declared.vertices.Vertex.{Vertex}
 use Rattle.flux_defs.specs.declared.claims.Claim.{Claim}
 use Rattle.flux_defs.specs.declared.requests.Need.{Need}
@@ -9,12 +12,14 @@ use Rattle.flux_defs.specs.Graph.{ResourceGraph, Scope, Everywhere, Beneath, IsI
 use Rattle.flux_defs.specs.ValidGraph.{IsValidGraph, HasType}
 use Rattle.flux_defs.specs.Needs.{IsOfNeed}
 use Rattle.flux_defs.specs.Lowest.{CanServe}
-use Rattle.graph_laws.proofs.Containment.{below_le, below_from, below_to}
+use Rattle.graph_laws.proofs.Containment.{below_le, below_from, below_to, equal_to, equal_from}
 use Rattle.graph_laws.proofs.Preorder.{parents_first}
-use Rattle.resource_graph.specs.Tables.{IsPast, IsNextOfKind, HasNoneOfKind}
+use Rattle.resource_graph.specs.Tables.{IsPast, IsNamedKind}
 use Rattle.match_laws.proofs.Walk.{NoneBetween}
 use Rattle.match_laws.proofs.NeedLists.{server}
 use Rattle.dfu_match.specs.Searches.{Covers, IsKindOfNeed}
+use Rattle.dfu_match.specs.Tables.{IsNodesKind}
+use Rattle.dfu_match.specs.Walks.{ServesNone}
 
 module _ (g : ResourceGraph) (names : List (List ℕ)) (valid : IsValidGraph g names) where
   -- the whole graph
@@ -75,6 +80,18 @@ module _ (g : ResourceGraph) (names : List (List ℕ)) (valid : IsValidGraph g n
     λ h. node_from v (kind_from k (codes "node") (slice_get g.vertices v) e h),
   )
 
+  -- so each vertex of a node's kind is a node
+  pub alike_node : (u v kind : ℕ) → HasKind g.vertices kind v → IsNode g.vertices v → HasKind g.vertices kind u →
+      IsNode g.vertices u
+  alike_node u v kind is node there =
+      (node_kind kind (named (slice_get g.vertices v) is (node_to v node)) u).1 there
+    where
+      named : (x : Option Vertex) → IsSomeAnd x (λ y. y.kind ≡ kind) →
+          IsSomeAnd x (λ y. slice_get g.kinds y.kind ≡ Some (codes "node")) →
+              slice_get g.kinds kind ≡ Some (codes "node")
+      named None h k = elim h [ ]
+      named (Some y) h k = ap (slice_get g.kinds) (sym h) ∙ k
+
   -- and there are none where no type is
   pub no_node : ((k : ℕ) → slice_get g.kinds k ≢ Some (codes "node")) → (v : ℕ) → IsNode g.vertices v → ⊥
   no_node never v h = at_vertex (slice_get g.vertices v) (node_to v h)
@@ -82,6 +99,65 @@ module _ (g : ResourceGraph) (names : List (List ℕ)) (valid : IsValidGraph g n
       at_vertex : (x : Option Vertex) → IsSomeAnd x (λ y. slice_get g.kinds y.kind ≡ Some (codes "node")) → ⊥
       at_vertex None k = elim k [ ]
       at_vertex (Some y) k = never y.kind k
+
+-- an item of which a test holds, and so back
+any_item : (test : Vertex → Bool) (xs : List Vertex) → IsTrue (list_any test xs) →
+    (i : ℕ) × (x : Vertex) × (slice_get xs i ≡ Some x) × IsTrue (test x)
+any_item test [] h = absurd (true≢false (sym h))
+any_item test (x ∷ xs) h =
+    elim (or_cases (test x) (list_any test xs) h) [
+      | inl here ↦ (0, x, refl, here)
+      | inr later ↦ (let r = any_item test xs later in (suc r.0, r.1, r.2, r.3))
+    ]
+
+item_any : (test : Vertex → Bool) (xs : List Vertex) (i : ℕ) (x : Vertex) → slice_get xs i ≡ Some x → IsTrue (test x) →
+    IsTrue (list_any test xs)
+item_any test [] i x e h = absurd (cc)
+item_any test (y ∷ ys) zero x e h =
+    let same : y ≡ x = cc in or_left (test y) (list_any test ys) (subst (λ (z : Vertex). IsTrue (test z)) (sym same) h)
+item_any test (y ∷ ys) (suc i) x e h = or_right (test y) (list_any test ys) (item_any test ys i x e h)
+
+the_vertex : (P : Vertex → Type 0) (o : Option Vertex) → IsSomeAnd o P → (x : Vertex) × (o ≡ Some x) × P x
+the_vertex P None h = elim h [ ]
+the_vertex P (Some x) h = (x, refl, h)
+
+at_vertex : (P : Vertex → Type 0) (o : Option Vertex) (x : Vertex) → o ≡ Some x → P x → IsSomeAnd o P
+at_vertex P o x e p = subst (λ (y : Option Vertex). IsSomeAnd y P) (sym e) p
+
+module _ (g : ResourceGraph) (names : List (List ℕ)) (valid : IsValidGraph g names) where
+  -- the type called node is the kind of nodes
+  pub nodes_told : (nodes : Option ℕ) → IsNamedKind g (codes "node") nodes → IsNodesKind g.vertices nodes
+  nodes_told None none kind = (
+    λ t. absurd (let r = any_item (λ x. (x.kind == kind) && is_some x.rank) g.vertices t in
+        no_node g names valid none r.0 (at_vertex (λ x. is_some x.rank ≡ true) (slice_get g.vertices r.0) r.1 r.2
+        (and_parts (r.1.kind == kind) (is_some r.1.rank) r.3).1)),
+    λ e. absurd (cc),
+  )
+  nodes_told (Some k) is kind = (
+    λ t. (let r = any_item (λ x. (x.kind == kind) && is_some x.rank) g.vertices t in
+        let b = and_parts (r.1.kind == kind) (is_some r.1.rank) r.3 in
+        let node = at_vertex (λ x. is_some x.rank ≡ true) (slice_get g.vertices r.0) r.1 r.2 b.1 in
+        let own = the_vertex (λ x. x.kind ≡ k) (slice_get g.vertices r.0) ((node_kind g names valid k is r.0).0 node) in
+        let same : own.0 ≡ r.1 = (let both : Some own.0 ≡ Some r.1 = sym own.1 ∙ r.2 in cc) in
+        let first : r.1.kind ≡ k = ap (λ x. x.kind) (sym same) ∙ own.2 in
+        ap Some (sym first ∙ equal_to r.1.kind kind b.0)),
+    λ e. (let same : k ≡ kind = cc in
+        let used = valid.kinds.used k (within k is) in
+        let node = the_vertex (λ x. is_some x.rank ≡ true) (slice_get g.vertices used.0)
+        ((node_kind g names valid k is used.0).1 used.1) in
+        let own = the_vertex (λ x. x.kind ≡ k) (slice_get g.vertices used.0) used.1 in
+        let one : own.0 ≡ node.0 = (let both : Some own.0 ≡ Some node.0 = sym own.1 ∙ node.1 in cc) in
+        item_any (λ x. (x.kind == kind) && is_some x.rank) g.vertices used.0 node.0 node.1
+        (and_from (node.0.kind == kind) (is_some node.0.rank)
+        (equal_from node.0.kind kind (ap (λ x. x.kind) (sym one) ∙ (own.2 ∙ same))) node.2)),
+  )
+    where
+      within : (k : ℕ) → slice_get g.kinds k ≡ Some (codes "node") → k < length g.kinds
+      within k e = elim (cases_lt k (length g.kinds)) [
+        | inl lt ↦ lt
+        | inr past ↦ absurd (let none : slice_get g.kinds k ≡ None = slice_get_past g.kinds k past in
+            let clash : None ≡ Some (codes "node") = sym none ∙ e in cc)
+      ]
 
 module _ (vertices : List Vertex) (ok : Claim → Type 0) (scope : Scope) (need : Need) where
   abbrev can : ℕ → ℕ → Type 0
@@ -97,19 +173,16 @@ module _ (vertices : List Vertex) (ok : Claim → Type 0) (scope : Scope) (need 
       let s = server vertices ok scope need v q c in
       let within : from ≤ v = ((cover v (in_graph scope v s.1)).0 s.1).0 in omega arith
 
-  -- nor one that the walk leaves out
-  pub none_skipped : (kind at to v : ℕ) → IsKindOfNeed vertices need (Some kind) →
-      IsNextOfKind vertices kind at to v → NoneBetween can at v
-  none_skipped kind at to v of_kind next u q lo hi some c =
-      let s = server vertices ok scope need u q c in
-      let least : v ≤ u = next.least u ((of_kind u).0 s.0) lo in omega arith
+  -- nor one that the walk passes over
+  pub none_skipped : (at v : ℕ) → ServesNone vertices ok need at v → NoneBetween can at v
+  none_skipped at v none u q lo hi some c = none scope u q lo hi some c
 
   -- nor one from where the walk finds none
-  pub none_after : (kind from at to : ℕ) → Covers vertices scope from to → IsKindOfNeed vertices need (Some kind) →
-      HasNoneOfKind vertices kind at to → (v q : ℕ) → at ≤ v → 1 ≤ q → can v q → ⊥
-  none_after kind from at to cover of_kind none v q lo some c =
+  pub none_after : (from at to : ℕ) → Covers vertices scope from to → ServesNone vertices ok need at to →
+      (v q : ℕ) → at ≤ v → 1 ≤ q → can v q → ⊥
+  none_after from at to cover none v q lo some c =
       let s = server vertices ok scope need v q c in
-      none v ((of_kind v).0 s.0) lo ((cover v (in_graph scope v s.1)).0 s.1).1
+      none scope v q lo ((cover v (in_graph scope v s.1)).0 s.1).1 some c
 
   -- nor any where the need has no kind
   pub none_at_all : IsKindOfNeed vertices need None → (v q : ℕ) → can v q → ⊥
@@ -117,9 +190,9 @@ module _ (vertices : List Vertex) (ok : Claim → Type 0) (scope : Scope) (need 
 
   -- the vertex that the walk finds is of the need, and in the scope
   pub found : (kind from at to v : ℕ) → Covers vertices scope from to → from ≤ at → to ≤ length vertices →
-      IsKindOfNeed vertices need (Some kind) → IsNextOfKind vertices kind at to v →
+      IsKindOfNeed vertices need (Some kind) → HasKind vertices kind v × (at ≤ v) × (v < to) →
       IsOfNeed vertices need v × IsIn vertices scope v
-  found kind from at to v cover lo hi of_kind next =
-      let low : at ≤ v = next.low in
-      let high : v < to = next.high in
-      ((of_kind v).1 next.of_kind, (cover v (omega arith)).1 (omega arith, high))
+  found kind from at to v cover lo hi of_kind is =
+      let low : at ≤ v = is.1 in
+      let high : v < to = is.2 in
+      ((of_kind v).1 is.0, (cover v (omega arith)).1 (omega arith, high))

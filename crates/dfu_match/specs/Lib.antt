@@ -1,2 +1,4 @@
 pub mod Searches
 pub mod Bars
+pub mod Tables
+pub mod Walks

@@ -1,7 +1,11 @@
-//! A rising list of numbers.
+//! The nodes that an ask bars, as a rising list.
+ghost use Rattle.std.specs.Prelude.{◌<◌, length, IfSome, IsTrue};
+ghost use Rattle.std.specs.List.{list_any};
 ghost use Rattle.std.specs.List.Sorted.{IsStrictlyIncreasing};
-ghost use Rattle.dfu_match.specs.Bars.{IsLeastOrNone};
+ghost use Rattle.flux_defs.specs.Graph.{IsNode, is_at_or_below};
+ghost use Rattle.dfu_match.specs.Bars.{IsLeastOrNone, BarsAll};
 
+use resource_graph::Graph;
 use text_forms::index_of;
 
 /// The least number of a rising list from `from` on.
@@ -14,4 +18,38 @@ pub(crate) fn least_from(list: &[u32], from: u32) -> Option<u32>
         return None;
     }
     Some(list[index])
+}
+
+/// Whether every node is barred: it looks no further than to the first that isn't.
+pub(crate) fn bars_all(graph: &Graph, barred: &[u32]) -> bool
+    ensures { IsTrue result → BarsAll graph.now.resources.vertices barred.now }
+{
+    let mut next = 0;
+    for vertex in 0..graph.len() {
+        match after_bar(graph, barred, next, vertex) {
+            None => return false,
+            Some(after) => next = after,
+        }
+    }
+    true
+}
+
+/// How many of the barred nodes are passed after this vertex, of which so many were before it; none where it is a node
+/// that isn't the next one barred.
+fn after_bar(graph: &Graph, barred: &[u32], next: usize, vertex: u32) -> Option<usize>
+    requires { vertex < length graph.now.resources.vertices }
+    ensures { IfSome result (λ _. IsNode graph.now.resources.vertices vertex →
+        IsTrue (list_any (is_at_or_below graph.now.resources.vertices vertex) barred.now)) }
+{
+    graph.is_valid();
+    if graph.rank_at(vertex).is_none() {
+        return Some(next);
+    }
+    if next >= barred.len() {
+        return None;
+    }
+    if barred[next] != vertex {
+        return None;
+    }
+    Some(next + 1)
 }

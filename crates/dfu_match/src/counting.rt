@@ -8,9 +8,11 @@ ghost use Rattle.flux_defs.specs.Needs.{IsOfNeed, IsValidNeed, AreValidNeeds};
 ghost use Rattle.flux_defs.specs.Lowest.{CanServe};
 ghost use Rattle.match_laws.specs.Offers.{IsGreatest, SomeGroup, SomeFits};
 ghost use Rattle.dfu_match.specs.Searches.{open_to, scope_of, IsScope, MayAsk, MayScale};
+ghost use Rattle.dfu_match.specs.Tables.{needs_all, StandsAt, StandAt};
 
 use crate::scopes::{kind_of, span_of};
 use crate::search::{Search, admits, free};
+use crate::walking::{index_after, index_within, next_open};
 use flux_defs::{FreeView, List, Need, Steps};
 use std::sync::ledger::Ledger;
 
@@ -19,10 +21,12 @@ use std::sync::ledger::Ledger;
 fn reach<F: FreeView, L: Ledger>(
     s: &Search<F>,
     need: &Need,
+    index: usize,
     scope: Option<u32>,
     most: u128,
     steps: &mut Steps<L>,
 ) -> u128
+    requires stands { StandsAt (needs_all s.now.needs.now) s.now.wanted.now index need.now }
     requires scope { IsScope s.now.graph.now.resources.vertices scope }
     requires valid { IsValidNeed s.now.graph.now.resources.vertices need.now }
     requires may { MayAsk most need.now }
@@ -39,10 +43,10 @@ fn reach<F: FreeView, L: Ledger>(
     let mut reached = 0;
     let mut at = span.from;
     while reached < most {
-        let Some(vertex) = s.graph.next_of_kind(kind, at, span.to) else {
+        let Some(vertex) = next_open(s, need, index, kind, at, span.to, steps) else {
             return reached;
         };
-        reached += u128::from(serves(s, need, vertex, most - reached, steps));
+        reached += u128::from(serves(s, need, index, vertex, most - reached, steps));
         at = vertex + 1;
     }
     reached
@@ -53,10 +57,12 @@ fn reach<F: FreeView, L: Ledger>(
 pub(crate) fn serves<F: FreeView, L: Ledger>(
     s: &Search<F>,
     need: &Need,
+    index: usize,
     vertex: u32,
     most: u128,
     steps: &mut Steps<L>,
 ) -> u64
+    requires stands { StandsAt (needs_all s.now.needs.now) s.now.wanted.now index need.now }
     requires vertex { vertex < length s.now.graph.now.resources.vertices }
     requires of_need { IsOfNeed s.now.graph.now.resources.vertices need.now vertex }
     requires valid { IsValidNeed s.now.graph.now.resources.vertices need.now }
@@ -74,14 +80,28 @@ pub(crate) fn serves<F: FreeView, L: Ledger>(
             if !admits(s, *hold, vertex, steps) {
                 return 0;
             }
-            copies(s, needs, Some(vertex), 1, steps)
+            copies(
+                s,
+                needs,
+                index_within(s, need, index),
+                Some(vertex),
+                1,
+                steps,
+            )
         }
         Need::Pool { .. } => u128::from(free(s, vertex, steps)).min(most) as u64,
         Need::Spread { needs, .. } => {
             if !admits(s, false, vertex, steps) {
                 return 0;
             }
-            copies(s, needs, Some(vertex), most as u64, steps)
+            copies(
+                s,
+                needs,
+                index_within(s, need, index),
+                Some(vertex),
+                most as u64,
+                steps,
+            )
         }
     }
 }
@@ -92,10 +112,12 @@ pub(crate) fn serves<F: FreeView, L: Ledger>(
 pub(crate) fn copies<F: FreeView, L: Ledger>(
     s: &Search<F>,
     needs: &List<Need>,
+    index: usize,
     scope: Option<u32>,
     most: u64,
     steps: &mut Steps<L>,
 ) -> u64
+    requires stand { StandAt (needs_all s.now.needs.now) s.now.wanted.now index needs.now }
     requires scope { IsScope s.now.graph.now.resources.vertices scope }
     requires valid { AreValidNeeds s.now.graph.now.resources.vertices needs.now }
     requires may { MayScale most needs.now }
@@ -106,13 +128,22 @@ pub(crate) fn copies<F: FreeView, L: Ledger>(
         IsGreatest (SomeFits vs ok (scope_of scope) needs.now) most result) }
 {
     let mut best = most;
+    let mut at = index;
     for need in needs.items() {
         let amount = need.amount();
-        let reached = reach(s, need, scope, u128::from(best) * u128::from(amount), steps);
+        let reached = reach(
+            s,
+            need,
+            at,
+            scope,
+            u128::from(best) * u128::from(amount),
+            steps,
+        );
         best = whole_times(reached, amount, best);
         if best == 0 {
             return 0;
         }
+        at = index_after(s, need, at);
     }
     best
 }

@@ -4,8 +4,10 @@ ghost use Rattle.flux_defs.specs.declared.claims.Job.{Job};
 ghost use Rattle.flux_defs.specs.Needs.{IsProperAsk};
 ghost use Rattle.flux_defs.specs.Asks.{SomeFit, IsLowestFirst};
 
+use crate::bars::bars_all;
 use crate::counting::copies;
 use crate::search::Search;
+use crate::wanting::table_of;
 use crate::writing::write_needs;
 use flux_defs::{Ask, Claim, FreeView, List, Steps, Window};
 use resource_graph::Graph;
@@ -27,13 +29,17 @@ pub fn some_fit<F: FreeView, L: Ledger>(
     ensures { (jobs : List Job) → F.stands_for view.now jobs →
         (IsTrue result ↔ SomeFit graph.now.resources.vertices jobs ask.now window) }
 {
+    let shut = bars_all(graph, ask.barred.items());
     let search = Search {
         graph,
         view,
+        needs: &ask.needs,
+        wanted: &[],
         barred: &ask.barred,
+        shut,
         window,
     };
-    copies(&search, &ask.needs, None, 1, steps) > 0
+    copies(&search, &ask.needs, 0, None, 1, steps) > 0
 }
 
 /// The lowest-first claims of the ask over the window, in seconds, where `view` tells what is free of the graph; `None`
@@ -54,14 +60,19 @@ pub fn match_at<F: FreeView, L: Ledger>(
         (SomeFit graph.now.resources.vertices jobs ask.now window → ⊥)
         (IsLowestFirst graph.now.resources.vertices jobs ask.now window)) }
 {
+    let wanted = table_of(alloc, graph, &ask.needs)?;
+    let shut = bars_all(graph, ask.barred.items());
     let search = Search {
         graph,
         view,
+        needs: &ask.needs,
+        wanted: wanted.items(),
         barred: &ask.barred,
+        shut,
         window,
     };
     let mut claims = Vec::new(alloc);
-    if !write_needs(&search, &ask.needs, 1, None, &mut claims, steps)? {
+    if !write_needs(&search, &ask.needs, 0, 1, None, &mut claims, steps)? {
         return Ok(None);
     }
     Ok(Some(List::of_vec(claims)))

@@ -1,5 +1,5 @@
 //! What a search looks at, and which claims are available to it.
-ghost use Rattle.std.specs.Prelude.{◌≡◌, ℕ, ◌<◌, ◌↔◌, IsTrue, length, List};
+ghost use Rattle.std.specs.Prelude.{◌≡◌, ◌≢◌, ◌^◌, ℕ, [], ◌<◌, ◌↔◌, IsTrue, length, List};
 ghost use Rattle.std.specs.List.{list_any};
 ghost use Rattle.flux_defs.specs.declared.claims.Job.{Job};
 ghost use Rattle.flux_defs.specs.declared.claims.Claim.{Claim};
@@ -8,21 +8,32 @@ ghost use Rattle.flux_defs.specs.Closed.{IsClosedIn, IsTouchedIn};
 ghost use Rattle.flux_defs.specs.Free.{IsFreeIn};
 ghost use Rattle.dfu_match.specs.Searches.{meets, open_to, claim_on};
 ghost use Rattle.std.specs.List.Sorted.{IsStrictlyIncreasing};
-ghost use Rattle.dfu_match.specs.Bars.{AreNodesOf};
+ghost use Rattle.dfu_match.specs.Bars.{AreNodesOf, BarsAll};
+ghost use Rattle.dfu_match.specs.Tables.{needs_all, TellsNeeds};
+ghost use Rattle.std.proofs.Props.{props};
 
 use crate::bars::least_from;
-use flux_defs::{FreeView, List, Steps, Window};
+use crate::wanting::Wanted;
+use flux_defs::{FreeView, List, Need, Steps, Window};
 use resource_graph::Graph;
 use std::sync::ledger::Ledger;
 
-/// What a search looks at: the graph, a view over its vertices, the nodes that the ask bars, and a window.
+/// What a search looks at: the graph, a view over its vertices, the needs of the ask and a table of what each of them
+/// demands, which may be absent, the nodes that the ask bars, whether these are all nodes, and a window.
 #[derive(Drop)]
 pub(crate) struct Search<'a, F: FreeView> {
     pub(crate) graph: &'a Graph,
     pub(crate) view: &'a F,
+    pub(crate) needs: &'a List<Need>,
+    pub(crate) wanted: &'a [Wanted],
     pub(crate) barred: &'a List<u32>,
+    pub(crate) shut: bool,
     pub(crate) window: Window,
     ghost over: { F.graph view.now ≡ graph.now.resources.vertices },
+    ghost tells: { TellsNeeds graph.now.resources.vertices (needs_all needs.now) wanted.now } by { Prim.hlevel props },
+    ghost fits: { length wanted.now < 2 ^ 64 },
+    ghost whole: { wanted.now ≢ [] → length wanted.now ≡ length (needs_all needs.now) },
+    ghost shuts: { IsTrue shut → BarsAll graph.now.resources.vertices barred.now },
     ghost opens: { window.from < window.to },
     ghost rising: { IsStrictlyIncreasing barred.now },
     ghost nodes: { AreNodesOf graph.now.resources.vertices barred.now },

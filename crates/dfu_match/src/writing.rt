@@ -8,10 +8,12 @@ ghost use Rattle.flux_defs.specs.Needs.{amount_of, IsOfNeed, IsValidNeed, AreVal
 ghost use Rattle.flux_defs.specs.Lowest.{CanServe, FollowsPass, LowestPiece, Lowest};
 ghost use Rattle.match_laws.specs.Offers.{Extends, Offers, SomeGroup, SomeFits, LowestGroup};
 ghost use Rattle.dfu_match.specs.Searches.{open_to, scope_of, IsScope, MayAsk, MayScale, MayScaleNeed};
+ghost use Rattle.dfu_match.specs.Tables.{needs_all, StandsAt, StandAt};
 
 use crate::counting::{copies, serves};
 use crate::scopes::{kind_of, span_of};
 use crate::search::{Search, admits};
+use crate::walking::{index_after, index_within, next_open};
 use flux_defs::{Claim, FreeView, List, Need, Steps};
 use std::alloc::AllocError;
 use std::sync::ledger::Ledger;
@@ -22,11 +24,13 @@ use std::sync::ledger::Ledger;
 pub(crate) fn write_needs<F: FreeView, L: Ledger>(
     s: &Search<F>,
     needs: &List<Need>,
+    index: usize,
     k: u64,
     scope: Option<u32>,
     out: &mut Vec<Claim>,
     steps: &mut Steps<L>,
 ) -> Result<bool, AllocError>
+    requires stand { StandAt (needs_all s.now.needs.now) s.now.wanted.now index needs.now }
     requires scope { IsScope s.now.graph.now.resources.vertices scope }
     requires valid { AreValidNeeds s.now.graph.now.resources.vertices needs.now }
     requires may { MayScale k needs.now }
@@ -39,11 +43,13 @@ pub(crate) fn write_needs<F: FreeView, L: Ledger>(
         (Lowest vs ok k (scope_of scope) needs.now claims)
         (SomeFits vs ok (scope_of scope) needs.now k → ⊥)))) }
 {
+    let mut at = index;
     for need in needs.items() {
-        let filled = write_group(s, need, k, scope, out, steps)?;
+        let filled = write_group(s, need, at, k, scope, out, steps)?;
         if !filled {
             return Ok(false);
         }
+        at = index_after(s, need, at);
     }
     Ok(true)
 }
@@ -54,11 +60,13 @@ pub(crate) fn write_needs<F: FreeView, L: Ledger>(
 fn write_group<F: FreeView, L: Ledger>(
     s: &Search<F>,
     need: &Need,
+    index: usize,
     k: u64,
     scope: Option<u32>,
     out: &mut Vec<Claim>,
     steps: &mut Steps<L>,
 ) -> Result<bool, AllocError>
+    requires stands { StandsAt (needs_all s.now.needs.now) s.now.wanted.now index need.now }
     requires scope { IsScope s.now.graph.now.resources.vertices scope }
     requires valid { IsValidNeed s.now.graph.now.resources.vertices need.now }
     requires may { MayScaleNeed k need.now }
@@ -78,10 +86,10 @@ fn write_group<F: FreeView, L: Ledger>(
     let span = span_of(s.graph, scope);
     let mut at = span.from;
     while missing > 0 {
-        let Some(vertex) = s.graph.next_of_kind(kind, at, span.to) else {
+        let Some(vertex) = next_open(s, need, index, kind, at, span.to, steps) else {
             return Ok(false);
         };
-        let served = offer(s, need, vertex, missing, out, steps)?;
+        let served = offer(s, need, index, vertex, missing, out, steps)?;
         missing -= u128::from(served);
         at = vertex + 1;
     }
@@ -93,11 +101,13 @@ fn write_group<F: FreeView, L: Ledger>(
 fn offer<F: FreeView, L: Ledger>(
     s: &Search<F>,
     need: &Need,
+    index: usize,
     vertex: u32,
     most: u128,
     out: &mut Vec<Claim>,
     steps: &mut Steps<L>,
 ) -> Result<u64, AllocError>
+    requires stands { StandsAt (needs_all s.now.needs.now) s.now.wanted.now index need.now }
     requires vertex { vertex < length s.now.graph.now.resources.vertices }
     requires of_need { IsOfNeed s.now.graph.now.resources.vertices need.now vertex }
     requires valid { IsValidNeed s.now.graph.now.resources.vertices need.now }
@@ -118,20 +128,36 @@ fn offer<F: FreeView, L: Ledger>(
                 return Ok(0);
             }
             if *hold {
-                if copies(s, needs, Some(vertex), 1, steps) == 0 {
+                if copies(
+                    s,
+                    needs,
+                    index_within(s, need, index),
+                    Some(vertex),
+                    1,
+                    steps,
+                ) == 0
+                {
                     return Ok(0);
                 }
                 write_claim(out, Claim::Hold { vertex })?;
                 return Ok(1);
             }
-            let fit = write_shared(s, needs, 1, vertex, out, steps)?;
+            let fit = write_shared(
+                s,
+                needs,
+                index_within(s, need, index),
+                1,
+                vertex,
+                out,
+                steps,
+            )?;
             if !fit {
                 return Ok(0);
             }
             Ok(1)
         }
         Need::Pool { .. } => {
-            let quantity = serves(s, need, vertex, most, steps);
+            let quantity = serves(s, need, index, vertex, most, steps);
             if quantity == 0 {
                 return Ok(0);
             }
@@ -139,11 +165,19 @@ fn offer<F: FreeView, L: Ledger>(
             Ok(quantity)
         }
         Need::Spread { needs, .. } => {
-            let count = serves(s, need, vertex, most, steps);
+            let count = serves(s, need, index, vertex, most, steps);
             if count == 0 {
                 return Ok(0);
             }
-            let fit = write_shared(s, needs, count, vertex, out, steps)?;
+            let fit = write_shared(
+                s,
+                needs,
+                index_within(s, need, index),
+                count,
+                vertex,
+                out,
+                steps,
+            )?;
             if !fit {
                 return Ok(0);
             }
@@ -158,11 +192,13 @@ fn offer<F: FreeView, L: Ledger>(
 fn write_shared<F: FreeView, L: Ledger>(
     s: &Search<F>,
     needs: &List<Need>,
+    index: usize,
     k: u64,
     vertex: u32,
     out: &mut Vec<Claim>,
     steps: &mut Steps<L>,
 ) -> Result<bool, AllocError>
+    requires stand { StandAt (needs_all s.now.needs.now) s.now.wanted.now index needs.now }
     requires vertex { vertex < length s.now.graph.now.resources.vertices }
     requires valid { AreValidNeeds s.now.graph.now.resources.vertices needs.now }
     requires may { MayScale k needs.now }
@@ -178,7 +214,7 @@ fn write_shared<F: FreeView, L: Ledger>(
 {
     let mark = out.len();
     write_claim(out, Claim::Pass { vertex })?;
-    let fit = write_needs(s, needs, k, Some(vertex), out, steps)?;
+    let fit = write_needs(s, needs, index, k, Some(vertex), out, steps)?;
     if fit {
         return Ok(true);
     }

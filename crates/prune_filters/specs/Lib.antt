@@ -1,2 +1,4 @@
 pub mod Names
 pub mod Filters
+pub mod Demands
+pub mod Shorts

@@ -1,7 +1,9 @@
-//! Filter rules: of which types totals are kept at which vertices.
+//! Filter rules: of which types totals are kept at which vertices; and where a kept total is too small for a demand.
 #![tactic(auto)]
 
 mod items;
 pub mod rules;
+mod shorts;
 
 pub use rules::{FilterFault, Rule, Rules};
+pub use shorts::{Demand, short};

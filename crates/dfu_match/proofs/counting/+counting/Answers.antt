@@ -4,7 +4,6 @@ use denote.Param.Weighed.{most}
 use Rattle.flux_defs.specs.declared.claims.Claim.{Claim}
 use Rattle.flux_defs.specs.declared.requests.Need.{Need}
 use Rattle.flux_defs.proofs.requests.Need.TheLaws.{the_size}
-use Rattle.flux_defs.specs.Graph.{Beneath}
 use Rattle.flux_defs.specs.Needs.{amount_of, AreValidNeeds}
 use Rattle.flux_laws.proofs.Takes.{takes_less}
 use Rattle.flux_laws.proofs.FitLaws.{serves_less}
@@ -14,6 +13,8 @@ use Rattle.match_laws.proofs.ViewLaws.{available_take}
 use Rattle.match_laws.proofs.Sizes.{size_Vert, size_Spread, size_item}
 use Rattle.dfu_match.specs.Searches.{open_to, meets, scope_of}
 use Rattle.dfu_match.proofs.ScopeLaws.{none_before, none_skipped, none_after, none_at_all, found}
+use Rattle.dfu_match.specs.Tables.{needs_all}
+use Rattle.dfu_match.proofs.TableLaws as tables
 use Rattle.dfu_match.proofs.CountLaws as laws
 use Rattle.dfu_match.proofs.counting.+counting.Goals as goal
 
@@ -35,17 +36,41 @@ copies-reach-reached-requires g t c κs h =
         (
           search rules,
           (
-            c.requires.scope,
+            tables.stand_first (needs_all c.args.s.now.needs.now) c.args.s.now.wanted.now c.loop-need.at (drop i items)
+                (drop (i + 1) items) need split c.loop-need.invariant.stand,
             (
-              laws.valid_at c.args.s.now.graph.now.resources.vertices items i need (drop (i + 1) items) split valid,
-              rw (c.from.ensures, c.from-in-loop-need.ensures, c.amount-amount.ensures)
-                  (laws.may_ask_at c.args.most c.loop-need.best items i need (drop (i + 1) items)
-                  c.loop-need.invariant.within split small (rw c.items-need-items.ensures c.requires.may)),
+              c.requires.scope,
+              (
+                laws.valid_at c.args.s.now.graph.now.resources.vertices items i need (drop (i + 1) items) split valid,
+                rw (c.from.ensures, c.from-in-loop-need.ensures, c.amount-amount.ensures)
+                    (laws.may_ask_at c.args.most c.loop-need.best items i need (drop (i + 1) items)
+                    c.loop-need.invariant.within split small (rw c.items-need-items.ensures c.requires.may)),
+              ),
             ),
           ),
         ),
       ),
     )
+
+pub copies-index_after-at-requires : goal.copies-index_after-at-requires
+copies-index_after-at-requires g t c =
+    let items : List Need = c.items-need-items.result.now in
+    let i = c.loop-need.need-index in
+    let need = c.need-item.result in
+    let split : drop i items ≡ need ∷ drop (i + 1) items = laws.item_split items i need c.loop-need-test.true
+    c.need-item.is in
+    record {
+      stands = tables.stand_first (needs_all c.args.s.now.needs.now) c.args.s.now.wanted.now c.loop-need.at
+          (drop i items) (drop (i + 1) items) need split c.loop-need.invariant.stand;
+    }
+
+pub copies-loop-need-init : goal.copies-loop-need-init
+copies-loop-need-init g t c = record {
+  stand = rw c.items-need-items.ensures c.requires.stand;
+  within = omega arith;
+  enough = λ jobs stands k le each. each;
+  full = λ jobs stands lt. absurd (omega arith);
+}
 
 pub copies-whole_times-best-requires-clause-some : goal.copies-whole_times-best-requires-clause-some
 copies-whole_times-best-requires-clause-some g t c =
@@ -88,6 +113,9 @@ copies-loop-need-preserved g t c =
     let low = rw c.amount-amount.ensures at c.whole_times-best.ensures.low in
     let high = rw c.amount-amount.ensures at c.whole_times-best.ensures.high in
     record {
+      stand = tables.stand_next (needs_all c.args.s.now.needs.now) c.args.s.now.wanted.now c.loop-need.at
+          c.index_after-at.result (drop i items) (drop (i + 1) items) need split c.index_after-at.ensures
+          c.loop-need.invariant.stand;
       within = (let few = c.whole_times-best.ensures.within in let before = c.loop-need.invariant.within in
           omega arith);
       enough = λ jobs stands.
@@ -143,17 +171,16 @@ reach-loop-reached-init g t c =
           c.span_of-span.ensures.covers);
     }
 
-pub reach-returns-in_default-next_of_kind-clause-greatest : goal.reach-returns-in_default-next_of_kind-clause-greatest
-reach-returns-in_default-next_of_kind-clause-greatest g t c = λ jobs stands.
+pub reach-returns-in_default-next_open-clause-greatest : goal.reach-returns-in_default-next_open-clause-greatest
+reach-returns-in_default-next_open-clause-greatest g t c = λ jobs stands.
     let vs = c.args.s.now.graph.now.resources.vertices in
     let ok : Claim → Type 0 = open_to vs jobs c.args.s.now.barred.now c.args.s.now.window in
     let scope = scope_of c.args.scope in
     let need = c.args.need.now in
-    let of_kind = rw c.in-Some.is at c.kind_of.ensures in
     greatest_along _ _ c.args.most c.loop-reached.reached (group_from vs ok scope need) (group_to vs ok scope need)
     (reached_end _ (serves_less vs ok (takes_less _ _) scope need) c.args.most c.loop-reached.at c.loop-reached.reached
-    (none_after vs ok scope need c.in-Some.kind c.span_of-span.result.from c.loop-reached.at c.span_of-span.result.to
-    c.span_of-span.ensures.covers of_kind c.in_default-next_of_kind.ensures)
+    (none_after vs ok scope need c.span_of-span.result.from c.loop-reached.at c.span_of-span.result.to
+    c.span_of-span.ensures.covers (c.in_default-next_open.ensures.skipped jobs stands))
     (c.loop-reached.invariant.reached jobs stands))
 
 pub reach-loop-reached-preserved : goal.reach-loop-reached-preserved
@@ -161,10 +188,10 @@ reach-loop-reached-preserved g t c =
     let vs = c.args.s.now.graph.now.resources.vertices in
     let need = c.args.need.now in
     let of_kind = rw c.in-Some.is at c.kind_of.ensures in
-    let next = rw c.in-Some-next_of_kind.is at c.next_of_kind.ensures in
-    let low = next.low in
+    let next = rw c.in-Some-next_open.is at c.next_open.ensures.of_kind in
+    let low = next.1 in
     let is = found vs (λ claim. ⊥) (scope_of c.args.scope) need c.in-Some.kind c.span_of-span.result.from
-    c.loop-reached.at c.span_of-span.result.to c.in-Some-next_of_kind.vertex c.span_of-span.ensures.covers
+    c.loop-reached.at c.span_of-span.result.to c.in-Some-next_open.vertex c.span_of-span.ensures.covers
     c.loop-reached.invariant.from c.span_of-span.ensures.within of_kind next in
     record {
       within = (let few = c.serves.ensures.within in let same = c.from-reached.ensures in
@@ -173,12 +200,12 @@ reach-loop-reached-preserved g t c =
       reached = λ jobs stands.
           let ok : Claim → Type 0 = open_to vs jobs c.args.s.now.barred.now c.args.s.now.window in
           let scope = scope_of c.args.scope in
-          reached_next _ (serves_less vs ok (takes_less _ _) scope need) c.args.most c.in-Some-next_of_kind.vertex
+          reached_next _ (serves_less vs ok (takes_less _ _) scope need) c.args.most c.in-Some-next_open.vertex
           c.loop-reached.reached c.from-reached.result
           (reached_over _ (serves_less vs ok (takes_less _ _) scope need) c.args.most c.loop-reached.at
-          c.in-Some-next_of_kind.vertex c.loop-reached.reached low
-          (none_skipped vs ok scope need c.in-Some.kind c.loop-reached.at c.span_of-span.result.to
-          c.in-Some-next_of_kind.vertex of_kind next) (c.loop-reached.invariant.reached jobs stands))
+          c.in-Some-next_open.vertex c.loop-reached.reached low
+          (none_skipped vs ok scope need c.loop-reached.at c.in-Some-next_open.vertex
+          (rw c.in-Some-next_open.is at (c.next_open.ensures.skipped jobs stands))) (c.loop-reached.invariant.reached jobs stands))
           (rw c.from-reached.ensures (c.serves.ensures.greatest jobs stands scope is.1));
     }
 
@@ -212,11 +239,16 @@ serves-copies-requires g t c κs h =
         (
           search rules,
           (
-            c.requires.vertex,
+            tables.inside_Vert (needs_all c.args.s.now.needs.now) c.args.s.now.wanted.now c.args.index
+                c.index_within.result c.in-Vert.kind c.in-Vert.count c.in-Vert.hold c.in-Vert.needs
+                c.index_within.ensures (rw c.in-Vert.is at c.requires.stands),
             (
-              laws.valid_inside vs c.in-Vert.kind c.in-Vert.count c.in-Vert.hold c.in-Vert.needs
-                  (rw c.in-Vert.is at c.requires.valid),
-              inl refl,
+              c.requires.vertex,
+              (
+                laws.valid_inside vs c.in-Vert.kind c.in-Vert.count c.in-Vert.hold c.in-Vert.needs
+                    (rw c.in-Vert.is at c.requires.valid),
+                inl refl,
+              ),
             ),
           ),
         ),
@@ -235,10 +267,14 @@ serves-copies-requires-in-Spread g t c κs h =
         (
           search rules,
           (
-            c.requires.vertex,
+            tables.inside_Spread (needs_all c.args.s.now.needs.now) c.args.s.now.wanted.now c.args.index
+                c.index_within-in-Spread.result c.in-Spread.count c.in-Spread.needs c.index_within-in-Spread.ensures (rw c.in-Spread.is at c.requires.stands),
             (
-              laws.valid_copy vs c.in-Spread.count c.in-Spread.needs valid,
-              inr (laws.plain_copy vs c.in-Spread.count c.in-Spread.needs valid),
+              c.requires.vertex,
+              (
+                laws.valid_copy vs c.in-Spread.count c.in-Spread.needs valid,
+                inr (laws.plain_copy vs c.in-Spread.count c.in-Spread.needs valid),
+              ),
             ),
           ),
         ),

@@ -4,12 +4,14 @@ use Rattle.flux_defs.specs.Lowest.{CanServe}
 use Rattle.match_laws.specs.Offers.{SomeFits}
 use Rattle.match_laws.proofs.Walk.{Reached}
 use Rattle.match_laws.proofs.NeedLists.{AllFill}
+use Rattle.dfu_match.specs.Tables.{needs_all, StandAt}
 use Rattle.dfu_match.specs.Searches.{open_to, scope_of}
 use Rattle.dfu_match.proofs.counting.+counting.Given as goal
 
 -- the needs so far can be filled for as many copies, and no list for more
 abbrev pub invariant-copies-loop-need : goal.invariant-copies-loop-need
 invariant-copies-loop-need g l = record {
+  stand : StandAt (needs_all l.s.needs.now) l.s.wanted.now l.at (drop l.need-index l.need-items);
   within : l.best ≤ l.most;
   enough : (jobs : List Job) → g.F.FreeView.stands_for l.s.view.now jobs → (k : ℕ) → k ≤ l.best →
       AllFill l.s.graph.now.resources.vertices (open_to l.s.graph.now.resources.vertices jobs l.s.barred.now

@@ -7,10 +7,17 @@ use Rattle.dfu_match.proofs.matching.some_fit.Goals as goal
 pub invariant_of-search : goal.invariant_of-search
 invariant_of-search g c = record {
   over = c.requires.over;
+  tells = λ i need wanted at entry. absurd (cc);
+  fits = omega arith;
+  whole = λ some. absurd (some refl);
+  shuts = rw c.items.ensures at c.bars_all-shut.ensures;
   opens = c.requires.opens;
   rising = rises 0 c.args.ask.now.barred c.requires.proper.rising;
   nodes = nodes_of c.args.graph.now.resources.vertices c.args.ask.now.barred c.requires.proper.nodes;
 }
+
+pub copies-requires-clause-stand : goal.copies-requires-clause-stand
+copies-requires-clause-stand g c = inl refl
 
 pub copies-requires-clause-may : goal.copies-requires-clause-may
 copies-requires-clause-may g c = inl refl

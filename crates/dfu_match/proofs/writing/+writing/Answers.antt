@@ -13,6 +13,8 @@ use Rattle.match_laws.proofs.NeedLists.{group_to, group_at, completes_next, comp
 use Rattle.match_laws.proofs.Sizes.{size_Vert, size_Spread, size_item}
 use Rattle.dfu_match.specs.Searches.{open_to, scope_of}
 use Rattle.dfu_match.proofs.ScopeLaws.{none_before, none_skipped, none_after, none_at_all, found}
+use Rattle.dfu_match.specs.Tables.{needs_all}
+use Rattle.dfu_match.proofs.TableLaws as tables
 use Rattle.dfu_match.proofs.CountLaws as counts
 use Rattle.dfu_match.proofs.WriteLaws as laws
 use Rattle.dfu_match.proofs.writing.+writing.Goals as goal
@@ -26,6 +28,11 @@ offer-returns-then-not-admits-clause-offers g t c =
     c.args.vertex c.args.most
     (λ may. true≢false (sym ((c.admits.ensures jobs stands).1 may) ∙ c.if-not-admits.true)) in
     rw c.in-Vert.is (laws.offers_none _ _ c.args.most 0 refl none))
+
+pub offer-copies-requires-clause-stand : goal.offer-copies-requires-clause-stand
+offer-copies-requires-clause-stand g t c =
+    tables.inside_Vert (needs_all c.args.s.now.needs.now) c.args.s.now.wanted.now c.args.index c.index_within.result
+    c.in-Vert.kind c.in-Vert.count c.in-Vert.hold c.in-Vert.needs c.index_within.ensures (rw c.in-Vert.is at c.requires.stands)
 
 pub offer-copies-requires-clause-valid : goal.offer-copies-requires-clause-valid
 offer-copies-requires-clause-valid g t c =
@@ -67,11 +74,16 @@ offer-write_shared-requires g t c κs h =
         (
           search rules,
           (
-            c.requires.vertex,
+            tables.inside_Vert (needs_all c.args.s.now.needs.now) c.args.s.now.wanted.now c.args.index
+                c.index_within-in-Vert.result c.in-Vert.kind c.in-Vert.count c.in-Vert.hold c.in-Vert.needs
+                c.index_within-in-Vert.ensures (rw c.in-Vert.is at c.requires.stands),
             (
-              counts.valid_inside vs c.in-Vert.kind c.in-Vert.count c.in-Vert.hold c.in-Vert.needs
-                  (rw c.in-Vert.is at c.requires.valid),
-              (inl refl, omega arith),
+              c.requires.vertex,
+              (
+                counts.valid_inside vs c.in-Vert.kind c.in-Vert.count c.in-Vert.hold c.in-Vert.needs
+                    (rw c.in-Vert.is at c.requires.valid),
+                (inl refl, omega arith),
+              ),
             ),
           ),
         ),
@@ -141,12 +153,16 @@ offer-write_shared-requires-in-Spread g t c κs h =
         (
           search rules,
           (
-            c.requires.vertex,
+            tables.inside_Spread (needs_all c.args.s.now.needs.now) c.args.s.now.wanted.now c.args.index
+                c.index_within-in-Spread.result c.in-Spread.count c.in-Spread.needs c.index_within-in-Spread.ensures (rw c.in-Spread.is at c.requires.stands),
             (
-              counts.valid_copy vs c.in-Spread.count c.in-Spread.needs valid,
+              c.requires.vertex,
               (
-                inr (counts.plain_copy vs c.in-Spread.count c.in-Spread.needs valid),
-                (let some = c.if-count-eq0.false in omega arith),
+                counts.valid_copy vs c.in-Spread.count c.in-Spread.needs valid,
+                (
+                  inr (counts.plain_copy vs c.in-Spread.count c.in-Spread.needs valid),
+                  (let some = c.if-count-eq0.false in omega arith),
+                ),
               ),
             ),
           ),
@@ -211,8 +227,8 @@ write_group-loop-missing-init g t c =
           c.span_of-span.result.to c.span_of-span.ensures.covers)));
     }
 
-pub write_group-returns-in_default-next_of_kind : goal.write_group-returns-in_default-next_of_kind
-write_group-returns-in_default-next_of_kind g t c =
+pub write_group-returns-in_default-next_open : goal.write_group-returns-in_default-next_open
+write_group-returns-in_default-next_open g t c =
     let wrote = c.loop-missing.invariant.written in (
       wrote.0,
       wrote.1,
@@ -221,11 +237,10 @@ write_group-returns-in_default-next_of_kind g t c =
           let ok : Claim → Type 0 = open_to vs jobs c.args.s.now.barred.now c.args.s.now.window in
           let scope = scope_of c.args.scope in
           let need = c.args.need.now in
-          let of_kind = rw c.in-Some.is at c.kind_of.ensures in
           filled_none _ (serves_less vs ok (takes_less _ _) scope need) _ (c.args.k * amount_of need)
           c.loop-missing.at c.loop-missing.missing wrote.0
-          (none_after vs ok scope need c.in-Some.kind c.span_of-span.result.from c.loop-missing.at
-          c.span_of-span.result.to c.span_of-span.ensures.covers of_kind c.in_default-next_of_kind.ensures)
+          (none_after vs ok scope need c.span_of-span.result.from c.loop-missing.at c.span_of-span.result.to
+          c.span_of-span.ensures.covers (c.in_default-next_open.ensures.skipped jobs stands))
           c.loop-missing-test.true (wrote.2 jobs stands) (group_to vs ok scope need (c.args.k * amount_of need) some),
     )
 
@@ -234,10 +249,10 @@ write_group-loop-missing-preserved g t c =
     let vs = c.args.s.now.graph.now.resources.vertices in
     let need = c.args.need.now in
     let of_kind = rw c.in-Some.is at c.kind_of.ensures in
-    let next = rw c.in-Some-next_of_kind.is at c.next_of_kind.ensures in
-    let low = next.low in
+    let next = rw c.in-Some-next_open.is at c.next_open.ensures.of_kind in
+    let low = next.1 in
     let is = found vs (λ claim. ⊥) (scope_of c.args.scope) need c.in-Some.kind c.span_of-span.result.from
-    c.loop-missing.at c.span_of-span.result.to c.in-Some-next_of_kind.vertex c.span_of-span.ensures.covers
+    c.loop-missing.at c.span_of-span.result.to c.in-Some-next_open.vertex c.span_of-span.ensures.covers
     c.loop-missing.invariant.from c.span_of-span.ensures.within of_kind next in
     let before = c.loop-missing.invariant.written in
     let wrote = c.in_ok-served.ensures.offers in
@@ -252,13 +267,13 @@ write_group-loop-missing-preserved g t c =
             let ok : Claim → Type 0 = open_to vs jobs c.args.s.now.barred.now c.args.s.now.window in
             let scope = scope_of c.args.scope in
             rw c.from-missing.ensures (filled_next _ (serves_less vs ok (takes_less _ _) scope need) _
-            (c.args.k * amount_of need) c.in-Some-next_of_kind.vertex c.loop-missing.missing c.in_ok-served.served
+            (c.args.k * amount_of need) c.in-Some-next_open.vertex c.loop-missing.missing c.in_ok-served.served
             before.0 wrote.0
             c.loop-missing-test.true
-            (filled_over _ _ (c.args.k * amount_of need) c.loop-missing.at c.in-Some-next_of_kind.vertex
+            (filled_over _ _ (c.args.k * amount_of need) c.loop-missing.at c.in-Some-next_open.vertex
             c.loop-missing.missing before.0 low
-            (none_skipped vs ok scope need c.in-Some.kind c.loop-missing.at c.span_of-span.result.to
-            c.in-Some-next_of_kind.vertex of_kind next) (before.2 jobs stands))
+            (none_skipped vs ok scope need c.loop-missing.at c.in-Some-next_open.vertex
+            (rw c.in-Some-next_open.is at (c.next_open.ensures.skipped jobs stands))) (before.2 jobs stands))
             (wrote.2 jobs stands scope is.1)),
       );
     }
@@ -290,19 +305,41 @@ write_needs-write_group-requires g t c κs h =
         (
           search rules,
           (
-            c.requires.scope,
+            tables.stand_first (needs_all c.args.s.now.needs.now) c.args.s.now.wanted.now c.loop-need.at (drop i items)
+                (drop (i + 1) items) need split c.loop-need.invariant.stand,
             (
-              counts.valid_at vs items i need (drop (i + 1) items) split valid,
+              c.requires.scope,
               (
-                counts.may_scale_at c.args.k items i need (drop (i + 1) items) split
-                    (rw c.items-need-items.ensures c.requires.may),
-                c.requires.some,
+                counts.valid_at vs items i need (drop (i + 1) items) split valid,
+                (
+                  counts.may_scale_at c.args.k items i need (drop (i + 1) items) split
+                      (rw c.items-need-items.ensures c.requires.may),
+                  c.requires.some,
+                ),
               ),
             ),
           ),
         ),
       ),
     )
+
+pub write_needs-index_after-at-requires : goal.write_needs-index_after-at-requires
+write_needs-index_after-at-requires g t c =
+    let items : List Need = c.items-need-items.result.now in
+    let i = c.loop-need.need-index in
+    let need = c.need-item.result in
+    let split : drop i items ≡ need ∷ drop (i + 1) items = counts.item_split items i need c.loop-need-test.true
+    c.need-item.is in
+    record {
+      stands = tables.stand_first (needs_all c.args.s.now.needs.now) c.args.s.now.wanted.now c.loop-need.at
+          (drop i items) (drop (i + 1) items) need split c.loop-need.invariant.stand;
+    }
+
+pub write_needs-loop-need-init : goal.write_needs-loop-need-init
+write_needs-loop-need-init g t c = record {
+  stand = rw c.items-need-items.ensures c.requires.stand;
+  written = laws.extends_none c.args.out.now.items _ (λ jobs stands rest low. low);
+}
 
 pub write_needs-returns-then-not-filled : goal.write_needs-returns-then-not-filled
 write_needs-returns-then-not-filled g t c =
@@ -311,7 +348,7 @@ write_needs-returns-then-not-filled g t c =
     let need = c.need-item.result in
     let split : drop i items ≡ need ∷ drop (i + 1) items = counts.item_split items i need c.loop-need-test.true
     c.need-item.is in
-    let before = c.loop-need.invariant in
+    let before = c.loop-need.invariant.written in
     let wrote = c.in_ok-filled.ensures in (
       before.0 ++ wrote.0,
       laws.extends_twice c.args.out.now.items c.loop-need.out.items c.write_group.new.out.items before.0 wrote.0
@@ -331,23 +368,29 @@ write_needs-loop-need-preserved g t c =
     let need = c.need-item.result in
     let split : drop i items ≡ need ∷ drop (i + 1) items = counts.item_split items i need c.loop-need-test.true
     c.need-item.is in
-    let before = c.loop-need.invariant in
-    let wrote = c.in_ok-filled.ensures in (
-      before.0 ++ wrote.0,
-      laws.extends_twice c.args.out.now.items c.loop-need.out.items c.write_group.new.out.items before.0 wrote.0
-          before.1 wrote.1,
-      λ jobs stands.
-          let vs = c.args.s.now.graph.now.resources.vertices in
-          let ok : Claim → Type 0 = open_to vs jobs c.args.s.now.barred.now c.args.s.now.window in
-          let group = rw c.if-not-filled.false at (wrote.2 jobs stands) in
-          completes_next vs ok c.args.k (scope_of c.args.scope) items (drop i items) (drop (i + 1) items) need
-          before.0 wrote.0 split group (before.2 jobs stands),
-    )
+    let before = c.loop-need.invariant.written in
+    let wrote = c.in_ok-filled.ensures in
+    record {
+      stand = tables.stand_next (needs_all c.args.s.now.needs.now) c.args.s.now.wanted.now c.loop-need.at
+          c.index_after-at.result (drop i items) (drop (i + 1) items) need split c.index_after-at.ensures
+          c.loop-need.invariant.stand;
+      written = (
+        before.0 ++ wrote.0,
+        laws.extends_twice c.args.out.now.items c.loop-need.out.items c.write_group.new.out.items before.0 wrote.0
+            before.1 wrote.1,
+        λ jobs stands.
+            let vs = c.args.s.now.graph.now.resources.vertices in
+            let ok : Claim → Type 0 = open_to vs jobs c.args.s.now.barred.now c.args.s.now.window in
+            let group = rw c.if-not-filled.false at (wrote.2 jobs stands) in
+            completes_next vs ok c.args.k (scope_of c.args.scope) items (drop i items) (drop (i + 1) items) need
+            before.0 wrote.0 split group (before.2 jobs stands),
+      );
+    }
 
 pub write_needs-returns : goal.write_needs-returns
 write_needs-returns g t c =
     let items : List Need = c.items-need-items.result.now in
-    let wrote = c.loop-need.invariant in (
+    let wrote = c.loop-need.invariant.written in (
       wrote.0,
       wrote.1,
       λ jobs stands.

@@ -1,0 +1,119 @@
+-- Where needs stand among all needs, and what the table tells of them.
+use Rattle.std.proofs.Common.{◌≡◌, ◌≢◌, ◌^◌, ℕ, zero, suc, ◌+◌, ◌<◌, ◌≤◌, ◌⊎◌, inl, inr, Bool, List, [], ◌∷◌, ◌++◌, length, length-append, drop, Some, slice_get, append_assoc, refl, sym, ◌∙◌, ap, arith}
+use Rattle.std.proofs.Math.Seq.{drop-append_seam}
+use Rattle.std.proofs.lemmas.List.{drop-drop}
+use Rattle.flux_defs.specs.declared.requests.Need.{Need, Vert, Vert', Pool, Spread, Spread'}
+use Rattle.prune_filters.specs.Demands.{capped}
+use Rattle.dfu_match.specs.declared.wanting.Wanted.{Wanted}
+use Rattle.dfu_match.specs.Tables.{all_of, row_all, needs_all, StandsAt, StandAt}
+use Rattle.dfu_match.proofs.DemandLaws.{all_Vert, all_Spread}
+
+drop_plus : {X : Type 0} (n k : ℕ) (xs : List X) → drop (n + k) xs ≡ drop k (drop n xs)
+drop_plus n k xs = sym (drop-drop k n xs)
+
+get_first : {X : Type 0} (i : ℕ) (xs rest : List X) (x : X) → drop i xs ≡ x ∷ rest → slice_get xs i ≡ Some x
+get_first zero [] rest x e = absurd (cc)
+get_first zero (y ∷ ys) rest x e = let same : y ≡ x = cc in ap Some same
+get_first (suc i) [] rest x e = absurd (cc)
+get_first (suc i) (y ∷ ys) rest x e = get_first i ys rest x e
+
+left_within : {X : Type 0} (i : ℕ) (xs front more : List X) → drop i xs ≡ front ++ more → 1 ≤ length front →
+    i + length front ≤ length xs
+left_within zero xs front more e some = let l = ap length e in let a = length-append front more in omega (arith, l, a)
+left_within (suc i) [] front more e some = absurd (let l = ap length e in let a = length-append front more in
+    omega (arith, l, a))
+left_within (suc i) (x ∷ xs) front more e some = let r = left_within i xs front more e some in omega (arith, r)
+
+-- a need comes first
+all_first : (need : Need) → (rest : List Need) × (all_of need ≡ need ∷ rest)
+all_first (Vert' kind count hold m needs) = (row_all needs, refl)
+all_first (Pool kind quantity) = ([], refl)
+all_first (Spread' count m needs) = (row_all needs, refl)
+
+all_some : (need : Need) → 1 ≤ length (all_of need)
+all_some need = let r = all_first need in let e = ap length r.1 in omega (arith, e)
+
+module _ (all : List Need) (table : List Wanted) where
+  -- the entry at its index tells of a need
+  pub need_there : (index : ℕ) (need : Need) (wanted : Wanted) → StandsAt all table index need →
+      slice_get table index ≡ Some wanted → slice_get all index ≡ Some need
+  need_there index need wanted (inl none) e = absurd (let clash : slice_get [] index ≡ Some wanted =
+      ap (λ (t : List Wanted). slice_get t index) (sym none) ∙ e in cc)
+  need_there index need wanted (inr is) e =
+      let first = all_first need in
+      get_first index all (first.0 ++ is.0) need (is.1 ∙ ap (λ x. x ++ is.0) first.1)
+
+  -- the first of a list, and the others
+  pub stand_first : (index : ℕ) (needs rest : List Need) (need : Need) → needs ≡ need ∷ rest →
+      StandAt all table index needs → StandsAt all table index need
+  stand_first index needs rest need split (inl none) = inl none
+  stand_first index needs rest need split (inr is) =
+      inr (
+        needs_all rest ++ is.0,
+        is.1 ∙ (ap (λ ns. needs_all ns ++ is.0) split
+            ∙ append_assoc (all_of need) (needs_all rest) is.0),
+      )
+
+  pub stand_next : (index next : ℕ) (needs rest : List Need) (need : Need) → needs ≡ need ∷ rest →
+      next ≡ index + length (all_of need) ⊎ (table ≡ []) →
+      StandAt all table index needs → StandAt all table next rest
+  stand_next index next needs rest need split (inr none) s = inl none
+  stand_next index next needs rest need split (inl e) (inl none) = inl none
+  stand_next index next needs rest need split (inl e) (inr is) =
+      inr (
+        is.0,
+        ap (λ i. drop i all) e ∙ (drop_plus index (length (all_of need)) all
+            ∙ (ap (drop (length (all_of need))) (is.1
+            ∙ (ap (λ ns. needs_all ns ++ is.0) split ∙ append_assoc (all_of need) (needs_all rest) is.0))
+            ∙ drop-append_seam (all_of need) (needs_all rest ++ is.0))),
+      )
+
+  inside : (index next : ℕ) (need : Need) (needs : List Need) → all_of need ≡ need ∷ needs_all needs →
+      (next ≡ index + 1) ⊎ (table ≡ []) → StandsAt all table index need → StandAt all table next needs
+  inside index next need needs e (inr none) s = inl none
+  inside index next need needs e (inl f) (inl none) = inl none
+  inside index next need needs e (inl f) (inr is) =
+      inr (is.0, ap (λ i. drop i all) f ∙ (drop_plus index 1 all ∙ ap (drop 1) (is.1 ∙ ap (λ x. x ++ is.0) e)))
+
+  -- and those within
+  pub inside_Vert : (index next kind count : ℕ) (hold : Bool) (needs : List Need) → (next ≡ index + 1) ⊎ (table ≡ []) →
+      StandsAt all table index (Vert kind count hold needs) → StandAt all table next needs
+  inside_Vert index next kind count hold needs =
+      inside index next (Vert kind count hold needs) needs (all_Vert kind count hold needs)
+
+  pub inside_Spread : (index next count : ℕ) (needs : List Need) → (next ≡ index + 1) ⊎ (table ≡ []) →
+      StandsAt all table index (Spread count needs) → StandAt all table next needs
+  inside_Spread index next count needs = inside index next (Spread count needs) needs (all_Spread count needs)
+
+  -- a need and those within it stand in the list
+  pub stands_within : (index : ℕ) (need : Need) → StandsAt all table index need →
+      (table ≡ []) ⊎ (index + length (all_of need) ≤ length all)
+  stands_within index need (inl none) = inl none
+  stands_within index need (inr is) = inr (left_within index all (all_of need) is.0 is.1 (all_some need))
+
+  -- an index past the table stands where there is none
+  pub none_past : (index : ℕ) (need : Need) → length table ≤ index → (table ≢ [] → length table ≡ length all) →
+      StandsAt all table index need → table ≡ []
+  none_past index need past whole s = by_table table refl (stands_within index need s)
+    where
+      by_table : (t : List Wanted) → table ≡ t → (table ≡ []) ⊎ (index + length (all_of need) ≤ length all) → table ≡ []
+      by_table [] e r = e
+      by_table (x ∷ xs) e (inl none) = none
+      by_table (x ∷ xs) e (inr within) =
+          let some : table ≢ [] = λ none. (let clash : x ∷ xs ≡ [] = sym e ∙ none in absurd (cc)) in
+          let same = whole some in
+          let one = all_some need in
+          absurd (omega (arith, within, same, one, past))
+
+  -- the entry's count leads to what stands after the need
+  pub after_fits : (index within : ℕ) (need : Need) → index < length table → length table < 2 ^ 64 →
+      (table ≢ [] → length table ≡ length all) →
+      StandsAt all table index need → within ≡ capped (length (all_of need)) →
+      (index + within ≡ index + length (all_of need)) × (index + within < 2 ^ 64)
+  after_fits index within need lt fits whole s e = elim (stands_within index need s) [
+    | inl none ↦ absurd (let zero = ap length none in omega (arith, zero, lt))
+    | inr le ↦ (
+        let some : table ≢ [] = λ none. (let zero = ap length none in omega (arith, zero, lt)) in
+        let same = whole some in
+        (omega (arith, le, same, fits, e), omega (arith, le, same, fits, e)))
+  ]

@@ -1,0 +1,158 @@
+//! The walk over the vertices of a need, which enters no subtree that is short for it.
+ghost use Rattle.std.specs.Prelude.{◌≡◌, ◌+◌, ◌⊎◌, ◌<◌, ◌≤◌, [], length, List, IfSome, IsTrue, MatchOption};
+ghost use Rattle.flux_defs.specs.declared.vertices.Vertex.{Vertex};
+ghost use Rattle.flux_defs.specs.declared.claims.Job.{Job};
+ghost use Rattle.flux_defs.specs.declared.claims.Claim.{Claim};
+ghost use Rattle.flux_defs.specs.Graph.{HasKind, is_at_or_below};
+ghost use Rattle.flux_defs.specs.Needs.{IsValidNeed};
+ghost use Rattle.prune_filters.specs.Shorts.{IsShortFor};
+ghost use Rattle.dfu_match.specs.Searches.{open_to, IsKindOfNeed};
+ghost use Rattle.dfu_match.specs.Tables.{all_of, needs_all, StandsAt};
+ghost use Rattle.dfu_match.specs.Walks.{IsParentFrom, ServesNone};
+
+use crate::search::Search;
+use flux_defs::{FreeView, Need, Steps};
+use prune_filters::short;
+use resource_graph::Graph;
+use std::sync::ledger::Ledger;
+
+/// Whether the vertex is short for the need at this index of all needs; it never is where there is no table.
+fn is_short<F: FreeView, L: Ledger>(
+    s: &Search<F>,
+    need: &Need,
+    index: usize,
+    vertex: u32,
+    steps: &mut Steps<L>,
+) -> bool
+    requires stands { StandsAt (needs_all s.now.needs.now) s.now.wanted.now index need.now }
+    requires vertex { vertex < length s.now.graph.now.resources.vertices }
+    ensures short { (jobs : List Job) → F.stands_for s.now.view.now jobs → IsTrue result →
+        IsShortFor s.now.graph.now.resources.vertices jobs s.now.window (F.keeps s.now.view.now) need.now vertex }
+{
+    match s.wanted.get(index) {
+        None => false,
+        Some(wanted) => short(s.view, vertex, &wanted.demands, s.window, steps),
+    }
+}
+
+/// The vertex's parent, where it has one from `low` on.
+fn parent_from(graph: &Graph, vertex: u32, low: u32) -> Option<u32>
+    requires vertex { vertex < length graph.now.resources.vertices }
+    ensures { IsParentFrom graph.now.resources.vertices vertex low result }
+{
+    let parent = graph.vertices().items()[vertex as usize].parent?;
+    if parent < low {
+        return None;
+    }
+    Some(parent)
+}
+
+/// The vertex, where it is short for the need.
+fn own_short<F: FreeView, L: Ledger>(
+    s: &Search<F>,
+    need: &Need,
+    index: usize,
+    vertex: u32,
+    steps: &mut Steps<L>,
+) -> Option<u32>
+    requires stands { StandsAt (needs_all s.now.needs.now) s.now.wanted.now index need.now }
+    requires vertex { vertex < length s.now.graph.now.resources.vertices }
+    ensures same { IfSome result (λ top. top ≡ vertex) }
+    ensures short { (jobs : List Job) → F.stands_for s.now.view.now jobs →
+        IfSome result (IsShortFor s.now.graph.now.resources.vertices jobs s.now.window (F.keeps s.now.view.now)
+        need.now) }
+{
+    if is_short(s, need, index, vertex, steps) {
+        return Some(vertex);
+    }
+    None
+}
+
+/// The uppermost of the vertex and those above it, from `low` on, that is short for the need. It looks from the top.
+#[cycle(tops)]
+fn top_short<F: FreeView, L: Ledger>(
+    s: &Search<F>,
+    need: &Need,
+    index: usize,
+    low: u32,
+    vertex: u32,
+    steps: &mut Steps<L>,
+) -> Option<u32>
+    requires stands { StandsAt (needs_all s.now.needs.now) s.now.wanted.now index need.now }
+    requires vertex { vertex < length s.now.graph.now.resources.vertices }
+    requires low { low ≤ vertex }
+    ensures above { IfSome result (λ top. (low ≤ top)
+        × IsTrue (is_at_or_below s.now.graph.now.resources.vertices vertex top)) }
+    ensures short { (jobs : List Job) → F.stands_for s.now.view.now jobs →
+        IfSome result (IsShortFor s.now.graph.now.resources.vertices jobs s.now.window (F.keeps s.now.view.now)
+        need.now) }
+{
+    s.graph.is_valid();
+    match parent_from(s.graph, vertex, low) {
+        None => own_short(s, need, index, vertex, steps),
+        Some(parent) => match top_short(s, need, index, low, parent, steps) {
+            Some(top) => Some(top),
+            None => own_short(s, need, index, vertex, steps),
+        },
+    }
+}
+
+/// The least vertex of the need's kind from `from` on and before `to` that lies in no subtree which is short for the
+/// need. Those passed over can't serve it.
+pub(crate) fn next_open<F: FreeView, L: Ledger>(
+    s: &Search<F>,
+    need: &Need,
+    index: usize,
+    kind: u32,
+    from: u32,
+    to: u32,
+    steps: &mut Steps<L>,
+) -> Option<u32>
+    requires stands { StandsAt (needs_all s.now.needs.now) s.now.wanted.now index need.now }
+    requires valid { IsValidNeed s.now.graph.now.resources.vertices need.now }
+    requires of_kind { IsKindOfNeed s.now.graph.now.resources.vertices need.now (Some kind) }
+    requires within { to ≤ length s.now.graph.now.resources.vertices }
+    ensures of_kind { IfSome result (λ vertex. HasKind s.now.graph.now.resources.vertices kind vertex
+        × (from ≤ vertex) × (vertex < to)) }
+    ensures skipped { (jobs : List Job) → F.stands_for s.now.view.now jobs →
+        (let vs : List Vertex = s.now.graph.now.resources.vertices in
+        let ok : Claim → Type 0 = open_to vs jobs s.now.barred.now s.now.window in
+        MatchOption result (ServesNone vs ok need.now from to) (ServesNone vs ok need.now from)) }
+{
+    s.graph.is_valid();
+    let mut at = from;
+    'look: loop {
+        let Some(vertex) = s.graph.next_of_kind(kind, at, to) else {
+            return None;
+        };
+        if s.shut && s.graph.rank_at(vertex).is_some() {
+            return None;
+        }
+        match top_short(s, need, index, at, vertex, steps) {
+            None => return Some(vertex),
+            Some(top) => at = s.graph.past(top),
+        }
+    }
+}
+
+/// The index after those of the need and of those within it.
+pub(crate) fn index_after<F: FreeView>(s: &Search<F>, need: &Need, index: usize) -> usize
+    requires stands { StandsAt (needs_all s.now.needs.now) s.now.wanted.now index need.now }
+    ensures { (result ≡ index + length (all_of need.now)) ⊎ (s.now.wanted.now ≡ []) }
+{
+    if s.wanted.len() <= index {
+        return index;
+    }
+    index + s.wanted[index].within
+}
+
+/// The index after that of the need, where those within it begin.
+pub(crate) fn index_within<F: FreeView>(s: &Search<F>, need: &Need, index: usize) -> usize
+    requires stands { StandsAt (needs_all s.now.needs.now) s.now.wanted.now index need.now }
+    ensures { (result ≡ index + 1) ⊎ (s.now.wanted.now ≡ []) }
+{
+    if s.wanted.len() <= index {
+        return index;
+    }
+    index + 1
+}

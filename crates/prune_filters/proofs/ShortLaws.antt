@@ -1,0 +1,33 @@
+-- Which demand of a list is below.
+use Rattle.std.proofs.Common.{◌≡◌, ℕ, ◌+◌, ◌<◌, ◌≤◌, ◌↔◌, List, length, get_or, false, IsTrue, true≢false, inl, inr, sym, ◌∙◌, subst, arith, Bool}
+use Rattle.std.specs.Prelude.{Any}
+use Rattle.std.proofs.lemmas.Bool.{cases_lt}
+use Rattle.std.proofs.lemmas.List.{get_or_default}
+use Rattle.prune_filters.specs.declared.shorts.Demand.{Demand}
+
+module _ (P : Demand → Type 0) (xs : List Demand) where
+  -- the item at an index shows that some item has it
+  pub found : (i : ℕ) (x : Demand) → i < length xs → P (get_or xs i x) → Any P xs
+  found i x lt p = (i, get_or xs i x, lt, get_or_default xs i (get_or xs i x) x lt, p)
+
+  -- where the items so far don't have it and the next one doesn't either, those up to it don't
+  pub none_next : (i : ℕ) (x : Demand) (b : Bool) → b ≡ false → (IsTrue b ↔ P (get_or xs i x)) →
+      i < length xs →
+      ((k : ℕ) (d : Demand) → k < i → get_or xs k d ≡ d → P d → ⊥) → (k : ℕ) (d : Demand) → k < i + 1 →
+      get_or xs k d ≡ d → P d → ⊥
+  none_next i x b fails told within before k d lt e p =
+      elim (cases_lt k i) [
+        | inl earlier ↦ before k d earlier e p
+        | inr here ↦ (
+            let same : i ≡ k = omega arith in
+            let is : d ≡ get_or xs i x = rw same (sym e ∙ get_or_default xs k d x (omega arith)) in
+            true≢false (sym (told.1 (subst P is p)) ∙ fails))
+      ]
+
+  -- where no item has it, none of the list has
+  pub none_at_all : (i : ℕ) → length xs ≤ i → ((k : ℕ) (d : Demand) → k < i → get_or xs k d ≡ d → P d → ⊥) →
+      (IsTrue false ↔ Any P xs)
+  none_at_all i over before = (
+    λ t. absurd (true≢false (sym t)),
+    λ any. absurd (before any.0 any.1 (let lt : any.0 < length xs = any.2 in omega arith) any.3 any.4),
+  )
