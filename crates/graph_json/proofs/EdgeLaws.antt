@@ -12,11 +12,13 @@ use Rattle.std.specs.Option.{option_map_or}
 use Rattle.std.specs.Str.{bytes_eq}
 use Rattle.serde_json.specs.View.{view, items_view}
 use Rattle.serde_json.specs.declared.value.Value.{Value}
-use Rattle.graph_json.specs.Edges.{FileEdge, edge_of, edges_of, counts, counted, is_among, is_wrong, IsWrongEdge, place_of, parent_of, parents_of, with_parent, joined, joined_as, HasJoined}
+use Rattle.graph_json.specs.Edges.{FileEdge, edge_of, edges_of, counts, counted, is_among, is_wrong, IsWrongEdge, parent_of, parents_of, with_parent, joined, joined_as, HasJoined}
 use Rattle.graph_json.specs.FieldPaths.{FileMisfit}
 use Rattle.graph_json.specs.declared.edges.Role.{Role}
 use Rattle.graph_json.specs.declared.edges.Role.TheVariants.{Counted, Skipped, Refused}
+use Rattle.text_table.specs.Tables.{number_of}
 use Rattle.graph_json.proofs.IdLaws.{take_next}
+use Rattle.graph_json.proofs.Sets.{number_step}
 
 -- ---- equal texts
 
@@ -29,31 +31,28 @@ itself x = (bytes_eq-Decides x x).1 refl
 turned : (x y : List ℕ) → bytes_eq x y ≡ bytes_eq y x
 turned x y = nat_list_eq_equiv.symm x y
 
--- ---- places
+-- ---- numbers
 
--- a text that is among them has a place
-pub placed : (xs : List (List ℕ)) (id : List ℕ) → is_some (place_of xs id) ≡ is_among xs id
+-- a text that is among them has a number
+pub placed : (xs : List (List ℕ)) (id : List ℕ) → is_some (number_of xs id) ≡ is_among xs id
 placed [] id = refl
-placed (x ∷ xs) id = by_first (bytes_eq id x) (place_of xs id) (placed xs id)
+placed (x ∷ xs) id = ap is_some (number_step id x xs) ∙ by_first (bytes_eq id x) (number_of xs id) (placed xs id)
   where
     by_first : (b : Bool) (o : Option ℕ) → is_some o ≡ is_among xs id → is_some (if b then Some 0 else option_map suc o) ≡ (b || is_among xs id)
     by_first true o e = refl
     by_first false None e = e
     by_first false (Some k) e = e
 
--- what stands at a text's place is that text
-pub at_field : (xs : List (List ℕ)) (id : List ℕ) (k : ℕ) → place_of xs id ≡ Some k → slice_get xs k ≡ Some id
-at_field [] id k e = cc
-at_field (x ∷ xs) id k e = by_first (bytes_eq id x) refl (place_of xs id) (λ j p. at_field xs id j p) e
+-- what stands at a text's number is that text
+pub at_field : (xs : List (List ℕ)) (id : List ℕ) (k : ℕ) → number_of xs id ≡ Some k → slice_get xs k ≡ Some id
+at_field [] id k e = absurd (let clash : None ≡ Some k = e in cc)
+at_field (x ∷ xs) id k e =
+    by_first (bytes_eq id x) refl (number_of xs id) (λ j p. at_field xs id j p) (sym (number_step id x xs) ∙ e)
   where
     by_first : (b : Bool) → bytes_eq id x ≡ b → (o : Option ℕ) → ((j : ℕ) → o ≡ Some j → slice_get xs j ≡ Some id) → (if b then Some 0 else option_map suc o) ≡ Some k → slice_get (x ∷ xs) k ≡ Some id
     by_first true same o p at = let zero_is : 0 ≡ k = cc in rw (← zero_is) (ap Some (sym (same_text id x same)))
     by_first false same None p at = cc
     by_first false same (Some j) p at = let next : suc j ≡ k = cc in rw (← next) (p j refl)
-
-pub place_within : (xs : List (List ℕ)) (id : List ℕ) (o : Option ℕ) → o ≡ place_of xs id → IfSome o (λ k. k < length xs)
-place_within xs id None e = tt
-place_within xs id (Some k) e = slice_get_within xs k id (at_field xs id k (sym e))
 
 -- ---- parents
 
@@ -84,25 +83,27 @@ module _ (ids : List (List ℕ)) where
   parent_some [] known id = refl
   parent_some (f ∷ es) known id = by_first (to id f) (parent_some es known.1 id)
     where
-      by_first : (b : Bool) → is_some (parent_of ids es id) ≡ is_among (map (λ g. g.target) es) id → is_some (option_and_then (λ e. place_of ids e.source) (cond b (Some f) (find (to id) es))) ≡ (b || is_among (map (λ g. g.target) es) id)
+      by_first : (b : Bool) → is_some (parent_of ids es id) ≡ is_among (map (λ g. g.target) es) id → is_some (option_and_then (λ e. number_of ids e.source) (cond b (Some f) (find (to id) es))) ≡ (b || is_among (map (λ g. g.target) es) id)
       by_first true p = placed ids f.source ∙ known.0
       by_first false p = p
 
-  module _ (es : List FileEdge) (e : FileEdge) (s : ℕ) (source : place_of ids e.source ≡ Some s) (fresh : is_among (map (λ f. f.target) es) e.target ≡ false) where
+  module _ (es : List FileEdge) (e : FileEdge) (s : ℕ) (source : number_of ids e.source ≡ Some s) (fresh : is_among (map (λ f. f.target) es) e.target ≡ false) where
     parent_new : parent_of ids (es ++ e ∷ []) e.target ≡ Some s
-    parent_new = ap (option_and_then (λ f. place_of ids f.source)) (found_new es e e.target (itself e.target) fresh) ∙ source
+    parent_new = ap (option_and_then (λ f. number_of ids f.source)) (found_new es e e.target (itself e.target) fresh) ∙ source
 
     parent_other : (id : List ℕ) → bytes_eq e.target id ≡ false → parent_of ids (es ++ e ∷ []) id ≡ parent_of ids es id
-    parent_other id other = ap (option_and_then (λ f. place_of ids f.source)) (found_before es e id (turned id e.target ∙ other))
+    parent_other id other = ap (option_and_then (λ f. number_of ids f.source)) (found_before es e id (turned id e.target ∙ other))
 
     others : (xs : List (List ℕ)) → AllByRecursion (λ x. bytes_eq e.target x ≡ false) xs → map (parent_of ids (es ++ e ∷ [])) xs ≡ map (parent_of ids es) xs
     others [] all = refl
     others (x ∷ xs) all = rw (parent_other x all.0, others xs all.1) refl
 
-    update : (xs : List (List ℕ)) → IsDistinct bytes_eq xs → (t : ℕ) → place_of xs e.target ≡ Some t → map (parent_of ids (es ++ e ∷ [])) xs ≡ slice_set (map (parent_of ids es) xs) t (Some s)
+    update : (xs : List (List ℕ)) → IsDistinct bytes_eq xs → (t : ℕ) → number_of xs e.target ≡ Some t → map (parent_of ids (es ++ e ∷ [])) xs ≡ slice_set (map (parent_of ids es) xs) t (Some s)
     unfolding IsDistinct
-    update [] distinct t at = cc
-    update (x ∷ xs) distinct t at = by_first (bytes_eq e.target x) refl (place_of xs e.target) (λ j p. update xs distinct.1 j p) at
+    update [] distinct t at = absurd (let clash : None ≡ Some t = at in cc)
+    update (x ∷ xs) distinct t at =
+        by_first (bytes_eq e.target x) refl (number_of xs e.target) (λ j p. update xs distinct.1 j p)
+        (sym (number_step e.target x xs) ∙ at)
       where
         by_first : (b : Bool) → bytes_eq e.target x ≡ b → (o : Option ℕ) → ((j : ℕ) → o ≡ Some j → map (parent_of ids (es ++ e ∷ [])) xs ≡ slice_set (map (parent_of ids es) xs) j (Some s)) → (if b then Some 0 else option_map suc o) ≡ Some t → map (parent_of ids (es ++ e ∷ [])) (x ∷ xs) ≡ slice_set (map (parent_of ids es) (x ∷ xs)) t (Some s)
         by_first true same o p q =
@@ -128,7 +129,7 @@ module _ (ids : List (List ℕ)) where
   -- the parents where an edge with these ends, of which the target's parent is known to be there or not, is added
   module _ (es : List FileEdge) (distinct : IsDistinct bytes_eq ids) (known : AllKnown es) where
     -- what a look at the target's entry finds
-    entry : (id : List ℕ) (t : ℕ) → place_of ids id ≡ Some t → is_some (unwrap_or (slice_get (parents_of ids es) t) None) ≡ is_among (map (λ f. f.target) es) id
+    entry : (id : List ℕ) (t : ℕ) → number_of ids id ≡ Some t → is_some (unwrap_or (slice_get (parents_of ids es) t) None) ≡ is_among (map (λ f. f.target) es) id
     entry id t at = ap (λ o. is_some (unwrap_or o None))
         (slice_get-map (parent_of ids es) ids t ∙ ap (option_map (parent_of ids es)) (at_field ids id t at))
         ∙ parent_some es known id
@@ -137,7 +138,7 @@ module _ (ids : List (List ℕ)) where
       abbrev edge : FileEdge
       edge = record { source = source; target = target; role = Counted }
 
-      counted_joins : (o p : Option ℕ) (b : Bool) → place_of ids source ≡ o → place_of ids target ≡ p → is_among (map (λ f. f.target) es) target ≡ b
+      counted_joins : (o p : Option ℕ) (b : Bool) → number_of ids source ≡ o → number_of ids target ≡ p → is_among (map (λ f. f.target) es) target ≡ b
           → Joins es edge (option_and_then (λ parent. option_and_then (λ child. with_parent (parents_of ids es) child parent) p) o)
       counted_joins None p b oe pe be = record {
         wrong = λ _. rw (sym (placed ids source) ∙ ap is_some oe) refl;
@@ -165,7 +166,7 @@ module _ (ids : List (List ℕ)) where
       })
 
     joins_as : (source target : List ℕ) (role : Role) → Joins es (record { source = source; target = target; role = role }) (joined_as ids (parents_of ids es) role (record { source = source; target = target; role = role }))
-    joins_as source target Counted = counted_joins source target (place_of ids source) (place_of ids target) (is_among (map (λ f. f.target) es) target) refl refl refl
+    joins_as source target Counted = counted_joins source target (number_of ids source) (number_of ids target) (is_among (map (λ f. f.target) es) target) refl refl refl
     joins_as source target Skipped = record {
       wrong = λ e. absurd (cc);
       right = λ parents _. refl;

@@ -10,7 +10,7 @@ use Rattle.flux_defs.specs.declared.vertices.Vertex.{Vertex}
 use Rattle.resource_graph.specs.NamedGraph.{NamedGraph}
 use Rattle.graph_build.specs.Raw.{IsBuiltFrom, IsRenumbered, shape_of, rank_of, is_node_of, some_ranked, nodes_among}
 use Rattle.graph_build.specs.declared.raw.RawVertex.{RawVertex}
-use Rattle.graph_build.proofs.ArrangeLaws.{place_at, place_in}
+use Rattle.graph_build.proofs.ArrangeLaws.{index_at, index_in}
 use Rattle.resource_graph.proofs.LineLaws.{no_vertex}
 use Rattle.resource_graph.proofs.Values.{value_of}
 use Rattle.graph_json.specs.Fields.{is_unit}
@@ -98,11 +98,11 @@ module _ (nodes : List FileNode) (edges : List FileEdge) (fit : AllByRecursion I
 
   -- vertex k, which is y, is this raw vertex with other numbers
   record Comes (k : ℕ) (y : Vertex) : Type 0 where
-    place : ℕ
+    index : ℕ
     shape : Vertex
     within : k < length shapes
-    at : slice_get built.order k ≡ Some place
-    here : slice_get shapes place ≡ Some shape
+    at : slice_get built.order k ≡ Some index
+    here : slice_get shapes index ≡ Some shape
     renumbered : IsRenumbered (kinds_of nodes) g.resources built.order shape y
     rank : y.rank ≡ rank_of (kinds_of nodes) shapes built.order k shape
 
@@ -111,16 +111,16 @@ module _ (nodes : List FileNode) (edges : List FileEdge) (fit : AllByRecursion I
       let many : length g.resources.vertices ≡ length shapes = built.arranged.as_many in
       let in_g : k < length g.resources.vertices = slice_get_within g.resources.vertices k y e in
       let within : k < length shapes = omega arith in
-      let place = get_or built.order k (length shapes) in
-      let shape = get_or shapes place no_vertex in
-      let at = place_at (kinds_of nodes) shapes built.order g.resources built.arranged k within in
-      let here = slice_get-get_or shapes place no_vertex (place_in (kinds_of nodes) shapes built.order g.resources built.arranged k within) in
-      record { place = place; shape = shape; within = within; at = at; here = here; renumbered = built.arranged.renumbered k place shape y at here e; rank = built.arranged.ranks k place shape y at here e }
+      let index = get_or built.order k (length shapes) in
+      let shape = get_or shapes index no_vertex in
+      let at = index_at (kinds_of nodes) shapes built.order g.resources built.arranged k within in
+      let here = slice_get-get_or shapes index no_vertex (index_in (kinds_of nodes) shapes built.order g.resources built.arranged k within) in
+      record { index = index; shape = shape; within = within; at = at; here = here; renumbered = built.arranged.renumbered k index shape y at here e; rank = built.arranged.ranks k index shape y at here e }
 
   numbers_fit : (k : ℕ) (y : Vertex) → slice_get g.resources.vertices k ≡ Some y → HasFileNumbers y
   numbers_fit k y e =
       let from = comes k y e in
-      let own = shape_fit from.place from.shape from.here in
+      let own = shape_fit from.index from.shape from.here in
       (subst (λ o. IfSome o (λ n. n ≤ 2 ^ 32 - 2)) (sym from.renumbered.id) own.0, subst (λ o. IfSome o (λ n. n ≤ 2 ^ 32 - 2)) (sym from.rank) (rank_small k from.shape from.within own))
 
   type_fit : (k : ℕ) (t : List ℕ) → slice_get g.resources.kinds k ≡ Some t → is_name 64 t ≡ true

@@ -9,7 +9,8 @@ use Rattle.std.specs.List.{IsDistinct, find, fold}
 use Rattle.std.specs.Str.{bytes_eq}
 use Rattle.graph_build.specs.Raw.{KindsApart}
 use Rattle.graph_json.specs.Nodes.{FileNode}
-use Rattle.graph_json.specs.Edges.{FileEdge, is_among, parent_of, parents_of, place_of}
+use Rattle.text_table.specs.Tables.{number_of}
+use Rattle.graph_json.specs.Edges.{FileEdge, is_among, parent_of, parents_of}
 use Rattle.graph_json.specs.Ids.{ids_of}
 use Rattle.graph_json.specs.RawLists.{kinds_of, zip_with}
 use Rattle.text_table.specs.Tables.{with_text}
@@ -44,20 +45,20 @@ not_before texts distinct j k x at_j at_k before =
     let same : bytes_eq (get_or texts j x) (get_or texts k x) ≡ true = rw (get_or_from_slice_get texts j x x at_j, get_or_from_slice_get texts k x x at_k) (itself x) in
     true≢false (sym same ∙ apart)
 
-pub distinct_places : (texts : List (List ℕ)) → IsDistinct bytes_eq texts → (j k : ℕ) (x : List ℕ) → slice_get texts j ≡ Some x → slice_get texts k ≡ Some x → j ≡ k
-distinct_places texts distinct j k x at_j at_k = by (cases_lt j k) (cases_lt k j)
+pub distinct_indices : (texts : List (List ℕ)) → IsDistinct bytes_eq texts → (j k : ℕ) (x : List ℕ) → slice_get texts j ≡ Some x → slice_get texts k ≡ Some x → j ≡ k
+distinct_indices texts distinct j k x at_j at_k = by (cases_lt j k) (cases_lt k j)
   where
     by : (j < k) ⊎ (k ≤ j) → (k < j) ⊎ (j ≤ k) → j ≡ k
     by (inl before) other = absurd (not_before texts distinct j k x at_j at_k before)
     by (inr past) (inl before) = absurd (not_before texts distinct k j x at_k at_j before)
     by (inr past) (inr beyond) = omega arith
 
-some_place : (o p : Option (List ℕ)) → IsSome o → o ≡ p → (x : List ℕ) × (o ≡ Some x) × (p ≡ Some x)
-some_place None p some e = absurd (cc)
-some_place (Some x) p some e = (x, refl, sym e)
+same_text_at : (o p : Option (List ℕ)) → IsSome o → o ≡ p → (x : List ℕ) × (o ≡ Some x) × (p ≡ Some x)
+same_text_at None p some e = absurd (cc)
+same_text_at (Some x) p some e = (x, refl, sym e)
 
 pub distinct_kinds : (texts : List (List ℕ)) → IsDistinct bytes_eq texts → KindsApart texts
-distinct_kinds texts distinct j k some e = let s = some_place (slice_get texts j) (slice_get texts k) some e in distinct_places texts distinct j k s.0 s.1 s.2
+distinct_kinds texts distinct j k some e = let s = same_text_at (slice_get texts j) (slice_get texts k) some e in distinct_indices texts distinct j k s.0 s.1 s.2
 
 pub kinds-distinct : (nodes : List FileNode) → IsDistinct bytes_eq (kinds_of nodes)
 kinds-distinct nodes = all_apart [] (map (λ x. x.kind) nodes) distinct-nil
@@ -74,7 +75,7 @@ and_then_some f (Some x) y e = (x, e)
 module _ (ids : List (List ℕ)) (edges : List FileEdge) where
   parent-within : (id : List ℕ) (p : ℕ) → parent_of ids edges id ≡ Some p → p < length ids
   parent-within id p e =
-      let found = and_then_some (λ (f : FileEdge). place_of ids f.source) (find (λ f. bytes_eq id f.target) edges) p e in
+      let found = and_then_some (λ (f : FileEdge). number_of ids f.source) (find (λ f. bytes_eq id f.target) edges) p e in
       slice_get_within ids p _ (at_field ids _ p found.1)
 
   pub parents-within : (i p : ℕ) → slice_get (parents_of ids edges) i ≡ Some (Some p) → p < length ids

@@ -23,7 +23,8 @@ use Rattle.graph_build.proofs.OwnGraph.{built_from_itself, own_faultless, own_at
 use Rattle.resource_graph.proofs.Queries.{parents_known}
 use Rattle.resource_graph.proofs.Values.{value_of}
 use Rattle.graph_json.specs.Nodes.{FileNode}
-use Rattle.graph_json.specs.Edges.{FileEdge, counted, is_among, is_wrong, IsWrongEdge, place_of, parent_of}
+use Rattle.graph_json.specs.Edges.{FileEdge, counted, is_among, is_wrong, IsWrongEdge, parent_of}
+use Rattle.text_table.specs.Tables.{number_of}
 use Rattle.graph_json.specs.Ids.{ids_of, IsRepeated}
 use Rattle.graph_json.specs.RawLists.{kinds_of, vertex_of, vertices_of}
 use Rattle.text_table.specs.Tables.{with_text}
@@ -34,7 +35,7 @@ use Rattle.graph_json.specs.FileGraph.{IsFileGraph, AreProperties, HasFileNumber
 use Rattle.graph_json.specs.WrittenGraph.{graph_data, graph_text, HasSmallNumbers}
 use Rattle.graph_json.proofs.EdgeLaws.{same_text, itself, placed, at_field}
 use Rattle.graph_json.proofs.IdLaws.{take_next}
-use Rattle.graph_json.proofs.RawLaws.{distinct_places, kinds-distinct}
+use Rattle.graph_json.proofs.RawLaws.{distinct_indices, kinds-distinct}
 use Rattle.graph_json.proofs.Sets.{doubled_at}
 use Rattle.graph_json.proofs.WrittenFile.{file_node, file_nodes, file_edge, with_file_edge, file_edges, written_file, FitsNode, AllFit, file_written}
 use Rattle.graph_json.proofs.WrittenText.{HasParentsBelow, value_of-graph_text}
@@ -55,13 +56,13 @@ not_repeated texts distinct k repeated = by (slice_get texts k) refl repeated
 among_at : (texts : List (List ℕ)) (k : ℕ) (x : List ℕ) → slice_get texts k ≡ Some x → is_among texts x ≡ true
 among_at texts k x e = list_any_at (bytes_eq x) texts k x (slice_get_within texts k x e) (ap (bytes_eq x) (get_or_from_slice_get texts k x x e) ∙ itself x)
 
--- and that is its place
-place_at : (texts : List (List ℕ)) → IsDistinct bytes_eq texts → (k : ℕ) (x : List ℕ) → slice_get texts k ≡ Some x → place_of texts x ≡ Some k
-place_at texts distinct k x e = by (place_of texts x) refl (placed texts x ∙ among_at texts k x e)
+-- and that is its number
+number_at : (texts : List (List ℕ)) → IsDistinct bytes_eq texts → (k : ℕ) (x : List ℕ) → slice_get texts k ≡ Some x → number_of texts x ≡ Some k
+number_at texts distinct k x e = by (number_of texts x) refl (placed texts x ∙ among_at texts k x e)
   where
-    by : (o : Option ℕ) → place_of texts x ≡ o → is_some o ≡ true → o ≡ Some k
+    by : (o : Option ℕ) → number_of texts x ≡ o → is_some o ≡ true → o ≡ Some k
     by None f some = absurd (true≢false (sym some))
-    by (Some j) f some = ap Some (distinct_places texts distinct j k x (at_field texts x j f) e)
+    by (Some j) f some = ap Some (distinct_indices texts distinct j k x (at_field texts x j f) e)
 
 -- ---- ids
 
@@ -97,8 +98,8 @@ id_at n k lt = let same : 0 + k ≡ k = omega arith in ids_at 0 n k lt ∙ ap (�
 id_among : (n k : ℕ) → k < n → is_among (ids_from 0 n) (decimal k) ≡ true
 id_among n k lt = among_at (ids_from 0 n) k (decimal k) (id_at n k lt)
 
-id_place : (n k : ℕ) → n ≤ 2 ^ 64 → k < n → place_of (ids_from 0 n) (decimal k) ≡ Some k
-id_place n k few lt = place_at (ids_from 0 n) (distinct_ids 0 n (omega arith)) k (decimal k) (id_at n k lt)
+id_number : (n k : ℕ) → n ≤ 2 ^ 64 → k < n → number_of (ids_from 0 n) (decimal k) ≡ Some k
+id_number n k few lt = number_at (ids_from 0 n) (distinct_ids 0 n (omega arith)) k (decimal k) (id_at n k lt)
 
 -- ---- edges
 
@@ -217,13 +218,13 @@ parent_back xs k x few here small =
     let found : find (λ e. bytes_eq (decimal k) e.target) (file_edges 0 xs) ≡ option_map (λ p. file_edge p k) x.parent =
     subst (λ (w : ℕ). find (λ e. bytes_eq (decimal w) e.target) (file_edges 0 xs) ≡ option_map (λ p. file_edge p w) (option_and_then (λ x. x.parent) (slice_get xs k))) same
     (edge_to 0 xs k (omega arith) (slice_get_within xs k x here)) ∙ ap (λ o. option_map (λ p. file_edge p k) (option_and_then (λ x. x.parent) o)) here in
-    ap (option_and_then (λ e. place_of (ids_from 0 (length xs)) e.source)) found ∙ by x.parent small
+    ap (option_and_then (λ e. number_of (ids_from 0 (length xs)) e.source)) found ∙ by x.parent small
   where
-    by : (o : Option ℕ) → IfSome o (λ p. p < length xs) → option_and_then (λ e. place_of (ids_from 0 (length xs)) e.source) (option_map (λ p. file_edge p k) o) ≡ o
+    by : (o : Option ℕ) → IfSome o (λ p. p < length xs) → option_and_then (λ e. number_of (ids_from 0 (length xs)) e.source) (option_map (λ p. file_edge p k) o) ≡ o
     by None lt = refl
-    by (Some p) lt = id_place (length xs) p few lt
+    by (Some p) lt = id_number (length xs) p few lt
 
--- ---- items by their places
+-- ---- items by their indices
 
 pub all_from : {A : Type 0} (P : A → Type 0) (xs : List A) → ((k : ℕ) (x : A) → slice_get xs k ≡ Some x → P x) → AllByRecursion P xs
 all_from P [] each = tt
@@ -400,10 +401,10 @@ module _ (g : NamedGraph) (whole : IsWhole g) where
   same_ids : ids_of nodes ≡ ids_from 0 (length vertices)
   same_ids = ids_written g 0 vertices
 
-  type_place : (k : ℕ) (x : Vertex) → slice_get vertices k ≡ Some x → unwrap_or (place_of (kinds_of nodes) (unwrap_or (slice_get g.resources.kinds x.kind) [])) 0 ≡ x.kind
-  type_place k x e =
+  type_number : (k : ℕ) (x : Vertex) → slice_get vertices k ≡ Some x → unwrap_or (number_of (kinds_of nodes) (unwrap_or (slice_get g.resources.kinds x.kind) [])) 0 ≡ x.kind
+  type_number k x e =
       let called : slice_get (kinds_of nodes) x.kind ≡ Some (unwrap_or (slice_get g.resources.kinds x.kind) []) = ap (λ l. slice_get l x.kind) same_types ∙ type_at g whole.valid.kinds k x e in
-      ap (λ o. unwrap_or o 0) (place_at (kinds_of nodes) (kinds-distinct nodes) x.kind (unwrap_or (slice_get g.resources.kinds x.kind) []) called)
+      ap (λ o. unwrap_or o 0) (number_at (kinds_of nodes) (kinds-distinct nodes) x.kind (unwrap_or (slice_get g.resources.kinds x.kind) []) called)
 
   same_parent : (k : ℕ) (x : Vertex) → slice_get vertices k ≡ Some x → parent_of (ids_of nodes) edges (decimal k) ≡ x.parent
   same_parent k x e = ap (λ ids. parent_of ids edges (decimal k)) same_ids ∙ parent_back vertices k x count_small e (parent_small k x e)
@@ -412,7 +413,7 @@ module _ (g : NamedGraph) (whole : IsWhole g) where
   raw_with kind parent k x = record (own_vertex g k x) { kind = kind; parent = parent }
 
   same_vertex : (k : ℕ) (x : Vertex) → slice_get vertices k ≡ Some x → vertex_of (kinds_of nodes) (file_node g k x) (parent_of (ids_of nodes) edges (decimal k)) ≡ own_vertex g k x
-  same_vertex k x e = ap (λ n. raw_with n (parent_of (ids_of nodes) edges (decimal k)) k x) (type_place k x e) ∙ ap (λ o. raw_with x.kind o k x) (same_parent k x e)
+  same_vertex k x e = ap (λ n. raw_with n (parent_of (ids_of nodes) edges (decimal k)) k x) (type_number k x e) ∙ ap (λ o. raw_with x.kind o k x) (same_parent k x e)
 
   same_vertices : vertices_of nodes edges ≡ own_list g
   same_vertices = same_items (vertices_of nodes edges) (own_list g) at

@@ -13,8 +13,8 @@ use Rattle.std.specs.BTreeSet.{insert_key}
 use Rattle.serde_json.specs.View.{members_view}
 use Rattle.serde_json.proofs.Views.{Entry}
 use Rattle.json_fields.specs.Values.{keys_of}
-use Rattle.graph_json.specs.Edges.{is_among, place_of}
-use Rattle.text_table.specs.Tables.{with_text}
+use Rattle.graph_json.specs.Edges.{is_among}
+use Rattle.text_table.specs.Tables.{with_text, number_of}
 
 all_at_middle : {X : Type 0} (P : X → Type 0) (xs : List X) (x : X) (rest : List X) → AllByRecursion P (xs ++ x ∷ rest) → P x
 all_at_middle P [] x rest h = h.0
@@ -49,19 +49,20 @@ pub not_old : (a b : Bool) → a ≡ not b → a ≡ false → b ≡ true
 not_old a true e t = refl
 not_old a false e t = absurd (true≢false (sym e ∙ t))
 
--- ---- a text's place
+-- ---- a text's number
 
 found_or_not : (b : Bool) (n : ℕ) → cond b (Some (1 + n)) None ≡ option_map suc (cond b (Some n) None)
 found_or_not true n = ap Some (omega arith)
 found_or_not false n = refl
 
-next_place : (b : Bool) (n m : ℕ) → cond (nat_lt (cond (not b) (1 + n) 0) (suc m)) (Some (cond (not b) (1 + n) 0)) None ≡ (if b then Some 0 else option_map suc (cond (nat_lt n m) (Some n) None))
-next_place true n m = let e : nat_lt 0 (suc m) ≡ true = grind (arith, nat_tests) in rw e refl
-next_place false n m = let e : nat_lt (1 + n) (suc m) ≡ nat_lt n m = grind (arith, nat_tests) in rw e (found_or_not (nat_lt n m) n)
+next_number : (b : Bool) (n m : ℕ) → cond (nat_lt (cond (not b) (1 + n) 0) (suc m)) (Some (cond (not b) (1 + n) 0)) None ≡ (if b then Some 0 else option_map suc (cond (nat_lt n m) (Some n) None))
+next_number true n m = let e : nat_lt 0 (suc m) ≡ true = grind (arith, nat_tests) in rw e refl
+next_number false n m = let e : nat_lt (1 + n) (suc m) ≡ nat_lt n m = grind (arith, nat_tests) in rw e (found_or_not (nat_lt n m) n)
 
-pub position-place_of : (q : List ℕ) (xs : List (List ℕ)) → position (bytes_eq q) xs ≡ place_of xs q
-position-place_of q [] = refl
-position-place_of q (x ∷ xs) = next_place (bytes_eq q x) (position_or_len (bytes_eq q) xs) (length xs) ∙ ap (λ o. if bytes_eq q x then Some 0 else option_map suc o) (position-place_of q xs)
+-- its number is 0 where the first one is the text, and else one more than among the others
+pub number_step : (q x : List ℕ) (xs : List (List ℕ)) →
+    number_of (x ∷ xs) q ≡ (if bytes_eq q x then Some 0 else option_map suc (number_of xs q))
+number_step q x xs = next_number (bytes_eq q x) (position_or_len (bytes_eq q) xs) (length xs)
 
 -- ---- texts in byte order
 
@@ -82,7 +83,7 @@ pub keys_of-entries : (es : List Entry) → map (λ k. string_bytes k) (map (λ 
 keys_of-entries [] = refl
 keys_of-entries (e ∷ es) = ap (λ ks. string_bytes e.0 ∷ ks) (keys_of-entries es)
 
--- ---- the place past the last
+-- ---- the index past the last
 
 end_by : (b : Bool) (n len : ℕ) (any : Bool) → (n == len) ≡ not any → (cond (not b) (1 + n) 0 == suc len) ≡ not (b || any)
 end_by true n len any same = ne_eqb 0 (suc len) (λ e. omega arith)

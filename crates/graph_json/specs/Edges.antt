@@ -10,6 +10,7 @@ use Rattle.json_whole.specs.declared.fields.FieldFault.TheVariants.{Kind}
 use Rattle.graph_json.specs.Fields.{id_field}
 use Rattle.json_fields.specs.Values.{result_and_then, given, object_value, object_or_none}
 use Rattle.json_fields.specs.Misfits.{at_field}
+use Rattle.text_table.specs.Tables.{number_of}
 use Rattle.graph_json.specs.Nodes.{id_bytes}
 use Rattle.graph_json.specs.declared.field_paths.EdgeKey.TheVariants.{Source, Target, EdgeMetadata}
 use Rattle.graph_json.specs.declared.field_paths.FieldPath.TheVariants.{Edge, EdgeField}
@@ -122,16 +123,11 @@ pub record IsFirstWrong (ids : List (List ℕ)) (edges : List (Result FileEdge F
 
 -- ---- parents
 
--- the place of the first node with this id
-abbrev pub place_of : List (List ℕ) → List ℕ → Option ℕ
-place_of [] id = None
-place_of (x ∷ xs) id = if bytes_eq id x then Some 0 else option_map suc (place_of xs id)
-
--- the place of the parent of the node with this id: the source of the edge to it
+-- the index of the parent of the node with this id: that of the source of the edge to it
 abbrev pub parent_of : List (List ℕ) → List FileEdge → List ℕ → Option ℕ
-parent_of ids edges id = option_and_then (λ e. place_of ids e.source) (find (λ e. bytes_eq id e.target) edges)
+parent_of ids edges id = option_and_then (λ e. number_of ids e.source) (find (λ e. bytes_eq id e.target) edges)
 
--- by node, the place of its parent
+-- by node, the index of its parent
 abbrev pub parents_of : List (List ℕ) → List FileEdge → List (Option ℕ)
 parents_of ids edges = map (parent_of ids edges) ids
 
@@ -145,7 +141,7 @@ abbrev pub with_parent : List (Option ℕ) → ℕ → ℕ → Option (List (Opt
 with_parent parents child parent = if is_some (unwrap_or (slice_get parents child) None) then None else Some (slice_set parents child (Some parent))
 
 abbrev pub joined_as : List (List ℕ) → List (Option ℕ) → Role → FileEdge → Option (List (Option ℕ))
-joined_as ids parents Counted e = option_and_then (λ parent. option_and_then (λ child. with_parent parents child parent) (place_of ids e.target)) (place_of ids e.source)
+joined_as ids parents Counted e = option_and_then (λ parent. option_and_then (λ child. with_parent parents child parent) (number_of ids e.target)) (number_of ids e.source)
 joined_as ids parents Skipped e = Some parents
 joined_as ids parents Refused e = None
 

@@ -4,7 +4,8 @@ use Rattle.std.specs.List.{fold}
 use Rattle.graph_build.specs.declared.raw.RawVertex.{RawVertex}
 use Rattle.text_table.specs.Tables.{with_text}
 use Rattle.graph_json.specs.Nodes.{FileNode}
-use Rattle.graph_json.specs.Edges.{FileEdge, parent_of, place_of}
+use Rattle.text_table.specs.Tables.{number_of}
+use Rattle.graph_json.specs.Edges.{FileEdge, parent_of}
 use Rattle.graph_json.specs.Ids.{ids_of}
 
 -- the types of the nodes, in the order of their first nodes
@@ -14,7 +15,7 @@ kinds_of nodes = fold with_text [] (map (λ x. x.kind) nodes)
 -- the raw vertex that a node is, among these types and with this parent
 abbrev pub vertex_of : List (List ℕ) → FileNode → Option ℕ → RawVertex
 vertex_of kinds x parent = record {
-  kind = unwrap_or (place_of kinds x.kind) 0;
+  kind = unwrap_or (number_of kinds x.kind) 0;
   base = x.base;
   name = x.name;
   id = x.number;

@@ -6,8 +6,9 @@ ghost use Rattle.std.specs.Result.{result_map_both};
 ghost use Rattle.serde_json.specs.Find.{as_object};
 ghost use Rattle.serde_json.specs.View.{view, items_view};
 ghost use Rattle.json_fields.specs.Values.{given, object_or_none};
+ghost use Rattle.text_table.specs.Tables.{number_of};
 ghost use Rattle.graph_json.specs.Nodes.{id_bytes};
-ghost use Rattle.graph_json.specs.Edges.{role_in, role_of, name_role, is_contained, is_plain, edge_with, edge_of, edges_of, edge_held, place_of, joined, counted, parents_of, IsWrongEdge, IsFirstWrong};
+ghost use Rattle.graph_json.specs.Edges.{role_in, role_of, name_role, is_contained, is_plain, edge_with, edge_of, edges_of, edge_held, joined, counted, parents_of, IsWrongEdge, IsFirstWrong};
 
 use crate::field_paths::{EdgeKey, FieldPath, FileMisfit};
 use crate::fields::{NodeId, id_field};
@@ -132,25 +133,17 @@ fn edge_of(at: u64, value: &Value) -> Result<EdgeFields<'_>, FileMisfit>
     })
 }
 
-/// The place of a text in the table.
-pub(crate) fn place_of_text(ids: &TextTable, text: &[u8]) -> Option<usize>
-    ensures place { result ≡ place_of ids.now text.now }
-    ensures within { IfSome result (λ place. place < length ids.now) }
-{
-    ids.number_of(text)
-}
-
-/// The place of a node.
-fn place_of(ids: &TextTable, id: NodeId) -> Option<usize>
-    ensures place { result ≡ place_of ids.now (id_bytes id.entry) }
-    ensures within { IfSome result (λ place. place < length ids.now) }
+/// The index of the node with this id.
+fn number_of(ids: &TextTable, id: NodeId) -> Option<usize>
+    ensures value { result ≡ number_of ids.now (id_bytes id.entry) }
+    ensures within { IfSome result (λ index. index < length ids.now) }
 {
     match id {
-        NodeId::Written(text) => place_of_text(ids, text.as_bytes()),
+        NodeId::Written(text) => ids.number_of(text.as_bytes()),
         NodeId::Numbered(number) => {
             let mut buffer = itoa::Buffer::new();
             let digits = buffer.format(number);
-            place_of_text(ids, digits.as_bytes())
+            ids.number_of(digits.as_bytes())
         }
     }
 }
@@ -164,10 +157,10 @@ fn join(ids: &TextTable, parents: &mut [Option<usize>], edge: EdgeFields) -> boo
         Role::Skipped => true,
         Role::Refused => false,
         Role::Counted => {
-            let Some(parent) = place_of(ids, edge.source) else {
+            let Some(parent) = number_of(ids, edge.source) else {
                 return false;
             };
-            let Some(child) = place_of(ids, edge.target) else {
+            let Some(child) = number_of(ids, edge.target) else {
                 return false;
             };
             if parents[child].is_some() {
@@ -179,7 +172,7 @@ fn join(ids: &TextTable, parents: &mut [Option<usize>], edge: EdgeFields) -> boo
     }
 }
 
-/// Notes by node the place of its parent, or tells the first edge that is wrong.
+/// Notes by node the index of its parent, or tells the first edge that is wrong.
 pub(crate) fn join_edges(
     ids: &TextTable,
     edges: &[Value],

@@ -5,13 +5,13 @@ ghost use Rattle.std.specs.Cmp.Lexicographic.{slice_cmp};
 ghost use Rattle.std.specs.BTreeSet.{insert_key};
 ghost use Rattle.graph_json.specs.Nodes.{node_held, name_held, properties_held, texts_in, in_order};
 ghost use Rattle.json_fields.specs.Values.{keys_of};
-ghost use Rattle.graph_json.specs.Edges.{place_of, parents_of, counted};
+ghost use Rattle.text_table.specs.Tables.{number_of};
+ghost use Rattle.graph_json.specs.Edges.{parents_of, counted};
 ghost use Rattle.graph_json.specs.Ids.{ids_of};
 ghost use Rattle.graph_json.specs.RawLists.{kinds_of, vertex_of, vertices_of, zip_with};
 ghost use Rattle.text_table.specs.Tables.{with_text};
 ghost use Rattle.serde_json.specs.View.{items_view, members_view};
 
-use crate::edges::place_of_text;
 use crate::nodes::{NodeFields, Properties};
 use flux_defs::{List, Text};
 use graph_build::RawVertex;
@@ -115,27 +115,27 @@ fn vertex_of(
         size: node.size,
         unit,
         properties,
-        parent: small_place(parent),
+        parent: small_index(parent),
     })
 }
 
 /// The number of a type.
 fn kind_number(kinds: &TextTable, kind: &str) -> u32
     requires { length kinds.now ≤ 65536 }
-    ensures { result ≡ unwrap_or (place_of kinds.now kind.now) 0 }
+    ensures { result ≡ unwrap_or (number_of kinds.now kind.now) 0 }
 {
-    match place_of_text(kinds, kind.as_bytes()) {
-        Some(place) => place as u32,
+    match kinds.number_of(kind.as_bytes()) {
+        Some(number) => number as u32,
         None => 0,
     }
 }
 
-/// A place that fits 32 bits.
-fn small_place(place: Option<usize>) -> Option<u32>
-    requires { IfSome place (λ p. p < 65536) }
-    ensures { result ≡ place }
+/// An index that fits 32 bits.
+fn small_index(index: Option<usize>) -> Option<u32>
+    requires { IfSome index (λ p. p < 65536) }
+    ensures { result ≡ index }
 {
-    match place {
+    match index {
         Some(p) => Some(p as u32),
         None => None,
     }

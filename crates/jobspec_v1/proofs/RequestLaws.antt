@@ -1,24 +1,27 @@
 -- Lists of request vertices: what is read of them is a request, and one step of the reading.
-use Rattle.std.proofs.Common.{◌≡◌, ◌≢◌, refl, sym, ◌∙◌, ap, subst, ℕ, zero, suc, ◌+◌, ◌^◌, ◌<◌, ◌≤◌, ◌&&◌, ◌||◌, Bool, true, false, Option, List, [], ◌∷◌, ◌++◌, Ok, Err, Result, arith, append_assoc, inl, inr, length, get_or}
+use Rattle.std.proofs.Common.{◌≡◌, ◌≢◌, refl, sym, ◌∙◌, ap, subst, ℕ, zero, suc, ◌+◌, ◌^◌, ◌<◌, ◌≤◌, ◌&&◌, ◌||◌, Bool, true, false, Option, List, [], ◌∷◌, ◌++◌, Ok, Err, Result, arith, append_assoc, ◌⊎◌, inl, inr, length, get_or}
 use Rattle.std.specs.Result.{result_map_both}
 use denote.Hole
 use Rattle.serde_json.specs.declared.value.Value.{Value}
 use Rattle.serde_json.specs.View.{view, items_view}
 use Rattle.serde_json.specs.Data.{Data, Items, item, depth, items_depth}
 use Rattle.json_fields.specs.Values.{result_and_then}
+use Rattle.json_fields.specs.Paths.{index}
 use Rattle.need_shape.specs.declared.raw.RawNeed.{RawNeed, Row_of-RawNeed, end_of-RawNeed, more_of-RawNeed, roll-RawNeed, items-the_row-RawNeed, items_hidden-the_row-RawNeed-0}
 use Rattle.need_shape.specs.declared.raw.RawNeed.TheBlock.{hidden-the_row-RawNeed-0}
 use Rattle.need_shape.specs.Requests.{is_slot, IsSomeRow, IsRequest, AreRequestsRow, AreRequests}
 use Rattle.jobspec_v1.specs.declared.faults.SpecFault.{SpecFault}
+use Rattle.jobspec_v1.specs.declared.faults.SpecFault.TheVariants.{NotJson, Field, Version, Form, Label, Task, Shape, Constraint, NotInProfile, Memory}
+use Rattle.jobspec_v1.specs.declared.headers.VertexKey.{VertexKey}
 use Rattle.jobspec_v1.specs.declared.headers.VertexKey.TheVariants as key
-use Rattle.jobspec_v1.specs.Faults.{IsFirstFault, at_vertex, vertex_path}
+use Rattle.jobspec_v1.specs.declared.headers.KeyFault.{KeyFault}
+use Rattle.jobspec_v1.specs.declared.headers.KeyFault.TheVariants as of_key
+use Rattle.jobspec_v1.specs.Faults.{IsFirstFault, IsFirstBehind, KeyMisfit, told_behind, fault_at, at_vertex, vertex_path, key_path}
 use Rattle.jobspec_v1.specs.Requests.{Said, Reading, said_by, need_of, labels_with, around, behind, inner_of, requests_of, request_of}
 use Rattle.jobspec_v1.specs.declared.requests.Requested.{Requested}
 use Rattle.jobspec_v1.proofs.SaidLaws.{said_is}
 use Rattle.json_fields.proofs.Results.{then_ok, both_ok}
 use Rattle.json_fields.proofs.Depths.{at_depth}
-
--- ---- depths
 
 -- ---- they are a request
 
@@ -107,6 +110,76 @@ module _ (d : Data) (s : Bool) (list : List ℕ) (at : ℕ) (labels : List (List
       IsFirstFault (request_of d s list at labels) fault
   one_told fault (inl memory) = inl memory
   one_told fault (inr told) = inr (one_by ∙ ap (result_map_both (around said) (λ fault. fault)) told)
+
+-- ---- faults, told from the list on
+
+-- a front of a path, and another one before it
+behind_twice : (a b : List ℕ) (fault : SpecFault) → told_behind a (told_behind b fault) ≡ told_behind (a ++ b) fault
+behind_twice a b NotJson = refl
+behind_twice a b (Field path f) = ap (λ p. Field p f) (sym (append_assoc a b path))
+behind_twice a b Version = refl
+behind_twice a b Form = refl
+behind_twice a b (Label path) = ap Label (sym (append_assoc a b path))
+behind_twice a b (Task path) = refl
+behind_twice a b (Shape f) = refl
+behind_twice a b (Constraint path) = refl
+behind_twice a b (NotInProfile path) = ap NotInProfile (sym (append_assoc a b path))
+behind_twice a b Memory = refl
+
+-- a path behind a list's is the list's path with it
+behind_front : (list front rest : List ℕ) → list ++ ([] ++ front ++ rest) ≡ list ++ front ++ rest
+behind_front list front rest = sym (append_assoc list front rest)
+
+key_behind : (list : List ℕ) (at : ℕ) (k : VertexKey) (f : KeyFault) →
+    told_behind list (fault_at (vertex_path [] at k) f) ≡ fault_at (vertex_path list at k) f
+key_behind list at k (of_key.Field f) = ap (λ p. Field p f) (behind_front list (index at) (key_path k))
+key_behind list at k of_key.Label = ap Label (behind_front list (index at) (key_path k))
+key_behind list at k of_key.NotInProfile = ap NotInProfile (behind_front list (index at) (key_path k))
+
+-- the fault of a key
+pub key_told : (d : Data) (s : Bool) (at : ℕ) (labels : List (List ℕ)) (misfit : KeyMisfit) →
+    said_by s labels d ≡ Err misfit → (fault : SpecFault) →
+    ((fault ≡ Memory) ⊎ (fault ≡ fault_at (vertex_path [] at misfit.field) misfit.fault)) →
+    IsFirstBehind (λ list. request_of d s list at labels) fault
+key_told d s at labels misfit says fault (inl memory) list = inl (ap (told_behind list) memory)
+key_told d s at labels misfit says fault (inr is) list =
+    inr (ap (λ t. result_and_then (at_vertex list at t) (λ (x : Said). result_map_both (around x) (λ fault. fault)
+    (inner_of d (is_slot x.kind || s) (vertex_path list at key.With) 0 (labels_with labels x.label)))) says
+    ∙ ap Err (sym (ap (told_behind list) is ∙ key_behind list at misfit.field misfit.fault)))
+
+-- that of a list in a request vertex
+pub inner_told : (d : Data) (s : Bool) (at : ℕ) (labels : List (List ℕ)) (said : Said) → said_by s labels d ≡ Ok said →
+    inner_of d ≡ requests_of said.with → (inner fault : SpecFault) →
+    IsFirstBehind (λ list.
+    requests_of said.with (is_slot said.kind || s) list 0 (labels_with labels said.label)) inner →
+    ((fault ≡ Memory) ⊎ (fault ≡ told_behind (vertex_path [] at key.With) inner)) →
+    IsFirstBehind (λ list. request_of d s list at labels) fault
+inner_told d s at labels said says of inner fault told (inl memory) list = inl (ap (told_behind list) memory)
+inner_told d s at labels said says of inner fault told (inr is) list =
+    let front : list ++ vertex_path [] at key.With ≡ vertex_path list at key.With =
+    behind_front list (index at) (key_path key.With) in
+    subst (IsFirstFault (request_of d s list at labels))
+    (sym (ap (told_behind list) is ∙ (behind_twice list (vertex_path [] at key.With) inner
+    ∙ ap (λ p. told_behind p inner) front)))
+    (one_told d s list at labels said says of (told_behind (vertex_path list at key.With) inner)
+    (told (vertex_path list at key.With)))
+
+-- that of a member, with these read before
+pub member_told : (needs : List RawNeed) (d : Data) (ds : Items) (s : Bool) (at : ℕ) (labels : List (List ℕ))
+    (fault : SpecFault) → IsFirstBehind (λ list. request_of d s list at labels) fault →
+    IsFirstBehind (λ list. result_map_both (behind needs) (λ f. f) (requests_of (item d ds) s list at labels)) fault
+member_told needs d ds s at labels fault told list = elim (told list) [
+  | inl memory ↦ inl memory
+  | inr is ↦ inr (ap (λ t. result_map_both (behind needs) (λ f. f) (result_and_then t (λ (a : Requested).
+      result_map_both (behind a.needs) (λ fault. fault) (requests_of ds s list (at + 1) a.labels)))) is)
+]
+
+-- what is told from a list on, told from where the list's path begins
+pub told_with : {A : Type 0} (meant : List ℕ → Result A SpecFault) (front : List ℕ) (inner fault : SpecFault) →
+    IsFirstBehind meant inner → ((fault ≡ Memory) ⊎ (fault ≡ told_behind front inner)) →
+    IsFirstFault (meant front) fault
+told_with meant front inner fault told (inl memory) = inl memory
+told_with meant front inner fault told (inr is) = subst (IsFirstFault (meant front)) (sym is) (told front)
 
 -- ---- a request vertex that was read is a request
 

@@ -15,6 +15,17 @@ use Rattle.json_fields.specs.declared.misfits.Misfit.{Misfit}
 abbrev pub IsFirstFault : {A : Type 0} → Result A SpecFault → SpecFault → Type 0
 IsFirstFault meant fault = (fault ≡ Memory) ⊎ (meant ≡ Err fault)
 
+-- a fault of a request vertex whose path is told from a place on, told from where this front of it begins
+abbrev pub told_behind : List ℕ → SpecFault → SpecFault
+told_behind front (Field path fault) = Field (front ++ path) fault
+told_behind front (Label path) = Label (front ++ path)
+told_behind front (NotInProfile path) = NotInProfile (front ++ path)
+told_behind front fault = fault
+
+-- The fault is told from the list on: behind any path of the list it is the one that is meant there.
+abbrev pub IsFirstBehind : {A : Type 0} → (List ℕ → Result A SpecFault) → SpecFault → Type 0
+IsFirstBehind meant fault = (list : List ℕ) → IsFirstFault (meant list) (told_behind list fault)
+
 -- what a field gives, or its fault at the path
 abbrev pub at_path : {A : Type 0} → List ℕ → Result A FieldFault → Result A SpecFault
 at_path path field = result_map_both (λ x. x) (λ fault. Field path fault) field

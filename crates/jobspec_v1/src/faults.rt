@@ -1,7 +1,9 @@
 //! Why bytes are no jobspec.
 ghost use Rattle.std.specs.Prelude.{◌≡◌, ◌⊎◌};
+ghost use Rattle.jobspec_v1.specs.Faults.{told_behind};
 
 use flux_defs::Text;
+use json_fields::joined_path;
 use json_whole::FieldFault;
 use need_shape::ShapeFault;
 use std::alloc::{AllocError, AllocFailed, Global};
@@ -52,6 +54,27 @@ impl<T: Drop> From<AllocFailed<T>> for SpecFault {
 
     fn from(_: AllocFailed<T>) -> SpecFault {
         SpecFault::Memory
+    }
+}
+
+/// A fault that was told from a place on, told from where this front of its path begins.
+pub(crate) fn behind(alloc: Global, front: &[u8], fault: SpecFault) -> SpecFault
+    ensures { (result ≡ SpecFault.Memory) ⊎ (result ≡ told_behind front.now fault) }
+{
+    match fault {
+        SpecFault::Field { path, fault } => match joined_path(alloc, front, path.bytes()) {
+            Ok(path) => SpecFault::Field { path, fault },
+            Err(_) => SpecFault::Memory,
+        },
+        SpecFault::Label { path } => match joined_path(alloc, front, path.bytes()) {
+            Ok(path) => SpecFault::Label { path },
+            Err(_) => SpecFault::Memory,
+        },
+        SpecFault::NotInProfile { path } => match joined_path(alloc, front, path.bytes()) {
+            Ok(path) => SpecFault::NotInProfile { path },
+            Err(_) => SpecFault::Memory,
+        },
+        other => other,
     }
 }
 

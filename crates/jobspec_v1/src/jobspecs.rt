@@ -11,7 +11,7 @@ ghost use Rattle.jobspec_v1.specs.Forms.{is_v1};
 ghost use Rattle.jobspec_v1.specs.Jobspecs.{version_of, resources_of, bars_in, is_one, ask_for, ask_by, v1_tasks, v1_in, v1_of};
 
 use crate::attributes::read_attributes;
-use crate::faults::{SpecFault, field_at};
+use crate::faults::{SpecFault, behind, field_at};
 use crate::forms::is_v1;
 use crate::requests::{Requested, read_requests};
 use crate::tasks::{check_tasks, task_list};
@@ -47,9 +47,9 @@ pub fn read_resources(alloc: Global, value: &Value) -> Result<Requested, SpecFau
 {
     let mut labels = TextTable::new(alloc);
     match some_field(value, "resources") {
-        Ok(values) => match read_requests(alloc, values, false, b"resources", &mut labels) {
+        Ok(values) => match read_requests(alloc, values, false, &mut labels) {
             Ok(needs) => Ok(Requested { needs, labels }),
-            Err(fault) => Err(fault),
+            Err(fault) => Err(behind(alloc, b"resources", fault)),
         },
         Err(fault) => Err(field_at(alloc, b"resources", fault)),
     }

@@ -1,11 +1,12 @@
 //! Request vertices as a jobspec lists them.
-ghost use Rattle.std.specs.Prelude.{◌≡◌, ◌||◌, ◌++◌, ◌∷◌, [], Ok, IfOk, IfErr, OnOk, option_map};
+ghost use Rattle.std.specs.Prelude.{◌≡◌, ◌⊎◌, ◌||◌, ◌∷◌, [], ℕ, List, Ok, IfOk, IfErr, OnOk, option_map};
 ghost use Rattle.serde_json.specs.View.{view, items_view};
 ghost use Rattle.need_shape.specs.Requests.{is_slot, AreRequests};
-ghost use Rattle.jobspec_v1.specs.Faults.{IsFirstFault, vertex_path};
+ghost use Rattle.jobspec_v1.specs.declared.headers.VertexKey.TheVariants as key;
+ghost use Rattle.jobspec_v1.specs.Faults.{IsFirstBehind, told_behind, vertex_path};
 ghost use Rattle.jobspec_v1.specs.Requests.{requests_of, request_of, labels_with};
 
-use crate::faults::SpecFault;
+use crate::faults::{SpecFault, behind};
 use crate::headers::{VertexKey, header_of, is_slot, key_path, misfit_at};
 use flux_defs::{List, Text};
 use json_fields::member_path;
@@ -39,57 +40,69 @@ fn is_inside(kind: &str, in_slot: bool) -> bool
     is_slot(kind) || in_slot
 }
 
-/// The request vertex that the value at an index of the list at a path is, with those in it; `labels` gains those of its
-/// slots.
+/// A fault of the list in the member with this index, told from the list of that member on.
+fn in_member(alloc: Global, at: u64, fault: SpecFault) -> SpecFault
+    ensures { (result ≡ SpecFault.Memory) ⊎ (result ≡ told_behind (vertex_path [] at key.With) fault) }
+{
+    match member_path(alloc, b"", at, key_path(VertexKey::With)) {
+        Ok(front) => behind(alloc, front.bytes(), fault),
+        Err(_) => SpecFault::Memory,
+    }
+}
+
+/// The request vertex that the value at an index of a list is, with those in it; `labels` gains those of its slots. A
+/// fault is told from the list on, so that no path is made where nothing is wrong.
 #[cycle(requests)]
 fn read_request(
     alloc: Global,
     value: &Value,
     in_slot: bool,
-    list: &[u8],
     at: u64,
     labels: &mut TextTable,
 ) -> Result<RawNeed, SpecFault>
-    ensures read { IfOk result (λ need. request_of (view value.now) in_slot list.now at labels.old ≡ Ok (record { needs = need ∷ []; labels = labels.new })) }
+    ensures read { IfOk result (λ need. (list : List ℕ) → request_of (view value.now) in_slot list at labels.old
+        ≡ Ok (record { needs = need ∷ []; labels = labels.new })) }
     ensures fine { IfOk result (λ need. AreRequests in_slot (need ∷ [])) }
-    ensures told { IfErr result (IsFirstFault (request_of (view value.now) in_slot list.now at labels.old)) }
+    ensures told { IfErr result (IsFirstBehind (λ list.
+        request_of (view value.now) in_slot list at labels.old)) }
 {
     let header = match header_of(in_slot, labels, value) {
         Ok(header) => header,
-        Err(misfit) => return Err(misfit_at(alloc, list, at, misfit)),
+        Err(misfit) => return Err(misfit_at(alloc, b"", at, misfit)),
     };
     add_label(alloc, labels, header.label)?;
     let kind = Text::of(alloc, header.kind.as_bytes())?;
-    let path = member_path(alloc, list, at, key_path(VertexKey::With))?;
     let inside = is_inside(header.kind, in_slot);
-    match read_requests(alloc, header.with, inside, path.bytes(), labels) {
+    match read_requests(alloc, header.with, inside, labels) {
         Ok(with) => Ok(RawNeed {
             kind,
             count: header.count,
             exclusive: header.exclusive,
             with,
         }),
-        Err(fault) => Err(fault),
+        Err(fault) => Err(in_member(alloc, at, fault)),
     }
 }
 
-/// The request vertices that the values of the list at a path are, in a slot or not, with those in each; `labels` gains
-/// those of their slots. The fault is the first one, vertex by vertex, each before those in it, and in each key by key.
+/// The request vertices that the values of a list are, in a slot or not, with those in each; `labels` gains those of
+/// their slots. The fault is the first one, vertex by vertex, each before those in it, and in each key by key; its path
+/// is told from the list on.
 #[cycle(requests)]
 pub(crate) fn read_requests(
     alloc: Global,
     values: &[Value],
     in_slot: bool,
-    list: &[u8],
     labels: &mut TextTable,
 ) -> Result<List<RawNeed>, SpecFault>
-    ensures read { IfOk result (λ needs. requests_of (items_view values.now) in_slot list.now 0 labels.old ≡ Ok (record { needs = needs; labels = labels.new })) }
+    ensures read { IfOk result (λ needs. (list : List ℕ) → requests_of (items_view values.now) in_slot list 0 labels.old
+        ≡ Ok (record { needs = needs; labels = labels.new })) }
     ensures fine { IfOk result (λ needs. AreRequests in_slot needs) }
-    ensures told { IfErr result (IsFirstFault (requests_of (items_view values.now) in_slot list.now 0 labels.old)) }
+    ensures told { IfErr result (IsFirstBehind (λ list.
+        requests_of (items_view values.now) in_slot list 0 labels.old)) }
 {
     let mut needs = Vec::with_capacity(alloc, values.len())?;
     'values: for (at, value) in values.iter().enumerate() {
-        match read_request(alloc, value, in_slot, list, at as u64, labels) {
+        match read_request(alloc, value, in_slot, at as u64, labels) {
             Ok(need) => push(&mut needs, need)?,
             Err(fault) => return Err(fault),
         }

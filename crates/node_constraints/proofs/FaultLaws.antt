@@ -1,13 +1,15 @@
 -- The fault that is meant.
-use Rattle.std.proofs.Common.{◌≡◌, refl, sym, ◌∙◌, ap, ℕ, ◌+◌, drop, List, ◌∷◌, ◌++◌, append_assoc, Option, Some, None}
+use Rattle.std.proofs.Common.{◌≡◌, refl, sym, ◌∙◌, ap, subst, arith, ℕ, ◌+◌, ◌*◌, ◌<◌, ◌≤◌, drop, get_or, length, List, ◌∷◌, ◌++◌, append_assoc, Option, Some, None}
+use Rattle.std.proofs.lemmas.List.{drop_more}
 use Rattle.std.specs.Option.{option_or}
 use Rattle.node_constraints.specs.declared.faults.ConstraintFault.{ConstraintFault}
 use Rattle.node_constraints.specs.declared.faults.ConstraintFault.TheVariants.{Form, Memory}
 use Rattle.serde_json.specs.declared.value.Value.{Value}
-use Rattle.serde_json.specs.Data.{Data, null, boolean, number, string, array, object}
+use Rattle.serde_json.specs.Data.{depth, items_depth, Data, null, boolean, number, string, array, object}
 use Rattle.serde_json.specs.Find.{as_array, as_object}
 use Rattle.serde_json.specs.View.{view, items_view}
 use Rattle.json_fields.specs.Paths.{index}
+use Rattle.json_fields.proofs.Depths.{at_depth}
 use Rattle.node_constraints.specs.declared.keys.Key.{Key}
 use Rattle.node_constraints.specs.Faults.{fault_at, key_fault, items_fault}
 use Rattle.node_constraints.specs.Narrowing.{Means}
@@ -52,15 +54,34 @@ no_list path k key (string s) none = refl
 no_list path k key (array ds) none = absurd (cc)
 no_list path k key (object ms) none = refl
 
--- behind members without a fault, that of the next one is that of all
-pub told_at : (list : List ℕ) (vs : List Value) (at : ℕ) (x : Value) (fault : ConstraintFault) →
-    drop at vs ≡ x ∷ drop (at + 1) vs →
-    items_fault list at (items_view (drop at vs)) ≡ items_fault list 0 (items_view vs) →
-    Means (list ++ index at) (fault_at (list ++ index at) (view x)) fault →
-    Means (list ++ index at) (items_fault list 0 (items_view vs)) fault
-told_at list vs at x fault here before told =
-    let inner = fault_at (list ++ index at) (view x) in
-    let later = items_fault list (at + 1) (items_view (drop (at + 1) vs)) in
-    means_same (list ++ index at) (option_or inner later) (items_fault list 0 (items_view vs)) fault
-    (ap (λ ys. items_fault list at (items_view ys)) (sym here) ∙ before)
-    (first_means (list ++ index at) inner later fault told)
+-- a member of a list, by its index
+module _ (vs : List Value) (at : ℕ) (x : Value) (lt : at < length vs) (is : x ≡ get_or vs at x) where
+  -- the rest of the list begins with it
+  pub rest_here : drop at vs ≡ x ∷ drop (at + 1) vs
+  rest_here = drop_more vs at x lt ∙ ap (λ y. y ∷ drop (at + 1) vs) (sym is)
+
+  -- it is less deep than the list
+  pub member_less : 4 * depth (view x) < 4 * items_depth (items_view vs) + 1
+  member_less =
+      let low : depth (view x) ≤ items_depth (items_view vs) =
+      subst (λ y. depth (view y) ≤ items_depth (items_view vs)) (sym is) (at_depth vs at x lt) in
+      omega (arith, low)
+
+  module _ (list : List ℕ) (before : items_fault list at (items_view (drop at vs)) ≡ items_fault list 0 (items_view vs))
+    where
+    -- behind members without a fault, its fault is that of all
+    pub told_at : (fault : ConstraintFault) → Means (list ++ index at) (fault_at (list ++ index at) (view x)) fault →
+        Means (list ++ index at) (items_fault list 0 (items_view vs)) fault
+    told_at fault told =
+        let inner = fault_at (list ++ index at) (view x) in
+        let later = items_fault list (at + 1) (items_view (drop (at + 1) vs)) in
+        means_same (list ++ index at) (option_or inner later) (items_fault list 0 (items_view vs)) fault
+        (ap (λ ys. items_fault list at (items_view ys)) (sym rest_here) ∙ before)
+        (first_means (list ++ index at) inner later fault told)
+
+    -- where it has none either, that of those behind it is
+    pub none_at : fault_at (list ++ index at) (view x) ≡ None →
+        items_fault list (at + 1) (items_view (drop (at + 1) vs)) ≡ items_fault list 0 (items_view vs)
+    none_at none =
+        sym (later_is (fault_at (list ++ index at) (view x)) (items_fault list (at + 1) (items_view (drop (at + 1) vs)))
+        none) ∙ (ap (λ ys. items_fault list at (items_view ys)) (sym rest_here) ∙ before)

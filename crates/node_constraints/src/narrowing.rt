@@ -19,11 +19,10 @@ use crate::nodes::{properties_of, take_away};
 use crate::texts::{are_texts, has_properties, is_listed, is_ranked, read_hostlists, read_idsets};
 use flux_defs::{List, Text};
 use idset_text::{Hosts, Range};
-use json_fields::index_path;
+use json_fields::{index_path, joined_path};
 use resource_graph::Graph;
 use serde_json::Value;
 use std::alloc::{AllocError, Global};
-use text_forms::push_bytes;
 
 /// A fault that stands in the constraint itself, told from there on.
 fn fault_here(alloc: Global) -> ConstraintFault
@@ -34,15 +33,6 @@ fn fault_here(alloc: Global) -> ConstraintFault
     }
 }
 
-/// The bytes, and others behind them.
-fn joined(alloc: Global, front: &[u8], rest: &[u8]) -> Result<Text, AllocError>
-    ensures { IfOk result (λ text. text ≡ front.now ++ rest.now) }
-{
-    let mut text = Vec::from_slice(alloc, front)?;
-    push_bytes(&mut text, rest)?;
-    Ok(Text::of_vec(text))
-}
-
 /// A fault that was told from an inner place on, told from the one before this front of its path.
 pub(crate) fn behind(alloc: Global, front: &[u8], fault: ConstraintFault) -> ConstraintFault
     ensures { (path : List ℕ) (meant : Option (List ℕ)) → Means (path ++ front.now) meant fault →
@@ -51,7 +41,7 @@ pub(crate) fn behind(alloc: Global, front: &[u8], fault: ConstraintFault) -> Con
     let ConstraintFault::Form { path: rest } = fault else {
         return ConstraintFault::Memory;
     };
-    match joined(alloc, front, rest.bytes()) {
+    match joined_path(alloc, front, rest.bytes()) {
         Ok(path) => ConstraintFault::Form { path },
         Err(_) => ConstraintFault::Memory,
     }
@@ -80,7 +70,7 @@ fn in_list(
 {
     match narrowed {
         Ok(()) => Ok(()),
-        Err(fault) => match joined(alloc, b".", key.as_bytes()) {
+        Err(fault) => match joined_path(alloc, b".", key.as_bytes()) {
             Ok(front) => Err(behind(alloc, front.bytes(), fault)),
             Err(_) => Err(ConstraintFault::Memory),
         },

@@ -31,11 +31,11 @@ pub(crate) fn nodes_of(alloc: Global, graph: &Graph) -> Result<Vec<u32>, AllocEr
     Ok(nodes)
 }
 
-/// Whether the number stands at the place.
-fn stands_at(numbers: &[u32], place: usize, number: u32) -> bool
-    ensures { IsTrue result ↔ (slice_get numbers.now place ≡ Some number) }
+/// Whether the number stands at the index.
+fn stands_at(numbers: &[u32], index: usize, number: u32) -> bool
+    ensures { IsTrue result ↔ (slice_get numbers.now index ≡ Some number) }
 {
-    match numbers.get(place) {
+    match numbers.get(index) {
         Some(found) => *found == number,
         None => false,
     }

@@ -2,16 +2,15 @@
 ghost use Rattle.std.specs.Prelude.{◌≡◌, ℕ, List, [], ◌∷◌, ◌++◌, map, unwrap_or, slice_get, IfOk, codes};
 ghost use Rattle.std.specs.List.{All, filter_map};
 ghost use Rattle.std.specs.List.Sorted.{IsStrictlyIncreasing};
-ghost use Rattle.resource_graph.specs.Tables.{IsPlaceOf};
 ghost use Rattle.resource_set_r.specs.WrittenR.{RisesWithin};
 ghost use Rattle.resource_set_r.specs.Rows.{host_of, type_called, element_of, rising, rank_above, is_of_type, id_of_type, ids_among, children_in, part_of, is_same, with_rank, elements_from, elements};
 
 use crate::sets::{add, numbers_of};
 use flux_defs::{List, Text, Vertex};
 use resource_graph::Graph;
-use resource_graph::rising::place_of;
 use std::alloc::{AllocError, Global};
 use std::collections::BTreeSet;
+use text_forms::index_of;
 
 /// The ids of cores and of gpus of a node.
 #[derive(Debug, Drop)]
@@ -61,7 +60,7 @@ fn part_of<'a>(graph: &Graph, given: &'a [u32], rank: u32) -> &'a [u32]
 {
     graph.is_valid();
     match graph.node_of_rank(rank) {
-        Some(node) => &given[place_of(given, node)..place_of(given, graph.past(node))],
+        Some(node) => &given[index_of(given, node)..index_of(given, graph.past(node))],
         None => &[],
     }
 }

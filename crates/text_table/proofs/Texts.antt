@@ -1,11 +1,11 @@
 -- What a set of texts holds, as their bytes.
-use Rattle.std.proofs.Common.{◌≡◌, refl, sym, ap, ◌∙◌, ℕ, suc, ◌+◌, ◌<◌, ◌≤◌, List, [], ◌∷◌, ◌++◌, length, Some, None, nat_lt, arith, Vec, Global, Bool, true, false, not, ◌||◌, cond, if◌then◌else◌, position}
+use Rattle.std.proofs.Common.{◌≡◌, refl, sym, ap, ◌∙◌, ℕ, suc, ◌+◌, ◌<◌, ◌≤◌, List, [], ◌∷◌, ◌++◌, length, Some, None, Option, IfSome, nat_lt, arith, Vec, Global, Bool, true, false, not, ◌||◌, cond, if◌then◌else◌, position}
 use Rattle.std.proofs.lemmas.List.{map-append, length-map}
 use Rattle.std.proofs.lemmas.Bool.{ltb-false, ltb-true}
 use Rattle.std.proofs.lemmas.List.Sums.{prefix_len-le-length}
 use Rattle.std.specs.List.{list_any, position_or_len}
 use Rattle.std.specs.Str.{bytes_eq}
-use Rattle.text_table.specs.Tables.{texts_of, with_text, index_of}
+use Rattle.text_table.specs.Tables.{texts_of, with_text, index_of, number_of}
 
 any-texts : (q : List ℕ) (vs : List (Vec ℕ Global)) → list_any (λ v. bytes_eq q v.items) vs ≡ list_any (bytes_eq q) (texts_of vs)
 any-texts q [] = refl
@@ -46,6 +46,15 @@ any_by false n len any lt later = later (omega (arith, lt))
 is_there : (q : List ℕ) (texts : List (List ℕ)) → index_of texts q < length texts → list_any (bytes_eq q) texts ≡ true
 is_there q [] lt = absurd (omega (arith, lt))
 is_there q (x ∷ xs) lt = any_by (bytes_eq q x) (index_of xs q) (length xs) (list_any (bytes_eq q) xs) lt (is_there q xs)
+
+-- a number is below the count
+pub number_within : (texts : List (List ℕ)) (q : List ℕ) (o : Option ℕ) → o ≡ number_of texts q →
+    IfSome o (λ n. n < length texts)
+number_within texts q None e = tt
+number_within texts q (Some n) e =
+    let found = was_found (index_of texts q) (length texts) n (nat_lt (index_of texts q) (length texts)) refl (sym e) in
+    let same : index_of texts q ≡ n = found.0 in
+    let low : index_of texts q < length texts = found.1 in omega arith
 
 -- a text that has a number is there
 pub found_text : (texts : List (List ℕ)) (q : List ℕ) (n : ℕ) → position (bytes_eq q) texts ≡ Some n →

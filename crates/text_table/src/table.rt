@@ -1,7 +1,6 @@
 //! Texts, numbered in the order in which they were first seen.
-ghost use Rattle.std.specs.Prelude.{◌≡◌, ◌≤◌, [], length, position, slice_get, option_map, IfOk, OnOk, OnErr};
-ghost use Rattle.std.specs.Str.{bytes_eq};
-ghost use Rattle.text_table.specs.Tables.{index_of, texts_of, with_text};
+ghost use Rattle.std.specs.Prelude.{◌≡◌, ◌<◌, ◌≤◌, [], length, slice_get, option_map, IfOk, IfSome, OnOk, OnErr};
+ghost use Rattle.text_table.specs.Tables.{index_of, number_of, texts_of, with_text};
 
 use indexmap::IndexSet;
 use std::alloc::{AllocError, Global};
@@ -64,7 +63,8 @@ impl TextTable {
 
     /// The text's number.
     pub fn number_of(&self, text: &[u8]) -> Option<usize>
-        ensures { result ≡ position (bytes_eq text.now) self.now }
+        ensures value { result ≡ number_of self.now text.now }
+        ensures within { IfSome result (λ number. number < length self.now) }
     {
         self.set.get_index_of(text)
     }

@@ -1,7 +1,7 @@
 //! Lists of vertices that come from no file: their faults.
 //!
-//! A list is a text: a vertex a line, each of them its type, its name, the index of its parent and its size, with `-` for
-//! none. A type that isn't among `TYPES` is a kind past the last.
+//! A list is a text: a vertex a line, each of them its type, its name, the index of its parent and its size, with `-`
+//! for none. A type that isn't among `TYPES` is a kind past the last.
 ghost use Rattle.std.specs.Prelude.{IsTrue};
 ghost use Rattle.graph_build.specs.Raw.{KindsApart};
 
@@ -88,7 +88,8 @@ const REFUSED: [(&[u8], GraphFault); 4] = [
         GraphFault::UnknownKind { vertex: 1 },
     ),
     (
-        b"cluster cluster0 -\nmemory memory0 0 70368744177664\nmemory memory1 0 70368744177665\nmemory memory2 0 70368744177666",
+        b"cluster cluster0 -\nmemory memory0 0 70368744177664\nmemory memory1 0 70368744177665\n\
+memory memory2 0 70368744177666",
         GraphFault::Large { vertex: 2 },
     ),
     // the size is looked at before the id that the core lacks

@@ -7,7 +7,7 @@ use Rattle.graph_json.specs.FieldPaths.{FileMisfit}
 use Rattle.graph_json.proofs.EdgeLaws.{edges-at, edges-length, joined-none, joined-more, wrong_edge, unfit_edge, all_right, all_joined}
 use Rattle.graph_json.proofs.edges.join_edges.Goals as goal
 
--- the edge at a place, as it is read
+-- the edge at an index, as it is read
 edge_at : (vs : List Value) (k : ℕ) (v : Value) (r : Result FileEdge FileMisfit) → k < length vs → v ≡ get_or vs k v →
     r ≡ edge_of k (view v) → slice_get (edges_of 0 (items_view vs)) k ≡ Some r
 edge_at vs k v r within here read = edges-at 0 vs k v (slice_get_read vs (length vs) k v refl within here) ∙ ap (λ n. Some (edge_of n (view v))) (omega arith) ∙ ap Some (sym read)

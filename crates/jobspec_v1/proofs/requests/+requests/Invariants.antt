@@ -1,4 +1,4 @@
-use Rattle.std.proofs.Common.{◌≡◌, ◌+◌, ◌*◌, drop}
+use Rattle.std.proofs.Common.{◌≡◌, ◌+◌, ◌*◌, ℕ, List, drop}
 use Rattle.std.specs.Result.{result_map_both}
 use Rattle.serde_json.specs.Data.{depth, items_depth}
 use Rattle.serde_json.specs.View.{view, items_view}
@@ -14,7 +14,8 @@ decreases-read_requests l = 2 * items_depth (items_view l.values.now) + 1
 
 abbrev pub invariant-read_requests-values : goal.invariant-read_requests-values
 invariant-read_requests-values l = record {
-  read : result_map_both (behind l.needs.items) (λ f. f) (requests_of (items_view (drop l.at l.values)) l.in_slot l.list l.at l.labels)
-      ≡ requests_of (items_view l.values) l.in_slot l.list 0 l.initial.labels;
+  read : (list : List ℕ) → result_map_both (behind l.needs.items) (λ f. f)
+      (requests_of (items_view (drop l.at l.values)) l.in_slot list l.at l.labels)
+      ≡ requests_of (items_view l.values) l.in_slot list 0 l.initial.labels;
   fine : AreRequests l.in_slot l.needs.items;
 }

@@ -1,5 +1,5 @@
 use Rattle.std.proofs.Common.{rules, ◌≡◌, ◌∙◌, sym, ap, subst, ◌++◌, ◌∷◌, ◌+◌, ◌*◌, ◌<◌, ◌≤◌, ◌&&◌, [], max, not, drop, arith, string_bytes, Some}
-use Rattle.std.proofs.lemmas.List.{drop_more, drop_all}
+use Rattle.std.proofs.lemmas.List.{drop_all}
 use Rattle.std.specs.Option.{option_or}
 use Rattle.serde_json.specs.Data.{depth, items_depth, members_depth}
 use Rattle.serde_json.specs.View.{view, items_view, members_view}
@@ -9,9 +9,8 @@ use Rattle.node_constraints.specs.Truth.{facts_of, key_of, is_true, each_key, ke
 use Rattle.node_constraints.specs.Faults.{fault_at, keys_fault, key_fault, items_fault}
 use Rattle.node_constraints.specs.Narrowing.{where_true}
 use Rattle.node_constraints.proofs.FilterLaws.{filter_all, others_of_others}
-use Rattle.node_constraints.proofs.FaultLaws.{later_is, means_same, no_object, no_list, told_at}
+use Rattle.node_constraints.proofs.FaultLaws.{later_is, means_same, no_object, no_list, rest_here, member_less, told_at, none_at}
 use Rattle.node_constraints.proofs.StepLaws.{is_object, narrowed_twice, neither_left, none_given, some_given}
-use Rattle.json_fields.proofs.Depths.{at_depth}
 use Rattle.node_constraints.proofs.narrowing.+narrowing.Goals as goal
 
 pub narrow-members-preserved : goal.narrow-members-preserved
@@ -51,9 +50,8 @@ narrow-returns-clause-kept t c =
 
 pub narrow_by_each-narrow-requires : goal.narrow_by_each-narrow-requires
 narrow_by_each-narrow-requires t c =
-    let x = c.index-values-at.result in
-    let low : depth (view x) ≤ items_depth (items_view c.args.values.now) = subst (λ y. depth (view y) ≤ items_depth (items_view c.args.values.now)) (sym c.index-values-at.is) (at_depth c.args.values.now c.values.at x (omega arith)) in
-    let smaller : 4 * depth (view x) < 4 * items_depth (items_view c.args.values.now) + 1 = omega (arith, low) in
+    let smaller = member_less c.args.values.now c.values.at c.index-values-at.result (omega arith)
+    c.index-values-at.is in
     search rules
 
 pub narrow_by_each-values-preserved : goal.narrow_by_each-values-preserved
@@ -64,14 +62,13 @@ narrow_by_each-values-preserved t c =
     let x = c.index-values-at.result in
     let old = c.values.nodes.items in
     let rest = items_view (drop (at + 1) vs) in
-    let here : drop at vs ≡ x ∷ drop (at + 1) vs = drop_more vs at x (omega arith) ∙ ap (λ y. y ∷ drop (at + 1) vs) (sym c.index-values-at.is) in
+    let here = rest_here vs at x (omega arith) c.index-values-at.is in
     record {
       kept = ap (where_true g (λ n. each_true n rest)) c.in-Ok.ensures.kept
           ∙ (narrowed_twice g (λ n. is_true n (view x)) (λ n. each_true n rest) old
           ∙ (ap (λ ys. where_true g (λ n. each_true n (items_view ys)) old) (sym here) ∙ c.values.invariant.kept));
-      found = λ list. sym (later_is (fault_at (list ++ index at) (view x)) (items_fault list (at + 1) rest)
-          (c.in-Ok.ensures.found (list ++ index at)))
-          ∙ (ap (λ ys. items_fault list at (items_view ys)) (sym here) ∙ c.values.invariant.found list);
+      found = λ list. none_at vs at x (omega arith) c.index-values-at.is list (c.values.invariant.found list)
+          (c.in-Ok.ensures.found (list ++ index at));
     }
 
 pub narrow_by_each-returns-clause-kept : goal.narrow_by_each-returns-clause-kept
@@ -82,9 +79,8 @@ narrow_by_each-returns-clause-kept t c =
 
 pub narrow_by_none-narrow-requires : goal.narrow_by_none-narrow-requires
 narrow_by_none-narrow-requires t c =
-    let x = c.index-values-at.result in
-    let low : depth (view x) ≤ items_depth (items_view c.args.values.now) = subst (λ y. depth (view y) ≤ items_depth (items_view c.args.values.now)) (sym c.index-values-at.is) (at_depth c.args.values.now c.values.at x (omega arith)) in
-    let smaller : 4 * depth (view x) < 4 * items_depth (items_view c.args.values.now) + 1 = omega (arith, low) in
+    let smaller = member_less c.args.values.now c.values.at c.index-values-at.result (omega arith)
+    c.index-values-at.is in
     search rules
 
 pub narrow_by_none-values-preserved : goal.narrow_by_none-values-preserved
@@ -95,7 +91,7 @@ narrow_by_none-values-preserved t c =
     let x = c.index-values-at.result in
     let old = c.values.nodes.items in
     let rest = items_view (drop (at + 1) vs) in
-    let here : drop at vs ≡ x ∷ drop (at + 1) vs = drop_more vs at x (omega arith) ∙ ap (λ y. y ∷ drop (at + 1) vs) (sym c.index-values-at.is) in
+    let here = rest_here vs at x (omega arith) c.index-values-at.is in
     let taken = c.in_ok-take_away-in-Ok.ensures (λ v. is_true (facts_of g v) (view x))
     (c.as_slice.ensures.value ∙ (c.in-Ok.ensures.kept
     ∙ ap (where_true g (λ n. is_true n (view x))) c.in_ok-some.ensures)) in
@@ -103,9 +99,8 @@ narrow_by_none-values-preserved t c =
       kept = ap (where_true g (λ n. not (some_true n rest))) taken
           ∙ (neither_left g (λ n. is_true n (view x)) (λ n. some_true n rest) old
           ∙ (ap (λ ys. where_true g (λ n. not (some_true n (items_view ys))) old) (sym here) ∙ c.values.invariant.kept));
-      found = λ list. sym (later_is (fault_at (list ++ index at) (view x)) (items_fault list (at + 1) rest)
-          (c.in-Ok.ensures.found (list ++ index at)))
-          ∙ (ap (λ ys. items_fault list at (items_view ys)) (sym here) ∙ c.values.invariant.found list);
+      found = λ list. none_at vs at x (omega arith) c.index-values-at.is list (c.values.invariant.found list)
+          (c.in-Ok.ensures.found (list ++ index at));
     }
 
 pub narrow_by_none-returns-clause-kept : goal.narrow_by_none-returns-clause-kept
@@ -150,18 +145,12 @@ narrow_by_key-returns-in_default-as_array-clause-found t c = λ path.
 
 pub narrow_by_each-returns-in-Err-clause-found : goal.narrow_by_each-returns-in-Err-clause-found
 narrow_by_each-returns-in-Err-clause-found t c = λ list.
-    let vs = c.args.values.now in
-    let at = c.values.at in
-    let x = c.index-values-at.result in
-    let here : drop at vs ≡ x ∷ drop (at + 1) vs = drop_more vs at x (omega arith) ∙ ap (λ y. y ∷ drop (at + 1) vs) (sym c.index-values-at.is) in
-    c.in_member.ensures list (items_fault list 0 (items_view vs))
-    (told_at list vs at x c.in-Err.fault here (c.values.invariant.found list) (c.in-Err.ensures.found (list ++ index at)))
+    c.in_member.ensures list (items_fault list 0 (items_view c.args.values.now))
+    (told_at c.args.values.now c.values.at c.index-values-at.result (omega arith) c.index-values-at.is list
+    (c.values.invariant.found list) c.in-Err.fault (c.in-Err.ensures.found (list ++ index c.values.at)))
 
 pub narrow_by_none-returns-in-Err-clause-found : goal.narrow_by_none-returns-in-Err-clause-found
 narrow_by_none-returns-in-Err-clause-found t c = λ list.
-    let vs = c.args.values.now in
-    let at = c.values.at in
-    let x = c.index-values-at.result in
-    let here : drop at vs ≡ x ∷ drop (at + 1) vs = drop_more vs at x (omega arith) ∙ ap (λ y. y ∷ drop (at + 1) vs) (sym c.index-values-at.is) in
-    c.in_member.ensures list (items_fault list 0 (items_view vs))
-    (told_at list vs at x c.in-Err.fault here (c.values.invariant.found list) (c.in-Err.ensures.found (list ++ index at)))
+    c.in_member.ensures list (items_fault list 0 (items_view c.args.values.now))
+    (told_at c.args.values.now c.values.at c.index-values-at.result (omega arith) c.index-values-at.is list
+    (c.values.invariant.found list) c.in-Err.fault (c.in-Err.ensures.found (list ++ index c.values.at)))

@@ -15,11 +15,11 @@ returns-in-Some c =
     let n = c.in-Some.node in
     let has = subst (λ (o : Option ℕ). IsRanked g rank o) c.in-Some.is c.node_of_rank.ensures in
     let xs = c.args.given.now in
-    let low = c.place_of.ensures in
-    let high = c.place_of-in-Some.ensures in
+    let low = c.index_of.ensures in
+    let high = c.index_of-in-Some.ensures in
     let past = c.past.ensures in
-    let a = c.place_of.result in
-    let b = c.place_of-in-Some.result in
+    let a = c.index_of.result in
+    let b = c.index_of-in-Some.result in
     let le : a ≤ b = elim (cases_lt b a) [
       | inr le ↦ le
       | inl lt ↦ absurd (

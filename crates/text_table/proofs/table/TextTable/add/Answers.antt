@@ -15,8 +15,8 @@ returns-clause-number c = c.in_ok-number.ensures.index
 
 pub returns-in-Some-clause-ok : goal.returns-in-Some-clause-ok
 returns-in-Some-clause-ok c =
-    (found_text c.args.self.now c.args.text.now c.in-Some.number (sym c.number_of.ensures ∙ c.in-Some.is)).0
+    (found_text c.args.self.now c.args.text.now c.in-Some.number (sym c.number_of.ensures.value ∙ c.in-Some.is)).0
 
 pub returns-in-Some-clause-number : goal.returns-in-Some-clause-number
 returns-in-Some-clause-number c =
-    (found_text c.args.self.now c.args.text.now c.in-Some.number (sym c.number_of.ensures ∙ c.in-Some.is)).1
+    (found_text c.args.self.now c.args.text.now c.in-Some.number (sym c.number_of.ensures.value ∙ c.in-Some.is)).1

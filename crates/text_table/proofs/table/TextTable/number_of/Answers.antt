@@ -1,8 +1,9 @@
-use Rattle.std.proofs.Common.{ℕ, List, ap, ◌∙◌, position}
-use Rattle.std.specs.Str.{bytes_eq}
-use Rattle.text_table.proofs.Texts.{position-texts}
+use Rattle.std.proofs.Common.{ℕ, List, ap, sym, ◌∙◌}
+use Rattle.text_table.specs.Tables.{number_of}
+use Rattle.text_table.proofs.Texts.{position-texts, number_within}
 use Rattle.text_table.proofs.table.TextTable.number_of.Goals as goal
 
-pub returns : goal.returns
-returns c = c.get_index_of.ensures.index
-    ∙ (position-texts c.args.text.now c.self.inside.set.keys ∙ ap (λ (ts : List (List ℕ)). position (bytes_eq c.args.text.now) ts) c.self.view_is)
+pub returns-clause-value : goal.returns-clause-value
+returns-clause-value c = c.get_index_of.ensures.index
+    ∙ (position-texts c.args.text.now c.self.inside.set.keys
+    ∙ ap (λ (ts : List (List ℕ)). number_of ts c.args.text.now) c.self.view_is)

@@ -1,0 +1,67 @@
+-- Lists that grow by one place with the relation at it.
+use Rattle.std.proofs.Common.{◌≡◌, ℕ, zero, suc, ◌+◌, ◌≤◌, List, [], ◌∷◌, ◌++◌, length, refl, sym, ◌∙◌, ap, subst, arith, Some, slice_get, take, ◌⊎◌, inl, inr}
+use Rattle.std.specs.Prelude.{sum_by}
+use Rattle.std.proofs.lemmas.List.Sums.{sum_by-cons}
+use Rattle.multi_planner.specs.Places.{AtEach, AtEachThree}
+
+-- an item of a list with one more is an item of the list, or that one
+last_or : {X : Type 0} (xs : List X) (z y : X) (place : ℕ) → slice_get (xs ++ z ∷ []) place ≡ Some y →
+    (slice_get xs place ≡ Some y) ⊎ ((place ≡ length xs) × (z ≡ y))
+last_or [] z y zero e = inr (refl, cc)
+last_or [] z y (suc place) e = absurd (cc)
+last_or (x ∷ xs) z y zero e = inl e
+last_or (x ∷ xs) z y (suc place) e = elim (last_or xs z y place e) [
+  | inl there ↦ inl there
+  | inr last ↦ inr (ap suc last.0, last.1)
+]
+
+pub each_none : {X Y : Type 0} (R : X → Y → Type 0) (xs : List X) → AtEach R xs []
+each_none R xs place x y e f = absurd (cc)
+
+pub three_none : {X Y Z : Type 0} (R : X → Y → Z → Type 0) (xs : List X) (ys : List Y) → AtEachThree R xs ys []
+three_none R xs ys place x y z e f h = absurd (cc)
+
+module _ {X Y : Type 0} (R : X → Y → Type 0) (xs : List X) (ys more : List Y) where
+  pub each_more : (x : X) (y : Y) → AtEach R xs ys → slice_get xs (length ys) ≡ Some x → R x y → more ≡ ys ++ y ∷ [] →
+      AtEach R xs more
+  each_more x y all e r m place u v f g =
+      elim (last_or ys y v place (ap (λ l. slice_get l place) (sym m) ∙ g)) [
+        | inl there ↦ all place u v f there
+        | inr last ↦ (let n = last.0 in
+            let here = ap (slice_get xs) n in
+            let same : x ≡ u = cc in subst (λ w. R w v) same (subst (R x) last.1 r))
+      ]
+
+module _ {X Y Z : Type 0} (R : X → Y → Z → Type 0) (xs : List X) (ys : List Y) (zs more : List Z) where
+  pub three_more : (x : X) (y : Y) (z : Z) → AtEachThree R xs ys zs → slice_get xs (length zs) ≡ Some x →
+      slice_get ys (length zs) ≡ Some y → R x y z → more ≡ zs ++ z ∷ [] → AtEachThree R xs ys more
+  three_more x y z all e f r m place u v w g h i =
+      elim (last_or zs z w place (ap (λ l. slice_get l place) (sym m) ∙ i)) [
+        | inl there ↦ all place u v w g h there
+        | inr last ↦ (let n = last.0 in
+            let here = ap (slice_get xs) n in
+            let too = ap (slice_get ys) n in
+            let first : x ≡ u = cc in
+            let second : y ≡ v = cc in
+            subst (λ a. R a v w) first (subst (λ b. R x b w) second (subst (R x y) last.1 r)))
+      ]
+
+sum_suc : {X : Type 0} (f : X → ℕ) (xs : List X) (place : ℕ) (x : X) → slice_get xs place ≡ Some x →
+    sum_by f (take (suc place) xs) ≡ sum_by f (take place xs) + f x
+sum_suc f [] place x e = absurd (cc)
+sum_suc f (y ∷ xs) zero x e = let same : y ≡ x = cc in let g = ap f same in omega (arith, sum_by-cons f y [])
+sum_suc f (y ∷ xs) (suc place) x e =
+    omega (arith, sum_by-cons f y (take (suc place) xs), sum_by-cons f y (take place xs), sum_suc f xs place x e)
+
+-- the sum of the first items and one more
+pub sum_more : {X : Type 0} (f : X → ℕ) (xs : List X) (place : ℕ) (x : X) → slice_get xs place ≡ Some x →
+    sum_by f (take (place + 1) xs) ≡ sum_by f (take place xs) + f x
+sum_more f xs place x e =
+    let n : place + 1 ≡ suc place = omega arith in ap (λ n. sum_by f (take n xs)) n ∙ sum_suc f xs place x e
+
+pub sum_rest : {X : Type 0} (f : X → ℕ) (xs : List X) (place : ℕ) → sum_by f (take place xs) ≤ sum_by f xs
+sum_rest f [] zero = omega arith
+sum_rest f [] (suc place) = omega arith
+sum_rest f (x ∷ xs) zero = omega arith
+sum_rest f (x ∷ xs) (suc place) =
+    omega (arith, sum_by-cons f x xs, sum_by-cons f x (take place xs), sum_rest f xs place)

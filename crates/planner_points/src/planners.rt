@@ -1,0 +1,102 @@
+//! What every planner answers.
+ghost use Rattle.std.specs.Prelude.{◌≡◌, ℕ, ◌+◌, ◌<◌, ◌≤◌, List, [], ◌∷◌, ◌++◌, IfOk, MatchOption};
+ghost use Rattle.planner_points.specs.declared.spans.Span.{Span};
+ghost use Rattle.planner_points.specs.Spans.{free_at, span_of, HasRoom, HasSpan, IsLeastFree, IsEnd, IsNextEnd, MayStart, IsFirstStart};
+
+use flux_defs::{Steps, Window};
+use std::alloc::{AllocError, Global};
+use std::sync::ledger::Ledger;
+
+/// What spans leave free of a total over time. A planner never changes, and each answer holds for every list of spans
+/// that it stands for. Windows begin before they end; times are whole seconds.
+pub trait Planner: Sized {
+    /// What there is where no span takes anything.
+    ghost total_of: { Self → ℕ };
+
+    /// The second up to which a start may reach.
+    ghost horizon_of: { Self → ℕ };
+
+    /// The planner stands for these spans. It need not keep them.
+    ghost stands_for: { Self → List Span → Type 0 };
+
+    /// How many steps `min_over` and `next_point` take at most.
+    ghost look_cost: { Self → ℕ };
+
+    /// How many steps `with_span` and `without_span` take at most.
+    ghost change_cost: { Self → ℕ };
+
+    /// The planner without spans.
+    fn empty(alloc: Global, total: u64, horizon: u64) -> Result<Self, AllocError>
+        ensures total { IfOk result (λ planner. total_of planner ≡ total) }
+        ensures horizon { IfOk result (λ planner. horizon_of planner ≡ horizon) }
+        ensures spans { IfOk result (λ planner. stands_for planner []) };
+
+    /// Another planner of the same spans, which costs no copy of them.
+    fn share(&self) -> Result<Self, AllocError>
+        ensures total { IfOk result (λ planner. total_of planner ≡ total_of self.now) }
+        ensures horizon { IfOk result (λ planner. horizon_of planner ≡ horizon_of self.now) }
+        ensures spans { IfOk result (λ planner. (spans : List Span) → stands_for self.now spans → stands_for planner spans) };
+
+    /// The planner with one span more. So much has to be free over its window.
+    fn with_span<L: Ledger>(
+        &self,
+        alloc: Global,
+        window: Window,
+        quantity: u64,
+        steps: &mut Steps<L>,
+    ) -> Result<Self, AllocError>
+        requires window { window.from < window.to }
+        requires room { (spans : List Span) → stands_for self.now spans → HasRoom (total_of self.now) spans window quantity }
+        ensures total { IfOk result (λ planner. total_of planner ≡ total_of self.now) }
+        ensures horizon { IfOk result (λ planner. horizon_of planner ≡ horizon_of self.now) }
+        ensures spans { IfOk result (λ planner. (before after : List Span) → stands_for self.now (before ++ after) →
+            stands_for planner (before ++ span_of window quantity ∷ after)) }
+        ensures work { steps.new ≤ steps.old + change_cost self.now };
+
+    /// The planner with one such span less. It has to stand for a list that has one.
+    fn without_span<L: Ledger>(
+        &self,
+        alloc: Global,
+        window: Window,
+        quantity: u64,
+        steps: &mut Steps<L>,
+    ) -> Result<Self, AllocError>
+        requires window { window.from < window.to }
+        requires span { HasSpan (stands_for self.now) (span_of window quantity) }
+        ensures total { IfOk result (λ planner. total_of planner ≡ total_of self.now) }
+        ensures horizon { IfOk result (λ planner. horizon_of planner ≡ horizon_of self.now) }
+        ensures spans { IfOk result (λ planner. (before after : List Span) →
+            stands_for self.now (before ++ span_of window quantity ∷ after) → stands_for planner (before ++ after)) }
+        ensures work { steps.new ≤ steps.old + change_cost self.now };
+
+    /// The least that is free at a second of the window. It takes no memory.
+    fn min_over<L: Ledger>(&self, window: Window, steps: &mut Steps<L>) -> u64
+        requires { window.from < window.to }
+        ensures least { (spans : List Span) → stands_for self.now spans → IsLeastFree (total_of self.now) spans window result }
+        ensures work { steps.new ≤ steps.old + look_cost self.now };
+
+    /// The least second not before `from` at which so much is free for `duration` seconds, all before the horizon;
+    /// `None` exactly where there is none. It takes no memory.
+    fn first_at_least<L: Ledger>(
+        &self,
+        from: u64,
+        duration: u64,
+        quantity: u64,
+        steps: &mut Steps<L>,
+    ) -> Option<u64>
+        requires { 1 ≤ duration }
+        ensures first { (spans : List Span) → stands_for self.now spans →
+            MatchOption result
+            ((t : ℕ) → from ≤ t → MayStart (total_of self.now) (horizon_of self.now) spans duration quantity t → ⊥)
+            (IsFirstStart (total_of self.now) (horizon_of self.now) spans from duration quantity) };
+
+    /// The least start or end of a span after that second; `None` exactly where there is none. It takes no memory.
+    fn next_point<L: Ledger>(&self, after: u64, steps: &mut Steps<L>) -> Option<u64>
+        ensures next { (spans : List Span) → stands_for self.now spans →
+            MatchOption result ((t : ℕ) → after < t → IsEnd spans t → ⊥) (IsNextEnd spans after) }
+        ensures work { steps.new ≤ steps.old + look_cost self.now };
+
+    /// What is free at a second is the same for all lists that a planner stands for.
+    ghost same_free: { (planner : Self) (some others : List Span) → stands_for planner some → stands_for planner others →
+        (m : ℕ) → free_at (total_of planner) some m ≡ free_at (total_of planner) others m };
+}
