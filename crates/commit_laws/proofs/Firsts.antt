@@ -6,7 +6,7 @@ use Rattle.flux_defs.specs.Overtaken.{IsFirstFrom, NoneFrom}
 
 module _ (P : ℕ → Type 0) (place : ℕ) where
   -- none before a number, and not that one: none before the next
-  none_yet : (n : ℕ) → ((i : ℕ) → place ≤ i → i < n → P i → ⊥) → (place ≤ n → P n → ⊥) → (i : ℕ) → place ≤ i →
+  pub none_yet : (n : ℕ) → ((i : ℕ) → place ≤ i → i < n → P i → ⊥) → (place ≤ n → P n → ⊥) → (i : ℕ) → place ≤ i →
       i < suc n → P i → ⊥
   none_yet n before here i lo lt p = elim (cases_lt i n) [
     | inl earlier ↦ before i lo earlier p
