@@ -1,0 +1,11 @@
+pub mod Stays
+pub mod MoreJobs
+pub mod InTheWay
+pub mod Claimed
+pub mod Grown
+pub mod Later
+pub mod Fresh
+pub mod Firsts
+pub mod Stretch
+pub mod Commits
+pub mod Causes

@@ -1,0 +1,175 @@
+//! Whether a candidate is overtaken, and by what.
+ghost use Rattle.std.specs.Prelude.{◌≡◌, ℕ, ◌+◌, ◌<◌, ◌≤◌, length, All, List, None, MatchOption};
+ghost use Rattle.std.specs.List.{AllByRecursion};
+ghost use Rattle.flux_defs.specs.Jobs.{vertex_of};
+ghost use Rattle.flux_defs.specs.Closed.{no_bars};
+ghost use Rattle.flux_defs.specs.Available.{IsAvailable};
+ghost use Rattle.flux_defs.specs.Asks.{window_of};
+ghost use Rattle.flux_defs.specs.Scheduler.{Setting};
+ghost use Rattle.flux_defs.specs.Histories.{state_at};
+ghost use Rattle.flux_defs.specs.Overtaken.{Frees, NoneFrom, IsOvertaken};
+ghost use Rattle.commit_laws.specs.CommitLaws.{state_now, StillStands};
+ghost use Rattle.candidate_check.specs.Taken.{IsFirstGone};
+ghost use Rattle.overtaken_check.specs.Scans.{cause_of, candidate_of, IsHindered, IsUnhindered, IsTakenFrom, IsFree, IsWhy, WereClaimed, WasFoundFor, MayBeFound};
+
+use crate::causes::Cause;
+use crate::scans::{first_block, first_cancel, first_delay};
+use candidate_check::still_free;
+use earliest_search::window_at;
+use flux_defs::{Ask, Claim, Command, Entry, FreeView, List, Steps, Verdict, Window};
+use resource_graph::Graph;
+use snapshot_store::Pages;
+use std::sync::ledger::Ledger;
+
+/// The first cancel from the place on, or else the first advance to a moment that comes too late.
+fn hindered<L: Ledger>(
+    journal: &Pages<Entry>,
+    place: u64,
+    moment: u64,
+    last: Option<u64>,
+    steps: &mut Steps<L>,
+) -> Option<Cause>
+    requires { moment ≡ (state_at journal.now place).moment }
+    ensures { MatchOption result (IsUnhindered last journal.now place) (IsHindered last journal.now place) }
+{
+    if let Some(at) = first_cancel(journal, place, steps) {
+        return Some(Cause::Freed { at });
+    }
+    match first_delay(journal, place, moment, last, steps) {
+        None => None,
+        Some(at) => Some(Cause::Late { at }),
+    }
+}
+
+/// The first entry in the way of the claim with this index, which isn't available any more.
+fn blocked<L: Ledger>(
+    graph: &Graph,
+    window: Window,
+    claims: &List<Claim>,
+    index: usize,
+    journal: &Pages<Entry>,
+    place: u64,
+    steps: &mut Steps<L>,
+) -> Cause
+    requires frees { NoneFrom (Frees journal.now) place }
+    requires was { WereClaimed graph.now.resources.vertices (state_at journal.now place).jobs window claims.now }
+    requires gone { IsFirstGone graph.now.resources.vertices (state_now journal.now).jobs window claims.now index }
+    ensures { IsTakenFrom graph.now.resources.vertices (state_now journal.now).jobs window claims.now journal.now place
+        result }
+{
+    match claims.get(index) {
+        None => unreachable!(),
+        Some(claim) => match first_block(graph, window, *claim, journal, place, steps) {
+            None => unreachable!(),
+            Some(at) => Cause::Taken {
+                at,
+                claim: index as u64,
+            },
+        },
+    }
+}
+
+/// The first claim that isn't available any more, with the first entry in its way.
+fn taken<F: FreeView, L: Ledger>(
+    view: &F,
+    graph: &Graph,
+    window: Window,
+    claims: &List<Claim>,
+    journal: &Pages<Entry>,
+    place: u64,
+    steps: &mut Steps<L>,
+) -> Option<Cause>
+    requires over { F.graph view.now ≡ graph.now.resources.vertices }
+    requires jobs { F.stands_for view.now (state_now journal.now).jobs }
+    requires window { window.from < window.to }
+    requires frees { NoneFrom (Frees journal.now) place }
+    requires was { WereClaimed graph.now.resources.vertices (state_at journal.now place).jobs window claims.now }
+    ensures { MatchOption result
+        (AllByRecursion (IsAvailable (no_bars graph.now.resources.vertices (state_now journal.now).jobs) window)
+        claims.now)
+        (IsTakenFrom graph.now.resources.vertices (state_now journal.now).jobs window claims.now journal.now place) }
+{
+    match still_free(view, claims, window, steps) {
+        None => None,
+        Some(index) => Some(blocked(graph, window, claims, index, journal, place, steps)),
+    }
+}
+
+/// What overtook claims that were found for an ask: time may have moved on to `last`, if to any moment.
+fn found_overtaken<F: FreeView, L: Ledger>(
+    view: &F,
+    graph: &Graph,
+    horizon: u64,
+    ask: &Ask,
+    start: u64,
+    claims: &List<Claim>,
+    journal: &Pages<Entry>,
+    place: u64,
+    moment: u64,
+    last: Option<u64>,
+    steps: &mut Steps<L>,
+) -> Option<Cause>
+    requires over { F.graph view.now ≡ graph.now.resources.vertices }
+    requires jobs { F.stands_for view.now (state_now journal.now).jobs }
+    requires moment { moment ≡ (state_at journal.now place).moment }
+    requires found { WasFoundFor graph.now.resources.vertices horizon (state_at journal.now place).jobs ask.now start
+        claims.now }
+    ensures { MatchOption result
+        (IsFree graph.now.resources.vertices (window_of horizon ask.now start) claims.now last journal.now place)
+        (IsWhy graph.now.resources.vertices (window_of horizon ask.now start) claims.now last journal.now place) }
+{
+    match hindered(journal, place, moment, last, steps) {
+        Some(cause) => Some(cause),
+        None => {
+            let window = window_at(horizon, ask, start);
+            taken(view, graph, window, claims, journal, place, steps)
+        }
+    }
+}
+
+/// The first cause by which the candidate is overtaken: what a search found of the command where so many entries were
+/// searched, at the moment there. `None` exactly where nothing overtook it. It takes no memory.
+pub fn overtaken<F: FreeView, L: Ledger>(
+    view: &F,
+    graph: &Graph,
+    horizon: u64,
+    journal: &Pages<Entry>,
+    command: &Command,
+    place: u64,
+    moment: u64,
+    verdict: &Verdict,
+    steps: &mut Steps<L>,
+) -> Option<Cause>
+    requires over { F.graph view.now ≡ graph.now.resources.vertices }
+    requires jobs { F.stands_for view.now (state_now journal.now).jobs }
+    requires moment { moment ≡ (state_at journal.now place).moment }
+    requires found { MayBeFound graph.now.resources.vertices horizon (state_at journal.now place).jobs verdict.now
+        command.now }
+    ensures { (g : Setting) → g.graph.vertices ≡ graph.now.resources.vertices → g.horizon ≡ horizon →
+        MatchOption result (StillStands g journal.now (candidate_of command.now place verdict.now))
+        (λ cause. IsOvertaken g journal.now (candidate_of command.now place verdict.now) (cause_of cause)) }
+{
+    match verdict {
+        Verdict::Found { start, claims } => match command {
+            Command::Allocate { ask, .. } => found_overtaken(
+                view, graph, horizon, ask, *start, claims, journal, place, moment, None, steps,
+            ),
+            Command::Reserve { ask, .. } => found_overtaken(
+                view,
+                graph,
+                horizon,
+                ask,
+                *start,
+                claims,
+                journal,
+                place,
+                moment,
+                Some(*start),
+                steps,
+            ),
+            _ => unreachable!(),
+        },
+        Verdict::NoFit => hindered(journal, place, moment, None, steps),
+        _ => None,
+    }
+}
