@@ -27,7 +27,8 @@ impl Model for Tried {
 
     ghost view = { λ tried. tried.spans.items };
 
-    ghost invariant = { λ tried. StandsFor tried.tree tried.spans.items × AreSame tried.plain.spans.items tried.spans.items };
+    ghost invariant = { λ tried. StandsFor tried.tree tried.spans.items ×
+        AreSame tried.plain.spans.items tried.spans.items };
 }
 
 impl Tried {
