@@ -44,15 +44,20 @@ four_times m x y a b =
       | inr ge ↦ (let d = double_square y (x + y) (omega arith) in omega arith)
     ]
 
-pub fork_tall : (x y a b : ℕ) → DifferByAtMost 1 a b → 2 ^ a ≤ x * x → 2 ^ b ≤ y * y → 2 ^ (max a b + 1) ≤ (x + y) * (x + y)
+pub fork_tall : (x y a b : ℕ) → DifferByAtMost 1 a b → 2 ^ a ≤ x * x → 2 ^ b ≤ y * y →
+    2 ^ (max a b + 1) ≤ (x + y) * (x + y)
 fork_tall x y a b near s t =
     elim (cases_lt a b) [
-      | inl lt ↦ (let p : 2 ^ a ≤ 2 ^ b = pow_mono (omega arith) in let q = four_times a x y s (omega arith) in let r : 2 ^ (max a b + 1) ≤ 2 ^ (a + 2) = pow_mono (omega arith) in omega arith)
-      | inr ge ↦ (let p : 2 ^ b ≤ 2 ^ a = pow_mono (omega arith) in let q = four_times b x y (omega arith) t in let r : 2 ^ (max a b + 1) ≤ 2 ^ (b + 2) = pow_mono (omega arith) in omega arith)
+      | inl lt ↦ (let p : 2 ^ a ≤ 2 ^ b = pow_mono (omega arith) in let q = four_times a x y s (omega arith) in
+          let r : 2 ^ (max a b + 1) ≤ 2 ^ (a + 2) = pow_mono (omega arith) in omega arith)
+      | inr ge ↦ (let p : 2 ^ b ≤ 2 ^ a = pow_mono (omega arith) in let q = four_times b x y (omega arith) t in
+          let r : 2 ^ (max a b + 1) ≤ 2 ^ (b + 2) = pow_mono (omega arith) in omega arith)
     ]
 
-pub tall_fork : {E : Type 0} (l r : List E × ℕ) → 0 < length l.0 → 0 < length r.0 → DifferByAtMost 1 l.1 r.1 → IsTall l → IsTall r → IsTall (l.0 ++ r.0, max l.1 r.1 + 1)
-tall_fork l r some_l some_r near s t h = rw length-append (fork_tall (length l.0) (length r.0) l.1 r.1 near (s some_l) (t some_r))
+pub tall_fork : {E : Type 0} (l r : List E × ℕ) → 0 < length l.0 → 0 < length r.0 → DifferByAtMost 1 l.1 r.1 →
+    IsTall l → IsTall r → IsTall (l.0 ++ r.0, max l.1 r.1 + 1)
+tall_fork l r some_l some_r near s t h = rw length-append (fork_tall (length l.0) (length r.0) l.1 r.1 near (s some_l)
+    (t some_r))
 
 pub low_dig : (h n : ℕ) → (0 < n → 2 ^ h ≤ n * n) → (n ≡ 0 → h ≡ 0) → h + 1 ≤ 2 * dig n
 low_dig h n tall flat =

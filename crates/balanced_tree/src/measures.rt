@@ -22,5 +22,6 @@ pub trait Measure<E>: Copy {
 
     /// The measure of two lists one after the other.
     fn join(self, other: Self) -> Result<Self, AllocError>
-        ensures { IfOk result (λ both. (xs ys : List E) → self ≡ of_items xs → other ≡ of_items ys → both ≡ of_items (xs ++ ys)) };
+        ensures { IfOk result (λ both. (xs ys : List E) → self ≡ of_items xs → other ≡ of_items ys →
+            both ≡ of_items (xs ++ ys)) };
 }

@@ -78,7 +78,8 @@ get_in (y ∷ xs) (suc place) x e = omega (arith, get_in xs place x e)
 
 -- what leads from the old items at each place to the new ones
 pub through : {T P A : Type 0} (R : P → Type 0) (S : P → A → Type 0) (totals : List T) (olds news : List P)
-    (amounts : List A) → length olds ≡ length totals → length news ≡ length olds → AtEach (λ total old. R old) totals olds →
+    (amounts : List A) → length olds ≡ length totals → length news ≡ length olds →
+    AtEach (λ total old. R old) totals olds →
     AtEachThree (λ old amount new. R old → S new amount) olds amounts news → AtEach S news amounts
 through R S totals olds news amounts a b each three place new amount e f =
     let inside = get_in news place new e in

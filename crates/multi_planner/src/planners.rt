@@ -34,7 +34,8 @@ impl<P: Planner + Drop> MultiPlanner<P> {
     ) -> Result<MultiPlanner<P>, AllocError>
         ensures places { IfOk result (λ multi. length multi ≡ length totals.now) }
         ensures total { IfOk result (λ multi. AtEach (λ total planner. P.total_of planner ≡ total) totals.now multi) }
-        ensures horizon { IfOk result (λ multi. AtEach (λ total planner. P.horizon_of planner ≡ horizon) totals.now multi) }
+        ensures horizon { IfOk result (λ multi.
+            AtEach (λ total planner. P.horizon_of planner ≡ horizon) totals.now multi) }
         ensures spans { IfOk result (λ multi. AtEach (λ total planner. P.stands_for planner []) totals.now multi) }
     {
         let mut planners = List::new(alloc);
@@ -61,8 +62,10 @@ impl<P: Planner + Drop> MultiPlanner<P> {
     /// Another one of the same spans.
     pub fn share(&self, alloc: Global) -> Result<MultiPlanner<P>, AllocError>
         ensures places { IfOk result (λ multi. length multi ≡ length self.now) }
-        ensures total { IfOk result (λ multi. AtEach (λ old planner. P.total_of planner ≡ P.total_of old) self.now multi) }
-        ensures horizon { IfOk result (λ multi. AtEach (λ old planner. P.horizon_of planner ≡ P.horizon_of old) self.now multi) }
+        ensures total { IfOk result (λ multi.
+            AtEach (λ old planner. P.total_of planner ≡ P.total_of old) self.now multi) }
+        ensures horizon { IfOk result (λ multi.
+            AtEach (λ old planner. P.horizon_of planner ≡ P.horizon_of old) self.now multi) }
         ensures spans { IfOk result (λ multi. AtEach (λ old planner. (spans : List Span) → P.stands_for old spans →
             P.stands_for planner spans) self.now multi) }
     {
@@ -93,8 +96,10 @@ impl<P: Planner + Drop> MultiPlanner<P> {
         requires room { AtEach (λ planner amount. (spans : List Span) → P.stands_for planner spans →
             HasRoom (P.total_of planner) spans window amount) self.now amounts.now }
         ensures places { IfOk result (λ multi. length multi ≡ length self.now) }
-        ensures total { IfOk result (λ multi. AtEach (λ old planner. P.total_of planner ≡ P.total_of old) self.now multi) }
-        ensures horizon { IfOk result (λ multi. AtEach (λ old planner. P.horizon_of planner ≡ P.horizon_of old) self.now multi) }
+        ensures total { IfOk result (λ multi.
+            AtEach (λ old planner. P.total_of planner ≡ P.total_of old) self.now multi) }
+        ensures horizon { IfOk result (λ multi.
+            AtEach (λ old planner. P.horizon_of planner ≡ P.horizon_of old) self.now multi) }
         ensures spans { IfOk result (λ multi. AtEachThree (λ old amount planner. (before after : List Span) →
             P.stands_for old (before ++ after) → P.stands_for planner (before ++ span_of window amount ∷ after))
             self.now amounts.now multi) }
@@ -127,10 +132,13 @@ impl<P: Planner + Drop> MultiPlanner<P> {
     ) -> Result<MultiPlanner<P>, AllocError>
         requires places { length amounts.now ≡ length self.now }
         requires window { window.from < window.to }
-        requires span { AtEach (λ planner amount. HasSpan (P.stands_for planner) (span_of window amount)) self.now amounts.now }
+        requires span { AtEach (λ planner amount. HasSpan (P.stands_for planner) (span_of window amount))
+            self.now amounts.now }
         ensures places { IfOk result (λ multi. length multi ≡ length self.now) }
-        ensures total { IfOk result (λ multi. AtEach (λ old planner. P.total_of planner ≡ P.total_of old) self.now multi) }
-        ensures horizon { IfOk result (λ multi. AtEach (λ old planner. P.horizon_of planner ≡ P.horizon_of old) self.now multi) }
+        ensures total { IfOk result (λ multi.
+            AtEach (λ old planner. P.total_of planner ≡ P.total_of old) self.now multi) }
+        ensures horizon { IfOk result (λ multi.
+            AtEach (λ old planner. P.horizon_of planner ≡ P.horizon_of old) self.now multi) }
         ensures spans { IfOk result (λ multi. AtEachThree (λ old amount planner. (before after : List Span) →
             P.stands_for old (before ++ span_of window amount ∷ after) → P.stands_for planner (before ++ after))
             self.now amounts.now multi) }

@@ -17,38 +17,47 @@ marked_on : (d : Mark) (q : Point) (ps : List Point) → q.time < d.time → mar
 marked_on d q ps lt = if_le {a = suc q.time} {b = d.time} _ _ lt
 
 -- the point at the place has the mark's time
-pub marks_here : (d : Mark) (ps : List Point) (at : ℕ) (p : Point) → at ≡ count_before d.time ps → at < length ps → p ≡ get_or ps at p → p.time ≡ d.time →
+pub marks_here : (d : Mark) (ps : List Point) (at : ℕ) (p : Point) → at ≡ count_before d.time ps → at < length ps →
+    p ≡ get_or ps at p → p.time ≡ d.time →
     slice_set ps at (added d p) ≡ marked d ps
 marks_here d [] at p c l g e = absurd (omega arith)
 marks_here d (q ∷ ps) zero p c l g e =
     elim (cases_lt q.time d.time) [
       | inl lt ↦ (let n = count_past d.time q ps lt in absurd (omega arith))
       | inr ge ↦ (let same : p ≡ q = g in
-          rw same (sym (if_gt {a = suc q.time} {b = d.time} _ _ (omega arith) ∙ if_le {a = q.time} {b = d.time} _ _ (let u = ap (λ (v : Point). v.time) same in omega arith))))
+          rw same (sym (if_gt {a = suc q.time} {b = d.time} _ _ (omega arith)
+          ∙ if_le {a = q.time} {b = d.time} _ _ (let u = ap (λ (v : Point). v.time) same in omega arith))))
     ]
 marks_here d (q ∷ ps) (suc at) p c l g e =
     elim (cases_lt q.time d.time) [
-      | inl lt ↦ (let n = count_past d.time q ps lt in ap (λ u. q ∷ u) (marks_here d ps at p (omega arith) (omega arith) g e) ∙ sym (marked_on d q ps lt))
+      | inl lt ↦ (let n = count_past d.time q ps lt in ap (λ u. q ∷ u)
+          (marks_here d ps at p (omega arith) (omega arith) g e) ∙ sym (marked_on d q ps lt))
       | inr ge ↦ (let n = count_here d.time q ps ge in absurd (omega arith))
     ]
 
 -- the point at the place is later, or there is none
-pub marks_between : (d : Mark) (ps : List Point) (at : ℕ) → at ≡ count_before d.time ps → (at < length ps → (p : Point) → p ≡ get_or ps at p → p.time ≡ d.time → ⊥) →
+pub marks_between : (d : Mark) (ps : List Point) (at : ℕ) → at ≡ count_before d.time ps →
+    (at < length ps → (p : Point) → p ≡ get_or ps at p → p.time ≡ d.time → ⊥) →
     insert ps at (fresh d) ≡ marked d ps
 marks_between d [] at c f = (let z : at ≡ 0 = c in ap (λ u. insert [] u (fresh d)) z)
 marks_between d (q ∷ ps) zero c f =
     elim (cases_lt q.time d.time) [
       | inl lt ↦ (let n = count_past d.time q ps lt in absurd (omega arith))
-      | inr ge ↦ (let far : d.time < q.time = elim (cases_lt d.time q.time) [ inl a ↦ a | inr b ↦ absurd (f (omega arith) q refl (omega arith)) ] in
+      | inr ge ↦ (let far : d.time < q.time = elim (cases_lt d.time q.time) [
+        | inl a ↦ a
+        | inr b ↦ absurd (f (omega arith) q refl (omega arith))
+      ] in
           sym (if_gt {a = suc q.time} {b = d.time} _ _ (omega arith) ∙ if_gt {a = q.time} {b = d.time} _ _ far))
     ]
 marks_between d (q ∷ ps) (suc at) c f =
     elim (cases_lt q.time d.time) [
-      | inl lt ↦ (let n = count_past d.time q ps lt in ap (λ u. q ∷ u) (marks_between d ps at (omega arith) (λ l p g e. f (omega arith) p g e)) ∙ sym (marked_on d q ps lt))
+      | inl lt ↦ (let n = count_past d.time q ps lt in ap (λ u. q ∷ u)
+          (marks_between d ps at (omega arith) (λ l p g e. f (omega arith) p g e)) ∙ sym (marked_on d q ps lt))
       | inr ge ↦ (let n = count_here d.time q ps ge in absurd (omega arith))
     ]
 
-pub marks_last : (d : Mark) (ps : List Point) (at : ℕ) → at ≡ count_before d.time ps → length ps ≤ at → insert ps at (fresh d) ≡ marked d ps
+pub marks_last : (d : Mark) (ps : List Point) (at : ℕ) → at ≡ count_before d.time ps → length ps ≤ at →
+    insert ps at (fresh d) ≡ marked d ps
 marks_last d ps at c l = marks_between d ps at c (λ s p g e. omega arith)
 
 get_same : (ps : List Point) (at : ℕ) (z p : Point) → at < length ps → p ≡ get_or ps at p → get_or ps at z ≡ p
@@ -56,8 +65,10 @@ get_same [] at z p l g = absurd (omega arith)
 get_same (q ∷ ps) zero z p l g = sym g
 get_same (q ∷ ps) (suc at) z p l g = get_same ps at z p (omega arith) g
 
-pub marks_other : (d : Mark) (ps : List Point) (at : ℕ) (z : Point) → at ≡ count_before d.time ps → at < length ps → ((get_or ps at z).time ≡ d.time → ⊥) → insert ps at (fresh d) ≡ marked d ps
-marks_other d ps at z c l f = marks_between d ps at c (λ s p g e. f (ap (λ (v : Point). v.time) (get_same ps at z p s g) ∙ e))
+pub marks_other : (d : Mark) (ps : List Point) (at : ℕ) (z : Point) → at ≡ count_before d.time ps → at < length ps →
+    ((get_or ps at z).time ≡ d.time → ⊥) → insert ps at (fresh d) ≡ marked d ps
+marks_other d ps at z c l f = marks_between d ps at c (λ s p g e. f
+    (ap (λ (v : Point). v.time) (get_same ps at z p s g) ∙ e))
 
 insert_front : (ps : List Point) (q : Point) → insert ps 0 q ≡ q ∷ ps
 insert_front [] q = refl
@@ -68,7 +79,9 @@ swap_set [] at q l = absurd (omega arith)
 swap_set (p ∷ ps) zero q l = (insert_front ps q)
 swap_set (p ∷ ps) (suc at) q l = ap (λ u. p ∷ u) (swap_set ps at q (omega arith))
 
-pub marks_again : (d : Mark) (ps : List Point) (at : ℕ) (z p q : Point) → at ≡ count_before d.time ps → at < length ps → (get_or ps at z).time ≡ d.time → p ≡ get_or ps at p → q ≡ added d p → insert (remove ps at) at q ≡ marked d ps
+pub marks_again : (d : Mark) (ps : List Point) (at : ℕ) (z p q : Point) → at ≡ count_before d.time ps →
+    at < length ps → (get_or ps at z).time ≡ d.time → p ≡ get_or ps at p → q ≡ added d p →
+    insert (remove ps at) at q ≡ marked d ps
 marks_again d ps at z p q c l t g e =
     let time : p.time ≡ d.time = sym (ap (λ (v : Point). v.time) (get_same ps at z p l g)) ∙ t in
     swap_set ps at q l ∙ ap (λ u. slice_set ps at u) e ∙ marks_here d ps at p c l g time

@@ -59,7 +59,8 @@ unmarked_left d (p ∷ xs) ys h s =
       | inr ge ↦ elim (cases_lt d.time p.time) [
         | inl far ↦ off (xs ++ ys) far ∙ ap (λ l. l ++ ys) (sym (off xs far))
         | inr near ↦ elim (cases_lt 1 p.ends) [
-          | inl many ↦ less (xs ++ ys) (omega arith) near many ∙ ap (λ l. l ++ ys) (sym (less xs (omega arith) near many))
+          | inl many ↦ less (xs ++ ys) (omega arith) near many
+              ∙ ap (λ l. l ++ ys) (sym (less xs (omega arith) near many))
           | inr few ↦ gone (xs ++ ys) (omega arith) near few ∙ ap (λ l. l ++ ys) (sym (gone xs (omega arith) near few))
         ]
       ]
@@ -124,7 +125,8 @@ filled_append [] ys a b = b
 filled_append (x ∷ xs) ys a b = (a.0, filled_append xs ys a.1 b)
 
 -- no chunk becomes empty
-pub change_fills : {X : Type 0} (lists : List (List X)) (at : ℕ) (edit : Edit (List X)) → AreFilled lists → AreFilled (made edit) →
+pub change_fills : {X : Type 0} (lists : List (List X)) (at : ℕ) (edit : Edit (List X)) → AreFilled lists →
+    AreFilled (made edit) →
     AreFilled (edited lists at edit)
 change_fills [] at edit a b = tt
 change_fills (x ∷ lists) zero edit a b = filled_append (made edit) lists b a.1

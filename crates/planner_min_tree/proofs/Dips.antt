@@ -17,6 +17,8 @@ pub rest_append : (xs ys : List Point) → rest_of (xs ++ ys) ≡ rest_of ys + (
 rest_append [] ys = omega arith
 rest_append (p ∷ xs) ys = omega (arith, rest_append xs ys, need_append xs ys)
 
+pub ruleset append_facts = (latest_append, need_append, rest_append)
+
 -- the parts of a run
 pub runs_left : (xs ys : List Point) (x : ℕ) → Runs (xs ++ ys) x → Runs xs x
 runs_left [] [] x h = h
@@ -95,34 +97,51 @@ before_left to (p ∷ xs) ys x h s =
           ∙ sym (if_gt {a = suc p.time} {b = to} _ _ (omega arith))
     ]
 
-pub from_right : (from : ℕ) (xs ys : List Point) (x : ℕ) → latest_of xs ≤ from → lowest_from from (xs ++ ys) x ≡ lowest_from from ys (after xs x)
+pub from_right : (from : ℕ) (xs ys : List Point) (x : ℕ) → latest_of xs ≤ from →
+    lowest_from from (xs ++ ys) x ≡ lowest_from from ys (after xs x)
 from_right from [] ys x h = refl
-from_right from (p ∷ xs) ys x h = if_le {a = p.time} {b = from} _ _ (omega arith) ∙ from_right from xs ys (past p x) (omega arith)
+from_right from (p ∷ xs) ys x h = if_le {a = p.time} {b = from} _ _ (omega arith)
+    ∙ from_right from xs ys (past p x) (omega arith)
 
-lowest_append : (xs ys : List Point) (x : ℕ) → Runs (xs ++ ys) x → lowest (xs ++ ys) x ≡ min (lowest xs x) (after xs x - need_of ys)
+lowest_append : (xs ys : List Point) (x : ℕ) → Runs (xs ++ ys) x →
+    lowest (xs ++ ys) x ≡ min (lowest xs x) (after xs x - need_of ys)
 lowest_append xs ys x r =
     let l = runs_left xs ys x r in
-    omega (arith, runs_lowest (xs ++ ys) x r, runs_lowest xs x l, need_append xs ys, runs_after xs x l, runs_need xs x l)
+    omega (
+      arith,
+      runs_lowest (xs ++ ys) x r,
+      runs_lowest xs x l,
+      need_append xs ys,
+      runs_after xs x l,
+      runs_need xs x l,
+    )
 
 pub from_left : (from : ℕ) (xs ys : List Point) (x : ℕ) → from < latest_of xs → Runs (xs ++ ys) x →
     lowest_from from (xs ++ ys) x ≡ min (lowest_from from xs x) (after xs x - need_of ys)
 from_left from [] ys x h r = absurd (omega arith)
 from_left from (p ∷ xs) ys x h r =
     elim (cases_lt from p.time) [
-      | inl lt ↦ if_gt {a = p.time} {b = from} _ _ lt ∙ lowest_append (p ∷ xs) ys x r ∙ ap (λ n. min n (after (p ∷ xs) x - need_of ys)) (sym (if_gt {a = p.time} {b = from} _ _ lt))
-      | inr le ↦ if_le {a = p.time} {b = from} _ _ le ∙ from_left from xs ys (past p x) (omega arith) r.2 ∙ ap (λ n. min n (after (p ∷ xs) x - need_of ys)) (sym (if_le {a = p.time} {b = from} _ _ le))
+      | inl lt ↦ if_gt {a = p.time} {b = from} _ _ lt ∙ lowest_append (p ∷ xs) ys x r
+          ∙ ap (λ n. min n (after (p ∷ xs) x - need_of ys)) (sym (if_gt {a = p.time} {b = from} _ _ lt))
+      | inr le ↦ if_le {a = p.time} {b = from} _ _ le ∙ from_left from xs ys (past p x) (omega arith) r.2
+          ∙ ap (λ n. min n (after (p ∷ xs) x - need_of ys)) (sym (if_le {a = p.time} {b = from} _ _ le))
     ]
 
-pub in_right : (from to : ℕ) (xs ys : List Point) (x : ℕ) → latest_of xs ≤ from → lowest_in from to (xs ++ ys) x ≡ lowest_in from to ys (after xs x)
+pub in_right : (from to : ℕ) (xs ys : List Point) (x : ℕ) → latest_of xs ≤ from →
+    lowest_in from to (xs ++ ys) x ≡ lowest_in from to ys (after xs x)
 in_right from to [] ys x h = refl
-in_right from to (p ∷ xs) ys x h = if_le {a = p.time} {b = from} _ _ (omega arith) ∙ in_right from to xs ys (past p x) (omega arith)
+in_right from to (p ∷ xs) ys x h = if_le {a = p.time} {b = from} _ _ (omega arith)
+    ∙ in_right from to xs ys (past p x) (omega arith)
 
-pub in_left : (from to : ℕ) (xs ys : List Point) (x : ℕ) → from < to → to ≤ latest_of xs → lowest_in from to (xs ++ ys) x ≡ lowest_in from to xs x
+pub in_left : (from to : ℕ) (xs ys : List Point) (x : ℕ) → from < to → to ≤ latest_of xs →
+    lowest_in from to (xs ++ ys) x ≡ lowest_in from to xs x
 in_left from to [] ys x lt h = absurd (omega arith)
 in_left from to (p ∷ xs) ys x lt h =
     elim (cases_lt from p.time) [
-      | inl a ↦ if_gt {a = p.time} {b = from} _ _ a ∙ before_left to (p ∷ xs) ys x h (omega arith) ∙ sym (if_gt {a = p.time} {b = from} _ _ a)
-      | inr le ↦ if_le {a = p.time} {b = from} _ _ le ∙ in_left from to xs ys (past p x) lt (omega arith) ∙ sym (if_le {a = p.time} {b = from} _ _ le)
+      | inl a ↦ if_gt {a = p.time} {b = from} _ _ a ∙ before_left to (p ∷ xs) ys x h (omega arith)
+          ∙ sym (if_gt {a = p.time} {b = from} _ _ a)
+      | inr le ↦ if_le {a = p.time} {b = from} _ _ le ∙ in_left from to xs ys (past p x) lt (omega arith)
+          ∙ sym (if_le {a = p.time} {b = from} _ _ le)
     ]
 
 pub in_both : (from to : ℕ) (xs ys : List Point) (x : ℕ) → from < latest_of xs → latest_of xs < to → Runs (xs ++ ys) x →
@@ -131,7 +150,8 @@ in_both from to [] ys x a b r = absurd (omega arith)
 in_both from to (p ∷ xs) ys x a b r =
     elim (cases_lt from p.time) [
       | inl lt ↦ if_gt {a = p.time} {b = from} _ _ lt ∙ before_right to (p ∷ xs) ys x b r
-          ∙ ap (λ n. min n (lowest_before to ys (after (p ∷ xs) x))) (sym (runs_lowest (p ∷ xs) x (runs_left (p ∷ xs) ys x r)) ∙ sym (if_gt {a = p.time} {b = from} _ _ lt))
+          ∙ ap (λ n. min n (lowest_before to ys (after (p ∷ xs) x)))
+          (sym (runs_lowest (p ∷ xs) x (runs_left (p ∷ xs) ys x r)) ∙ sym (if_gt {a = p.time} {b = from} _ _ lt))
       | inr le ↦ if_le {a = p.time} {b = from} _ _ le ∙ in_both from to xs ys (past p x) (omega arith) (omega arith) r.2
           ∙ ap (λ n. min n (lowest_before to ys (after (p ∷ xs) x))) (sym (if_le {a = p.time} {b = from} _ _ le))
     ]

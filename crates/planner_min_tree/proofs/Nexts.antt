@@ -38,15 +38,18 @@ end_some t (s ∷ spans) (inl (inr e)) =
 end_some t (s ∷ spans) (inr h) = omega (arith, end_some t spans h)
 
 -- the point at a place is one at its time
-point_some : (ps : List Point) (k : ℕ) (p : Point) → Each (λ q. 0 < q.ends) ps → slice_get ps k ≡ Some p → 0 < ends_at ps p.time
+point_some : (ps : List Point) (k : ℕ) (p : Point) → Each (λ q. 0 < q.ends) ps → slice_get ps k ≡ Some p →
+    0 < ends_at ps p.time
 point_some [] k p h e = absurd (cc)
 point_some (q ∷ ps) zero p h e =
     let same : q ≡ p = cc in
-    let n : when_at p.time q.time q.ends ≡ q.ends = ap (λ (r : Point). when_at r.time q.time q.ends) (sym same) ∙ now_at q.time q.ends in omega (arith, h.0)
+    let n : when_at p.time q.time q.ends ≡ q.ends = ap (λ (r : Point). when_at r.time q.time q.ends) (sym same)
+    ∙ now_at q.time q.ends in omega (arith, h.0)
 point_some (q ∷ ps) (suc k) p h e = omega (arith, point_some ps k p h.1 e)
 
 -- no point is from t on before the first that isn't before t
-none_between : (t u : ℕ) (ps : List Point) (p : Point) → IsRising ps → slice_get ps (count_before t ps) ≡ Some p → t ≤ u → 0 < ends_at ps u → p.time ≤ u
+none_between : (t u : ℕ) (ps : List Point) (p : Point) → IsRising ps → slice_get ps (count_before t ps) ≡ Some p →
+    t ≤ u → 0 < ends_at ps u → p.time ≤ u
 none_between t u [] p rise e ge some = absurd (cc)
 none_between t u (q ∷ ps) p rise e ge some =
     elim (cases_lt q.time t) [
@@ -57,7 +60,8 @@ none_between t u (q ∷ ps) p rise e ge some =
           let e' = rw c at e in let same : q ≡ p = cc in
           elim (cases_lt u q.time) [
             | inl early ↦ (let z = not_yet_at u q.time q.ends early in
-                let far = each_of (λ (r : Point) (h : q.time < r.time). let f : u < r.time = omega arith in f) ps rise.0 in
+                let far = each_of (λ (r : Point) (h : q.time < r.time). let f : u < r.time = omega arith in
+                f) ps rise.0 in
                 let n = at_none (λ (r : Point). r.time) (λ r. r.ends) u ps far in absurd (omega arith))
             | inr late ↦ rw (← same) late
           ])
@@ -69,14 +73,16 @@ none_after t u (q ∷ ps) e ge =
     elim (cases_lt q.time t) [
       | inl lt ↦ (let c : count_before t (q ∷ ps) ≡ suc (count_before t ps) = if_le {a = suc q.time} {b = t} _ _ lt in
           let z = past_at u q.time q.ends (omega arith) in omega (arith, none_after t u ps (omega arith) ge))
-      | inr le ↦ (let c : count_before t (q ∷ ps) ≡ 0 = if_gt {a = suc q.time} {b = t} _ _ (omega arith) in absurd (omega arith))
+      | inr le ↦ (let c : count_before t (q ∷ ps) ≡ 0 = if_gt {a = suc q.time} {b = t} _ _ (omega arith) in
+          absurd (omega arith))
     ]
 
 not_before : (t : ℕ) (ps : List Point) (p : Point) → slice_get ps (count_before t ps) ≡ Some p → t ≤ p.time
 not_before t [] p e = absurd (cc)
 not_before t (q ∷ ps) p e =
     elim (cases_lt q.time t) [
-      | inl lt ↦ (let c : count_before t (q ∷ ps) ≡ suc (count_before t ps) = if_le {a = suc q.time} {b = t} _ _ lt in not_before t ps p (rw c at e))
+      | inl lt ↦ (let c : count_before t (q ∷ ps) ≡ suc (count_before t ps) = if_le {a = suc q.time} {b = t} _ _ lt in
+          not_before t ps p (rw c at e))
       | inr ge ↦ (let c : count_before t (q ∷ ps) ≡ 0 = if_gt {a = suc q.time} {b = t} _ _ (omega arith) in
           let e' = rw c at e in let same : q ≡ p = cc in rw (← same) ge)
     ]
@@ -140,8 +146,11 @@ module _ (total : ℕ) (points : List Point) (spans : List Span) (marks : Tallie
   pub next_is : (p : Point) → first_from (after + 1) points ≡ Some p → IsNextEnd spans after p.time
   next_is p f = let e = sym (first_is (after + 1) points) ∙ f in record {
     later = let n = not_before (after + 1) points p e in omega arith;
-    end = some_end p.time spans (let s = point_some points (count_before (after + 1) points) p marks.some e in omega (arith, marks.ends p.time));
-    least = λ u lt end. none_between (after + 1) u points p marks.rising e (omega arith) (let s = end_some u spans end in omega (arith, marks.ends u));
+    end = some_end p.time spans (let s = point_some points (count_before (after + 1) points) p marks.some e in
+        omega (arith, marks.ends p.time));
+    least = λ u lt end. none_between (after + 1) u points p marks.rising e (omega arith)
+        (let s = end_some u spans end in
+        omega (arith, marks.ends u));
   }
 
   pub next_none : first_from (after + 1) points ≡ None → (u : ℕ) → after < u → IsEnd spans u → ⊥

@@ -50,7 +50,8 @@ pub until_zero : {X : Type 0} (time f : X → ℕ) (xs : List X) → until time 
 until_zero time f [] = refl
 until_zero time f (x ∷ xs) = omega (arith, one_zero (time x) (f x), until_zero time f xs)
 
-pub until_suc : {X : Type 0} (time f : X → ℕ) (m : ℕ) (xs : List X) → until time f (suc m) xs ≡ until time f m xs + at time f (suc m) xs
+pub until_suc : {X : Type 0} (time f : X → ℕ) (m : ℕ) (xs : List X) →
+    until time f (suc m) xs ≡ until time f m xs + at time f (suc m) xs
 until_suc time f m [] = omega arith
 until_suc time f m (x ∷ xs) = omega (arith, one_suc m (time x) (f x), until_suc time f m xs)
 

@@ -21,7 +21,8 @@ place_right t [] ys h s = omega arith
 place_right t (c ∷ []) [] h s = absurd (omega arith)
 place_right t (c ∷ []) (d ∷ ys) h s =
     let l = dips.latest_append c [] in
-    let e : chunk_at t (c ∷ d ∷ ys) ≡ suc (chunk_at t (d ∷ ys)) = if_le {a = suc (latest_of c)} {b = t} _ _ (omega arith) in
+    let e : chunk_at t (c ∷ d ∷ ys) ≡ suc (chunk_at t (d ∷ ys)) = if_le {a = suc (latest_of c)} {b = t} _ _
+    (omega arith) in
     omega arith
 place_right t (c ∷ d ∷ xs) ys h s =
     let l = dips.latest_append c (flat (d ∷ xs)) in

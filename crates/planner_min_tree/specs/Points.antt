@@ -59,7 +59,8 @@ lowest_from from (p ∷ ps) x = if nat_le p.time from then lowest_from from ps (
 -- the lowest at a moment and later, before another
 abbrev pub lowest_in : ℕ → ℕ → List Point → ℕ → ℕ
 lowest_in from to [] x = x
-lowest_in from to (p ∷ ps) x = if nat_le p.time from then lowest_in from to ps (past p x) else lowest_before to (p ∷ ps) x
+lowest_in from to (p ∷ ps) x = if nat_le p.time from then lowest_in from to ps (past p x) else lowest_before to
+    (p ∷ ps) x
 
 -- how many points at the front are before a moment
 abbrev pub count_before : ℕ → List Point → ℕ

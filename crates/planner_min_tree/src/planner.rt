@@ -206,7 +206,8 @@ impl Planner for MinTree {
     #[tactic(auto, using(crate::proofs::PlanFacts::cost_facts, crate::proofs::PlanFacts::marks_run))]
     fn min_over<L: Ledger>(&self, window: Window, steps: &mut Steps<L>) -> u64
         requires { window.from < window.to }
-        ensures least { (spans : List Span) → StandsFor self.now spans → IsLeastFree self.now.total spans window result }
+        ensures least { (spans : List Span) → StandsFor self.now spans →
+            IsLeastFree self.now.total spans window result }
         ensures work { steps.new ≤ steps.old + 4 * dig (length self.now.points + 2) }
     {
         let _height = self.points.height();

@@ -66,9 +66,10 @@ impl Dip {
     }
 
     /// What points do one after the other. Numbers that don't fit are answered as want of memory.
-    #[tactic(auto, using(crate::proofs::Dips::latest_append, crate::proofs::Dips::need_append, crate::proofs::Dips::rest_append))]
+    #[tactic(auto, using(crate::proofs::Dips::append_facts))]
     pub fn then(self, other: Dip) -> Result<Dip, AllocError>
-        ensures { IfOk result (λ both. (xs ys : List Point) → self ≡ dip_of xs → other ≡ dip_of ys → both ≡ dip_of (xs ++ ys)) }
+        ensures { IfOk result (λ both. (xs ys : List Point) → self ≡ dip_of xs → other ≡ dip_of ys →
+            both ≡ dip_of (xs ++ ys)) }
     {
         let Some(need) = self.need.checked_add(other.need.saturating_sub(self.rest)) else {
             return Err(AllocError);

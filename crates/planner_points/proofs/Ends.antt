@@ -53,7 +53,8 @@ one_more P after t (Some b) is =
 abbrev pub IsNext : List Span → ℕ → Option ℕ → Type 0
 IsNext spans after best = MatchOption best ((t : ℕ) → after < t → IsEnd spans t → ⊥) (IsNextEnd spans after)
 
-next_of : (spans : List Span) (after : ℕ) (best : Option ℕ) → IsNext spans after best → IsNextOf (IsEnd spans) after best
+next_of : (spans : List Span) (after : ℕ) (best : Option ℕ) → IsNext spans after best →
+    IsNextOf (IsEnd spans) after best
 next_of spans after None is = is
 next_of spans after (Some n) is = (is.later, is.end, is.least)
 

@@ -81,7 +81,8 @@ module _ (total horizon : ℕ) (spans : List Span) (duration quantity : ℕ) whe
     pub none_at_first : (from : ℕ) → NoneFrom from from
     none_at_first from u a b s = absurd (omega arith)
 
-    pub none_to_next : (from t next : ℕ) → NoneFrom from t → (Starts t → ⊥) → IsNextEnd spans t next → NoneFrom from next
+    pub none_to_next : (from t next : ℕ) → NoneFrom from t → (Starts t → ⊥) → IsNextEnd spans t next →
+        NoneFrom from next
     none_to_next from t next none fails is u a b s =
         elim (cases_lt u t) [
           | inl lt ↦ none u a lt s
@@ -112,17 +113,20 @@ pub record IsLeastTo (total : ℕ) (spans : List Span) (from t least : ℕ) : Ty
 module _ (total : ℕ) (spans : List Span) (from : ℕ) where
   pub least_first : (least : ℕ) → least ≡ free_at total spans from → IsLeastTo total spans from from least
   least_first least e = record {
-    each = λ m a b. (let s : m ≡ from = omega arith in subst (λ n. least ≤ free_at total spans n) (sym s) (omega arith));
+    each = λ m a b. (let s : m ≡ from = omega arith in subst (λ n. least ≤ free_at total spans n) (sym s)
+        (omega arith));
     reached = (from, omega arith, omega arith, sym e);
   }
 
-  pub least_next : (t next least free more : ℕ) → from ≤ t → IsLeastTo total spans from t least → IsNextEnd spans t next →
+  pub least_next : (t next least free more : ℕ) → from ≤ t → IsLeastTo total spans from t least →
+      IsNextEnd spans t next →
       free ≡ free_at total spans next → more ≡ min least free → IsLeastTo total spans from next more
   least_next t next least free more le is end e f = record {
     each = λ m a b. elim (cases_lt t m) [
       | inr early ↦ (let l = is.each m a early in omega arith)
       | inl late ↦ elim (cases_lt m next) [
-        | inl lt ↦ (let s = same_free total spans t m (omega arith) (λ u x y z. absurd (let l = end.least u x z in omega arith)) in
+        | inl lt ↦ (let s = same_free total spans t m (omega arith) (λ u x y z. absurd (let l = end.least u x z in
+            omega arith)) in
             let l = is.each t le (omega arith) in omega arith)
         | inr ge ↦ (let s : m ≡ next = omega arith in
             subst (λ n. more ≤ free_at total spans n) (sym s) (omega arith))
@@ -136,7 +140,8 @@ module _ (total : ℕ) (spans : List Span) (from : ℕ) where
   }
 
   pub least_last : (t to least : ℕ) → from ≤ t → t < to → IsLeastTo total spans from t least →
-      ((e : ℕ) → t < e → e < to → IsEnd spans e → ⊥) → IsLeastIn (record { from = from; to = to }) (λ m. free_at total spans m) least
+      ((e : ℕ) → t < e → e < to → IsEnd spans e → ⊥) → IsLeastIn (record { from = from; to = to })
+      (λ m. free_at total spans m) least
   least_last t to least le lt is none = record {
     each = λ m a b. elim (cases_lt t m) [
       | inr early ↦ is.each m a early

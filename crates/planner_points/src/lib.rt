@@ -1,7 +1,8 @@
 //! Planners: what spans of time leave free of a total.
 //!
-//! A planner has a total, a horizon in whole seconds, and stands for a list of spans, each a quantity that is taken over
-//! a window. It need not keep the list, and no planner changes: a call that adds or removes a span gives a new planner.
+//! A planner has a total, a horizon in whole seconds, and stands for a list of spans, each a quantity that is taken
+//! over a window. It need not keep the list, and no planner changes: a call that adds or removes a span gives a new
+//! planner.
 #![tactic(auto)]
 
 mod planners;

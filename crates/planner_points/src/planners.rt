@@ -35,7 +35,8 @@ pub trait Planner: Sized {
     fn share(&self) -> Result<Self, AllocError>
         ensures total { IfOk result (λ planner. total_of planner ≡ total_of self.now) }
         ensures horizon { IfOk result (λ planner. horizon_of planner ≡ horizon_of self.now) }
-        ensures spans { IfOk result (λ planner. (spans : List Span) → stands_for self.now spans → stands_for planner spans) };
+        ensures spans { IfOk result (λ planner. (spans : List Span) → stands_for self.now spans →
+            stands_for planner spans) };
 
     /// The planner with one span more. So much has to be free over its window.
     fn with_span<L: Ledger>(
@@ -46,7 +47,8 @@ pub trait Planner: Sized {
         steps: &mut Steps<L>,
     ) -> Result<Self, AllocError>
         requires window { window.from < window.to }
-        requires room { (spans : List Span) → stands_for self.now spans → HasRoom (total_of self.now) spans window quantity }
+        requires room { (spans : List Span) → stands_for self.now spans →
+            HasRoom (total_of self.now) spans window quantity }
         ensures total { IfOk result (λ planner. total_of planner ≡ total_of self.now) }
         ensures horizon { IfOk result (λ planner. horizon_of planner ≡ horizon_of self.now) }
         ensures spans { IfOk result (λ planner. (before after : List Span) → stands_for self.now (before ++ after) →
@@ -72,7 +74,8 @@ pub trait Planner: Sized {
     /// The least that is free at a second of the window. It takes no memory.
     fn min_over<L: Ledger>(&self, window: Window, steps: &mut Steps<L>) -> u64
         requires { window.from < window.to }
-        ensures least { (spans : List Span) → stands_for self.now spans → IsLeastFree (total_of self.now) spans window result }
+        ensures least { (spans : List Span) → stands_for self.now spans →
+            IsLeastFree (total_of self.now) spans window result }
         ensures work { steps.new ≤ steps.old + look_cost self.now };
 
     /// The least second not before `from` at which so much is free for `duration` seconds, all before the horizon;
@@ -97,6 +100,6 @@ pub trait Planner: Sized {
         ensures work { steps.new ≤ steps.old + look_cost self.now };
 
     /// What is free at a second is the same for all lists that a planner stands for.
-    ghost same_free: { (planner : Self) (some others : List Span) → stands_for planner some → stands_for planner others →
-        (m : ℕ) → free_at (total_of planner) some m ≡ free_at (total_of planner) others m };
+    ghost same_free: { (planner : Self) (some others : List Span) → stands_for planner some →
+        stands_for planner others → (m : ℕ) → free_at (total_of planner) some m ≡ free_at (total_of planner) others m };
 }

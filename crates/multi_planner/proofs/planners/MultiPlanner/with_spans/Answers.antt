@@ -42,16 +42,19 @@ loop-place-preserved g c =
     = ap (λ l. slice_get l c.loop-place.place) (sym c.self.view_is) ∙ sym c.in-Some.ensures.value in
     let here : slice_get xs (length ys) ≡ Some old = ap (slice_get xs) c.loop-place.invariant.places ∙ got in
     let much : slice_get amounts c.loop-place.place ≡ Some amount = sym c.in-Some-get.ensures.value in
-    let so : slice_get amounts (length ys) ≡ Some amount = ap (slice_get amounts) c.loop-place.invariant.places ∙ much in
+    let so : slice_get amounts (length ys) ≡ Some amount = ap (slice_get amounts) c.loop-place.invariant.places
+    ∙ much in
     let more : c.push.new.self ≡ ys ++ planner ∷ [] = c.in-Ok.ensures.ok in
     record {
       places = ap length more ∙ omega (arith, length-append ys (planner ∷ []), c.loop-place.invariant.places);
-      total = each_more (λ old planner. g.P.Planner.total_of planner ≡ g.P.Planner.total_of old) xs ys c.push.new.self old
+      total = each_more (λ old planner.
+          g.P.Planner.total_of planner ≡ g.P.Planner.total_of old) xs ys c.push.new.self old
           planner c.loop-place.invariant.total here c.in_ok-planner.ensures.total more;
       horizon = each_more (λ old planner. g.P.Planner.horizon_of planner ≡ g.P.Planner.horizon_of old) xs ys
           c.push.new.self old planner c.loop-place.invariant.horizon here c.in_ok-planner.ensures.horizon more;
       spans = three_more (λ old amount planner. (before after : List Span) →
-          g.P.Planner.stands_for old (before ++ after) → g.P.Planner.stands_for planner (before ++ span_of c.args.window amount ∷ after)) xs amounts ys c.push.new.self old amount
+          g.P.Planner.stands_for old (before ++ after) → g.P.Planner.stands_for planner
+          (before ++ span_of c.args.window amount ∷ after)) xs amounts ys c.push.new.self old amount
           planner c.loop-place.invariant.spans here so c.in_ok-planner.ensures.spans more;
       work = omega (
         arith,

@@ -11,6 +11,7 @@ invariant-loop-place g l = record {
   total : AtEach (λ old planner. g.P.Planner.total_of planner ≡ g.P.Planner.total_of old) l.self l.planners;
   horizon : AtEach (λ old planner. g.P.Planner.horizon_of planner ≡ g.P.Planner.horizon_of old) l.self l.planners;
   spans : AtEachThree (λ old amount planner. (before after : List Span) →
-      g.P.Planner.stands_for old (before ++ span_of l.window amount ∷ after) → g.P.Planner.stands_for planner (before ++ after)) l.self l.amounts l.planners;
+      g.P.Planner.stands_for old (before ++ span_of l.window amount ∷ after) →
+      g.P.Planner.stands_for planner (before ++ after)) l.self l.amounts l.planners;
   work : l.steps ≤ l.fn.steps + sum_by g.P.Planner.change_cost (take l.place l.self);
 }

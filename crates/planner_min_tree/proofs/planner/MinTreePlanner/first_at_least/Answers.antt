@@ -9,7 +9,8 @@ use Rattle.planner_min_tree.proofs.planner.MinTreePlanner.first_at_least.Goals a
 
 pub returns-then-may_start-clause-first : goal.returns-then-may_start-clause-first
 returns-then-may_start-clause-first g c = λ spans now.
-    first_found c.args.self.now.total c.args.self.now.horizon spans c.args.duration c.args.quantity c.requires c.args.from
+    first_found c.args.self.now.total c.args.self.now.horizon spans c.args.duration c.args.quantity c.requires
+    c.args.from
     c.loop-from.t c.loop-from.invariant.later (c.loop-from.invariant.none spans now)
     ((c.may_start.ensures.answer spans now).0 (cc))
 
@@ -24,7 +25,8 @@ returns-then-may_start-clause-work g c =
 
 pub returns-in_default-clause-first : goal.returns-in_default-clause-first
 returns-in_default-clause-first g c = λ spans now.
-    none_at_all c.args.self.now.total c.args.self.now.horizon spans c.args.duration c.args.quantity c.requires c.args.from
+    none_at_all c.args.self.now.total c.args.self.now.horizon spans c.args.duration c.args.quantity c.requires
+    c.args.from
     c.loop-from.t (c.loop-from.invariant.none spans now)
     (λ s. let t = (c.may_start.ensures.answer spans now).1 s in absurd (cc))
     (next_none c.args.self.now.total c.args.self.now.points spans now c.loop-from.t (cc))
@@ -35,7 +37,14 @@ returns-in_default-clause-work g c =
     let b = dig (length points + 2) in
     let few = count_within (c.loop-from.t + 1) points in
     let most = mul-le-mul_right (6 * b) few in
-    omega (arith, most, in_all (length points) b, c.loop-from.invariant.work, c.may_start.ensures.work, c.next.ensures.work)
+    omega (
+      arith,
+      most,
+      in_all (length points) b,
+      c.loop-from.invariant.work,
+      c.may_start.ensures.work,
+      c.next.ensures.work,
+    )
 
 pub loop-from-smaller : goal.loop-from-smaller
 loop-from-smaller g c =
@@ -52,7 +61,8 @@ loop-from-preserved g c =
     let later = first_later (c.loop-from.t + 1) points c.in-Some.point (cc) in
     record {
       later = omega (arith, later, c.loop-from.invariant.later);
-      none = λ spans now. none_to_next c.args.self.now.total c.args.self.now.horizon spans c.args.duration c.args.quantity
+      none = λ spans now. none_to_next c.args.self.now.total c.args.self.now.horizon spans c.args.duration
+          c.args.quantity
           c.requires c.args.from c.loop-from.t c.in-Some.point.time (c.loop-from.invariant.none spans now)
           (λ s. let t = (c.may_start.ensures.answer spans now).1 s in absurd (cc))
           (next_is c.args.self.now.total points spans now c.loop-from.t c.in-Some.point (cc));
