@@ -1,3 +1,6 @@
 pub mod Sums
 pub mod Within
 pub mod Totals
+pub mod Adding
+pub mod GroupedLaws
+pub mod Closing

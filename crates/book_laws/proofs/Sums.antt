@@ -104,7 +104,7 @@ not_any test x xs h = parts (test x) (list_any test xs) h
     parts true b h = absurd (true≢false h)
     parts false b h = (refl, h)
 
-sum_unless : {X : Type 0} (test : X → Bool) (f g : X → ℕ) → ((x : X) → test x ≡ false → f x ≡ g x) → (xs : List X) → list_any test xs ≡ false → sum_by f xs ≡ sum_by g xs
+pub sum_unless : {X : Type 0} (test : X → Bool) (f g : X → ℕ) → ((x : X) → test x ≡ false → f x ≡ g x) → (xs : List X) → list_any test xs ≡ false → sum_by f xs ≡ sum_by g xs
 sum_unless test f g h [] none = refl
 sum_unless test f g h (x ∷ xs) none =
     let n = not_any test x xs none in
@@ -157,3 +157,21 @@ pub live_along : (s t : Claim → Bool) → ((c : Claim) → IsTrue (s c) → Is
 live_along s t h jobs m some =
     any_along (λ job. is_live m job && list_any s job.claims) (λ job. is_live m job && list_any t job.claims)
     (λ job both. (let b = and_parts (is_live m job) (list_any s job.claims) both in and_from _ _ b.0 (any_along s t h job.claims b.1))) jobs some
+
+any_either : {X : Type 0} (s a b : X → Bool) → ((x : X) → IsTrue (s x) → IsTrue (a x) ⊎ IsTrue (b x)) → (xs : List X) → IsTrue (list_any s xs) → IsTrue (list_any a xs) ⊎ IsTrue (list_any b xs)
+any_either s a b h [] some = absurd (true≢false (sym some))
+any_either s a b h (x ∷ xs) some = elim (or_cases (s x) (list_any s xs) some) [
+  | inl now ↦ elim (h x now) [ inl p ↦ inl (or_left (a x) (list_any a xs) p) | inr q ↦ inr (or_left (b x) (list_any b xs) q) ]
+  | inr later ↦ elim (any_either s a b h xs later) [ inl p ↦ inl (or_right (a x) (list_any a xs) p) | inr q ↦ inr (or_right (b x) (list_any b xs) q) ]
+]
+
+-- a live claim that passes a test passes one of two others
+pub live_either : (s a b : Claim → Bool) → ((c : Claim) → IsTrue (s c) → IsTrue (a c) ⊎ IsTrue (b c)) → (jobs : List Job) (m : ℕ) → IsTrue (some_live_claim jobs m s) →
+    IsTrue (some_live_claim jobs m a) ⊎ IsTrue (some_live_claim jobs m b)
+live_either s a b h jobs m some =
+    any_either (λ job. is_live m job && list_any s job.claims) (λ job. is_live m job && list_any a job.claims) (λ job. is_live m job && list_any b job.claims)
+    (λ job both. (let p = and_parts (is_live m job) (list_any s job.claims) both in
+    elim (any_either s a b h job.claims p.1) [
+      | inl x ↦ inl (and_from (is_live m job) (list_any a job.claims) p.0 x)
+      | inr y ↦ inr (and_from (is_live m job) (list_any b job.claims) p.0 y)
+    ])) jobs some

@@ -1,6 +1,6 @@
 -- What the claims of live jobs amount to at a vertex, moment by moment.
 use Rattle.std.specs.Prelude.{◌≡◌, ℕ, ◌≤◌, Bool, true, false, ◌&&◌, ◌==◌, if◌then◌else◌, List, sum_by, slice_get}
-use Rattle.std.specs.List.{AllByRecursion, enumerate_from}
+use Rattle.std.specs.List.{enumerate_from, list_any}
 use Rattle.std.specs.Option.{option_map_or}
 use Rattle.flux_defs.specs.declared.vertices.Vertex.{Vertex}
 use Rattle.flux_defs.specs.declared.claims.Claim.{Claim}
@@ -13,11 +13,19 @@ use Rattle.flux_defs.specs.Jobs.{is_live, is_on_or_below}
 abbrev pub live_sum : (Claim → ℕ) → List Job → ℕ → ℕ
 live_sum f jobs m = sum_by (λ job. if is_live m job then sum_by f job.claims else 0) jobs
 
+-- the claim holds v itself
+abbrev pub is_hold : ℕ → Claim → Bool
+is_hold v (Take u q) = false
+is_hold v (Hold u) = u == v
+is_hold v (Pass u) = false
+
 -- 1 for a hold of v itself, and 0 for every other claim
 abbrev pub hold_of : ℕ → Claim → ℕ
-hold_of v (Take u q) = 0
-hold_of v (Hold u) = if u == v then 1 else 0
-hold_of v (Pass u) = 0
+hold_of v c = if is_hold v c then 1 else 0
+
+-- the claim holds one of these vertices
+abbrev pub holds_along : List ℕ → Claim → Bool
+holds_along vs c = list_any (λ v. is_hold v c) vs
 
 -- 1 for a claim on v or below it, and 0 for every other claim
 abbrev pub claim_within : List Vertex → ℕ → Claim → ℕ
