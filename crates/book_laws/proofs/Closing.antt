@@ -38,28 +38,25 @@ held_cons jobs w v vs = (
 )
 
 -- no claim holds a vertex of the empty chain
-none_along : (c : Claim) → holds_along [] c ≡ false
-none_along c = refl
+no_claim : (cs : List Claim) → list_any (λ c. false) cs ≡ false
+no_claim [] = refl
+no_claim (c ∷ cs) = no_claim cs
+
+never : (a b : Bool) → b ≡ false → IsTrue (a && b) → ⊥
+never true b e t = true≢false (sym t ∙ e)
+never false b e t = true≢false (sym t)
+
+pub nothing_along : (jobs : List Job) (m : ℕ) → IsTrue (some_live_claim jobs m (holds_along [])) → ⊥
+nothing_along [] m t = true≢false (sym t)
+nothing_along (job ∷ jobs) m t = elim (or_cases (is_live m job && list_any (holds_along []) job.claims) (some_live_claim jobs m (holds_along [])) t) [
+  | inl now ↦ never (is_live m job) (list_any (holds_along []) job.claims) (no_claim job.claims) now
+  | inr later ↦ nothing_along jobs m later
+]
 
 pub held_nil : (jobs : List Job) (w : Window) → SomeMoment w (λ m. IsTrue (some_live_claim jobs m (holds_along []))) → ⊥
-held_nil jobs w (m, lo, hi, h) = elim (live_either (holds_along []) (λ c. false) (λ c. false) (λ c t. inl t) jobs m h) [ inl t ↦ nothing jobs m t | inr t ↦ nothing jobs m t ]
-  where
-    no_claim : (cs : List Claim) → list_any (λ c. false) cs ≡ false
-    no_claim [] = refl
-    no_claim (c ∷ cs) = no_claim cs
+held_nil jobs w (m, lo, hi, h) = nothing_along jobs m h
 
-    nothing : (js : List Job) (m : ℕ) → IsTrue (some_live_claim js m (λ c. false)) → ⊥
-    nothing [] m t = true≢false (sym t)
-    nothing (job ∷ js) m t = elim (or_cases (is_live m job && list_any (λ c. false) job.claims) (some_live_claim js m (λ c. false)) t) [
-      | inl now ↦ never (is_live m job) (list_any (λ c. false) job.claims) (no_claim job.claims) now
-      | inr later ↦ nothing js m later
-    ]
-      where
-        never : (a b : Bool) → b ≡ false → IsTrue (a && b) → ⊥
-        never true b e t = true≢false (sym t ∙ e)
-        never false b e t = true≢false (sym t)
-
-hold_over : (vertices : List Vertex) (v : ℕ) (c : Claim) → holds_along (chain vertices (length vertices) (Some v)) c ≡ holds_over vertices v c
+pub hold_over : (vertices : List Vertex) (v : ℕ) (c : Claim) → holds_along (chain vertices (length vertices) (Some v)) c ≡ holds_over vertices v c
 hold_over vertices v (Take u q) = none (chain vertices (length vertices) (Some v))
   where
     none : (vs : List ℕ) → holds_along vs (Take u q) ≡ false

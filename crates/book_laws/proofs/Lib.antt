@@ -4,3 +4,5 @@ pub mod Totals
 pub mod Adding
 pub mod GroupedLaws
 pub mod Closing
+pub mod Views
+pub mod Alike
