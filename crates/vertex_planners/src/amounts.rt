@@ -2,7 +2,7 @@
 ghost use Rattle.std.specs.Prelude.{◌≡◌, ℕ, ◌+◌, ◌<◌, ◌≤◌, ◌==◌, if◌then◌else◌, length, List, Option, Some, None, IfSome, IfNone, OnOk, IsSome};
 ghost use Rattle.flux_defs.specs.Graph.{chain, has_on_chain, is_at_or_below, parent_of};
 ghost use Rattle.graph_laws.proofs.Containment.{ParentsFirst};
-ghost use Rattle.vertex_planners.specs.Numbers.{amount_at, count_of, HasKeysBelow, IsTakenOff};
+ghost use Rattle.vertex_planners.specs.Numbers.{kept_at, amount_at, count_of, HasKeysBelow, IsTakenOff};
 
 use flux_defs::Vertex;
 use std::alloc::{AllocError, Global};
@@ -45,7 +45,7 @@ impl Amounts {
     /// Takes one vertex off that has a number, with the number; `None` exactly where no vertex is left.
     pub fn pop(&mut self) -> Option<(u32, u64)>
         ensures taken { IfSome result (λ first. IsTakenOff self.old self.new first.0 first.1) }
-        ensures none { IfNone result ((v : ℕ) → amount_at self.old v ≡ 0) }
+        ensures none { IfNone result ((v : ℕ) → kept_at self.old v ≡ None) }
     {
         self.map.pop_first()
     }

@@ -1,5 +1,5 @@
 //! Planners by vertices.
-ghost use Rattle.std.specs.Prelude.{◌≡◌, ℕ, ◌+◌, ◌*◌, ◌<◌, ◌≤◌, List, [], ◌++◌, length, slice_get, slice_set, slice_index_or, Some, IfOk, OnOk};
+ghost use Rattle.std.specs.Prelude.{◌≡◌, ◌≢◌, ℕ, ◌+◌, ◌*◌, ◌<◌, ◌≤◌, List, [], ◌++◌, length, slice_get, slice_set, slice_index_or, Some, IfOk, OnOk};
 ghost use Rattle.flux_defs.specs.Digits.{dig};
 ghost use Rattle.planner_points.specs.declared.spans.Span.{Span};
 ghost use Rattle.planner_points.specs.Spans.{HasRoom, IsLeastFree};
@@ -71,6 +71,52 @@ impl<P: Planner + Drop> VertexPlanners<P> {
             None => unreachable!(),
         }
     }
+
+    /// The planners, of which each gains a span over the window of its vertex's number, if that isn't 0.
+    pub fn gained<L: Ledger>(
+        &self,
+        alloc: Global,
+        window: Window,
+        amounts: Amounts,
+        steps: &mut Steps<L>,
+    ) -> Result<VertexPlanners<P>, AllocError>
+        requires window { window.from < window.to }
+        requires keys { HasKeysBelow (length (list_of self.now)) amounts }
+        requires room { (v : ℕ) (p : P) → slice_get (list_of self.now) v ≡ Some p → (spans : List Span) → P.stands_for p spans →
+            HasRoom (P.total_of p) spans window (amount_at amounts v) }
+        ensures len { IfOk result (λ all. length (list_of all) ≡ length (list_of self.now)) }
+        ensures gains { IfOk result (λ all. AtEach (λ v. Gains P.total_of P.stands_for window (amount_at amounts v)) (list_of self.now) (list_of all)) }
+    {
+        let mut planners = self.planners.snap()?;
+        let mut left = amounts;
+        while let Some((vertex, quantity)) = left.pop() {
+            gain(alloc, &mut planners, vertex, window, quantity, steps)?;
+        }
+        Ok(VertexPlanners { planners })
+    }
+
+    /// The planners, of which each loses a span over the window of its vertex's number, if that isn't 0.
+    pub fn lost<L: Ledger>(
+        &self,
+        alloc: Global,
+        window: Window,
+        amounts: Amounts,
+        steps: &mut Steps<L>,
+    ) -> Result<VertexPlanners<P>, AllocError>
+        requires window { window.from < window.to }
+        requires keys { HasKeysBelow (length (list_of self.now)) amounts }
+        requires span { (v : ℕ) (p : P) → slice_get (list_of self.now) v ≡ Some p →
+            (before : List Span) × (after : List Span) × P.stands_for p (before ++ (some_span window (amount_at amounts v) ++ after)) }
+        ensures len { IfOk result (λ all. length (list_of all) ≡ length (list_of self.now)) }
+        ensures loses { IfOk result (λ all. AtEach (λ v. Loses P.total_of P.stands_for window (amount_at amounts v)) (list_of self.now) (list_of all)) }
+    {
+        let mut planners = self.planners.snap()?;
+        let mut left = amounts;
+        while let Some((vertex, quantity)) = left.pop() {
+            lose(alloc, &mut planners, vertex, window, quantity, steps)?;
+        }
+        Ok(VertexPlanners { planners })
+    }
 }
 
 /// The planner of one vertex gains a span.
@@ -86,18 +132,51 @@ fn gain<P: Planner + Drop, L: Ledger>(
     requires window { window.from < window.to }
     requires room { (p : P) → slice_get planners.old vertex ≡ Some p → (spans : List Span) → P.stands_for p spans →
         HasRoom (P.total_of p) spans window quantity }
-    ensures { OnOk result ((r : P) × (planners.new ≡ slice_set planners.old vertex r)
-        × ((p : P) → slice_get planners.old vertex ≡ Some p → Gains P.total_of P.stands_for window quantity p r)) }
+    ensures len { OnOk result (length planners.new ≡ length planners.old) }
+    ensures here { OnOk result ((p r : P) → slice_get planners.old vertex ≡ Some p → slice_get planners.new vertex ≡ Some r →
+        Gains P.total_of P.stands_for window quantity p r) }
+    ensures others { OnOk result ((u : ℕ) → u ≢ vertex → slice_get planners.new u ≡ slice_get planners.old u) }
 {
     if quantity == 0 {
-        return Err(AllocError);
+        return Ok(());
     }
     let planner = match planners.get(vertex as u64, steps) {
         Some(planner) => planner.with_span(alloc, window, quantity, steps)?,
         None => unreachable!(),
     };
     match planners.put(alloc, vertex as u64, planner, steps) {
-        Ok(()) => Ok(()),
-        Err((_, refused)) => Err(refused),
+        Ok(()) => return Ok(()),
+        Err((_, refused)) => return Err(refused),
+    }
+}
+
+/// The planner of one vertex loses a span.
+fn lose<P: Planner + Drop, L: Ledger>(
+    alloc: Global,
+    planners: &mut Pages<P>,
+    vertex: u32,
+    window: Window,
+    quantity: u64,
+    steps: &mut Steps<L>,
+) -> Result<(), AllocError>
+    requires vertex { vertex < length planners.old }
+    requires window { window.from < window.to }
+    requires span { (p : P) → slice_get planners.old vertex ≡ Some p →
+        (before : List Span) × (after : List Span) × P.stands_for p (before ++ (some_span window quantity ++ after)) }
+    ensures len { OnOk result (length planners.new ≡ length planners.old) }
+    ensures here { OnOk result ((p r : P) → slice_get planners.old vertex ≡ Some p → slice_get planners.new vertex ≡ Some r →
+        Loses P.total_of P.stands_for window quantity p r) }
+    ensures others { OnOk result ((u : ℕ) → u ≢ vertex → slice_get planners.new u ≡ slice_get planners.old u) }
+{
+    if quantity == 0 {
+        return Ok(());
+    }
+    let planner = match planners.get(vertex as u64, steps) {
+        Some(planner) => planner.without_span(alloc, window, quantity, steps)?,
+        None => unreachable!(),
+    };
+    match planners.put(alloc, vertex as u64, planner, steps) {
+        Ok(()) => return Ok(()),
+        Err((_, refused)) => return Err(refused),
     }
 }
