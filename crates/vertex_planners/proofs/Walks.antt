@@ -1,5 +1,5 @@
 -- A walk over the vertices that have a number, which changes their planners one by one.
-use Rattle.std.proofs.Common.{◌≡◌, ◌≢◌, ℕ, ◌<◌, List, ◌++◌, length, Option, Some, None, is_some, true≢false, unwrap_or, slice_get, IsSome, inl, inr, refl, sym, ◌∙◌, ap, subst, arith}
+use Rattle.std.proofs.Common.{◌≡◌, ◌≢◌, ℕ, List, ◌++◌, length, Option, Some, None, is_some, true≢false, unwrap_or, slice_get, IsSome, inl, inr, refl, sym, ◌∙◌, ap, subst}
 use Rattle.std.proofs.lemmas.Bool.Decides.{eqb_tells}
 use Rattle.flux_defs.specs.declared.claims.Window.{Window}
 use Rattle.planner_points.specs.declared.spans.Span.{Span}

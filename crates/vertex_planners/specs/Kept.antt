@@ -1,5 +1,5 @@
 -- What becomes of a planner whose vertex's number is added to its spans, or taken from them.
-use Rattle.std.specs.Prelude.{◌≡◌, ℕ, ◌<◌, List, ◌++◌, length, Some, slice_get}
+use Rattle.std.specs.Prelude.{◌≡◌, ℕ, List, ◌++◌, Some, slice_get}
 use Rattle.flux_defs.specs.declared.claims.Window.{Window}
 use Rattle.planner_points.specs.declared.spans.Span.{Span}
 use Rattle.book_laws.specs.Grouped.{some_span}

@@ -2,7 +2,9 @@
 #![tactic(auto)]
 
 mod amounts;
+mod measures;
 mod planners;
 
 pub use amounts::Amounts;
+pub use measures::{Measure, amounts_on, amounts_within, parent_in};
 pub use planners::VertexPlanners;

@@ -1,4 +1,4 @@
-use Rattle.std.proofs.Common.{◌≡◌, ℕ, ◌≤◌, length, slice_get, Some, [], slice_index_or}
+use Rattle.std.proofs.Common.{◌≡◌, ℕ, length, slice_get, Some, [], slice_index_or}
 use Rattle.vertex_planners.proofs.planners.VertexPlanners.of_totals.Given as goal
 
 -- the totals so far have planners without spans
