@@ -1,0 +1,3 @@
+pub mod Prefixes
+pub mod Capacities
+pub mod Measures

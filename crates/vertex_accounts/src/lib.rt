@@ -1,0 +1,9 @@
+//! What jobs have of a graph over time, by vertices: who holds it, who has a claim on it or below it, what is taken of it,
+//! and how much of a type is left at it and below it.
+#![tactic(auto)]
+
+mod capacities;
+mod measures;
+
+pub use capacities::Capacities;
+pub use measures::{Each, Holds, Parts, Takes};
