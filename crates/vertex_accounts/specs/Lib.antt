@@ -1,3 +1,5 @@
 pub mod Prefixes
 pub mod Capacities
 pub mod Measures
+pub mod Quantities
+pub mod Stands

@@ -2,8 +2,11 @@
 //! and how much of a type is left at it and below it.
 #![tactic(auto)]
 
+mod accounts;
 mod capacities;
 mod measures;
+mod quantities;
 
+pub use accounts::Account;
 pub use capacities::Capacities;
-pub use measures::{Each, Holds, Parts, Takes};
+pub use quantities::Quantity;

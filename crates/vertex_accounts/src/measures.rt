@@ -55,6 +55,7 @@ impl Measure for Each {
 }
 
 /// What a claim has of a type: a hold the capacity at its vertex, a take of a pool of the type its quantity.
+#[derive(Drop)]
 pub struct Parts<'a> {
     pub graph: &'a Graph,
     pub capacities: &'a Capacities,
