@@ -1,0 +1,10 @@
+pub mod Dips
+pub mod TwoSides
+pub mod ArrayLaws
+pub mod ChunkLaws
+pub mod Sums
+pub mod Values
+pub mod Keeps
+pub mod Nexts
+pub mod Counts
+pub mod PlanFacts

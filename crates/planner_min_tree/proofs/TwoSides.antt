@@ -1,0 +1,135 @@
+-- What two lists of chunks, one after the other, say: what a walk over a tree of chunks rests on.
+use Rattle.std.proofs.Common.{◌≡◌, ℕ, suc, ◌+◌, ◌-◌, ◌^◌, ◌<◌, ◌≤◌, min, List, [], ◌∷◌, ◌++◌, length, refl, sym, ◌∙◌, ap, subst, arith, append_assoc, inl, inr}
+use Rattle.std.proofs.lemmas.Bool.{cases_lt}
+use Rattle.planner_min_tree.specs.declared.points.Point.{Point}
+use Rattle.planner_min_tree.specs.Points.{latest_of, need_of, rest_of, after, Runs, lowest_before, lowest_from, lowest_in, first_from}
+use Rattle.planner_min_tree.specs.Chunks.{flat, chunk_at}
+use Rattle.planner_min_tree.proofs.Dips as dips
+use Rattle.planner_min_tree.proofs.Dips.{if_le, if_gt}
+
+pub flat_append : {X : Type 0} (xs ys : List (List X)) → flat (xs ++ ys) ≡ flat xs ++ flat ys
+flat_append [] ys = refl
+flat_append (x ∷ xs) ys = ap (λ l. x ++ l) (flat_append xs ys) ∙ sym (append_assoc x (flat xs) (flat ys))
+
+abbrev Chunks : Type 0
+Chunks = List (List Point)
+
+-- the place of a time in two lists of chunks
+pub place_right : (t : ℕ) (xs ys : Chunks) → latest_of (flat xs) < t → 0 < length ys →
+    chunk_at t (xs ++ ys) ≡ length xs + chunk_at t ys
+place_right t [] ys h s = omega arith
+place_right t (c ∷ []) [] h s = absurd (omega arith)
+place_right t (c ∷ []) (d ∷ ys) h s =
+    let l = dips.latest_append c [] in
+    let e : chunk_at t (c ∷ d ∷ ys) ≡ suc (chunk_at t (d ∷ ys)) = if_le {a = suc (latest_of c)} {b = t} _ _ (omega arith) in
+    omega arith
+place_right t (c ∷ d ∷ xs) ys h s =
+    let l = dips.latest_append c (flat (d ∷ xs)) in
+    let e : chunk_at t (c ∷ d ∷ xs ++ ys) ≡ suc (chunk_at t (d ∷ xs ++ ys))
+    = if_le {a = suc (latest_of c)} {b = t} _ _ (omega arith) in
+    omega (arith, place_right t (d ∷ xs) ys (omega arith) s)
+
+pub place_left : (t : ℕ) (xs ys : Chunks) → t ≤ latest_of (flat xs) → 0 < length xs → 0 < length ys →
+    chunk_at t (xs ++ ys) ≡ chunk_at t xs
+place_left t [] ys h s r = absurd (omega arith)
+place_left t (c ∷ []) [] h s r = absurd (omega arith)
+place_left t (c ∷ []) (d ∷ ys) h s r =
+    let l = dips.latest_append c [] in
+    if_gt {a = suc (latest_of c)} {b = t} _ _ (omega arith)
+place_left t (c ∷ d ∷ xs) ys h s r =
+    let l = dips.latest_append c (flat (d ∷ xs)) in
+    elim (cases_lt (latest_of c) t) [
+      | inl lt ↦ if_le {a = suc (latest_of c)} {b = t} _ _ lt
+          ∙ ap suc (place_left t (d ∷ xs) ys (omega arith) (omega arith) r)
+          ∙ sym (if_le {a = suc (latest_of c)} {b = t} _ _ lt)
+      | inr ge ↦ if_gt {a = suc (latest_of c)} {b = t} _ _ (omega arith)
+          ∙ sym (if_gt {a = suc (latest_of c)} {b = t} _ _ (omega arith))
+    ]
+
+module _ (xs ys : Chunks) where
+  both : flat xs ++ flat ys ≡ flat (xs ++ ys)
+  both = sym (flat_append xs ys)
+
+  pub first_right : (t : ℕ) → latest_of (flat xs) < t → first_from t (flat (xs ++ ys)) ≡ first_from t (flat ys)
+  first_right t h = ap (first_from t) (flat_append xs ys) ∙ dips.first_right t (flat xs) (flat ys) h
+
+  pub first_left : (t : ℕ) → t ≤ latest_of (flat xs) → 0 < t → first_from t (flat (xs ++ ys)) ≡ first_from t (flat xs)
+  first_left t h s = ap (first_from t) (flat_append xs ys) ∙ dips.first_left t (flat xs) (flat ys) h s
+
+  module _ (x : ℕ) (r : Runs (flat (xs ++ ys)) x) where
+    runs : Runs (flat xs ++ flat ys) x
+    runs = subst (λ ps. Runs ps x) (flat_append xs ys) r
+
+    pub runs_left : Runs (flat xs) x
+    runs_left = dips.runs_left (flat xs) (flat ys) x runs
+
+    -- the number after the first list
+    after_is : after (flat xs) x ≡ x - need_of (flat xs) + rest_of (flat xs)
+    after_is = dips.runs_after (flat xs) x runs_left
+
+    pub runs_right : Runs (flat ys) (x - need_of (flat xs) + rest_of (flat xs))
+    runs_right = subst (Runs (flat ys)) after_is (dips.runs_right (flat xs) (flat ys) x runs)
+
+    pub need_left : need_of (flat xs) ≤ x
+    need_left = dips.runs_need (flat xs) x runs_left
+
+    pub fits_left : x - need_of (flat xs) + rest_of (flat xs) < 2 ^ 64
+    fits_left = let f = dips.runs_fit (flat xs) x runs_left in let a = after_is in omega arith
+
+    pub need_right : need_of (flat ys) ≤ x - need_of (flat xs) + rest_of (flat xs)
+    need_right = dips.runs_need (flat ys) _ runs_right
+
+    pub before_right : (to : ℕ) → latest_of (flat xs) < to →
+        lowest_before to (flat (xs ++ ys)) x
+        ≡ min (x - need_of (flat xs)) (lowest_before to (flat ys) (x - need_of (flat xs) + rest_of (flat xs)))
+    before_right to h = ap (λ ps. lowest_before to ps x) (flat_append xs ys)
+        ∙ dips.before_right to (flat xs) (flat ys) x h runs
+        ∙ ap (λ n. min (x - need_of (flat xs)) (lowest_before to (flat ys) n)) after_is
+
+    pub before_left : (to : ℕ) → to ≤ latest_of (flat xs) → 0 < to →
+        lowest_before to (flat (xs ++ ys)) x ≡ lowest_before to (flat xs) x
+    before_left to h s = ap (λ ps. lowest_before to ps x) (flat_append xs ys)
+        ∙ dips.before_left to (flat xs) (flat ys) x h s
+
+    pub from_right : (from : ℕ) → latest_of (flat xs) ≤ from →
+        lowest_from from (flat (xs ++ ys)) x
+        ≡ lowest_from from (flat ys) (x - need_of (flat xs) + rest_of (flat xs))
+    from_right from h = ap (λ ps. lowest_from from ps x) (flat_append xs ys)
+        ∙ dips.from_right from (flat xs) (flat ys) x h
+        ∙ ap (lowest_from from (flat ys)) after_is
+
+    pub from_left : (from : ℕ) → from < latest_of (flat xs) →
+        lowest_from from (flat (xs ++ ys)) x
+        ≡ min (lowest_from from (flat xs) x) (x - need_of (flat xs) + rest_of (flat xs) - need_of (flat ys))
+    from_left from h = ap (λ ps. lowest_from from ps x) (flat_append xs ys)
+        ∙ dips.from_left from (flat xs) (flat ys) x h runs
+        ∙ ap (λ n. min (lowest_from from (flat xs) x) (n - need_of (flat ys))) after_is
+
+    pub in_right : (from to : ℕ) → latest_of (flat xs) ≤ from →
+        lowest_in from to (flat (xs ++ ys)) x
+        ≡ lowest_in from to (flat ys) (x - need_of (flat xs) + rest_of (flat xs))
+    in_right from to h = ap (λ ps. lowest_in from to ps x) (flat_append xs ys)
+        ∙ dips.in_right from to (flat xs) (flat ys) x h
+        ∙ ap (lowest_in from to (flat ys)) after_is
+
+    pub in_left : (from to : ℕ) → from < to → to ≤ latest_of (flat xs) →
+        lowest_in from to (flat (xs ++ ys)) x ≡ lowest_in from to (flat xs) x
+    in_left from to lt h = ap (λ ps. lowest_in from to ps x) (flat_append xs ys)
+        ∙ dips.in_left from to (flat xs) (flat ys) x lt h
+
+    pub in_both : (from to : ℕ) → from < latest_of (flat xs) → latest_of (flat xs) < to →
+        lowest_in from to (flat (xs ++ ys)) x
+        ≡ min (lowest_from from (flat xs) x) (lowest_before to (flat ys) (x - need_of (flat xs) + rest_of (flat xs)))
+    in_both from to a b = ap (λ ps. lowest_in from to ps x) (flat_append xs ys)
+        ∙ dips.in_both from to (flat xs) (flat ys) x a b runs
+        ∙ ap (λ n. min (lowest_from from (flat xs) x) (lowest_before to (flat ys) n)) after_is
+
+pub ruleset place_facts = (place_right, place_left)
+
+pub ruleset first_facts = (first_right, first_left)
+
+pub ruleset before_facts = (before_right, before_left, runs_left, runs_right, need_left, fits_left)
+
+pub ruleset from_facts = (from_right, from_left, runs_left, runs_right, need_left, fits_left, need_right)
+
+pub ruleset in_facts = (in_right, in_left, in_both, runs_left, runs_right, need_left, fits_left)

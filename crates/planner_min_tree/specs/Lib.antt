@@ -1,0 +1,5 @@
+pub mod Points
+pub mod Chunks
+pub mod Marks
+pub mod Plans
+pub mod Stands

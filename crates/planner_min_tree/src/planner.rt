@@ -1,0 +1,260 @@
+//! The planner.
+ghost use Rattle.std.specs.Prelude.{◌≡◌, ℕ, ◌+◌, ◌*◌, ◌<◌, ◌≤◌, List, [], ◌∷◌, ◌++◌, length, IfOk, MatchOption};
+ghost use Rattle.flux_defs.specs.Digits.{dig};
+ghost use Rattle.planner_points.specs.declared.spans.Span.{Span};
+ghost use Rattle.planner_points.specs.Spans.{span_of, HasRoom, HasSpan, IsLeastFree, IsEnd, IsNextEnd, MayStart, IsFirstStart};
+ghost use Rattle.planner_min_tree.specs.Plans.{StandsFor};
+
+use crate::chunks::Chunk;
+use crate::marking::{Change, Mark, twice_changed};
+use crate::points::{Dip, Point};
+use crate::walks::{Side, first_from, lowest_in};
+use balanced_tree::Tree;
+use flux_defs::{Steps, Window};
+use node_store::Share;
+use planner_points::Planner;
+use std::alloc::{AllocError, Global};
+use std::marker::Model;
+use std::sync::ledger::Ledger;
+
+/// A planner as a shared balanced tree of points, one for each second at which spans start or end. Each call takes a
+/// number of steps that grows with the binary digits of the number of points, and `first_at_least` that many for each
+/// point.
+#[derive(Drop)]
+pub struct MinTree {
+    total: u64,
+    horizon: u64,
+    points: Tree<Chunk, Dip>,
+}
+
+impl Model for MinTree {
+    ghost use Rattle.planner_min_tree.specs.Plans.{Plan};
+    ghost use Rattle.planner_min_tree.specs.Chunks.{flat};
+    ghost use Rattle.planner_min_tree.specs.Stands.{IsPlan};
+
+    ghost Value = { Plan };
+
+    ghost view = { λ tree. record { total = tree.total; horizon = tree.horizon; points = flat tree.points.0 } };
+
+    ghost invariant = { λ tree. IsPlan tree };
+}
+
+/// Law: a planner has at most two points for each span of any list that it stands for.
+pub fn has_few_points(planner: &MinTree)
+    ensures { (spans : List Span) → StandsFor planner.now spans → length planner.now.points ≤ 2 * length spans }
+{
+    let _ = planner;
+}
+
+impl MinTree {
+    ghost use Rattle.std.specs.Prelude.{◌↔◌, IsTrue};
+    ghost use Rattle.planner_min_tree.specs.Points.{first_from};
+
+    /// The first point after that second.
+    #[tactic(auto, using(crate::proofs::PlanFacts::cost_facts))]
+    fn next<L: Ledger>(&self, after: u64, steps: &mut Steps<L>) -> Option<Point>
+        ensures point { result ≡ first_from (after + 1) self.now.points }
+        ensures work { steps.new ≤ steps.old + 2 * dig (length self.now.points + 2) }
+    {
+        let _height = self.points.height();
+        first_from(Side { tree: &self.points }, after as u128 + 1, steps)
+    }
+
+    /// Whether so much is free from t on for so long, and all of that before the horizon.
+    fn may_start<L: Ledger>(
+        &self,
+        t: u64,
+        duration: u64,
+        quantity: u64,
+        steps: &mut Steps<L>,
+    ) -> bool
+        requires { 1 ≤ duration }
+        ensures answer { (spans : List Span) → StandsFor self.now spans →
+            (IsTrue result ↔ MayStart self.now.total self.now.horizon spans duration quantity t) }
+        ensures work { steps.new ≤ steps.old + 4 * dig (length self.now.points + 2) }
+    {
+        let horizon = self.horizon;
+        if duration > horizon || t > horizon - duration {
+            return false;
+        }
+        let window = Window {
+            from: t,
+            to: t + duration,
+        };
+        self.min_over(window, steps) >= quantity
+    }
+}
+
+impl Planner for MinTree {
+    ghost use Rattle.std.specs.Prelude.{◌*◌, ◌+◌, length};
+    ghost use Rattle.flux_defs.specs.Digits.{dig};
+    ghost use Rattle.planner_min_tree.specs.Plans.{Plan, StandsFor};
+    ghost use Rattle.std.proofs.Common.{sym, ◌∙◌};
+
+    ghost total_of = { λ planner. planner.total };
+
+    ghost horizon_of = { λ planner. planner.horizon };
+
+    ghost stands_for = { λ planner spans. StandsFor planner spans };
+
+    ghost look_cost = { λ planner. 16 * dig (length planner.points + 2) };
+
+    ghost change_cost = { λ planner. 256 * dig (length planner.points + 2) };
+
+    /// The planner without spans. It takes no memory.
+    fn empty(_alloc: Global, total: u64, horizon: u64) -> Result<MinTree, AllocError> {
+        Ok(MinTree {
+            total,
+            horizon,
+            points: Tree::empty(),
+        })
+    }
+
+    fn share(&self) -> Result<MinTree, AllocError>
+        ensures { IfOk result (λ same. same ≡ self.now) }
+    {
+        let points = self.points.share()?;
+        Ok(MinTree {
+            total: self.total,
+            horizon: self.horizon,
+            points,
+        })
+    }
+
+    #[tactic(auto, using(crate::proofs::PlanFacts::cost_facts))]
+    fn with_span<L: Ledger>(
+        &self,
+        alloc: Global,
+        window: Window,
+        quantity: u64,
+        steps: &mut Steps<L>,
+    ) -> Result<MinTree, AllocError>
+        requires window { window.from < window.to }
+        requires room { (spans : List Span) → StandsFor self.now spans → HasRoom self.now.total spans window quantity }
+        ensures total { IfOk result (λ planner. planner.total ≡ self.now.total) }
+        ensures horizon { IfOk result (λ planner. planner.horizon ≡ self.now.horizon) }
+        ensures spans { IfOk result (λ planner. (before after : List Span) → StandsFor self.now (before ++ after) →
+            StandsFor planner (before ++ span_of window quantity ∷ after)) }
+        ensures work { steps.new ≤ steps.old + 256 * dig (length self.now.points + 2) }
+    {
+        let _height = self.points.height();
+        let stop = Mark {
+            time: window.to,
+            taken: 0,
+            given: quantity,
+        };
+        let start = Mark {
+            time: window.from,
+            taken: quantity,
+            given: 0,
+        };
+        let points = twice_changed(
+            alloc,
+            &self.points,
+            Change::More(stop),
+            Change::More(start),
+            steps,
+        )?;
+        Ok(MinTree {
+            total: self.total,
+            horizon: self.horizon,
+            points,
+        })
+    }
+
+    #[tactic(auto, using(crate::proofs::PlanFacts::cost_facts))]
+    fn without_span<L: Ledger>(
+        &self,
+        alloc: Global,
+        window: Window,
+        quantity: u64,
+        steps: &mut Steps<L>,
+    ) -> Result<MinTree, AllocError>
+        requires window { window.from < window.to }
+        requires span { HasSpan (StandsFor self.now) (span_of window quantity) }
+        ensures total { IfOk result (λ planner. planner.total ≡ self.now.total) }
+        ensures horizon { IfOk result (λ planner. planner.horizon ≡ self.now.horizon) }
+        ensures spans { IfOk result (λ planner. (before after : List Span) →
+            StandsFor self.now (before ++ span_of window quantity ∷ after) → StandsFor planner (before ++ after)) }
+        ensures work { steps.new ≤ steps.old + 256 * dig (length self.now.points + 2) }
+    {
+        let _height = self.points.height();
+        let start = Mark {
+            time: window.from,
+            taken: quantity,
+            given: 0,
+        };
+        let stop = Mark {
+            time: window.to,
+            taken: 0,
+            given: quantity,
+        };
+        let points = twice_changed(
+            alloc,
+            &self.points,
+            Change::Less(start),
+            Change::Less(stop),
+            steps,
+        )?;
+        Ok(MinTree {
+            total: self.total,
+            horizon: self.horizon,
+            points,
+        })
+    }
+
+    #[tactic(auto, using(crate::proofs::PlanFacts::cost_facts, crate::proofs::PlanFacts::marks_run))]
+    fn min_over<L: Ledger>(&self, window: Window, steps: &mut Steps<L>) -> u64
+        requires { window.from < window.to }
+        ensures least { (spans : List Span) → StandsFor self.now spans → IsLeastFree self.now.total spans window result }
+        ensures work { steps.new ≤ steps.old + 4 * dig (length self.now.points + 2) }
+    {
+        let _height = self.points.height();
+        lowest_in(
+            Side { tree: &self.points },
+            window.from,
+            window.to,
+            self.total,
+            steps,
+        )
+    }
+
+    fn first_at_least<L: Ledger>(
+        &self,
+        from: u64,
+        duration: u64,
+        quantity: u64,
+        steps: &mut Steps<L>,
+    ) -> Option<u64>
+        requires { 1 ≤ duration }
+        ensures first { (spans : List Span) → StandsFor self.now spans →
+            MatchOption result
+            ((t : ℕ) → from ≤ t → MayStart self.now.total self.now.horizon spans duration quantity t → ⊥)
+            (IsFirstStart self.now.total self.now.horizon spans from duration quantity) }
+        ensures work { steps.new ≤ steps.old + 64 * ((length self.now.points + 2) * dig (length self.now.points + 2)) }
+    {
+        let mut t = from;
+        loop {
+            if self.may_start(t, duration, quantity, steps) {
+                return Some(t);
+            }
+            let Some(point) = self.next(t, steps) else {
+                return None;
+            };
+            t = point.time;
+        }
+    }
+
+    fn next_point<L: Ledger>(&self, after: u64, steps: &mut Steps<L>) -> Option<u64>
+        ensures next { (spans : List Span) → StandsFor self.now spans →
+            MatchOption result ((t : ℕ) → after < t → IsEnd spans t → ⊥) (IsNextEnd spans after) }
+        ensures work { steps.new ≤ steps.old + 16 * dig (length self.now.points + 2) }
+    {
+        let Some(point) = self.next(after, steps) else {
+            return None;
+        };
+        Some(point.time)
+    }
+
+    ghost same_free = { λ planner some others a b m. sym (a.free m) ∙ b.free m };
+}

@@ -1,0 +1,204 @@
+//! Points, and what a few of them one after the other say of a moment or a window.
+ghost use Rattle.std.specs.Prelude.{◌≡◌, ◌+◌, ◌-◌, ◌^◌, ◌<◌, ◌≤◌, List, [], ◌∷◌, ◌++◌, length, IfOk};
+ghost use Rattle.std.specs.Option.{option_copied};
+ghost use Rattle.planner_min_tree.specs.Points.{past, Runs, dip_of, lowest, lowest_before, lowest_from, lowest_in, count_before, first_from};
+
+use std::alloc::AllocError;
+
+/// A second at which spans start or end.
+#[derive(Clone, Copy, Debug, Default, PartialEq, Eq)]
+pub struct Point {
+    pub time: u64,
+    /// How many spans start or end there.
+    pub ends: u64,
+    /// What the spans that start there take.
+    pub taken: u64,
+    /// What the spans that end there give back.
+    pub given: u64,
+}
+
+/// What points do to what is free: it falls by `need` at most, and is `rest` above its lowest in the end. The latest of
+/// them is at the second `latest`.
+#[derive(Clone, Copy, Debug, PartialEq, Eq)]
+pub struct Dip {
+    pub latest: u64,
+    pub need: u128,
+    pub rest: u128,
+}
+
+impl Point {
+    /// What is free after the point.
+    fn past(&self, free: u64) -> u64
+        requires covered { self.now.taken ≤ free + self.now.given }
+        requires fits { past self.now free < 2 ^ 64 }
+        ensures { result ≡ past self.now free }
+    {
+        if self.taken <= self.given {
+            free + (self.given - self.taken)
+        } else {
+            free - (self.taken - self.given)
+        }
+    }
+
+    /// What the point alone does.
+    fn dip(&self) -> Dip
+        ensures { result ≡ dip_of (self.now ∷ []) }
+    {
+        let (taken, given) = (self.taken as u128, self.given as u128);
+        Dip {
+            latest: self.time,
+            need: taken.saturating_sub(given),
+            rest: given.saturating_sub(taken),
+        }
+    }
+}
+
+impl Dip {
+    /// What no points do.
+    pub fn nothing() -> Dip
+        ensures { result ≡ dip_of [] }
+    {
+        Dip {
+            latest: 0,
+            need: 0,
+            rest: 0,
+        }
+    }
+
+    /// What points do one after the other. Numbers that don't fit are answered as want of memory.
+    #[tactic(auto, using(crate::proofs::Dips::latest_append, crate::proofs::Dips::need_append, crate::proofs::Dips::rest_append))]
+    pub fn then(self, other: Dip) -> Result<Dip, AllocError>
+        ensures { IfOk result (λ both. (xs ys : List Point) → self ≡ dip_of xs → other ≡ dip_of ys → both ≡ dip_of (xs ++ ys)) }
+    {
+        let Some(need) = self.need.checked_add(other.need.saturating_sub(self.rest)) else {
+            return Err(AllocError);
+        };
+        let Some(rest) = other.rest.checked_add(self.rest.saturating_sub(other.need)) else {
+            return Err(AllocError);
+        };
+        Ok(Dip {
+            latest: self.latest.max(other.latest),
+            need,
+            rest,
+        })
+    }
+
+    /// What is free after the points.
+    pub fn past(self, free: u64) -> u64
+        requires covered { self.need ≤ free }
+        requires fits { free - self.need + self.rest < 2 ^ 64 }
+        ensures { result ≡ free - self.need + self.rest }
+    {
+        let (need, rest) = (self.need as u64, self.rest as u64);
+        free - need + rest
+    }
+}
+
+/// What the points do.
+pub fn dip_of(points: &[Point]) -> Result<Dip, AllocError>
+    ensures { IfOk result (λ dip. dip ≡ dip_of points.now) }
+{
+    match points {
+        [] => Ok(Dip::nothing()),
+        [point, rest @ ..] => {
+            let rest = dip_of(rest)?;
+            let all = point.dip().then(rest)?;
+            Ok(all)
+        }
+    }
+}
+
+/// How many points are before the moment.
+pub fn count_before(points: &[Point], t: u64) -> usize
+    ensures value { result ≡ count_before t points.now }
+    ensures within { result ≤ length points.now }
+{
+    match points {
+        [] => 0,
+        [point, rest @ ..] => {
+            if point.time < t {
+                count_before(rest, t) + 1
+            } else {
+                0
+            }
+        }
+    }
+}
+
+/// The first point that isn't before the moment, which may be one later than the last of all.
+pub fn first_from(points: &[Point], t: u128) -> Option<Point>
+    ensures { result ≡ first_from t points.now }
+{
+    match points {
+        [] => None,
+        [point, rest @ ..] => {
+            if (point.time as u128) < t {
+                first_from(rest, t)
+            } else {
+                Some(*point)
+            }
+        }
+    }
+}
+
+/// The least that is free.
+pub fn lowest(points: &[Point], free: u64) -> u64
+    requires { Runs points.now free }
+    ensures { result ≡ lowest points.now free }
+{
+    match points {
+        [] => free,
+        [point, rest @ ..] => free.min(lowest(rest, point.past(free))),
+    }
+}
+
+/// The least that is free before a moment.
+pub fn lowest_before(points: &[Point], to: u64, free: u64) -> u64
+    requires { Runs points.now free }
+    ensures { result ≡ lowest_before to points.now free }
+{
+    match points {
+        [] => free,
+        [point, rest @ ..] => {
+            if point.time < to {
+                free.min(lowest_before(rest, to, point.past(free)))
+            } else {
+                free
+            }
+        }
+    }
+}
+
+/// The least that is free at a moment and later.
+pub fn lowest_from(points: &[Point], from: u64, free: u64) -> u64
+    requires { Runs points.now free }
+    ensures { result ≡ lowest_from from points.now free }
+{
+    match points {
+        [] => free,
+        [point, rest @ ..] => {
+            if point.time <= from {
+                lowest_from(rest, from, point.past(free))
+            } else {
+                lowest(points, free)
+            }
+        }
+    }
+}
+
+/// The least that is free over a window.
+pub fn lowest_in(points: &[Point], from: u64, to: u64, free: u64) -> u64
+    requires { Runs points.now free }
+    ensures { result ≡ lowest_in from to points.now free }
+{
+    match points {
+        [] => free,
+        [point, rest @ ..] => {
+            if point.time <= from {
+                lowest_in(rest, from, to, point.past(free))
+            } else {
+                lowest_before(points, to, free)
+            }
+        }
+    }
+}

@@ -1,0 +1,136 @@
+//! What a tree of points says of a moment or a window.
+ghost use Rattle.std.specs.Prelude.{◌≡◌, ◌+◌, ◌-◌, ◌*◌, ◌^◌, ◌<◌, ◌≤◌, length};
+ghost use Rattle.planner_min_tree.specs.Chunks.{flat, chunk_at};
+ghost use Rattle.planner_min_tree.specs.Points.{Runs, lowest_before, lowest_from, lowest_in, first_from};
+
+use crate::chunks::Chunk;
+use crate::points::{self, Dip, Point};
+use balanced_tree::{Shape, Tree};
+use flux_defs::Steps;
+use std::sync::ledger::Ledger;
+
+/// A tree of points, or one of its sides.
+#[derive(Clone, Copy)]
+pub struct Side<'a> {
+    pub tree: &'a Tree<Chunk, Dip>,
+}
+
+/// Which chunk has the place of a moment.
+#[tactic(auto, using(crate::proofs::TwoSides::place_facts))]
+pub fn chunk_at<L: Ledger>(side: Side<'_>, t: u64, steps: &mut Steps<L>) -> u64
+    requires { 0 < length side.tree.now.0 }
+    ensures value { result ≡ chunk_at t side.entry.tree.now.0 }
+    ensures within { result < length side.entry.tree.now.0 }
+    ensures work { steps.new ≤ steps.old + side.entry.tree.now.1 }
+{
+    let _len = side.tree.len();
+    match side.tree.shape(steps) {
+        Shape::Empty => 0,
+        Shape::Leaf(_) => 0,
+        Shape::Fork(left, right) => {
+            if left.sum().latest < t {
+                left.len() + chunk_at(Side { tree: right }, t, steps)
+            } else {
+                chunk_at(Side { tree: left }, t, steps)
+            }
+        }
+    }
+}
+
+/// The first point that isn't before a moment.
+#[tactic(auto, using(crate::proofs::TwoSides::first_facts))]
+pub fn first_from<L: Ledger>(side: Side<'_>, t: u128, steps: &mut Steps<L>) -> Option<Point>
+    requires { 0 < t }
+    ensures value { result ≡ first_from t (flat side.entry.tree.now.0) }
+    ensures work { steps.new ≤ steps.old + side.entry.tree.now.1 + 1 }
+{
+    match side.tree.shape(steps) {
+        Shape::Empty => None,
+        Shape::Leaf(chunk) => points::first_from(chunk.look(steps), t),
+        Shape::Fork(left, right) => {
+            if (left.sum().latest as u128) < t {
+                first_from(Side { tree: right }, t, steps)
+            } else {
+                first_from(Side { tree: left }, t, steps)
+            }
+        }
+    }
+}
+
+/// The least that is free before a moment.
+#[tactic(auto, using(crate::proofs::TwoSides::before_facts))]
+fn lowest_before<L: Ledger>(side: Side<'_>, to: u64, free: u64, steps: &mut Steps<L>) -> u64
+    requires runs { Runs (flat side.tree.now.0) free }
+    requires later { 0 < to }
+    ensures value { result ≡ lowest_before to (flat side.entry.tree.now.0) free }
+    ensures work { steps.new ≤ steps.old + side.entry.tree.now.1 + 1 }
+{
+    match side.tree.shape(steps) {
+        Shape::Empty => free,
+        Shape::Leaf(chunk) => points::lowest_before(chunk.look(steps), to, free),
+        Shape::Fork(left, right) => {
+            let sum = left.sum();
+            if sum.latest < to {
+                let lowest = free - sum.need as u64;
+                lowest.min(lowest_before(Side { tree: right }, to, sum.past(free), steps))
+            } else {
+                lowest_before(Side { tree: left }, to, free, steps)
+            }
+        }
+    }
+}
+
+/// The least that is free at a moment and later.
+#[tactic(auto, using(crate::proofs::TwoSides::from_facts))]
+fn lowest_from<L: Ledger>(side: Side<'_>, from: u64, free: u64, steps: &mut Steps<L>) -> u64
+    requires { Runs (flat side.tree.now.0) free }
+    ensures value { result ≡ lowest_from from (flat side.entry.tree.now.0) free }
+    ensures work { steps.new ≤ steps.old + side.entry.tree.now.1 + 1 }
+{
+    match side.tree.shape(steps) {
+        Shape::Empty => free,
+        Shape::Leaf(chunk) => points::lowest_from(chunk.look(steps), from, free),
+        Shape::Fork(left, right) => {
+            let sum = left.sum();
+            let past = sum.past(free);
+            if sum.latest <= from {
+                lowest_from(Side { tree: right }, from, past, steps)
+            } else {
+                let lowest = past - right.sum().need as u64;
+                lowest.min(lowest_from(Side { tree: left }, from, free, steps))
+            }
+        }
+    }
+}
+
+/// The least that is free over a window.
+#[tactic(auto, using(crate::proofs::TwoSides::in_facts))]
+pub fn lowest_in<L: Ledger>(
+    side: Side<'_>,
+    from: u64,
+    to: u64,
+    free: u64,
+    steps: &mut Steps<L>,
+) -> u64
+    requires runs { Runs (flat side.tree.now.0) free }
+    requires window { from < to }
+    ensures value { result ≡ lowest_in from to (flat side.entry.tree.now.0) free }
+    ensures work { steps.new ≤ steps.old + 2 * (side.entry.tree.now.1 + 1) }
+{
+    match side.tree.shape(steps) {
+        Shape::Empty => free,
+        Shape::Leaf(chunk) => points::lowest_in(chunk.look(steps), from, to, free),
+        Shape::Fork(left, right) => {
+            let sum = left.sum();
+            if sum.latest <= from {
+                lowest_in(Side { tree: right }, from, to, sum.past(free), steps)
+            } else if to <= sum.latest {
+                lowest_in(Side { tree: left }, from, to, free, steps)
+            } else {
+                let first = lowest_from(Side { tree: left }, from, free, steps);
+                let second = lowest_before(Side { tree: right }, to, sum.past(free), steps);
+                first.min(second)
+            }
+        }
+    }
+}
