@@ -3,3 +3,5 @@ pub mod Capacities
 pub mod Measures
 pub mod Quantities
 pub mod Stands
+pub mod Books
+pub mod Costs

@@ -3,10 +3,15 @@
 #![tactic(auto)]
 
 mod accounts;
+mod asking;
+mod books;
 mod capacities;
+mod changing;
+mod making;
 mod measures;
 mod quantities;
 
 pub use accounts::Account;
+pub use books::Accounts;
 pub use capacities::Capacities;
 pub use quantities::Quantity;
