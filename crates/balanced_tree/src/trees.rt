@@ -156,6 +156,7 @@ impl<E: Share + Drop, M: Measure<E>> Tree<E, M> {
     pub fn shape<L: Ledger>(&self, steps: &mut Steps<L>) -> Shape<'_, E, M>
         ensures shape { HasShape self.now result }
         ensures work { steps.new ≤ steps.old + min self.now.1 1 }
+        ensures counted { steps.old ≤ steps.new }
     {
         match &self.body {
             Body::Empty => Shape::Empty,

@@ -55,6 +55,7 @@ impl MinTree {
     fn next<L: Ledger>(&self, after: u64, steps: &mut Steps<L>) -> Option<Point>
         ensures point { result ≡ first_from (after + 1) self.now.points }
         ensures work { steps.new ≤ steps.old + 2 * dig (length self.now.points + 2) }
+        ensures counted { steps.old ≤ steps.new }
     {
         let _height = self.points.height();
         first_from(Side { tree: &self.points }, after as u128 + 1, steps)
@@ -209,6 +210,7 @@ impl Planner for MinTree {
         ensures least { (spans : List Span) → StandsFor self.now spans →
             IsLeastFree self.now.total spans window result }
         ensures work { steps.new ≤ steps.old + 4 * dig (length self.now.points + 2) }
+        ensures counted { steps.old ≤ steps.new }
     {
         let _height = self.points.height();
         lowest_in(
@@ -250,6 +252,7 @@ impl Planner for MinTree {
         ensures next { (spans : List Span) → StandsFor self.now spans →
             MatchOption result ((t : ℕ) → after < t → IsEnd spans t → ⊥) (IsNextEnd spans after) }
         ensures work { steps.new ≤ steps.old + 16 * dig (length self.now.points + 2) }
+        ensures counted { steps.old ≤ steps.new }
     {
         let Some(point) = self.next(after, steps) else {
             return None;

@@ -43,6 +43,7 @@ pub fn first_from<L: Ledger>(side: Side<'_>, t: u128, steps: &mut Steps<L>) -> O
     requires { 0 < t }
     ensures value { result ≡ first_from t (flat side.entry.tree.now.0) }
     ensures work { steps.new ≤ steps.old + side.entry.tree.now.1 + 1 }
+    ensures counted { steps.old ≤ steps.new }
 {
     match side.tree.shape(steps) {
         Shape::Empty => None,
@@ -64,6 +65,7 @@ fn lowest_before<L: Ledger>(side: Side<'_>, to: u64, free: u64, steps: &mut Step
     requires later { 0 < to }
     ensures value { result ≡ lowest_before to (flat side.entry.tree.now.0) free }
     ensures work { steps.new ≤ steps.old + side.entry.tree.now.1 + 1 }
+    ensures counted { steps.old ≤ steps.new }
 {
     match side.tree.shape(steps) {
         Shape::Empty => free,
@@ -86,6 +88,7 @@ fn lowest_from<L: Ledger>(side: Side<'_>, from: u64, free: u64, steps: &mut Step
     requires { Runs (flat side.tree.now.0) free }
     ensures value { result ≡ lowest_from from (flat side.entry.tree.now.0) free }
     ensures work { steps.new ≤ steps.old + side.entry.tree.now.1 + 1 }
+    ensures counted { steps.old ≤ steps.new }
 {
     match side.tree.shape(steps) {
         Shape::Empty => free,
@@ -116,6 +119,7 @@ pub fn lowest_in<L: Ledger>(
     requires window { from < to }
     ensures value { result ≡ lowest_in from to (flat side.entry.tree.now.0) free }
     ensures work { steps.new ≤ steps.old + 2 * (side.entry.tree.now.1 + 1) }
+    ensures counted { steps.old ≤ steps.new }
 {
     match side.tree.shape(steps) {
         Shape::Empty => free,

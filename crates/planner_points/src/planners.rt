@@ -76,7 +76,8 @@ pub trait Planner: Sized {
         requires { window.from < window.to }
         ensures least { (spans : List Span) → stands_for self.now spans →
             IsLeastFree (total_of self.now) spans window result }
-        ensures work { steps.new ≤ steps.old + look_cost self.now };
+        ensures work { steps.new ≤ steps.old + look_cost self.now }
+        ensures counted { steps.old ≤ steps.new };
 
     /// The least second not before `from` at which so much is free for `duration` seconds, all before the horizon;
     /// `None` exactly where there is none. It takes no memory.
@@ -97,7 +98,8 @@ pub trait Planner: Sized {
     fn next_point<L: Ledger>(&self, after: u64, steps: &mut Steps<L>) -> Option<u64>
         ensures next { (spans : List Span) → stands_for self.now spans →
             MatchOption result ((t : ℕ) → after < t → IsEnd spans t → ⊥) (IsNextEnd spans after) }
-        ensures work { steps.new ≤ steps.old + look_cost self.now };
+        ensures work { steps.new ≤ steps.old + look_cost self.now }
+        ensures counted { steps.old ≤ steps.new };
 
     /// What is free at a second is the same for all lists that a planner stands for.
     ghost same_free: { (planner : Self) (some others : List Span) → stands_for planner some →

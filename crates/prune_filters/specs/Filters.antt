@@ -38,3 +38,7 @@ IsFaultOf text Memory = ⊤
 -- some rule has this lower type, and this higher one or `ALL`
 abbrev pub IsKept : List Rule → List ℕ → List ℕ → Type 0
 IsKept rules high low = Any (λ rule. (rule.low ≡ low) × ((rule.high ≡ high) ⊎ (rule.high ≡ codes "ALL"))) rules
+
+-- some rule has this lower type
+abbrev pub IsCounted : List Rule → List ℕ → Type 0
+IsCounted rules low = Any (λ rule. rule.low ≡ low) rules

@@ -1,6 +1,6 @@
 //! The rules of a text.
 ghost use Rattle.std.specs.Prelude.{◌≡◌, ◌↔◌, IsTrue, IfOk, IfErr, MatchOption};
-ghost use Rattle.prune_filters.specs.Filters.{Spells, IsRule, AreRulesOf, IsFaultOf, IsKept};
+ghost use Rattle.prune_filters.specs.Filters.{Spells, IsRule, AreRulesOf, IsFaultOf, IsKept, IsCounted};
 
 use crate::items::first_item;
 use flux_defs::{List, MOST_TYPE_BYTES, Text};
@@ -76,6 +76,13 @@ impl Rules {
             at += item.len() + 1;
             rest = next;
         }
+    }
+
+    /// Whether the rules keep totals of this type, at whichever vertices.
+    pub fn counts(&self, low: &[u8]) -> bool
+        ensures { IsTrue result ↔ IsCounted self.now low.now }
+    {
+        self.rules.items().iter().any(|rule| rule.low.bytes() == low)
     }
 
     /// Whether the rules keep a total of the lower type at vertices of the higher one.

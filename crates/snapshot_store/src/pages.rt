@@ -97,6 +97,7 @@ impl<T: Drop> Pages<T> {
     pub fn get<L: Ledger>(&self, at: u64, steps: &mut Steps<L>) -> Option<&T>
         ensures value { option_copied result ≡ slice_get self.now at }
         ensures work { steps.new ≤ steps.old + 2 * dig (length self.now + 1) }
+        ensures counted { steps.old ≤ steps.new }
     {
         if at >= self.len {
             return None;

@@ -153,6 +153,7 @@ impl<T: Drop> Part<T> {
         requires { at < length self.now.0 }
         ensures value { slice_get self.now.0 at ≡ Some result.now }
         ensures work { steps.new ≤ steps.old + self.now.1 + 1 }
+        ensures counted { steps.old ≤ steps.new }
     {
         match &self.body {
             Body::Empty => unreachable!(),

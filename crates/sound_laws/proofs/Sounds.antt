@@ -38,7 +38,7 @@ module _ (vertices : List Vertex) where
       omega (arith, sum_by-cons (take_of v) d ds)
 
   -- what separate claims take of v: nothing, or what one of them takes
-  abbrev TakesOne : (Claim → Type 0) → ℕ → List Claim → Type 0
+  abbrev pub TakesOne : (Claim → Type 0) → ℕ → List Claim → Type 0
   TakesOne P v cs = (sum_by (take_of v) cs ≡ 0) ⊎ ((q : ℕ) × (sum_by (take_of v) cs ≡ q) × P (Take v q))
 
   first_takes : (P : Claim → Type 0) (v : ℕ) (c : Claim) (cs : List Claim) → AllByRecursion (AreSeparate vertices c) cs → P c → vertex_of c ≡ v → TakesOne P v (c ∷ cs)
@@ -52,7 +52,7 @@ module _ (vertices : List Vertex) where
     subst (λ (x : ℕ). P (Take x q)) e p,
   )
 
-  takes_one : (P : Claim → Type 0) (v : ℕ) (cs : List Claim) → AreAllSeparate vertices cs → AllByRecursion P cs → TakesOne P v cs
+  pub takes_one : (P : Claim → Type 0) (v : ℕ) (cs : List Claim) → AreAllSeparate vertices cs → AllByRecursion P cs → TakesOne P v cs
   takes_one P v [] separate had = inl refl
   takes_one P v (c ∷ cs) separate had = elim (eqb_tells (vertex_of c) v) [
     | inl here ↦ first_takes P v c cs separate.0 had.0 here.1

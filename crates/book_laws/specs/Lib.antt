@@ -1,0 +1,3 @@
+pub mod Amounts
+pub mod TotalLaws
+pub mod Grouped

@@ -1,0 +1,29 @@
+use Rattle.std.proofs.Common.{◌∙◌, ◌++◌, List, sym, ap, subst}
+use Rattle.std.specs.List.{sum_by}
+use Rattle.flux_defs.specs.declared.claims.Claim.{Claim}
+use Rattle.book_laws.specs.Grouped.{AreKept}
+use Rattle.vertex_planners.specs.Lists.{list_of}
+use Rattle.vertex_planners.specs.Numbers.{amount_at}
+use Rattle.vertex_accounts.specs.declared.quantities.Quantity.{Quantity}
+use Rattle.vertex_accounts.specs.Quantities.{amount_in, total_in, KnowsCapacities}
+use Rattle.vertex_accounts.proofs.AccountLaws.{lost_kept, spans_there}
+use Rattle.vertex_accounts.proofs.accounts.Account.without_job.Goals as goal
+
+pub lost-requires-clause-span : goal.lost-requires-clause-span
+lost-requires-clause-span g c =
+    let f = amount_in c.args.graph.now.resources.vertices c.args.self.now.quantity in
+    let (before, after, is) = c.requires.there in
+    spans_there g.P.Planner.total_of g.P.Planner.stands_for (total_in c.args.graph.now.resources.vertices c.args.self.now.quantity) f c.args.job.now (amount_at c.in_ok-amounts.amounts) before after
+    (list_of c.args.self.now.planners) (λ v. c.in_ok-amounts.ensures.sums v ∙ ap (λ (cs : List Claim). sum_by (f v) cs) c.items.ensures) is.kept
+
+pub returns-clause-account : goal.returns-clause-account
+returns-clause-account g c = λ before after is.
+    let vertices = c.args.graph.now.resources.vertices in
+    let f = amount_in vertices c.args.self.now.quantity in
+    let kept = lost_kept g.P.Planner.total_of g.P.Planner.stands_for (total_in vertices c.args.self.now.quantity) f c.args.job.now (amount_at c.in_ok-amounts.amounts) before after
+    (list_of c.args.self.now.planners) (list_of c.in_ok-lost.field-0) c.in_ok-lost.ensures.len
+    (λ v. c.in_ok-amounts.ensures.sums v ∙ ap (λ (cs : List Claim). sum_by (f v) cs) c.items.ensures) c.in_ok-lost.ensures.loses is.kept in
+    record {
+      graph = record { capacities = subst (KnowsCapacities vertices) (sym c.in_ok-share.ensures) is.graph.capacities; len = c.in_ok-lost.ensures.len ∙ is.graph.len };
+      kept = subst (λ (q : Quantity). AreKept g.P.Planner.total_of g.P.Planner.stands_for (total_in vertices q) (amount_in vertices q) (before ++ after) (list_of c.in_ok-lost.field-0)) (sym c.in_ok-share.ensures) kept;
+    }

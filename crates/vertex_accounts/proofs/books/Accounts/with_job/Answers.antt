@@ -1,0 +1,64 @@
+use Rattle.std.proofs.Common.{◌≡◌, ◌+◌, ◌≤◌, ◌∷◌, ◌++◌, [], ℕ, List, Option, Some, length, slice_get, sym, ◌∙◌, ap, subst, arith}
+use Rattle.flux_defs.specs.declared.claims.Job.{Job}
+use Rattle.planner_points.specs.declared.spans.Span.{Span}
+use Rattle.book_laws.specs.Grouped.{count_claims}
+use Rattle.vertex_planners.specs.Kept.{AtEach}
+use Rattle.vertex_accounts.specs.declared.accounts.Account.{Account}
+use Rattle.vertex_accounts.specs.Quantities.{most_claims}
+use Rattle.vertex_accounts.specs.Books.{Joins, Becomes}
+use Rattle.vertex_accounts.proofs.JoinLaws.{room_in, joined, kinds_stay, count_push}
+use Rattle.vertex_accounts.proofs.books.Accounts.with_job.Goals as goal
+
+few : (jobs : List Job) (job : Job) (count sum more : ℕ) → count ≡ count_claims jobs → more ≡ length job.claims → count + more ≤ most_claims → count_claims (jobs ++ job ∷ []) ≤ most_claims
+few jobs job count sum more is e fits = let p = count_push jobs job in omega (arith, p, is, e, fits)
+
+pub with_job-requires-clause-room : goal.with_job-requires-clause-room
+with_job-requires-clause-room g c =
+    let (jobs, is, fair) = c.requires.there in
+    room_in g.P.Planner.total_of g.P.Planner.stands_for g.met.P.Planner.same_free c.args.graph.now.resources c.is_valid.ensures.valid.preorder jobs c.args.job.now fair
+    (few jobs c.args.job.now c.args.self.now.count 0 c.len.result is.count c.len.ensures (omega (arith, c.in-Some.ensures.0))) c.args.self.now.holds is.holds
+
+pub with_job-requires-2-clause-room : goal.with_job-requires-2-clause-room
+with_job-requires-2-clause-room g c =
+    let (jobs, is, fair) = c.requires.there in
+    room_in g.P.Planner.total_of g.P.Planner.stands_for g.met.P.Planner.same_free c.args.graph.now.resources c.is_valid.ensures.valid.preorder jobs c.args.job.now fair
+    (few jobs c.args.job.now c.args.self.now.count 0 c.len.result is.count c.len.ensures (omega (arith, c.in-Some.ensures.0))) c.args.self.now.claims is.claims
+
+pub with_job-requires-3-clause-room : goal.with_job-requires-3-clause-room
+with_job-requires-3-clause-room g c =
+    let (jobs, is, fair) = c.requires.there in
+    room_in g.P.Planner.total_of g.P.Planner.stands_for g.met.P.Planner.same_free c.args.graph.now.resources c.is_valid.ensures.valid.preorder jobs c.args.job.now fair
+    (few jobs c.args.job.now c.args.self.now.count 0 c.len.result is.count c.len.ensures (omega (arith, c.in-Some.ensures.0))) c.args.self.now.takes is.takes
+
+pub totals_with-requires-clause-graph : goal.totals_with-requires-clause-graph
+totals_with-requires-clause-graph g c = λ k a at.
+    let (jobs, is, fair) = c.requires.there in
+    (is.graph.totals k a (sym (ap (λ (xs : List (Option (Account g.row.P.Denot))). slice_get xs k) c.items.ensures) ∙ at)).0
+
+pub totals_with-requires-clause-room : goal.totals_with-requires-clause-room
+totals_with-requires-clause-room g c = λ k a at.
+    let (jobs, is, fair) = c.requires.there in
+    room_in g.P.Planner.total_of g.P.Planner.stands_for g.met.P.Planner.same_free c.args.graph.now.resources c.is_valid.ensures.valid.preorder jobs c.args.job.now fair
+    (few jobs c.args.job.now c.args.self.now.count 0 c.len.result is.count c.len.ensures (omega (arith, c.in-Some.ensures.0))) a
+    (is.totals k a (sym (ap (λ (xs : List (Option (Account g.row.P.Denot))). slice_get xs k) c.items.ensures) ∙ at))
+
+pub returns-clause-accounts : goal.returns-clause-accounts
+returns-clause-accounts g c = λ jobs is fair.
+    let vertices = c.args.graph.now.resources.vertices in
+    joined g.P.Planner.total_of g.P.Planner.stands_for vertices c.args.job.now c.args.self.now
+    (record { holds = c.in_ok-holds.holds; claims = c.in_ok-claims.claims; takes = c.in_ok-takes.takes; totals = c.in_ok-totals.totals; times = c.in_ok-times.times; count = c.in-Some.count })
+    jobs c.requires.on_graph fair
+    (record {
+      holds = (c.in_ok-holds.ensures.quantity, c.in_ok-holds.ensures.account);
+      claims = (c.in_ok-claims.ensures.quantity, c.in_ok-claims.ensures.account);
+      takes = (c.in_ok-takes.ensures.quantity, c.in_ok-takes.ensures.account);
+      len = c.in_ok-totals.ensures.len ∙ ap (λ (xs : List (Option (Account g.row.P.Denot))). length xs) c.items.ensures;
+      totals = subst (λ (xs : List (Option (Account g.row.P.Denot))). AtEach (λ k. Becomes (Joins g.P.Planner.total_of g.P.Planner.stands_for vertices c.args.job.now)) xs c.in_ok-totals.totals) c.items.ensures c.in_ok-totals.ensures.each;
+    })
+    c.in_ok-times.ensures.spans (c.in-Some.ensures.1 ∙ ap (λ n. c.args.self.now.count + n) c.len.ensures) is
+
+pub returns-clause-kinds : goal.returns-clause-kinds
+returns-clause-kinds g c = λ kind has.
+    let vertices = c.args.graph.now.resources.vertices in
+    kinds_stay g.P.Planner.total_of g.P.Planner.stands_for (Joins g.P.Planner.total_of g.P.Planner.stands_for vertices c.args.job.now) c.items.result.now c.in_ok-totals.totals c.in_ok-totals.ensures.len c.in_ok-totals.ensures.each kind
+    (has.0, ap (λ (xs : List (Option (Account g.row.P.Denot))). slice_get xs kind) c.items.ensures ∙ has.1)

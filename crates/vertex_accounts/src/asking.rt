@@ -1,0 +1,199 @@
+//! What the accounts say of a vertex over a window.
+ghost use Rattle.std.specs.Prelude.{◌≡◌, ℕ, ◌+◌, ◌*◌, ◌<◌, ◌≤◌, ◌↔◌, IsTrue, List, length, Option, Some, IfSome, IsSome, MatchOption};
+ghost use Rattle.flux_defs.specs.declared.vertices.Vertex.{Vertex};
+ghost use Rattle.flux_defs.specs.declared.claims.Job.{Job};
+ghost use Rattle.flux_defs.specs.Digits.{dig};
+ghost use Rattle.flux_defs.specs.Graph.{chain, is_pool};
+ghost use Rattle.flux_defs.specs.Jobs.{some_live_claim, SomeMoment, IsPoint, IsNextPoint};
+ghost use Rattle.flux_defs.specs.Closed.{IsClosedOver, IsTouchedOver};
+ghost use Rattle.flux_defs.specs.Free.{IsFreeOver, IsTotalOver};
+ghost use Rattle.book_laws.specs.Amounts.{is_hold, holds_along};
+ghost use Rattle.vertex_planners.specs.Chains.{ParentsIn};
+ghost use Rattle.vertex_accounts.specs.Costs.{look_most, closed_most};
+
+use crate::books::Accounts;
+use flux_defs::{Steps, Vertex, Window};
+use planner_points::Planner;
+use resource_graph::Graph;
+use std::sync::ledger::Ledger;
+use vertex_planners::parent_in;
+
+impl<P: Planner + Drop> Accounts<P> {
+    ghost use Rattle.vertex_accounts.specs.Books.{AreAccountsOf, AreAccounts, AllLookWithin, KeepsKind};
+
+    /// Whether a job holds one of the first so many vertices on the way up from this one, at some moment of the window.
+    fn held_up<L: Ledger>(
+        &self,
+        vertices: &[Vertex],
+        most: usize,
+        from: Option<u32>,
+        window: Window,
+        steps: &mut Steps<L>,
+    ) -> bool
+        requires graph { AreAccountsOf vertices.now self.now }
+        requires window { window.from < window.to }
+        requires parents { ParentsIn vertices.now }
+        requires inside { IfSome from (λ v. v < length vertices.now) }
+        ensures answer { (jobs : List Job) → AreAccounts P.total_of P.stands_for vertices.now jobs self.now →
+            (IsTrue result ↔ SomeMoment window (λ m. IsTrue (some_live_claim jobs m (holds_along (chain vertices.now most from))))) }
+        ensures counted { steps.old ≤ steps.new }
+        ensures work { (most_looks : ℕ) → AllLookWithin P.look_cost most_looks self.now →
+            steps.new ≤ steps.old + length (chain vertices.now most from) * look_most (length vertices.now) most_looks }
+    {
+        let Some(vertex) = from else {
+            return false;
+        };
+        if most == 0 {
+            return false;
+        }
+        if self.held_over(vertices, vertex, window, steps) {
+            return true;
+        }
+        let above = parent_in(vertices, vertex);
+        self.held_up(vertices, most - 1, above, window, steps)
+    }
+
+    /// Whether a job holds the vertex itself at some moment of the window.
+    fn held_over<L: Ledger>(
+        &self,
+        vertices: &[Vertex],
+        vertex: u32,
+        window: Window,
+        steps: &mut Steps<L>,
+    ) -> bool
+        requires graph { AreAccountsOf vertices.now self.now }
+        requires window { window.from < window.to }
+        requires inside { vertex < length vertices.now }
+        ensures answer { (jobs : List Job) → AreAccounts P.total_of P.stands_for vertices.now jobs self.now →
+            (IsTrue result ↔ SomeMoment window (λ m. IsTrue (some_live_claim jobs m (is_hold vertex)))) }
+        ensures counted { steps.old ≤ steps.new }
+        ensures work { (most_looks : ℕ) → AllLookWithin P.look_cost most_looks self.now →
+            steps.new ≤ steps.old + look_most (length vertices.now) most_looks }
+    {
+        self.holds.least(vertex, window, steps) < u64::MAX
+    }
+
+    /// Whether a job holds the vertex or one above it at some moment of the window.
+    pub fn closed_over<L: Ledger>(
+        &self,
+        graph: &Graph,
+        vertex: u32,
+        window: Window,
+        steps: &mut Steps<L>,
+    ) -> bool
+        requires graph { AreAccountsOf graph.now.resources.vertices self.now }
+        requires window { window.from < window.to }
+        requires inside { vertex < length graph.now.resources.vertices }
+        ensures answer { (jobs : List Job) → AreAccounts P.total_of P.stands_for graph.now.resources.vertices jobs self.now →
+            (IsTrue result ↔ IsClosedOver graph.now.resources.vertices jobs window vertex) }
+        ensures some_work { steps.old < steps.new }
+        ensures work { (most_looks : ℕ) → AllLookWithin P.look_cost most_looks self.now →
+            steps.new ≤ steps.old + closed_most (length graph.now.resources.vertices) most_looks }
+    {
+        steps.tick();
+        let vertices = graph.vertices().items();
+        self.held_up(vertices, vertices.len(), Some(vertex), window, steps)
+    }
+
+    /// Whether a job has a claim on the vertex or below it at some moment of the window.
+    pub fn touched_over<L: Ledger>(
+        &self,
+        graph: &Graph,
+        vertex: u32,
+        window: Window,
+        steps: &mut Steps<L>,
+    ) -> bool
+        requires graph { AreAccountsOf graph.now.resources.vertices self.now }
+        requires window { window.from < window.to }
+        requires inside { vertex < length graph.now.resources.vertices }
+        ensures answer { (jobs : List Job) → AreAccounts P.total_of P.stands_for graph.now.resources.vertices jobs self.now →
+            (IsTrue result ↔ IsTouchedOver graph.now.resources.vertices jobs window vertex) }
+        ensures some_work { steps.old < steps.new }
+        ensures work { (most_looks : ℕ) → AllLookWithin P.look_cost most_looks self.now →
+            steps.new ≤ steps.old + look_most (length graph.now.resources.vertices) most_looks }
+    {
+        let _graph = graph;
+        self.claims.least(vertex, window, steps) < u64::MAX
+    }
+
+    /// The least that is free of the vertex at a moment of the window.
+    pub fn free_over<L: Ledger>(
+        &self,
+        graph: &Graph,
+        vertex: u32,
+        window: Window,
+        steps: &mut Steps<L>,
+    ) -> u64
+        requires graph { AreAccountsOf graph.now.resources.vertices self.now }
+        requires window { window.from < window.to }
+        requires inside { vertex < length graph.now.resources.vertices }
+        ensures answer { (jobs : List Job) → AreAccounts P.total_of P.stands_for graph.now.resources.vertices jobs self.now →
+            IsFreeOver graph.now.resources.vertices jobs window vertex result }
+        ensures some_work { steps.old < steps.new }
+        ensures work { (most_looks : ℕ) → AllLookWithin P.look_cost most_looks self.now →
+            steps.new ≤ steps.old + (closed_most (length graph.now.resources.vertices) most_looks + look_most (length graph.now.resources.vertices) most_looks) }
+    {
+        if self.closed_over(graph, vertex, window, steps) {
+            return 0;
+        }
+        if is_pool_vertex(graph, vertex) {
+            return self.takes.least(vertex, window, steps);
+        }
+        1
+    }
+
+    /// The least total of the type at the vertex, over a moment of the window, where the totals of the type are kept.
+    pub fn total_over<L: Ledger>(
+        &self,
+        graph: &Graph,
+        vertex: u32,
+        kind: u32,
+        window: Window,
+        steps: &mut Steps<L>,
+    ) -> Option<u64>
+        requires graph { AreAccountsOf graph.now.resources.vertices self.now }
+        requires window { window.from < window.to }
+        requires inside { vertex < length graph.now.resources.vertices }
+        ensures answer { (jobs : List Job) → AreAccounts P.total_of P.stands_for graph.now.resources.vertices jobs self.now →
+            IfSome result (IsTotalOver graph.now.resources.vertices jobs window kind vertex) }
+        ensures kept { KeepsKind self.now kind → IsSome result }
+        ensures some_work { steps.old < steps.new }
+        ensures work { (most_looks : ℕ) → AllLookWithin P.look_cost most_looks self.now →
+            steps.new ≤ steps.old + (closed_most (length graph.now.resources.vertices) most_looks + look_most (length graph.now.resources.vertices) most_looks) }
+    {
+        let closed = self.closed_over(graph, vertex, window, steps);
+        match self.totals.get(kind as usize) {
+            None => return None,
+            Some(None) => return None,
+            Some(Some(account)) => {
+                graph.is_valid();
+                if closed {
+                    return Some(0);
+                }
+                return Some(account.least(vertex, window, steps));
+            }
+        }
+    }
+
+    /// The least start or end of a job that is later than the moment; `None` exactly where there is none.
+    pub fn next_point<L: Ledger>(&self, after: u64, steps: &mut Steps<L>) -> Option<u64>
+        ensures later { ((vertices : List Vertex) × (jobs : List Job) × AreAccounts P.total_of P.stands_for vertices jobs self.now) → IfSome result (λ p. after < p) }
+        ensures answer { (vertices : List Vertex) (jobs : List Job) → AreAccounts P.total_of P.stands_for vertices jobs self.now →
+            MatchOption result ((p : ℕ) → after < p → IsPoint jobs p → ⊥) (IsNextPoint jobs after) }
+        ensures some_work { steps.old < steps.new }
+        ensures work { steps.new ≤ steps.old + (P.look_cost self.now.times + 1) }
+    {
+        steps.tick();
+        self.times.next_point(after, steps)
+    }
+}
+
+/// Whether the vertex is of a pool type.
+fn is_pool_vertex(graph: &Graph, vertex: u32) -> bool
+    ensures { result ≡ is_pool graph.now.resources.vertices vertex }
+{
+    match graph.vertices().get(vertex as usize) {
+        Some(found) => return graph.is_pool(found.kind),
+        None => return false,
+    }
+}

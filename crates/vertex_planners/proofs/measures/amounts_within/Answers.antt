@@ -1,0 +1,10 @@
+use Rattle.vertex_planners.proofs.ClaimSums.{within_step, inside_item}
+use Rattle.std.proofs.Common.{length}
+use Rattle.vertex_planners.proofs.measures.amounts_within.Goals as goal
+
+pub loop-claim-preserved : goal.loop-claim-preserved
+loop-claim-preserved g c = record {
+  sums = λ v. within_step c.args.graph.now.resources.vertices (g.M.Measure.amount c.args.measure.now) v c.args.claims.now c.loop-claim.claim-index _ _ _ _ _ c.loop-claim-test.true
+      (c.in_ok-raise_from.ensures.sums v) (c.loop-claim.invariant.sums v) c.vertex.ensures c.amount_of.ensures;
+  keys = λ all. c.in_ok-raise_from.ensures.keys (inside_item (length c.args.graph.now.resources.vertices) c.args.claims.now c.loop-claim.claim-index _ _ c.loop-claim-test.true c.vertex.ensures all) (c.loop-claim.invariant.keys all);
+}

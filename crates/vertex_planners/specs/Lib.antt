@@ -1,0 +1,4 @@
+pub mod Numbers
+pub mod Kept
+pub mod Lists
+pub mod Chains

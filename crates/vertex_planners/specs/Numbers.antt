@@ -1,0 +1,28 @@
+-- Numbers by vertices.
+use Rattle.std.specs.Prelude.{◌≡◌, ◌≢◌, ℕ, ◌+◌, ◌<◌, Option, Some, None, unwrap_or, IsSome, length}
+use Rattle.std.specs.Ordering.{nat_cmp}
+use Rattle.std.specs.BTreeMap.{get}
+use Rattle.vertex_planners.specs.declared.amounts.Amounts.{Amounts}
+
+-- the number that is kept for a vertex
+abbrev pub kept_at : Amounts → ℕ → Option ℕ
+kept_at amounts v = get nat_cmp amounts.map v
+
+-- the vertex's number: the one that is kept, and else 0
+abbrev pub amount_at : Amounts → ℕ → ℕ
+amount_at amounts v = unwrap_or (kept_at amounts v) 0
+
+-- for how many vertices a number is kept
+abbrev pub count_of : Amounts → ℕ
+count_of amounts = length amounts.map.entries
+
+-- numbers are kept for vertices before this one alone
+abbrev pub HasKeysBelow : ℕ → Amounts → Type 0
+HasKeysBelow most amounts = (v : ℕ) → IsSome (kept_at amounts v) → v < most
+
+-- one vertex less: the number that was kept for v is taken off
+pub record IsTakenOff (old new : Amounts) (v n : ℕ) : Type 0 where
+  pub was : kept_at old v ≡ Some n
+  pub gone : kept_at new v ≡ None
+  pub others : (u : ℕ) → u ≢ v → kept_at new u ≡ kept_at old u
+  pub fewer : count_of new + 1 ≡ count_of old

@@ -1,0 +1,52 @@
+//! Numbers by vertices.
+ghost use Rattle.std.specs.Prelude.{◌≡◌, ℕ, ◌+◌, ◌<◌, ◌≤◌, ◌==◌, if◌then◌else◌, length, List, Option, Some, None, IfSome, IfNone, OnOk, IsSome};
+ghost use Rattle.flux_defs.specs.Graph.{chain, has_on_chain, is_at_or_below, parent_of};
+ghost use Rattle.graph_laws.proofs.Containment.{ParentsFirst};
+ghost use Rattle.vertex_planners.specs.Numbers.{kept_at, amount_at, count_of, HasKeysBelow, IsTakenOff};
+
+use flux_defs::Vertex;
+use std::alloc::{AllocError, Global};
+use std::collections::BTreeMap;
+
+/// A number for each vertex, 0 for most: the others are kept by the vertex's number.
+#[derive(Drop)]
+pub struct Amounts {
+    pub(crate) map: BTreeMap<u32, u64>,
+}
+
+impl Amounts {
+    /// 0 for each vertex. It takes no memory.
+    pub fn new(alloc: Global) -> Amounts
+        ensures zero { (v : ℕ) → amount_at result v ≡ 0 }
+        ensures keys { (most : ℕ) → HasKeysBelow most result }
+        ensures count { count_of result ≡ 0 }
+    {
+        Amounts {
+            map: BTreeMap::new(alloc),
+        }
+    }
+
+    /// So much more for one vertex. A sum past the greatest number is answered as want of memory.
+    pub fn add(&mut self, vertex: u32, more: u64) -> Result<(), AllocError>
+        ensures sum { OnOk result ((v : ℕ) → amount_at self.new v ≡ amount_at self.old v + (if vertex == v then more else 0)) }
+        ensures keys { (most : ℕ) → vertex < most → HasKeysBelow most self.old → HasKeysBelow most self.new }
+        ensures count { count_of self.new ≤ count_of self.old + 1 }
+    {
+        let old = self.map.get(&vertex).copied().unwrap_or(0);
+        let Some(sum) = old.checked_add(more) else {
+            return Err(AllocError);
+        };
+        match self.map.insert(vertex, sum) {
+            Ok(_) => Ok(()),
+            Err(_) => Err(AllocError),
+        }
+    }
+
+    /// Takes one vertex off that has a number, with the number; `None` exactly where no vertex is left.
+    pub fn pop(&mut self) -> Option<(u32, u64)>
+        ensures taken { IfSome result (λ first. IsTakenOff self.old self.new first.0 first.1) }
+        ensures none { IfNone result ((v : ℕ) → kept_at self.old v ≡ None) }
+    {
+        self.map.pop_first()
+    }
+}
