@@ -1,2 +1,4 @@
 pub mod TieLaws
+pub mod CostLaws
 pub mod BookLaws
+pub mod ViewLaws

@@ -1,23 +1,28 @@
 //! The book of jobs.
-ghost use Rattle.std.specs.Prelude.{◌≡◌, ◌↔◌, ℕ, ◌∷◌, ◌++◌, [], List, Some, Contains, IsTrue, IfOk};
+ghost use Rattle.std.specs.Prelude.{◌≡◌, ◌↔◌, ℕ, ◌<◌, ◌∷◌, ◌++◌, [], List, Some, slice_get, Contains, IsTrue, IfOk};
 ghost use Rattle.std.specs.Arc.{arc_value};
 ghost use Rattle.std.specs.FinMap as map;
 ghost use Rattle.flux_defs.specs.declared.claims.Job.{Job};
 ghost use Rattle.flux_defs.specs.Scheduler.{without_job};
 ghost use Rattle.job_table.specs.Rows.{live_row, cancelled_row, HasLiveRow};
+ghost use Rattle.prune_filters.specs.Filters.{IsCounted};
+ghost use Rattle.planner_min_tree.specs.Plans as Plans;
+ghost use Rattle.planner_min_tree.specs.Plans.{Plan};
+ghost use Rattle.vertex_accounts.specs.Books.{AreAccounts, KeepsKind};
 ghost use Rattle.book_state.specs.Ties.{has_job};
 ghost use Rattle.book_state.specs.Books.{graph_of, rules_of, horizon_of, moment_of, rows_of, StandsFor, KeepsSetting, MayAdd};
 
-use crate::held::BookState;
-use crate::lists::{with_job, without_job};
-use flux_defs::{Job, List, Steps};
+use crate::held::{BookState, Kept};
+use flux_defs::{Job, Steps};
 use job_table::{JobTable, Row};
-use plain_jobs::PlainJobs;
+use planner_min_tree::MinTree;
 use prune_filters::Rules;
 use resource_graph::Graph;
 use std::alloc::{AllocError, Global};
+use std::marker::Brand;
 use std::sync::Arc;
-use std::sync::ledger::Ledger;
+use std::sync::ledger::{Blank, Ledger};
+use vertex_accounts::Accounts;
 
 impl BookState {
     /// The book without jobs, at moment 0.
@@ -34,13 +39,16 @@ impl BookState {
         ensures rows { IfOk result (λ book. rows_of book ≡ map.empty) }
         ensures jobs { IfOk result (λ book. StandsFor book []) }
     {
+        let accounts = first_accounts(alloc, &graph, &rules, horizon)?;
         Ok(BookState {
-            graph,
-            rules: Arc::new(alloc, rules)?,
-            horizon,
-            moment: 0,
-            jobs: Arc::new(alloc, List::new(alloc))?,
-            table: JobTable::empty(),
+            kept: Kept {
+                graph,
+                rules: Arc::new(alloc, rules)?,
+                horizon,
+                moment: 0,
+                accounts: Arc::new(alloc, accounts)?,
+                table: JobTable::empty(),
+            },
         })
     }
 
@@ -48,7 +56,7 @@ impl BookState {
     pub fn now(&self) -> u64
         ensures { result ≡ moment_of self.now }
     {
-        self.moment
+        self.kept.moment
     }
 
     /// The row of the job with this id, and `None` exactly where none was ever accepted. A live row is that of a job which
@@ -57,7 +65,7 @@ impl BookState {
         ensures row { result ≡ map.get (rows_of self.now) id }
         ensures live { (jobs : List Job) → StandsFor self.now jobs → (HasLiveRow (rows_of self.now) id ↔ IsTrue (has_job jobs id)) }
     {
-        self.table.find(id, steps)
+        self.kept.table.find(id, steps)
     }
 
     /// The same book, without a copy.
@@ -67,7 +75,7 @@ impl BookState {
         ensures rows { IfOk result (λ book. rows_of book ≡ rows_of self.now) }
         ensures jobs { IfOk result (λ book. (jobs : List Job) → StandsFor self.now jobs → StandsFor book jobs) }
     {
-        self.after_advance(self.moment)
+        self.after_advance(self.kept.moment)
     }
 
     /// The book at another moment.
@@ -78,12 +86,14 @@ impl BookState {
         ensures jobs { IfOk result (λ book. (jobs : List Job) → StandsFor self.now jobs → StandsFor book jobs) }
     {
         Ok(BookState {
-            graph: Arc::try_clone(&self.graph)?,
-            rules: Arc::try_clone(&self.rules)?,
-            horizon: self.horizon,
-            moment: to,
-            jobs: Arc::try_clone(&self.jobs)?,
-            table: self.table.share()?,
+            kept: Kept {
+                graph: Arc::try_clone(&self.kept.graph)?,
+                rules: Arc::try_clone(&self.kept.rules)?,
+                horizon: self.kept.horizon,
+                moment: to,
+                accounts: Arc::try_clone(&self.kept.accounts)?,
+                table: self.kept.table.share()?,
+            },
         })
     }
 
@@ -101,14 +111,18 @@ impl BookState {
         ensures rows { IfOk result (λ book. rows_of book ≡ map.insert (rows_of self.now) job.now.id (live_row at)) }
         ensures jobs { IfOk result (λ book. (jobs : List Job) → StandsFor self.now jobs → StandsFor book (jobs ++ job.now ∷ [])) }
     {
-        let jobs = with_job(alloc, self.job_list(), job)?;
+        let graph = self.graph();
+        let old = self.accounts();
+        let accounts = old.with_job(alloc, graph, job, steps)?;
         Ok(BookState {
-            graph: Arc::try_clone(&self.graph)?,
-            rules: Arc::try_clone(&self.rules)?,
-            horizon: self.horizon,
-            moment: self.moment,
-            jobs: Arc::new(alloc, jobs)?,
-            table: self.table.with_new(alloc, job.id, at, steps)?,
+            kept: Kept {
+                graph: Arc::try_clone(&self.kept.graph)?,
+                rules: Arc::try_clone(&self.kept.rules)?,
+                horizon: self.kept.horizon,
+                moment: self.kept.moment,
+                accounts: Arc::new(alloc, accounts)?,
+                table: self.kept.table.with_new(alloc, job.id, at, steps)?,
+            },
         })
     }
 
@@ -125,31 +139,51 @@ impl BookState {
         ensures moment { IfOk result (λ book. moment_of book ≡ moment_of self.now) }
         ensures rows { IfOk result (λ book. (at : ℕ) → map.get (rows_of self.now) job.now.id ≡ Some (live_row at) →
             rows_of book ≡ map.insert (rows_of self.now) job.now.id (cancelled_row at)) }
-        ensures jobs { IfOk result (λ book. (jobs : List Job) → StandsFor self.now jobs → StandsFor book (without_job job.now.id jobs)) }
+        ensures jobs { IfOk result (λ book. (jobs : List Job) → StandsFor self.now jobs → Contains jobs job.now → StandsFor book (without_job job.now.id jobs)) }
         ensures once { IfOk result (λ book. (before after : List Job) → StandsFor self.now (before ++ job.now ∷ after) → StandsFor book (before ++ after)) }
     {
-        let jobs = without_job(alloc, self.job_list(), job.id)?;
+        let graph = self.graph();
+        let old = self.accounts();
+        let accounts = old.without_job(alloc, graph, job, steps)?;
         Ok(BookState {
-            graph: Arc::try_clone(&self.graph)?,
-            rules: Arc::try_clone(&self.rules)?,
-            horizon: self.horizon,
-            moment: self.moment,
-            jobs: Arc::new(alloc, jobs)?,
-            table: self.table.with_cancelled(alloc, job.id, steps)?,
+            kept: Kept {
+                graph: Arc::try_clone(&self.kept.graph)?,
+                rules: Arc::try_clone(&self.kept.rules)?,
+                horizon: self.kept.horizon,
+                moment: self.kept.moment,
+                accounts: Arc::new(alloc, accounts)?,
+                table: self.kept.table.with_cancelled(alloc, job.id, steps)?,
+            },
         })
     }
+}
 
-    fn job_list(&self) -> &[Job]
-        ensures { result.now ≡ arc_value self.now.jobs }
-    {
-        self.jobs.items()
-    }
+/// The accounts of no jobs. Their making isn't counted.
+fn first_accounts(
+    alloc: Global,
+    graph: &Graph,
+    rules: &Rules,
+    horizon: u64,
+) -> Result<Accounts<MinTree>, AllocError>
+    ensures accounts { IfOk result (λ book. AreAccounts (λ (p : Plan). p.total) Plans.StandsFor graph.now.resources.vertices [] book) }
+    ensures kinds { IfOk result (λ book. (kind : ℕ) (name : List ℕ) → slice_get graph.now.resources.kinds kind ≡ Some name → IsCounted rules.now name → KeepsKind book kind) }
+{
+    counted_accounts::<Brand>(alloc, graph, rules, horizon, Blank::new(1))
+}
 
-    /// Its jobs as a view of its graph.
-    pub(crate) fn plain(&self) -> PlainJobs<'_>
-        ensures graph { result.graph.now ≡ graph_of self.now }
-        ensures jobs { result.jobs.now ≡ arc_value self.now.jobs }
-    {
-        PlainJobs::over(&self.graph, &self.jobs)
-    }
+fn counted_accounts<L: Ledger>(
+    alloc: Global,
+    graph: &Graph,
+    rules: &Rules,
+    horizon: u64,
+    blank: Blank,
+) -> Result<Accounts<MinTree>, AllocError>
+    requires name { blank.name ≡ L.name }
+    requires parts { blank.parts ≡ L.parts }
+    requires some { 0 < blank.parts }
+    ensures accounts { IfOk result (λ book. AreAccounts (λ (p : Plan). p.total) Plans.StandsFor graph.now.resources.vertices [] book) }
+    ensures kinds { IfOk result (λ book. (kind : ℕ) (name : List ℕ) → slice_get graph.now.resources.kinds kind ≡ Some name → IsCounted rules.now name → KeepsKind book kind) }
+{
+    let mut steps: Steps<L> = Steps::new(blank);
+    Accounts::new(alloc, graph, rules, horizon, &mut steps)
 }

@@ -1,24 +1,43 @@
 //! What a book holds.
-ghost use Rattle.std.specs.Arc.{arc_value};
-ghost use Rattle.book_state.specs.Ties.{Agree};
-
-use flux_defs::{Job, List};
 use job_table::JobTable;
+use planner_min_tree::MinTree;
 use prune_filters::Rules;
 use resource_graph::Graph;
 use std::alloc::Global;
+use std::marker::Model;
 use std::sync::Arc;
+use vertex_accounts::Accounts;
 
-/// A graph with filter rules and a horizon, the present moment, the jobs that were accepted and not cancelled, and a row
-/// for each job that was ever accepted. No book changes: a call that changes something gives a new one, which shares what
-/// stays. Times are in seconds.
+/// The fields of a book.
 #[derive(Drop)]
-pub struct BookState {
+pub struct Kept {
     pub(crate) graph: Arc<Graph, Global>,
     pub(crate) rules: Arc<Rules, Global>,
     pub(crate) horizon: u64,
     pub(crate) moment: u64,
-    pub(crate) jobs: Arc<List<Job>, Global>,
+    pub(crate) accounts: Arc<Accounts<MinTree>, Global>,
     pub(crate) table: JobTable,
-    ghost tied: { Agree table (arc_value jobs) },
+}
+
+/// A graph with filter rules and a horizon, the present moment, the accounts of the jobs that were accepted and not
+/// cancelled, and a row for each job that was ever accepted. No book changes: a call that changes something gives a new
+/// one, which shares what stays. Times are in seconds.
+#[derive(Drop)]
+pub struct BookState {
+    pub(crate) kept: Kept,
+}
+
+impl Model for BookState {
+    ghost use Rattle.std.specs.Coded.{codes};
+    ghost use Rattle.job_table.specs.contracts.tables.JobTable as table;
+    ghost use Rattle.book_state.specs.declared.held.Kept.{Kept};
+    ghost use Rattle.book_state.specs.Books.{IsBook};
+
+    ghost Value = { Kept };
+
+    ghost coded = { Prim.hlevel (codes, table.the_row.coded) };
+
+    ghost view = { λ book. book.kept };
+
+    ghost invariant = { λ book. IsBook book.kept };
 }

@@ -1,10 +1,9 @@
-//! The jobs of a graph over time, of which old versions stay: the plain form, a list of jobs. The faster forms to come are
-//! compared with it.
+//! The jobs of a graph over time, of which old versions stay: accounts of what they have at each vertex, in shared trees, so
+//! that a job more or less costs by its claims and not by the graph or by the other jobs.
 #![tactic(auto)]
 
 mod books;
 mod held;
-mod lists;
 mod view;
 
-pub use held::BookState;
+pub use held::{BookState, Kept};

@@ -1,33 +1,45 @@
-//! The book as what a search sees: its list of jobs, which every query walks.
+//! The book as what a search sees.
 
 use crate::held::BookState;
 use flux_defs::{FreeView, Steps, Window};
+use planner_min_tree::MinTree;
+use resource_graph::Graph;
 use std::sync::ledger::Ledger;
+use vertex_accounts::Accounts;
 
 impl FreeView for BookState {
-    ghost use Rattle.book_state.specs.Books.{vertices_of, StandsFor};
+    ghost use Rattle.std.specs.Prelude.{◌+◌, ◌*◌};
+    ghost use Rattle.std.specs.Arc.{arc_value};
+    ghost use Rattle.std.specs.FinMap as map;
+    ghost use Rattle.flux_defs.specs.Digits.{dig};
+    ghost use Rattle.book_state.specs.Books.{vertices_of, StandsFor, KeepsTotal, cost_of};
 
     ghost graph = { vertices_of };
 
     ghost stands_for = { StandsFor };
 
-    ghost keeps = { λ book vertex kind. ⊥ };
+    ghost keeps = { KeepsTotal };
 
-    ghost cost = { λ _. 1 };
+    ghost cost = { cost_of };
 
     fn closed_over<L: Ledger>(&self, vertex: u32, window: Window, steps: &mut Steps<L>) -> bool {
-        self.plain().closed_over(vertex, window, steps)
+        let graph = self.graph();
+        let accounts = self.accounts();
+        accounts.closed_over(graph, vertex, window, steps)
     }
 
     fn touched_over<L: Ledger>(&self, vertex: u32, window: Window, steps: &mut Steps<L>) -> bool {
-        self.plain().touched_over(vertex, window, steps)
+        let graph = self.graph();
+        let accounts = self.accounts();
+        accounts.touched_over(graph, vertex, window, steps)
     }
 
     fn free_over<L: Ledger>(&self, vertex: u32, window: Window, steps: &mut Steps<L>) -> u64 {
-        self.plain().free_over(vertex, window, steps)
+        let graph = self.graph();
+        let accounts = self.accounts();
+        accounts.free_over(graph, vertex, window, steps)
     }
 
-    /// It keeps no totals yet.
     fn total_over<L: Ledger>(
         &self,
         vertex: u32,
@@ -35,10 +47,56 @@ impl FreeView for BookState {
         window: Window,
         steps: &mut Steps<L>,
     ) -> Option<u64> {
-        self.plain().total_over(vertex, kind, window, steps)
+        if !self.keeps_total(vertex, kind) {
+            steps.tick();
+            return None;
+        }
+        let graph = self.graph();
+        let accounts = self.accounts();
+        accounts.total_over(graph, vertex, kind, window, steps)
     }
 
     fn next_point<L: Ledger>(&self, after: u64, steps: &mut Steps<L>) -> Option<u64> {
-        self.plain().next_point(after, steps)
+        let accounts = self.accounts();
+        accounts.next_point(after, steps)
+    }
+}
+
+impl BookState {
+    ghost use Rattle.std.specs.Prelude.{◌≡◌, ◌↔◌, IsTrue};
+    ghost use Rattle.resource_graph.specs.NamedGraph.{IsWhole};
+    ghost use Rattle.book_state.specs.Books.{graph_of, accounts_of, IsBook, KeepsTotal};
+
+    /// The graph.
+    pub(crate) fn graph(&self) -> &Graph
+        ensures value { result.now ≡ graph_of self.now }
+        ensures valid { IsWhole result.now }
+    {
+        self.kept.graph.is_valid();
+        &self.kept.graph
+    }
+
+    /// The accounts. Some jobs are there for which the book stands.
+    pub(crate) fn accounts(&self) -> &Accounts<MinTree>
+        ensures value { result.now ≡ accounts_of self.now }
+        ensures book { IsBook self.now }
+    {
+        &self.kept.accounts
+    }
+
+    /// Whether the rules keep a total of the type at the vertex.
+    fn keeps_total(&self, vertex: u32, kind: u32) -> bool
+        ensures { IsTrue result ↔ KeepsTotal self.now vertex kind }
+    {
+        let Some(found) = self.kept.graph.vertices().get(vertex as usize) else {
+            return false;
+        };
+        let Some(high) = self.kept.graph.kind_name(found.kind) else {
+            return false;
+        };
+        let Some(low) = self.kept.graph.kind_name(kind) else {
+            return false;
+        };
+        self.kept.rules.keeps(high.bytes(), low.bytes())
     }
 }

@@ -29,7 +29,8 @@ use Rattle.flux_laws.proofs.Aside.{separate_fits}
 use Rattle.flux_laws.proofs.Determined.{lowest_fits}
 use Rattle.sound_laws.proofs.Had.{IsHad, TakesPool, fits_had}
 use Rattle.book_state.specs.declared.held.BookState.{BookState}
-use Rattle.book_state.specs.Books.{vertices_of, horizon_of, rows_of, TakesFromPool, MayAdd}
+use Rattle.book_state.specs.Books.{vertices_of, horizon_of, rows_of, MayAdd}
+use Rattle.book_laws.specs.Amounts.{TakesFromPool}
 use Rattle.book_state.proofs.BookLaws.{stood}
 use Rattle.sched_core.specs.Courses.{IsBookAt}
 use Rattle.sched_core.specs.Answered.{MayFollow, HasRoom}
@@ -116,9 +117,10 @@ module _ (g : Setting) (names : List (List ℕ)) (valid : IsValidGraph g.graph n
         separate = subst (λ (x : List Vertex). AreAllSeparate x job.claims) (sym over)
             (separate_fits g.graph names valid ok 1 Everywhere ask.needs proper.needs job.claims fit);
         available = λ jobs stands.
-            subst (λ (x : List Vertex). AllByRecursion (IsAvailable (no_bars x jobs) w) job.claims) (sym over)
-            (subst (λ (js : List Job). AllByRecursion (IsAvailable (no_bars vs js) w) job.claims)
-            (stood book s.jobs at.jobs ∙ sym (stood book jobs stands))
+            stood book (g.graph, sym over, valid.preorder) s.jobs jobs at.jobs stands w job.claims
+            (subst (λ (x : List Vertex). AllByRecursion (λ c. vertex_of c < length x) job.claims) (sym over)
+            (fits_on vs ok 1 Everywhere ask.needs job.claims fit))
+            (subst (λ (x : List Vertex). AllByRecursion (IsAvailable (no_bars x s.jobs) w) job.claims) (sym over)
             (all_along (IsHad vs ok) (IsAvailable (no_bars vs s.jobs) w)
             (λ c h. unbarred vs s.jobs ask.barred w c h.0) job.claims had));
         fresh = fresh_row journal s job.id (get (rows_of book) job.id) (at.table job.id)

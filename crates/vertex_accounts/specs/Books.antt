@@ -61,7 +61,6 @@ pub record AllLookWithin {P : Type 0} (look_cost : P → ℕ) (most : ℕ) (book
   pub claims : LooksWithin look_cost most book.claims
   pub takes : LooksWithin look_cost most book.takes
   pub totals : (kind : ℕ) (account : Account P) → slice_get book.totals kind ≡ Some (Some account) → LooksWithin look_cost most account
-  pub times : look_cost book.times ≤ most
 
 -- what an account of totals becomes by a change: none stays none, and some has the same quantity and what the change says of it
 abbrev pub Becomes : {P : Type 0} → (Account P → Account P → Type 0) → Option (Account P) → Option (Account P) → Type 0

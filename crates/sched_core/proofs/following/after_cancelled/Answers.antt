@@ -38,4 +38,4 @@ returns-clause-book g c = λ e commanded replied.
     let row = subst (λ (n : ℕ). get (rows_of book) n ≡ Some (live_row live.0)) (sym same) live.1 in
     book_cancelled journal e book next of id live.0 commanded replied live.1 c.in_ok-next-in-Some.ensures.moment
     (subst (λ (n : ℕ). rows_of next ≡ insert (rows_of book) n (cancelled_row live.0)) same (c.in_ok-next-in-Some.ensures.rows live.0 row))
-    (subst (λ (n : ℕ). StandsFor next (without_job n s.jobs)) same (c.in_ok-next-in-Some.ensures.jobs s.jobs of.jobs))
+    (subst (λ (n : ℕ). StandsFor next (without_job n s.jobs)) same (c.in_ok-next-in-Some.ensures.jobs s.jobs of.jobs (is_there id s.jobs job (sym c.in-Some.ensures)).0))

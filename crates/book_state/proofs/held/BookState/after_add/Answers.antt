@@ -1,21 +1,63 @@
-use Rattle.std.proofs.Common.{sym, ◌∙◌, ap, ◌++◌, ◌∷◌, []}
+use Rattle.std.proofs.Common.{◌<◌, ◌++◌, ◌∷◌, [], ℕ, List, length, sym, ◌∙◌, ap, subst}
+use Rattle.std.specs.List.{AllByRecursion}
 use Rattle.std.specs.Arc.{arc_value}
-use Rattle.book_state.specs.Books.{rows_of}
-use Rattle.book_state.proofs.BookLaws.{stands, stood}
-use Rattle.book_state.proofs.TieLaws.{agree_more, agree_along}
+use Rattle.std.specs.FinMap.{insert}
+use Rattle.flux_defs.specs.declared.claims.Job.{Job}
+use Rattle.flux_defs.specs.Jobs.{vertex_of}
+use Rattle.resource_graph.specs.NamedGraph.{NamedGraph}
+use Rattle.job_table.specs.Rows.{live_row}
+use Rattle.book_laws.specs.TotalLaws.{AreFair}
+use Rattle.planner_min_tree.specs.Plans as Plans
+use Rattle.planner_min_tree.specs.Plans.{Plan}
+use Rattle.vertex_accounts.specs.declared.books.Accounts.{Accounts}
+use Rattle.vertex_accounts.specs.Books.{AreAccounts, KeepsKind}
+use Rattle.book_state.specs.declared.held.Kept.{Kept}
+use Rattle.book_state.specs.Books.{graph_of, vertices_of, rules_of, rows_of, accounts_of, StandsFor, StandsIn}
+use Rattle.book_state.proofs.BookLaws.{moved, added}
+use Rattle.book_state.proofs.ViewLaws.{accounts_at, fair_with}
 use Rattle.book_state.proofs.held.BookState.after_add.Goals as goal
+
+pub with_job-requires-clause-on_graph : goal.with_job-requires-clause-on_graph
+with_job-requires-clause-on_graph g c = record {
+  begins = c.requires.begins;
+  on_vertices = subst (λ (h : NamedGraph). AllByRecursion (λ d. vertex_of d < length h.resources.vertices) c.args.job.now.claims) (sym c.graph-graph.ensures.value) c.requires.on_vertices;
+}
+
+pub with_job-requires-clause-there : goal.with_job-requires-clause-there
+with_job-requires-clause-there g c =
+    let is = c.accounts-old.ensures.book in
+    (is.0, accounts_at c.graph-graph.result.now c.accounts-old.result.now c.args.self.now c.graph-graph.ensures.value c.accounts-old.ensures.value is.0 is.1,
+      fair_with c.graph-graph.result.now c.args.self.now c.graph-graph.ensures.value c.graph-graph.ensures.valid c.args.job.now c.requires is.0 is.1)
+
+pub returns-clause-jobs : goal.returns-clause-jobs
+returns-clause-jobs g c = λ jobs x.
+    let k = c.args.self.now in
+    let job : Job = c.args.job.now in
+    let G = c.graph-graph.result.now in
+    let eg = c.graph-graph.ensures.value in
+    let ea = c.accounts-old.ensures.value in
+    let new : Accounts Plan = c.in_ok-accounts.accounts in
+    let acc = subst (λ (h : NamedGraph). AreAccounts (λ (p : Plan). p.total) Plans.StandsFor h.resources.vertices (jobs ++ job ∷ []) new) eg
+        (c.in_ok-accounts.ensures.accounts jobs (accounts_at G c.accounts-old.result.now k eg ea jobs x) (fair_with G k eg c.graph-graph.ensures.valid job c.requires jobs x)) in
+    moved (graph_of k) _ (rules_of k) _ new _ (insert (rows_of k) job.id (live_row c.args.at)) _ (jobs ++ job ∷ [])
+    (c.in_ok-try_clone.ensures ∙ ap graph_of c.self.view_is) (c.in_ok-try_clone-2.ensures ∙ ap rules_of c.self.view_is) c.in_ok-new.ensures.ok
+    (c.in_ok-with_new.ensures.added ∙ ap (λ (b : Kept). insert (rows_of b) job.id (live_row c.args.at)) c.self.view_is)
+    (added (graph_of k) (rules_of k) (accounts_of k) new (rows_of k) jobs job c.args.at c.requires.fresh acc
+    (λ kind h. c.in_ok-accounts.ensures.kinds kind (subst (λ (a : Accounts Plan). KeepsKind a kind) (sym ea) h)) x)
 
 pub invariant_of-result : goal.invariant_of-result
 invariant_of-result g c =
-    let book = c.args.self.now in
-    let job = c.args.job.now in
-    record {
-      tied = agree_along _ c.in_ok-with_new.field-0 (arc_value book.jobs ++ job ∷ []) _ c.in_ok-with_new.ensures.added
-          (c.in_ok-new.ensures.ok ∙ c.in_ok-jobs.ensures ∙ ap (λ js. js ++ job ∷ []) c.job_list.ensures)
-          (agree_more (rows_of book) (arc_value book.jobs) job c.args.at c.requires.fresh book.tied);
-    }
-
-pub returns-clause-jobs : goal.returns-clause-jobs
-returns-clause-jobs g c = λ jobs h.
-    stands _ (jobs ++ c.args.job.now ∷ [])
-    (ap (λ js. js ++ c.args.job.now ∷ []) (stood c.args.self.now jobs h ∙ sym c.job_list.ensures) ∙ sym c.in_ok-jobs.ensures ∙ sym c.in_ok-new.ensures.ok)
+    let (jobs, x) = c.accounts-old.ensures.book in
+    let k = c.args.self.now in
+    let job : Job = c.args.job.now in
+    let G = c.graph-graph.result.now in
+    let eg = c.graph-graph.ensures.value in
+    let ea = c.accounts-old.ensures.value in
+    let new : Accounts Plan = c.in_ok-accounts.accounts in
+    let acc = subst (λ (h : NamedGraph). AreAccounts (λ (p : Plan). p.total) Plans.StandsFor h.resources.vertices (jobs ++ job ∷ []) new) eg
+        (c.in_ok-accounts.ensures.accounts jobs (accounts_at G c.accounts-old.result.now k eg ea jobs x) (fair_with G k eg c.graph-graph.ensures.valid job c.requires jobs x)) in
+    (jobs ++ job ∷ [], moved (graph_of k) _ (rules_of k) _ new _ (insert (rows_of k) job.id (live_row c.args.at)) _ (jobs ++ job ∷ [])
+    (c.in_ok-try_clone.ensures ∙ ap graph_of c.self.view_is) (c.in_ok-try_clone-2.ensures ∙ ap rules_of c.self.view_is) c.in_ok-new.ensures.ok
+    (c.in_ok-with_new.ensures.added ∙ ap (λ (b : Kept). insert (rows_of b) job.id (live_row c.args.at)) c.self.view_is)
+    (added (graph_of k) (rules_of k) (accounts_of k) new (rows_of k) jobs job c.args.at c.requires.fresh acc
+    (λ kind h. c.in_ok-accounts.ensures.kinds kind (subst (λ (a : Accounts Plan). KeepsKind a kind) (sym ea) h)) x))

@@ -1,33 +1,89 @@
-use Rattle.std.proofs.Common.{List, ◌++◌, ◌∷◌, IsTrue, sym, ◌∙◌, ap, subst}
-use Rattle.std.specs.Arc.{arc_value}
+use Rattle.std.proofs.Common.{◌≡◌, ◌++◌, ◌∷◌, ℕ, List, Some, sym, ◌∙◌, ap, subst}
+use Rattle.std.specs.FinMap.{get, insert}
 use Rattle.flux_defs.specs.declared.claims.Job.{Job}
 use Rattle.flux_defs.specs.Scheduler.{without_job}
-use Rattle.book_state.specs.Ties.{have_own_ids}
-use Rattle.book_state.specs.Books.{rows_of}
-use Rattle.book_state.proofs.BookLaws.{stands, stood}
-use Rattle.book_state.proofs.TieLaws.{agree_less, agree_along, without_middle}
+use Rattle.resource_graph.specs.NamedGraph.{NamedGraph}
+use Rattle.job_table.specs.Rows.{live_row, cancelled_row}
+use Rattle.planner_min_tree.specs.Plans as Plans
+use Rattle.planner_min_tree.specs.Plans.{Plan}
+use Rattle.vertex_accounts.specs.declared.books.Accounts.{Accounts}
+use Rattle.vertex_accounts.specs.Books.{AreAccounts, KeepsKind, IsOnGraph}
+use Rattle.vertex_accounts.proofs.JoinLaws.{middle_of}
+use Rattle.book_state.specs.declared.held.Kept.{Kept}
+use Rattle.book_state.specs.Books.{graph_of, vertices_of, rules_of, rows_of, accounts_of, StandsFor}
+use Rattle.book_state.proofs.BookLaws.{moved, moved_to, removed, split_at}
+use Rattle.book_state.proofs.TieLaws.{without_middle}
+use Rattle.book_state.proofs.ViewLaws.{accounts_at}
 use Rattle.book_state.proofs.held.BookState.after_remove.Goals as goal
+
+pub without_job-requires-clause-on_graph : goal.without_job-requires-clause-on_graph
+without_job-requires-clause-on_graph g c =
+    let (jobs, x, has) = c.requires.there in
+    let (before, after, e) = split_at jobs c.args.job.now has in
+    let y = subst (StandsFor c.args.self.now) e x in
+    subst (λ (h : NamedGraph). IsOnGraph h.resources.vertices c.args.job.now) (sym c.graph-graph.ensures.value)
+    (middle_of (IsOnGraph (vertices_of c.args.self.now)) before c.args.job.now after y.accounts_are.on_graph)
+
+pub without_job-requires-clause-there : goal.without_job-requires-clause-there
+without_job-requires-clause-there g c =
+    let (jobs, x, has) = c.requires.there in
+    let (before, after, e) = split_at jobs c.args.job.now has in
+    (before, after, accounts_at c.graph-graph.result.now c.accounts-old.result.now c.args.self.now c.graph-graph.ensures.value c.accounts-old.ensures.value
+      (before ++ c.args.job.now ∷ after) (subst (StandsFor c.args.self.now) e x))
+
+pub returns-clause-once : goal.returns-clause-once
+returns-clause-once g c = λ before after x.
+    let k = c.args.self.now in
+    let job : Job = c.args.job.now in
+    let eg = c.graph-graph.ensures.value in
+    let ea = c.accounts-old.ensures.value in
+    let new : Accounts Plan = c.in_ok-accounts.accounts in
+    let (at, live) = c.requires.live in
+    let acc = subst (λ (h : NamedGraph). AreAccounts (λ (p : Plan). p.total) Plans.StandsFor h.resources.vertices (before ++ after) new) eg
+        (c.in_ok-accounts.ensures.accounts before after (accounts_at c.graph-graph.result.now c.accounts-old.result.now k eg ea (before ++ job ∷ after) x)) in
+    moved (graph_of k) _ (rules_of k) _ new _ (insert (rows_of k) job.id (cancelled_row at)) _ (before ++ after)
+    (c.in_ok-try_clone.ensures ∙ ap graph_of c.self.view_is) (c.in_ok-try_clone-2.ensures ∙ ap rules_of c.self.view_is) c.in_ok-new.ensures.ok
+    (c.in_ok-with_cancelled.ensures.cancelled at (subst (λ (b : Kept). get (rows_of b) job.id ≡ Some (live_row at)) (sym c.self.view_is) live)
+    ∙ ap (λ (b : Kept). insert (rows_of b) job.id (cancelled_row at)) c.self.view_is)
+    (removed (graph_of k) (rules_of k) (accounts_of k) new (rows_of k) before job after at live acc
+    (λ kind h. c.in_ok-accounts.ensures.kinds kind (subst (λ (a : Accounts Plan). KeepsKind a kind) (sym ea) h)) x)
+
+pub returns-clause-jobs : goal.returns-clause-jobs
+returns-clause-jobs g c = λ jobs y has.
+    let (before, after, e) = split_at jobs c.args.job.now has in
+    let x = subst (StandsFor c.args.self.now) e y in
+    let same : without_job c.args.job.now.id jobs ≡ before ++ after = ap (without_job c.args.job.now.id) e ∙ without_middle before after c.args.job.now x.ties.own in
+    let k = c.args.self.now in
+    let job : Job = c.args.job.now in
+    let eg = c.graph-graph.ensures.value in
+    let ea = c.accounts-old.ensures.value in
+    let new : Accounts Plan = c.in_ok-accounts.accounts in
+    let (at, live) = c.requires.live in
+    let acc = subst (λ (h : NamedGraph). AreAccounts (λ (p : Plan). p.total) Plans.StandsFor h.resources.vertices (before ++ after) new) eg
+        (c.in_ok-accounts.ensures.accounts before after (accounts_at c.graph-graph.result.now c.accounts-old.result.now k eg ea (before ++ job ∷ after) x)) in
+    moved_to (graph_of k) _ (rules_of k) _ new _ (insert (rows_of k) job.id (cancelled_row at)) _ (before ++ after) (without_job job.id jobs) same
+    (c.in_ok-try_clone.ensures ∙ ap graph_of c.self.view_is) (c.in_ok-try_clone-2.ensures ∙ ap rules_of c.self.view_is) c.in_ok-new.ensures.ok
+    (c.in_ok-with_cancelled.ensures.cancelled at (subst (λ (b : Kept). get (rows_of b) job.id ≡ Some (live_row at)) (sym c.self.view_is) live)
+    ∙ ap (λ (b : Kept). insert (rows_of b) job.id (cancelled_row at)) c.self.view_is)
+    (removed (graph_of k) (rules_of k) (accounts_of k) new (rows_of k) before job after at live acc
+    (λ kind h. c.in_ok-accounts.ensures.kinds kind (subst (λ (a : Accounts Plan). KeepsKind a kind) (sym ea) h)) x)
 
 pub invariant_of-result : goal.invariant_of-result
 invariant_of-result g c =
-    let book = c.args.self.now in
-    let id = c.args.job.now.id in
-    record {
-      tied = agree_along _ c.in_ok-with_cancelled.field-0 (without_job id (arc_value book.jobs)) _ (c.in_ok-with_cancelled.ensures.cancelled c.requires.live.0 c.requires.live.1)
-          (c.in_ok-new.ensures.ok ∙ c.in_ok-jobs.ensures ∙ ap (without_job id) c.job_list.ensures)
-          (agree_less (rows_of book) (arc_value book.jobs) id c.requires.live.0 book.tied);
-    }
-
-pub returns-clause-jobs : goal.returns-clause-jobs
-returns-clause-jobs g c = λ jobs h.
-    stands _ (without_job c.args.job.now.id jobs)
-    (ap (without_job c.args.job.now.id) (stood c.args.self.now jobs h ∙ sym c.job_list.ensures) ∙ sym c.in_ok-jobs.ensures ∙ sym c.in_ok-new.ensures.ok)
-
-pub returns-clause-once : goal.returns-clause-once
-returns-clause-once g c = λ before after h.
-    let book = c.args.self.now in
+    let (jobs, y, has) = c.requires.there in
+    let (before, after, e) = split_at jobs c.args.job.now has in
+    let x = subst (StandsFor c.args.self.now) e y in
+    let k = c.args.self.now in
     let job : Job = c.args.job.now in
-    let all = stood book (before ++ job ∷ after) h in
-    let own = subst (λ (js : List Job). IsTrue (have_own_ids js)) (sym all) book.tied.own in
-    stands _ (before ++ after)
-    (sym (without_middle before after job own) ∙ ap (without_job job.id) (all ∙ sym c.job_list.ensures) ∙ sym c.in_ok-jobs.ensures ∙ sym c.in_ok-new.ensures.ok)
+    let eg = c.graph-graph.ensures.value in
+    let ea = c.accounts-old.ensures.value in
+    let new : Accounts Plan = c.in_ok-accounts.accounts in
+    let (at, live) = c.requires.live in
+    let acc = subst (λ (h : NamedGraph). AreAccounts (λ (p : Plan). p.total) Plans.StandsFor h.resources.vertices (before ++ after) new) eg
+        (c.in_ok-accounts.ensures.accounts before after (accounts_at c.graph-graph.result.now c.accounts-old.result.now k eg ea (before ++ job ∷ after) x)) in
+    (before ++ after, moved (graph_of k) _ (rules_of k) _ new _ (insert (rows_of k) job.id (cancelled_row at)) _ (before ++ after)
+    (c.in_ok-try_clone.ensures ∙ ap graph_of c.self.view_is) (c.in_ok-try_clone-2.ensures ∙ ap rules_of c.self.view_is) c.in_ok-new.ensures.ok
+    (c.in_ok-with_cancelled.ensures.cancelled at (subst (λ (b : Kept). get (rows_of b) job.id ≡ Some (live_row at)) (sym c.self.view_is) live)
+    ∙ ap (λ (b : Kept). insert (rows_of b) job.id (cancelled_row at)) c.self.view_is)
+    (removed (graph_of k) (rules_of k) (accounts_of k) new (rows_of k) before job after at live acc
+    (λ kind h. c.in_ok-accounts.ensures.kinds kind (subst (λ (a : Accounts Plan). KeepsKind a kind) (sym ea) h)) x))

@@ -1,11 +1,17 @@
-use Rattle.std.proofs.Common.{[], sym, ◌∙◌}
+use Rattle.std.proofs.Common.{[], sym, arith}
+use Rattle.std.specs.Arc.{arc_value}
 use Rattle.std.specs.FinMap.{empty}
-use Rattle.book_state.proofs.BookLaws.{stands}
-use Rattle.book_state.proofs.TieLaws.{agree_none, agree_along}
+use Rattle.book_state.proofs.BookLaws.{moved, none_stands}
 use Rattle.book_state.proofs.held.BookState.new.Goals as goal
 
 pub invariant_of-result : goal.invariant_of-result
-invariant_of-result c = record { tied = agree_along empty c.empty.result [] _ c.empty.ensures (c.in_ok-new-2.ensures.ok ∙ c.new-2.ensures) agree_none }
+invariant_of-result c = ([],
+  moved c.deref.result.now (arc_value c.args.graph) c.args.rules (arc_value c.in_ok-new.field-0) c.in_ok-accounts.accounts (arc_value c.in_ok-new-2.field-0) empty c.empty.result []
+  (sym c.deref.ensures) c.in_ok-new.ensures.ok c.in_ok-new-2.ensures.ok c.empty.ensures
+  (none_stands c.deref.result.now c.args.rules c.in_ok-accounts.accounts c.in_ok-accounts.ensures.accounts c.in_ok-accounts.ensures.kinds))
 
 pub returns-clause-jobs : goal.returns-clause-jobs
-returns-clause-jobs c = stands _ _ (sym (c.in_ok-new-2.ensures.ok ∙ c.new-2.ensures))
+returns-clause-jobs c =
+    moved c.deref.result.now (arc_value c.args.graph) c.args.rules (arc_value c.in_ok-new.field-0) c.in_ok-accounts.accounts (arc_value c.in_ok-new-2.field-0) empty c.empty.result []
+    (sym c.deref.ensures) c.in_ok-new.ensures.ok c.in_ok-new-2.ensures.ok c.empty.ensures
+    (none_stands c.deref.result.now c.args.rules c.in_ok-accounts.accounts c.in_ok-accounts.ensures.accounts c.in_ok-accounts.ensures.kinds)

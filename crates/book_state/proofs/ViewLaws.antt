@@ -1,0 +1,66 @@
+-- From the accounts of a book to the book.
+use Rattle.std.proofs.Common.{◌≡◌, ℕ, ◌+◌, ◌*◌, ◌<◌, ◌≤◌, List, [], ◌∷◌, ◌++◌, length, Option, IfSome, MatchOption, sym, ◌∙◌, ap, subst, arith}
+use Rattle.std.specs.FinMap.{len}
+use Rattle.flux_defs.specs.declared.vertices.Vertex.{Vertex}
+use Rattle.flux_defs.specs.declared.claims.Job.{Job}
+use Rattle.flux_defs.specs.Digits.{dig}
+use Rattle.resource_graph.specs.NamedGraph.{NamedGraph, IsWhole}
+use Rattle.planner_min_tree.specs.Plans as Plans
+use Rattle.planner_min_tree.specs.Plans.{Plan}
+use Rattle.vertex_accounts.specs.declared.books.Accounts.{Accounts}
+use Rattle.vertex_accounts.specs.Costs.{look_most, closed_most}
+use Rattle.vertex_accounts.specs.Books.{AreAccountsOf, AreAccounts, AllLookWithin}
+use Rattle.book_state.specs.declared.held.Kept.{Kept}
+use Rattle.book_state.specs.Books.{graph_of, vertices_of, accounts_of, rows_of, StandsFor, IsBook, MayAdd, cost_of}
+use Rattle.flux_defs.specs.Closed.{no_bars}
+use Rattle.flux_defs.specs.Available.{IsAvailable}
+use Rattle.book_laws.specs.Amounts.{TakesFromPool}
+use Rattle.book_laws.specs.TotalLaws.{AreFair}
+use Rattle.book_laws.proofs.Adding.{fair_added}
+use Rattle.book_state.proofs.BookLaws.{both_of}
+use Rattle.book_state.proofs.CostLaws.{all_cost, times_cost, answer_covered, next_covered}
+
+module _ (g : NamedGraph) (a : Accounts Plan) (book : Kept) (eg : g ≡ graph_of book) (ea : a ≡ accounts_of book) where
+  pub accounts_at : (jobs : List Job) → StandsFor book jobs → AreAccounts (λ (p : Plan). p.total) Plans.StandsFor g.resources.vertices jobs a
+  accounts_at jobs x =
+      subst (AreAccounts (λ (p : Plan). p.total) Plans.StandsFor g.resources.vertices jobs) (sym ea)
+      (subst (λ (h : NamedGraph). AreAccounts (λ (p : Plan). p.total) Plans.StandsFor h.resources.vertices jobs (accounts_of book)) (sym eg) x.accounts_are)
+
+  pub graph_at : IsBook book → AreAccountsOf g.resources.vertices a
+  graph_at is = (accounts_at is.0 is.1).graph
+
+  pub answer_at : (Q : List Vertex → List Job → Type 0) → ((jobs : List Job) → AreAccounts (λ (p : Plan). p.total) Plans.StandsFor g.resources.vertices jobs a → Q g.resources.vertices jobs) →
+      (jobs : List Job) → StandsFor book jobs → Q (vertices_of book) jobs
+  answer_at Q f jobs x = subst (λ (h : NamedGraph). Q h.resources.vertices jobs) eg (f jobs (accounts_at jobs x))
+
+  pub inside_at : (v : ℕ) → v < length (vertices_of book) → v < length g.resources.vertices
+  inside_at v lt = subst (λ (h : NamedGraph). v < length h.resources.vertices) (sym eg) lt
+
+  pub work_at : IsBook book → IsWhole g → (old new : ℕ) →
+      ((n : ℕ) → AllLookWithin (λ (p : Plan). 16 * dig (length p.points + 2)) n a → new ≤ old + (closed_most (length g.resources.vertices) n + look_most (length g.resources.vertices) n)) → new ≤ old + cost_of book
+  work_at is whole old new work =
+      let at = accounts_at is.0 is.1 in
+      let w = work (16 * dig (2 * a.count + 2)) (all_cost a g.resources.vertices is.0 at) in
+      let c = answer_covered (length g.resources.vertices) a.count (len (rows_of book)) whole.valid.few in
+      let same = ap (λ (x : Accounts Plan). 512 * dig (2 * x.count + len (rows_of book) + 4)) ea in
+      omega (arith, w, c, same)
+
+-- the next point
+module _ (a : Accounts Plan) (book : Kept) (ea : a ≡ accounts_of book) where
+  pub accounts_in : (jobs : List Job) → StandsFor book jobs → AreAccounts (λ (p : Plan). p.total) Plans.StandsFor (vertices_of book) jobs a
+  accounts_in jobs x = subst (AreAccounts (λ (p : Plan). p.total) Plans.StandsFor (vertices_of book) jobs) (sym ea) x.accounts_are
+
+  pub next_at : IsBook book → (old new : ℕ) → new ≤ old + (16 * dig (length a.times.points + 2) + 1) → new ≤ old + cost_of book
+  next_at is old new w =
+      let t = times_cost a (vertices_of book) is.0 (accounts_in is.0 is.1) (len (rows_of book)) is.1.few in
+      let c = next_covered a.count (len (rows_of book)) in
+      let same = ap (λ (x : Accounts Plan). 512 * dig (2 * x.count + len (rows_of book) + 4)) ea in
+      omega (arith, w, t, c, same)
+
+-- a job that may be added oversubscribes no vertex beside the others
+pub fair_with : (g : NamedGraph) (book : Kept) → g ≡ graph_of book → IsWhole g → (job : Job) → MayAdd book job → (jobs : List Job) → StandsFor book jobs → AreFair g.resources.vertices (jobs ++ job ∷ [])
+fair_with g book eg whole job may jobs x =
+    let own = subst IsWhole eg whole in
+    subst (λ (h : NamedGraph). AreFair h.resources.vertices (jobs ++ job ∷ [])) (sym eg)
+    (fair_added (graph_of book).resources own.valid.preorder jobs job x.accounts_are.fair
+    (both_of (IsAvailable (no_bars (vertices_of book) jobs) (record { from = job.start; to = job.end })) (TakesFromPool (vertices_of book)) job.claims (may.available jobs x) may.from_pools) may.separate)
