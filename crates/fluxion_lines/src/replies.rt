@@ -1,11 +1,15 @@
 //! The lines that answer.
-ghost use Rattle.std.specs.Prelude.{◌≡◌, ◌++◌, decimal, IfOk, OnOk, codes};
+ghost use Rattle.std.specs.Prelude.{◌≡◌, ◌<◌, ◌++◌, Some, length, slice_get, decimal, IfOk, OnOk, codes};
+ghost use Rattle.flux_defs.specs.declared.journal.Entry.{Entry};
 ghost use Rattle.fluxion_lines.specs.Texts.{job_text, phase_text, why_of, reply_text, line_text, name_of, history_text};
 
-use flux_defs::{Command, Entry, Job, List, Phase, Reply, Text};
+use flux_defs::{Command, Entry, Job, List, Phase, Reply, Steps, Text};
 use resource_graph::Graph;
 use resource_set_r::write_r;
+use snapshot_store::Pages;
 use std::alloc::{AllocError, Global};
+use std::marker::Brand;
+use std::sync::ledger::{Blank, Ledger};
 use text_forms::{push_bytes, push_decimal};
 
 /// Adds an accepted job, after the word for it.
@@ -149,20 +153,56 @@ pub fn history_text(
     alloc: Global,
     graph: &Graph,
     clients: &List<Text>,
-    history: &[Entry],
+    history: &Pages<Entry>,
 ) -> Result<Text, AllocError>
     ensures { IfOk result (λ text. text ≡ history_text graph.now clients.now history.now) }
 {
+    history_text_counted::<Brand>(alloc, graph, clients, history, Blank::new(1))
+}
+
+fn history_text_counted<L: Ledger>(
+    alloc: Global,
+    graph: &Graph,
+    clients: &List<Text>,
+    history: &Pages<Entry>,
+    blank: Blank,
+) -> Result<Text, AllocError>
+    requires name { blank.name ≡ L.name }
+    requires parts { blank.parts ≡ L.parts }
+    requires some { 0 < blank.parts }
+    ensures { IfOk result (λ text. text ≡ history_text graph.now clients.now history.now) }
+{
+    let mut steps: Steps<L> = Steps::new(blank);
     let mut text = Vec::new(alloc);
-    for (at, entry) in history.iter().enumerate() {
-        add_line(
-            alloc,
-            &mut text,
-            graph,
-            at as u64,
-            entry,
-            name_of(clients, entry.client),
-        )?;
+    for at in 0..history.len() {
+        add_entry(alloc, &mut text, graph, clients, history, at, &mut steps)?;
     }
     Ok(Text::of_vec(text))
+}
+
+/// Adds the line of the entry at a place of the journal.
+fn add_entry<L: Ledger>(
+    alloc: Global,
+    text: &mut Vec<u8>,
+    graph: &Graph,
+    clients: &List<Text>,
+    history: &Pages<Entry>,
+    at: u64,
+    steps: &mut Steps<L>,
+) -> Result<(), AllocError>
+    requires { at < length history.now }
+    ensures { OnOk result ((e : Entry) × (slice_get history.now at ≡ Some e)
+        × (text.new.items ≡ text.old.items ++ line_text graph.now at e (name_of clients.now e.client))) }
+{
+    match history.get(at, steps) {
+        None => unreachable!(),
+        Some(entry) => add_line(
+            alloc,
+            text,
+            graph,
+            at,
+            entry,
+            name_of(clients, entry.client),
+        ),
+    }
 }

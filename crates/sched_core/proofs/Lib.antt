@@ -7,3 +7,5 @@ pub mod Accepting
 pub mod NextCore
 pub mod FirstCore
 pub mod PlayedLines
+pub mod SharedCore
+pub mod Committed

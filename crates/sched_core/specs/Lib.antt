@@ -1,3 +1,6 @@
 pub mod Courses
 pub mod Answered
 pub mod Played
+pub mod Searched
+pub mod Judged
+pub mod Candidates

@@ -49,7 +49,7 @@ pub(crate) fn append<L: Ledger>(
         return Err((entry.command, AllocError));
     };
     let claims = claims_after(site.claim_limit, kept.claim_count, &entry.reply);
-    match kept.journal.push(entry) {
+    match kept.journal.push(site.alloc, entry, steps) {
         Ok(()) => {
             kept.book = book;
             kept.claim_count = claims;

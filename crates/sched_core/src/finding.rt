@@ -36,7 +36,7 @@ pub(crate) fn is_satisfiable<L: Ledger>(graph: &Graph, ask: &Ask, steps: &mut St
 }
 
 /// Whether a job of this id was ever accepted.
-fn is_used<L: Ledger>(book: &BookState, id: u64, steps: &mut Steps<L>) -> bool
+pub(crate) fn is_used<L: Ledger>(book: &BookState, id: u64, steps: &mut Steps<L>) -> bool
     ensures { (journal : List Entry) → IsBookOf journal book.now →
         (IsTrue result ↔ Contains (left_by journal).used id) }
 {

@@ -11,14 +11,15 @@ ghost use Rattle.sched_core.specs.Answered.{ChangesNothing, MayFollow};
 
 use crate::settling::live_job;
 use book_state::BookState;
-use flux_defs::{Command, Entry, Job, List, Reply, Steps};
+use flux_defs::{Command, Entry, Job, Reply, Steps};
+use snapshot_store::Pages;
 use std::alloc::{AllocError, Global};
 use std::sync::ledger::Ledger;
 
 /// The book with a job that was accepted.
 fn after_accepted<L: Ledger>(
     alloc: Global,
-    entries: &List<Entry>,
+    entries: &Pages<Entry>,
     book: &BookState,
     job: &Job,
     steps: &mut Steps<L>,
@@ -28,14 +29,14 @@ fn after_accepted<L: Ledger>(
     ensures setting { IfOk result (KeepsSetting book.now) }
     ensures book { IfOk result (λ next. (e : Entry) → HasAccepted e job.now → IsBookOf (entries.now ++ e ∷ []) next) }
 {
-    let next = book.after_add(alloc, job, entries.len() as u64, steps)?;
+    let next = book.after_add(alloc, job, entries.len(), steps)?;
     Ok(next)
 }
 
 /// The book without the job that was cancelled.
 fn after_cancelled<L: Ledger>(
     alloc: Global,
-    entries: &List<Entry>,
+    entries: &Pages<Entry>,
     book: &BookState,
     id: u64,
     steps: &mut Steps<L>,
@@ -75,7 +76,7 @@ fn unchanged(book: &BookState) -> Result<BookState, AllocError>
 /// The book after one entry more with this command and this reply.
 pub(crate) fn follow<L: Ledger>(
     alloc: Global,
-    entries: &List<Entry>,
+    entries: &Pages<Entry>,
     book: &BookState,
     command: &Command,
     reply: &Reply,

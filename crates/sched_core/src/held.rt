@@ -1,8 +1,9 @@
 //! What a scheduler holds.
 
 use book_state::BookState;
-use flux_defs::{Entry, List};
+use flux_defs::Entry;
 use resource_graph::Graph;
+use snapshot_store::Pages;
 use std::alloc::Global;
 use std::sync::Arc;
 
@@ -19,7 +20,7 @@ pub(crate) struct Site {
 /// What grows: the journal, the book of the jobs that it leaves, and how many claims the accepted jobs had.
 #[derive(Drop)]
 pub(crate) struct Kept {
-    pub journal: List<Entry>,
+    pub journal: Pages<Entry>,
     pub book: BookState,
     pub claim_count: u64,
 }

@@ -2,6 +2,8 @@
 #![tactic(auto)]
 
 mod appending;
+pub mod candidates;
+mod committing;
 mod deciding;
 mod finding;
 mod following;
@@ -10,7 +12,12 @@ mod held;
 pub mod playing;
 mod replying;
 pub mod scheduler;
+mod searching;
 mod settling;
+mod sharing;
+pub mod snaps;
 
+pub use candidates::{Candidate, Commit};
 pub use playing::{play, play_client};
 pub use scheduler::Core;
+pub use snaps::Snap;

@@ -15,7 +15,7 @@ use flux_defs::{Ask, Command, Reply, Steps};
 use std::alloc::AllocError;
 use std::sync::ledger::Ledger;
 
-fn reached(site: &Site, kept: &Kept) -> Reached
+pub(crate) fn reached(site: &Site, kept: &Kept) -> Reached
     requires { IsCore site.now kept.now }
     ensures moment { result.moment ≡ (left_by (journal_in kept.now)).moment }
     ensures claim_count { result.claim_count ≡ (left_by (journal_in kept.now)).claim_count }
@@ -31,7 +31,7 @@ fn reached(site: &Site, kept: &Kept) -> Reached
 }
 
 /// The reply where nothing fits at the starts.
-fn none_at(starts: Starts) -> Reply
+pub(crate) fn none_at(starts: Starts) -> Reply
     ensures { result ≡ none_at starts }
 {
     match starts {

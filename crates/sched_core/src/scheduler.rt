@@ -2,18 +2,27 @@
 ghost use Rattle.std.specs.Prelude.{◌≡◌, ◌<◌, length, slice_get, IfOk, IfErr};
 ghost use Rattle.std.specs.Option.{option_copied};
 ghost use Rattle.std.specs.Arc.{arc_value};
-ghost use Rattle.flux_defs.specs.Scheduler.{IsProper};
+ghost use Rattle.flux_defs.specs.Scheduler.{IsProper, Replies};
 ghost use Rattle.flux_defs.specs.Histories.{IsLegal, HasProperCommands};
 ghost use Rattle.flux_defs.specs.Sound.{IsSound, IsSoundThroughout};
 ghost use Rattle.sched_core.specs.Courses.{state_of, empty_course};
 ghost use Rattle.sched_core.specs.Answered.{IsDecided};
+ghost use Rattle.sched_core.specs.Searched.{IsSearchable};
+ghost use Rattle.sched_core.specs.Candidates.{IsFor, IsJudged, IsCommitted};
 
+use crate::appending::append;
+use crate::candidates::{Candidate, Commit};
+use crate::committing::{Judged, judge};
 use crate::deciding::decide;
 use crate::held::{Kept, Site};
+use crate::searching::find;
+use crate::sharing::shared;
+use crate::snaps::Snap;
 use book_state::BookState;
-use flux_defs::{Command, Entry, List, Steps};
+use flux_defs::{Command, Entry, Reply, Steps};
 use prune_filters::Rules;
 use resource_graph::Graph;
+use snapshot_store::Pages;
 use std::alloc::{AllocError, Global};
 use std::marker::{Brand, Model};
 use std::sync::Arc;
@@ -64,7 +73,7 @@ impl Core {
                 claim_limit: claims,
             },
             kept: Kept {
-                journal: List::new(alloc),
+                journal: Pages::empty(),
                 book,
                 claim_count: 0,
             },
@@ -75,7 +84,7 @@ impl Core {
     pub fn len(&self) -> u64
         ensures { result ≡ length self.now.journal }
     {
-        self.kept.journal.len() as u64
+        self.kept.journal.len()
     }
 
     /// The present moment, in seconds. It takes no memory.
@@ -89,14 +98,170 @@ impl Core {
     pub fn entry(&self, at: u64) -> Option<&Entry>
         ensures { option_copied result ≡ slice_get self.now.journal at }
     {
-        self.kept.journal.get(at as usize)
+        self.entry_counted::<Brand>(at, Blank::new(1))
+    }
+
+    fn entry_counted<L: Ledger>(&self, at: u64, blank: Blank) -> Option<&Entry>
+        requires name { blank.name ≡ L.name }
+        requires parts { blank.parts ≡ L.parts }
+        requires some { 0 < blank.parts }
+        ensures { option_copied result ≡ slice_get self.now.journal at }
+    {
+        let mut steps: Steps<L> = Steps::new(blank);
+        self.kept.journal.get(at, &mut steps)
     }
 
     /// The journal's entries, in order. It takes no memory.
-    pub fn entries(&self) -> &[Entry]
+    pub fn entries(&self) -> &Pages<Entry>
         ensures { result.now ≡ self.now.journal }
     {
-        self.kept.journal.items()
+        &self.kept.journal
+    }
+
+    /// The same setting and journal, which stay as they are when this scheduler goes on. It costs as little for a long
+    /// journal as for a short one.
+    pub fn snap(&self) -> Result<Snap, AllocError>
+        ensures { IfOk result (λ snap. snap ≡ self.now) }
+    {
+        let (site, kept) = shared(&self.site, &self.kept)?;
+        Ok(Snap {
+            core: Core { site, kept },
+        })
+    }
+
+    /// What is found of a command in the state of a snapshot; room for the claims is left aside. On want of memory,
+    /// which is the only error, the command comes back.
+    pub fn search<L: Ledger>(
+        snap: &Snap,
+        command: Command,
+        steps: &mut Steps<L>,
+    ) -> Result<Candidate, (Command, AllocError)>
+        requires searchable { IsSearchable command }
+        requires proper { IsProper snap.now.setting.graph.vertices command }
+        ensures ok { IfOk result (λ c. (c.command ≡ command) × (c.snap ≡ snap.now)) }
+        ensures err { IfErr result (λ e. e.0 ≡ command) }
+    {
+        let same = match snap.core.snap() {
+            Ok(same) => same,
+            Err(fault) => return Err((command, fault)),
+        };
+        let place = same.len();
+        match find(&snap.core.site, &snap.core.kept, &command, steps) {
+            Err(fault) => Err((command, fault)),
+            Ok(verdict) => Ok(Candidate {
+                command,
+                snap: same,
+                place,
+                verdict,
+            }),
+        }
+    }
+
+    /// Appends the entry of an older candidate's command, with the reply of a fresh decision, unless something overtook
+    /// the candidate since: then it comes back with the cause, and nothing is changed. On want of memory, which is the
+    /// only error, it comes back too, and nothing is changed.
+    pub fn commit<L: Ledger>(
+        &mut self,
+        client: u32,
+        line: u32,
+        candidate: Candidate,
+        steps: &mut Steps<L>,
+    ) -> Result<Commit, (Candidate, AllocError)>
+        requires candidate { IsFor self.old candidate }
+        ensures ok { IfOk result (IsCommitted self.old self.new client line candidate) }
+        ensures err { IfErr result (λ e. (self.new ≡ self.old) × (e.0 ≡ candidate)) }
+        ensures legal { IsLegal self.new.setting self.new.journal }
+        ensures sound { IsSoundThroughout self.new.setting.graph.vertices self.new.journal }
+    {
+        let answer = self.commit_entry(client, line, candidate, steps);
+        self.is_sound();
+        answer
+    }
+
+    fn commit_entry<L: Ledger>(
+        &mut self,
+        client: u32,
+        line: u32,
+        candidate: Candidate,
+        steps: &mut Steps<L>,
+    ) -> Result<Commit, (Candidate, AllocError)>
+        requires candidate { IsFor self.old candidate }
+        ensures ok { IfOk result (IsCommitted self.old self.new client line candidate) }
+        ensures err { IfErr result (λ e. (self.new ≡ self.old) × (e.0 ≡ candidate)) }
+    {
+        match self.judge(&candidate, steps) {
+            Err(fault) => Err((candidate, fault)),
+            Ok(Judged::Overtaken(cause)) => Ok(Commit::Stale { candidate, cause }),
+            Ok(Judged::Fresh(reply)) => match self.append_reply(
+                client, line, candidate, reply, steps,
+            ) {
+                Ok(at) => Ok(Commit::Done { at }),
+                Err(refused) => Err(refused),
+            },
+        }
+    }
+
+    /// The reply that the candidate has now, or by what it is overtaken.
+    fn judge<L: Ledger>(
+        &self,
+        candidate: &Candidate,
+        steps: &mut Steps<L>,
+    ) -> Result<Judged, AllocError>
+        requires { IsFor self.now candidate.now }
+        ensures { IfOk result (IsJudged self.now candidate.now) }
+    {
+        let moment = candidate.snap.now();
+        judge(
+            &self.site,
+            &self.kept,
+            &candidate.command,
+            candidate.place,
+            moment,
+            &candidate.verdict,
+            steps,
+        )
+    }
+
+    /// Appends the entry of the candidate's command with this reply.
+    fn append_reply<L: Ledger>(
+        &mut self,
+        client: u32,
+        line: u32,
+        candidate: Candidate,
+        reply: Reply,
+        steps: &mut Steps<L>,
+    ) -> Result<u64, (Candidate, AllocError)>
+        requires proper { IsProper self.old.setting.graph.vertices candidate.command }
+        requires reply { Replies self.old.setting (state_of self.old) candidate.command reply }
+        ensures place { IfOk result (λ at. at ≡ length self.old.journal) }
+        ensures decided { IfOk result (λ _. IsDecided self.old self.new client line candidate.command) }
+        ensures err { IfErr result (λ e. (self.new ≡ self.old) × (e.0 ≡ candidate)) }
+    {
+        let end = self.kept.journal.len();
+        let Candidate {
+            command,
+            snap,
+            place,
+            verdict,
+        } = candidate;
+        let entry = Entry {
+            client,
+            line,
+            command,
+            reply,
+        };
+        match append(&self.site, &mut self.kept, entry, steps) {
+            Ok(()) => Ok(end),
+            Err((command, fault)) => Err((
+                Candidate {
+                    command,
+                    snap,
+                    place,
+                    verdict,
+                },
+                fault,
+            )),
+        }
     }
 
     /// A law: the journal is a legal history of proper commands, and after each of its entries no vertex is
@@ -146,7 +311,7 @@ impl Core {
         ensures err { IfErr result (λ e. (self.new ≡ self.old) × (e.0 ≡ command)) }
     {
         let mut steps: Steps<L> = Steps::new(blank);
-        let at = self.kept.journal.len() as u64;
+        let at = self.kept.journal.len();
         match decide(
             &self.site,
             &mut self.kept,

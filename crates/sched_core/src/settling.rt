@@ -10,7 +10,8 @@ ghost use Rattle.sched_core.specs.Courses.{left_by, journal_in, setting_in, IsBo
 
 use crate::held::{Kept, Site};
 use book_state::BookState;
-use flux_defs::{Entry, Job, List, Phase, Reply, Steps};
+use flux_defs::{Entry, Job, Phase, Reply, Steps};
+use snapshot_store::Pages;
 use std::sync::ledger::Ledger;
 
 /// The job that the entry accepted, if it accepted one.
@@ -25,10 +26,14 @@ fn accepted_job(entry: &Entry) -> Option<&Job>
 }
 
 /// The job that the entry at a place accepted.
-fn job_at(entries: &List<Entry>, at: u64) -> Option<&Job>
+fn job_at<'a, L: Ledger>(
+    entries: &'a Pages<Entry>,
+    at: u64,
+    steps: &mut Steps<L>,
+) -> Option<&'a Job>
     ensures { (entry : Entry) (job : Job) → HasEntry entries.now at entry → HasAccepted entry job → option_copied result ≡ Some job }
 {
-    match entries.get(at as usize) {
+    match entries.get(at, steps) {
         None => None,
         Some(entry) => accepted_job(entry),
     }
@@ -36,7 +41,7 @@ fn job_at(entries: &List<Entry>, at: u64) -> Option<&Job>
 
 /// The job of this id, if it was accepted and not cancelled.
 pub(crate) fn live_job<'a, L: Ledger>(
-    entries: &'a List<Entry>,
+    entries: &'a Pages<Entry>,
     book: &BookState,
     id: u64,
     steps: &mut Steps<L>,
@@ -48,7 +53,7 @@ pub(crate) fn live_job<'a, L: Ledger>(
         None => None,
         Some(row) => {
             if row.live {
-                job_at(entries, row.at)
+                job_at(entries, row.at, steps)
             } else {
                 None
             }

@@ -112,7 +112,7 @@ fn moments(alloc: Global) -> Result<(u64, u64, usize), Fail> {
         command: Command::Advance { to: 9 },
     };
     play_client(&mut core, 0, vec![in alloc; third]?)?;
-    Ok((moment, core.now(), core.entries().len()))
+    Ok((moment, core.now(), core.entries().len() as usize))
 }
 
 #[test]

@@ -8,4 +8,4 @@ invariant_of-result c =
     let book = c.in_ok-book.ensures in
     first_core _ _ (subst IsWhole c.deref.ensures c.is_valid.ensures) (book.graph ∙ c.in_ok-try_clone.ensures)
     book.horizon book.moment book.rows book.jobs
-    c.new-2.ensures refl
+    c.empty.ensures refl

@@ -1,0 +1,150 @@
+//! The reply of an older candidate, or why it has none.
+ghost use Rattle.std.specs.Prelude.{◌≡◌, ℕ, IfOk, MatchOption, Contains};
+ghost use Rattle.flux_defs.specs.declared.journal.Reply.TheVariants as reply;
+ghost use Rattle.flux_defs.specs.Scheduler.{Where};
+ghost use Rattle.flux_defs.specs.Histories.{state_at};
+ghost use Rattle.flux_defs.specs.Verdicts.{Finds, FindsJob, Yields, YieldsJob};
+ghost use Rattle.flux_defs.specs.Overtaken.{IsOvertaken};
+ghost use Rattle.commit_laws.specs.CommitLaws.{StillStands};
+ghost use Rattle.overtaken_check.specs.Scans.{cause_of, candidate_of};
+ghost use Rattle.sched_core.specs.Courses.{left_by, journal_in, setting_in, IsCore};
+ghost use Rattle.sched_core.specs.Answered.{FindsAt, none_at};
+ghost use Rattle.sched_core.specs.Judged.{IsJudgedOf};
+
+use crate::candidates::copy_verdict;
+use crate::finding::{Starts, is_used};
+use crate::giving::give;
+use crate::held::{Kept, Site};
+use crate::replying::{none_at, reached};
+use flux_defs::{Ask, Command, Reply, Steps, Verdict};
+use overtaken_check::{Cause, overtaken};
+use std::alloc::AllocError;
+use std::sync::ledger::Ledger;
+
+/// What is told of a candidate.
+#[derive(Drop)]
+pub(crate) enum Judged {
+    /// The reply of a fresh decision.
+    Fresh(Reply),
+    /// What overtook it.
+    Overtaken(Cause),
+}
+
+/// The first cause by which a candidate is overtaken: what a search found of the command where so many entries were
+/// searched, at the moment there.
+pub(crate) fn cause<L: Ledger>(
+    site: &Site,
+    kept: &Kept,
+    command: &Command,
+    place: u64,
+    moment: u64,
+    verdict: &Verdict,
+    steps: &mut Steps<L>,
+) -> Option<Cause>
+    requires core { IsCore site.now kept.now }
+    requires moment { moment ≡ (state_at (journal_in kept.now) place).moment }
+    requires found { Finds (setting_in site.now kept.now) (state_at (journal_in kept.now) place) command.now
+        verdict.now }
+    ensures { MatchOption result
+        (StillStands (setting_in site.now kept.now) (journal_in kept.now) (candidate_of command.now place verdict.now))
+        (λ cause. IsOvertaken (setting_in site.now kept.now) (journal_in kept.now)
+        (candidate_of command.now place verdict.now) (cause_of cause)) }
+{
+    overtaken(
+        &kept.book,
+        &site.graph,
+        site.horizon,
+        &kept.journal,
+        command,
+        place,
+        moment,
+        verdict,
+        steps,
+    )
+}
+
+/// The reply that a verdict on an ask for a job yields now.
+fn yield_job<L: Ledger>(
+    site: &Site,
+    kept: &Kept,
+    id: u64,
+    ask: &Ask,
+    starts: Starts,
+    place: u64,
+    verdict: Verdict,
+    steps: &mut Steps<L>,
+) -> Reply
+    requires core { IsCore site.now kept.now }
+    requires found { FindsJob (setting_in site.now kept.now) (state_at (journal_in kept.now) place) id ask.now
+        (FindsAt starts (setting_in site.now kept.now) (state_at (journal_in kept.now) place) ask.now) verdict }
+    ensures { Where (Contains (left_by (journal_in kept.now)).used id) reply.Exists
+        (YieldsJob (setting_in site.now kept.now) (left_by (journal_in kept.now)) id ask.now (none_at starts) verdict)
+        result }
+{
+    if is_used(&kept.book, id, steps) {
+        return Reply::Exists;
+    }
+    give(reached(site, kept), id, ask, none_at(starts), verdict)
+}
+
+/// The reply that a verdict yields now, of a search where the journal had so many entries.
+pub(crate) fn yielded<L: Ledger>(
+    site: &Site,
+    kept: &Kept,
+    command: &Command,
+    place: u64,
+    verdict: Verdict,
+    steps: &mut Steps<L>,
+) -> Reply
+    requires core { IsCore site.now kept.now }
+    requires found { Finds (setting_in site.now kept.now) (state_at (journal_in kept.now) place) command.now verdict }
+    ensures { Yields (setting_in site.now kept.now) (left_by (journal_in kept.now)) command.now verdict result }
+{
+    match command {
+        Command::Allocate { job, ask } => {
+            yield_job(site, kept, *job, ask, Starts::Now, place, verdict, steps)
+        }
+        Command::Reserve { job, ask } => {
+            yield_job(
+                site,
+                kept,
+                *job,
+                ask,
+                Starts::Earliest,
+                place,
+                verdict,
+                steps,
+            )
+        }
+        Command::Satisfy { .. } => match verdict {
+            Verdict::Sat => Reply::Satisfiable,
+            Verdict::Unsat => Reply::Unsatisfiable,
+            _ => unreachable!(),
+        },
+        _ => unreachable!(),
+    }
+}
+
+/// The reply of a fresh decision, or by what the candidate is overtaken. The only error is want of memory.
+pub(crate) fn judge<L: Ledger>(
+    site: &Site,
+    kept: &Kept,
+    command: &Command,
+    place: u64,
+    moment: u64,
+    verdict: &Verdict,
+    steps: &mut Steps<L>,
+) -> Result<Judged, AllocError>
+    requires core { IsCore site.now kept.now }
+    requires moment { moment ≡ (state_at (journal_in kept.now) place).moment }
+    requires found { Finds (setting_in site.now kept.now) (state_at (journal_in kept.now) place) command.now
+        verdict.now }
+    ensures { IfOk result (IsJudgedOf (setting_in site.now kept.now) (journal_in kept.now) command.now place
+        verdict.now) }
+{
+    if let Some(cause) = cause(site, kept, command, place, moment, verdict, steps) {
+        return Ok(Judged::Overtaken(cause));
+    }
+    let copied = copy_verdict(site.alloc, verdict)?;
+    Ok(Judged::Fresh(yielded(site, kept, command, place, copied, steps)))
+}

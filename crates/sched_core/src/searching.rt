@@ -1,0 +1,81 @@
+//! The verdict of a search.
+ghost use Rattle.std.specs.Prelude.{◌≡◌, IfOk};
+ghost use Rattle.flux_defs.specs.Needs.{IsProperAsk};
+ghost use Rattle.flux_defs.specs.Scheduler.{State, IsProper};
+ghost use Rattle.flux_defs.specs.Verdicts.{Finds, FindsJob};
+ghost use Rattle.flux_defs.specs.declared.journal.Command.TheVariants as command;
+ghost use Rattle.sched_core.specs.declared.held.Kept.{Kept};
+ghost use Rattle.sched_core.specs.Courses.{left_by, journal_in, vertices_at, setting_in, IsCore};
+ghost use Rattle.sched_core.specs.Answered.{FindsAt, command_of};
+ghost use Rattle.sched_core.specs.Searched.{IsSearchable};
+
+use crate::finding::{Starts, find_job, is_satisfiable};
+use crate::held::{Kept, Site};
+use flux_defs::{Ask, Command, Steps, Verdict};
+use std::alloc::AllocError;
+use std::sync::ledger::Ledger;
+
+/// What is found of an ask for a job.
+fn job_verdict<L: Ledger>(
+    site: &Site,
+    kept: &Kept,
+    id: u64,
+    ask: &Ask,
+    starts: Starts,
+    steps: &mut Steps<L>,
+) -> Result<Verdict, AllocError>
+    requires core { IsCore site.now kept.now }
+    requires proper { IsProperAsk (vertices_at site.now) ask.now }
+    ensures { IfOk result (Finds (setting_in site.now kept.now) (left_by (journal_in kept.now))
+        (command_of starts id ask.now)) }
+{
+    find_job(
+        site.alloc,
+        &site.graph,
+        site.horizon,
+        &kept.book,
+        id,
+        ask,
+        starts,
+        steps,
+    )
+}
+
+/// What is found of a satisfy.
+fn satisfy_verdict<L: Ledger>(site: &Site, ask: &Ask, steps: &mut Steps<L>) -> Verdict
+    requires proper { IsProperAsk (vertices_at site.now) ask.now }
+    ensures { (kept : Kept) (s : State) → Finds (setting_in site.now kept) s (command.Satisfy ask.now) result }
+{
+    if is_satisfiable(&site.graph, ask, steps) {
+        Verdict::Sat
+    } else {
+        Verdict::Unsat
+    }
+}
+
+/// What a search finds of the command. The only error is want of memory.
+pub(crate) fn find<L: Ledger>(
+    site: &Site,
+    kept: &Kept,
+    command: &Command,
+    steps: &mut Steps<L>,
+) -> Result<Verdict, AllocError>
+    requires core { IsCore site.now kept.now }
+    requires proper { IsProper (vertices_at site.now) command.now }
+    requires searchable { IsSearchable command.now }
+    ensures { IfOk result (Finds (setting_in site.now kept.now) (left_by (journal_in kept.now)) command.now) }
+{
+    match command {
+        Command::Allocate { job, ask } => job_verdict(site, kept, *job, ask, Starts::Now, steps),
+        Command::Reserve { job, ask } => job_verdict(
+            site,
+            kept,
+            *job,
+            ask,
+            Starts::Earliest,
+            steps,
+        ),
+        Command::Satisfy { ask } => Ok(satisfy_verdict(site, ask, steps)),
+        _ => unreachable!(),
+    }
+}
