@@ -88,7 +88,7 @@ module _ (g : ResourceGraph) (names : List (List ℕ)) (valid : IsValidGraph g n
     where
       named : (x : Option Vertex) → IsSomeAnd x (λ y. y.kind ≡ kind) →
           IsSomeAnd x (λ y. slice_get g.kinds y.kind ≡ Some (codes "node")) →
-              slice_get g.kinds kind ≡ Some (codes "node")
+          slice_get g.kinds kind ≡ Some (codes "node")
       named None h k = elim h [ ]
       named (Some y) h k = ap (slice_get g.kinds) (sym h) ∙ k
 

@@ -81,7 +81,7 @@ module _ (g : ResourceGraph) (names : List (List ℕ)) (valid : IsValidGraph g n
         | inr after ↦ (
             let there = (of_kind u).0 (server g.vertices ok scope need u q can).0 in
             barred_none g.vertices jobs barred w opens u (bars u
-                (alike_node g names valid u v kind is node there)) scope need q some can)
+            (alike_node g names valid u v kind is node there)) scope need q some can)
       ]
 
   -- none is left

@@ -62,4 +62,4 @@ returns-then-is_some-clause-skipped g c = λ jobs stands.
     c.args.kind c.requires.of_kind c.in-Some.vertex c.args.from c.look.at c.args.to s.opens (s.shuts c.if-s.true)
     next.of_kind (rank_node graph.resources.vertices c.in-Some.vertex
     (ap is_some (sym c.rank_at.ensures) ∙ (sym c.is_some.ensures ∙ c.if-is_some.true)))
-        (c.look.invariant.skipped jobs stands)
+    (c.look.invariant.skipped jobs stands)

@@ -11,7 +11,7 @@ returns-then-is_below g c =
       answer = λ jobs stands. (
         λ t. rw (← c.items-demand-items.ensures) (found
             (λ d. IsBelow (g.F.FreeView.graph v) jobs c.args.window (g.F.FreeView.keeps v) c.args.vertex d.kind
-                d.amount)
+            d.amount)
             c.items-demand-items.result.now c.loop-demand.demand-index _ c.loop-demand-test.true
             ((c.is_below.ensures.answer jobs stands).0 c.if-is_below.true)),
         λ h. refl,
