@@ -15,5 +15,6 @@ loop-at-preserved g c =
     let line = line_text graph at e (name_of clients e.client) in
     let rest = history_text_from graph clients (at + 1) (drop (at + 1) history) in
     c.loop-at.invariant
-    ∙ (ap (λ (es : List Entry). c.loop-at.text.items ++ history_text_from graph clients at es) (drop_here history at e added.1)
+    ∙ (ap (λ (es : List Entry). c.loop-at.text.items ++ history_text_from graph clients at es)
+    (drop_here history at e added.1)
     ∙ (sym (append_assoc c.loop-at.text.items line rest) ∙ ap (λ t. t ++ rest) (sym added.2)))
