@@ -82,7 +82,10 @@ impl Rules {
     pub fn counts(&self, low: &[u8]) -> bool
         ensures { IsTrue result ↔ IsCounted self.now low.now }
     {
-        self.rules.items().iter().any(|rule| rule.low.bytes() == low)
+        self.rules
+            .items()
+            .iter()
+            .any(|rule| rule.low.bytes() == low)
     }
 
     /// Whether the rules keep a total of the lower type at vertices of the higher one.

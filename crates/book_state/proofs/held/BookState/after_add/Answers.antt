@@ -25,9 +25,11 @@ with_job-requires-clause-on_graph g c = record {
 
 pub with_job-requires-clause-there : goal.with_job-requires-clause-there
 with_job-requires-clause-there g c =
-    let is = c.accounts-old.ensures.book in
-    (is.0, accounts_at c.graph-graph.result.now c.accounts-old.result.now c.args.self.now c.graph-graph.ensures.value c.accounts-old.ensures.value is.0 is.1,
-      fair_with c.graph-graph.result.now c.args.self.now c.graph-graph.ensures.value c.graph-graph.ensures.valid c.args.job.now c.requires is.0 is.1)
+    let is = c.accounts-old.ensures.book in (
+      is.0,
+      accounts_at c.graph-graph.result.now c.accounts-old.result.now c.args.self.now c.graph-graph.ensures.value c.accounts-old.ensures.value is.0 is.1,
+      fair_with c.graph-graph.result.now c.args.self.now c.graph-graph.ensures.value c.graph-graph.ensures.valid c.args.job.now c.requires is.0 is.1,
+    )
 
 pub returns-clause-jobs : goal.returns-clause-jobs
 returns-clause-jobs g c = λ jobs x.
@@ -38,7 +40,7 @@ returns-clause-jobs g c = λ jobs x.
     let ea = c.accounts-old.ensures.value in
     let new : Accounts Plan = c.in_ok-accounts.accounts in
     let acc = subst (λ (h : NamedGraph). AreAccounts (λ (p : Plan). p.total) Plans.StandsFor h.resources.vertices (jobs ++ job ∷ []) new) eg
-        (c.in_ok-accounts.ensures.accounts jobs (accounts_at G c.accounts-old.result.now k eg ea jobs x) (fair_with G k eg c.graph-graph.ensures.valid job c.requires jobs x)) in
+    (c.in_ok-accounts.ensures.accounts jobs (accounts_at G c.accounts-old.result.now k eg ea jobs x) (fair_with G k eg c.graph-graph.ensures.valid job c.requires jobs x)) in
     moved (graph_of k) _ (rules_of k) _ new _ (insert (rows_of k) job.id (live_row c.args.at)) _ (jobs ++ job ∷ [])
     (c.in_ok-try_clone.ensures ∙ ap graph_of c.self.view_is) (c.in_ok-try_clone-2.ensures ∙ ap rules_of c.self.view_is) c.in_ok-new.ensures.ok
     (c.in_ok-with_new.ensures.added ∙ ap (λ (b : Kept). insert (rows_of b) job.id (live_row c.args.at)) c.self.view_is)
@@ -55,9 +57,11 @@ invariant_of-result g c =
     let ea = c.accounts-old.ensures.value in
     let new : Accounts Plan = c.in_ok-accounts.accounts in
     let acc = subst (λ (h : NamedGraph). AreAccounts (λ (p : Plan). p.total) Plans.StandsFor h.resources.vertices (jobs ++ job ∷ []) new) eg
-        (c.in_ok-accounts.ensures.accounts jobs (accounts_at G c.accounts-old.result.now k eg ea jobs x) (fair_with G k eg c.graph-graph.ensures.valid job c.requires jobs x)) in
-    (jobs ++ job ∷ [], moved (graph_of k) _ (rules_of k) _ new _ (insert (rows_of k) job.id (live_row c.args.at)) _ (jobs ++ job ∷ [])
-    (c.in_ok-try_clone.ensures ∙ ap graph_of c.self.view_is) (c.in_ok-try_clone-2.ensures ∙ ap rules_of c.self.view_is) c.in_ok-new.ensures.ok
-    (c.in_ok-with_new.ensures.added ∙ ap (λ (b : Kept). insert (rows_of b) job.id (live_row c.args.at)) c.self.view_is)
-    (added (graph_of k) (rules_of k) (accounts_of k) new (rows_of k) jobs job c.args.at c.requires.fresh acc
-    (λ kind h. c.in_ok-accounts.ensures.kinds kind (subst (λ (a : Accounts Plan). KeepsKind a kind) (sym ea) h)) x))
+    (c.in_ok-accounts.ensures.accounts jobs (accounts_at G c.accounts-old.result.now k eg ea jobs x) (fair_with G k eg c.graph-graph.ensures.valid job c.requires jobs x)) in (
+      jobs ++ job ∷ [],
+      moved (graph_of k) _ (rules_of k) _ new _ (insert (rows_of k) job.id (live_row c.args.at)) _ (jobs ++ job ∷ [])
+          (c.in_ok-try_clone.ensures ∙ ap graph_of c.self.view_is) (c.in_ok-try_clone-2.ensures ∙ ap rules_of c.self.view_is) c.in_ok-new.ensures.ok
+          (c.in_ok-with_new.ensures.added ∙ ap (λ (b : Kept). insert (rows_of b) job.id (live_row c.args.at)) c.self.view_is)
+          (added (graph_of k) (rules_of k) (accounts_of k) new (rows_of k) jobs job c.args.at c.requires.fresh acc
+          (λ kind h. c.in_ok-accounts.ensures.kinds kind (subst (λ (a : Accounts Plan). KeepsKind a kind) (sym ea) h)) x),
+    )

@@ -27,9 +27,12 @@ without_job-requires-clause-on_graph g c =
 pub without_job-requires-clause-there : goal.without_job-requires-clause-there
 without_job-requires-clause-there g c =
     let (jobs, x, has) = c.requires.there in
-    let (before, after, e) = split_at jobs c.args.job.now has in
-    (before, after, accounts_at c.graph-graph.result.now c.accounts-old.result.now c.args.self.now c.graph-graph.ensures.value c.accounts-old.ensures.value
-      (before ++ c.args.job.now ∷ after) (subst (StandsFor c.args.self.now) e x))
+    let (before, after, e) = split_at jobs c.args.job.now has in (
+      before,
+      after,
+      accounts_at c.graph-graph.result.now c.accounts-old.result.now c.args.self.now c.graph-graph.ensures.value c.accounts-old.ensures.value
+          (before ++ c.args.job.now ∷ after) (subst (StandsFor c.args.self.now) e x),
+    )
 
 pub returns-clause-once : goal.returns-clause-once
 returns-clause-once g c = λ before after x.
@@ -40,7 +43,7 @@ returns-clause-once g c = λ before after x.
     let new : Accounts Plan = c.in_ok-accounts.accounts in
     let (at, live) = c.requires.live in
     let acc = subst (λ (h : NamedGraph). AreAccounts (λ (p : Plan). p.total) Plans.StandsFor h.resources.vertices (before ++ after) new) eg
-        (c.in_ok-accounts.ensures.accounts before after (accounts_at c.graph-graph.result.now c.accounts-old.result.now k eg ea (before ++ job ∷ after) x)) in
+    (c.in_ok-accounts.ensures.accounts before after (accounts_at c.graph-graph.result.now c.accounts-old.result.now k eg ea (before ++ job ∷ after) x)) in
     moved (graph_of k) _ (rules_of k) _ new _ (insert (rows_of k) job.id (cancelled_row at)) _ (before ++ after)
     (c.in_ok-try_clone.ensures ∙ ap graph_of c.self.view_is) (c.in_ok-try_clone-2.ensures ∙ ap rules_of c.self.view_is) c.in_ok-new.ensures.ok
     (c.in_ok-with_cancelled.ensures.cancelled at (subst (λ (b : Kept). get (rows_of b) job.id ≡ Some (live_row at)) (sym c.self.view_is) live)
@@ -60,7 +63,7 @@ returns-clause-jobs g c = λ jobs y has.
     let new : Accounts Plan = c.in_ok-accounts.accounts in
     let (at, live) = c.requires.live in
     let acc = subst (λ (h : NamedGraph). AreAccounts (λ (p : Plan). p.total) Plans.StandsFor h.resources.vertices (before ++ after) new) eg
-        (c.in_ok-accounts.ensures.accounts before after (accounts_at c.graph-graph.result.now c.accounts-old.result.now k eg ea (before ++ job ∷ after) x)) in
+    (c.in_ok-accounts.ensures.accounts before after (accounts_at c.graph-graph.result.now c.accounts-old.result.now k eg ea (before ++ job ∷ after) x)) in
     moved_to (graph_of k) _ (rules_of k) _ new _ (insert (rows_of k) job.id (cancelled_row at)) _ (before ++ after) (without_job job.id jobs) same
     (c.in_ok-try_clone.ensures ∙ ap graph_of c.self.view_is) (c.in_ok-try_clone-2.ensures ∙ ap rules_of c.self.view_is) c.in_ok-new.ensures.ok
     (c.in_ok-with_cancelled.ensures.cancelled at (subst (λ (b : Kept). get (rows_of b) job.id ≡ Some (live_row at)) (sym c.self.view_is) live)
@@ -80,10 +83,12 @@ invariant_of-result g c =
     let new : Accounts Plan = c.in_ok-accounts.accounts in
     let (at, live) = c.requires.live in
     let acc = subst (λ (h : NamedGraph). AreAccounts (λ (p : Plan). p.total) Plans.StandsFor h.resources.vertices (before ++ after) new) eg
-        (c.in_ok-accounts.ensures.accounts before after (accounts_at c.graph-graph.result.now c.accounts-old.result.now k eg ea (before ++ job ∷ after) x)) in
-    (before ++ after, moved (graph_of k) _ (rules_of k) _ new _ (insert (rows_of k) job.id (cancelled_row at)) _ (before ++ after)
-    (c.in_ok-try_clone.ensures ∙ ap graph_of c.self.view_is) (c.in_ok-try_clone-2.ensures ∙ ap rules_of c.self.view_is) c.in_ok-new.ensures.ok
-    (c.in_ok-with_cancelled.ensures.cancelled at (subst (λ (b : Kept). get (rows_of b) job.id ≡ Some (live_row at)) (sym c.self.view_is) live)
-    ∙ ap (λ (b : Kept). insert (rows_of b) job.id (cancelled_row at)) c.self.view_is)
-    (removed (graph_of k) (rules_of k) (accounts_of k) new (rows_of k) before job after at live acc
-    (λ kind h. c.in_ok-accounts.ensures.kinds kind (subst (λ (a : Accounts Plan). KeepsKind a kind) (sym ea) h)) x))
+    (c.in_ok-accounts.ensures.accounts before after (accounts_at c.graph-graph.result.now c.accounts-old.result.now k eg ea (before ++ job ∷ after) x)) in (
+      before ++ after,
+      moved (graph_of k) _ (rules_of k) _ new _ (insert (rows_of k) job.id (cancelled_row at)) _ (before ++ after)
+          (c.in_ok-try_clone.ensures ∙ ap graph_of c.self.view_is) (c.in_ok-try_clone-2.ensures ∙ ap rules_of c.self.view_is) c.in_ok-new.ensures.ok
+          (c.in_ok-with_cancelled.ensures.cancelled at (subst (λ (b : Kept). get (rows_of b) job.id ≡ Some (live_row at)) (sym c.self.view_is) live)
+          ∙ ap (λ (b : Kept). insert (rows_of b) job.id (cancelled_row at)) c.self.view_is)
+          (removed (graph_of k) (rules_of k) (accounts_of k) new (rows_of k) before job after at live acc
+          (λ kind h. c.in_ok-accounts.ensures.kinds kind (subst (λ (a : Accounts Plan). KeepsKind a kind) (sym ea) h)) x),
+    )

@@ -5,10 +5,12 @@ use Rattle.book_state.proofs.BookLaws.{moved, none_stands}
 use Rattle.book_state.proofs.held.BookState.new.Goals as goal
 
 pub invariant_of-result : goal.invariant_of-result
-invariant_of-result c = ([],
+invariant_of-result c = (
+  [],
   moved c.deref.result.now (arc_value c.args.graph) c.args.rules (arc_value c.in_ok-new.field-0) c.in_ok-accounts.accounts (arc_value c.in_ok-new-2.field-0) empty c.empty.result []
-  (sym c.deref.ensures) c.in_ok-new.ensures.ok c.in_ok-new-2.ensures.ok c.empty.ensures
-  (none_stands c.deref.result.now c.args.rules c.in_ok-accounts.accounts c.in_ok-accounts.ensures.accounts c.in_ok-accounts.ensures.kinds))
+      (sym c.deref.ensures) c.in_ok-new.ensures.ok c.in_ok-new-2.ensures.ok c.empty.ensures
+      (none_stands c.deref.result.now c.args.rules c.in_ok-accounts.accounts c.in_ok-accounts.ensures.accounts c.in_ok-accounts.ensures.kinds),
+)
 
 pub returns-clause-jobs : goal.returns-clause-jobs
 returns-clause-jobs c =
