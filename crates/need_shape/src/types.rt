@@ -71,8 +71,7 @@ pub(crate) fn is_inner(graph: &Graph, table: &TextTable, kind: &[u8]) -> bool
     requires { length table.now < 2 ^ 32 }
     ensures { result ≡ is_inner (types_at graph.now table.now) kind.now }
 {
-    kind == b"node".as_slice()
-        || graph.nests(number_of(table, b"node"), number_of(table, kind))
+    kind == b"node".as_slice() || graph.nests(number_of(table, b"node"), number_of(table, kind))
 }
 
 /// Whether the type is that of nodes, or contains nodes.
@@ -80,8 +79,7 @@ fn is_upper(graph: &Graph, table: &TextTable, kind: &[u8]) -> bool
     requires { length table.now < 2 ^ 32 }
     ensures { result ≡ is_upper (types_at graph.now table.now) kind.now }
 {
-    kind == b"node".as_slice()
-        || graph.nests(number_of(table, kind), number_of(table, b"node"))
+    kind == b"node".as_slice() || graph.nests(number_of(table, kind), number_of(table, b"node"))
 }
 
 /// Whether the request vertices name the type of nodes or one that contains nodes, at any depth.

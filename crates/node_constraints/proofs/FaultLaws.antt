@@ -69,19 +69,19 @@ module _ (vs : List Value) (at : ℕ) (x : Value) (lt : at < length vs) (is : x 
 
   module _ (list : List ℕ) (before : items_fault list at (items_view (drop at vs)) ≡ items_fault list 0 (items_view vs))
     where
-    -- behind members without a fault, its fault is that of all
-    pub told_at : (fault : ConstraintFault) → Means (list ++ index at) (fault_at (list ++ index at) (view x)) fault →
-        Means (list ++ index at) (items_fault list 0 (items_view vs)) fault
-    told_at fault told =
-        let inner = fault_at (list ++ index at) (view x) in
-        let later = items_fault list (at + 1) (items_view (drop (at + 1) vs)) in
-        means_same (list ++ index at) (option_or inner later) (items_fault list 0 (items_view vs)) fault
-        (ap (λ ys. items_fault list at (items_view ys)) (sym rest_here) ∙ before)
-        (first_means (list ++ index at) inner later fault told)
+      -- behind members without a fault, its fault is that of all
+      pub told_at : (fault : ConstraintFault) → Means (list ++ index at) (fault_at (list ++ index at) (view x)) fault →
+          Means (list ++ index at) (items_fault list 0 (items_view vs)) fault
+      told_at fault told =
+          let inner = fault_at (list ++ index at) (view x) in
+          let later = items_fault list (at + 1) (items_view (drop (at + 1) vs)) in
+          means_same (list ++ index at) (option_or inner later) (items_fault list 0 (items_view vs)) fault
+          (ap (λ ys. items_fault list at (items_view ys)) (sym rest_here) ∙ before)
+          (first_means (list ++ index at) inner later fault told)
 
-    -- where it has none either, that of those behind it is
-    pub none_at : fault_at (list ++ index at) (view x) ≡ None →
-        items_fault list (at + 1) (items_view (drop (at + 1) vs)) ≡ items_fault list 0 (items_view vs)
-    none_at none =
-        sym (later_is (fault_at (list ++ index at) (view x)) (items_fault list (at + 1) (items_view (drop (at + 1) vs)))
-        none) ∙ (ap (λ ys. items_fault list at (items_view ys)) (sym rest_here) ∙ before)
+      -- where it has none either, that of those behind it is
+      pub none_at : fault_at (list ++ index at) (view x) ≡ None →
+          items_fault list (at + 1) (items_view (drop (at + 1) vs)) ≡ items_fault list 0 (items_view vs)
+      none_at none =
+          sym (later_is (fault_at (list ++ index at) (view x)) (items_fault list (at + 1) (items_view (drop (at + 1) vs)))
+          none) ∙ (ap (λ ys. items_fault list at (items_view ys)) (sym rest_here) ∙ before)
