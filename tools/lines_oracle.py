@@ -4,10 +4,17 @@
 lines_oracle.py make SEED LINES GRAPH INPUT             writes a graph file and an input; prints the words behind GRAPH
 lines_oracle.py answer GRAPH INPUT [--horizon N] [--form v1|rfc14]
                                                         prints what `fluxion serve GRAPH [--horizon N] < INPUT` has to print
-lines_oracle.py compare PROGRAM FIRST LAST              makes and answers for each seed, and compares with the program
+lines_oracle.py judge GRAPH INPUT OUTPUT [--horizon N] [--form v1|rfc14]
+                                                        says whether this may be what the program prints, in some order of
+                                                        its clients: status 1 and why, if not
+lines_oracle.py compare PROGRAM FIRST LAST [CLIENTS]    makes an input for each seed, of up to so many clients, and judges
+                                                        what the program prints
 
 The form is that of the jobspecs: version 1 alone, or the canonical one (rfc14), which is what `compare` reads and where
 nothing is said. Jobspecs of both forms are made, with constraints, and graphs with pools.
+
+With several clients the program may answer in any order that keeps the lines of each client in theirs. The column LINE of
+its output names the order; by that the whole output is judged: each line once, and every answer as of one history.
 
 It shares no code with the program; id sets and host lists come from text_oracle.py. Claims are looked for by walking all
 vertices and all jobs, and the earliest start by trying every second of a horizon up to 100, else now and every end of a job.
@@ -598,20 +605,49 @@ def reply_to(scheduler, line, client, form):
     return scheduler.place(value, ask, scheduler.starts, "nostart")
 
 
-def answers(graph, data, horizon, form="rfc14"):
-    scheduler = Scheduler(graph, horizon)
+def lines_of(data):
+    """The lines of an input, each with its client's name, None where its first word is none."""
     lines = data.split(b"\n")
     if lines[-1] == b"":
         lines.pop()
-    for at, line in enumerate(lines):
+    for line in lines:
         line = line[:-1] if line.endswith(b"\r") else line
         first = line.lstrip(b" ").split(b" ")[0]
-        client = first.decode() if re.fullmatch(rb"[a-z0-9]{1,16}", first) else None
+        yield first.decode() if re.fullmatch(rb"[a-z0-9]{1,16}", first) else None, line
+
+
+def answers(graph, data, horizon, form="rfc14", order=None):
+    """The output that answers the input's lines in an order of their numbers, or as they stand."""
+    scheduler = Scheduler(graph, horizon)
+    lines = list(lines_of(data))
+    for at, number in enumerate(range(1, len(lines) + 1) if order is None else order):
+        client, line = lines[number - 1]
         try:
             reply = reply_to(scheduler, line, client, form)
         except Fault as fault:
             reply = f"invalid {fault}"
-        yield f"{at} {at + 1} {client or '-'} {reply}\n"
+        yield f"{at} {number} {client or '-'} {reply}\n"
+
+
+def order_in(data, told):
+    """The order that the column LINE of an output names, and what is wrong with it, or None."""
+    order = [int(words[1]) if words[1:] and words[1].isdecimal() else 0 for words in (line.split(" ") for line in told)]
+    clients = [client for client, _ in lines_of(data)]
+    if sorted(order) != list(range(1, len(clients) + 1)):
+        return order, "the column LINE doesn't have each line once"
+    last = {}
+    for number in order:
+        client = clients[number - 1]
+        if last.get(client, 0) > number:
+            return order, f"lines {last[client]} and {number} of client {client or '-'} are answered in the other order"
+        last[client] = number
+    return order, None
+
+
+def judged(graph, data, horizon, form, told):
+    """What an output has to be, by the order that it names, and what is wrong with that order, or None."""
+    order, wrong = order_in(data, told)
+    return list(answers(graph, data, horizon, form, None if wrong else order)), wrong
 
 
 # Graphs and inputs at random
@@ -867,8 +903,11 @@ def spec_text(mixed, spec):
     return text.encode("utf-8", "surrogatepass")
 
 
-def a_line(mixed, graph, ids, clock, horizon):
-    client = mixed.choices(["a", "b", "c9", "load", "0123456789abcdef"], [8, 4, 2, 1, 1])[0]
+def a_line(mixed, graph, ids, clock, horizon, clients):
+    if clients is None:
+        client = mixed.choices(["a", "b", "c9", "load", "0123456789abcdef"], [8, 4, 2, 1, 1])[0]
+    else:
+        client = f"c{mixed.randrange(clients)}"
     command = mixed.choices(["allocate", "reserve", "satisfy", "cancel", "info", "advance"], [30, 30, 8, 12, 6, 6])[0]
     job = mixed.choice([0, *ids])
     if command in ("allocate", "reserve") and mixed.random() < 0.9:
@@ -906,28 +945,28 @@ def a_line(mixed, graph, ids, clock, horizon):
     return (edge + space.join(parts) + edge + mixed.choices([b"", b"\r", b"\r\r"], [60, 4, 1])[0]).replace(b"\n", b" ")
 
 
-def make(seed, lines):
+def make(seed, lines, clients=None):
     mixed = random.Random(seed)
     text = a_graph(mixed)
     graph = Graph(text)
     horizon = mixed.choice([None, None, None, 1, 2, 7, 30, 60, 60, 100, 100, 300, 300, 5000, 2**40])
     ids, clock, most = [], [0], HORIZON if horizon is None else horizon
-    data = b"\n".join(a_line(mixed, graph, ids, clock, most) for _ in range(lines)) + mixed.choice([b"", b"\n", b"\n\n"])
+    data = b"\n".join(a_line(mixed, graph, ids, clock, most, clients) for _ in range(lines)) + mixed.choice([b"", b"\n", b"\n\n"])
     return text.encode(), data, horizon
 
 
-def compare(program, first, last):
+def compare(program, first, last, clients=None):
     told, differ = {}, 0
     for seed in range(first, last + 1):
-        graph, data, horizon = make(seed, 50 + seed % 151)
+        graph, data, horizon = make(seed, 50 + seed % 151, clients and 2 + seed % (clients - 1))
         with tempfile.TemporaryDirectory() as folder:
             path = os.path.join(folder, "graph.json")
             with open(path, "wb") as file:
                 file.write(graph)
             words = [] if horizon is None else ["--horizon", str(horizon)]
             run = subprocess.run([program, "serve", path, *words], input=data, capture_output=True)
-        wanted = list(answers(Graph(graph), data, HORIZON if horizon is None else horizon))
         got = run.stdout.decode().splitlines(keepends=True)
+        wanted, wrong = judged(Graph(graph), data, HORIZON if horizon is None else horizon, "rfc14", got)
         for line in wanted:
             words = line.split()
             kind = " ".join(words[3:5] if words[3] in ("invalid", "info") else words[3:4])
@@ -935,6 +974,7 @@ def compare(program, first, last):
             told[kind] = told.get(kind, 0) + 1
         if got != wanted:
             differ += 1
+            print(f"seed {seed}: {wrong}") if wrong else None
             at = next((i for i, (a, b) in enumerate(zip(got, wanted)) if a != b), min(len(got), len(wanted)))
             line = data.split(b"\n")[at] if at < len(wanted) else b""
             print(f"seed {seed} horizon {horizon} line {at + 1}: status {run.returncode} {run.stderr.decode()!r}")
@@ -945,6 +985,11 @@ def compare(program, first, last):
     sys.exit(1 if differ else 0)
 
 
+def read_bytes(path):
+    with open(path, "rb") as file:
+        return file.read()
+
+
 def main():
     if sys.argv[1] == "make":
         graph, data, horizon = make(int(sys.argv[2]), int(sys.argv[3]))
@@ -953,12 +998,21 @@ def main():
                 file.write(content)
         print("" if horizon is None else f"--horizon {horizon}")
     elif sys.argv[1] == "compare":
-        compare(sys.argv[2], int(sys.argv[3]), int(sys.argv[4]))
+        compare(sys.argv[2], int(sys.argv[3]), int(sys.argv[4]), *map(int, sys.argv[5:6]))
     else:
-        with open(sys.argv[2], "rb") as file, open(sys.argv[3], "rb") as lines:
-            options = {"--horizon": HORIZON, "--form": "rfc14", **dict(zip(sys.argv[4::2], sys.argv[5::2]))}
-            told = answers(Graph(file.read()), lines.read(), int(options["--horizon"]), options["--form"])
-            sys.stdout.writelines(told)
+        files = 5 if sys.argv[1] == "judge" else 4
+        contents = [read_bytes(path) for path in sys.argv[2:files]]
+        options = {"--horizon": HORIZON, "--form": "rfc14", **dict(zip(sys.argv[files::2], sys.argv[files + 1 :: 2]))}
+        graph, data, *told = Graph(contents[0]), *contents[1:]
+        if not told:
+            sys.stdout.writelines(answers(graph, data, int(options["--horizon"]), options["--form"]))
+            return
+        got = told[0].decode().splitlines(keepends=True)
+        wanted, wrong = judged(graph, data, int(options["--horizon"]), options["--form"], got)
+        at = next((i for i, (a, b) in enumerate(zip(got, wanted)) if a != b), min(len(got), len(wanted)))
+        if wrong or got != wanted:
+            print(wrong or f"output line {at + 1}: told {got[at : at + 1]}, wanted {wanted[at : at + 1]}")
+            sys.exit(1)
 
 
 if __name__ == "__main__":

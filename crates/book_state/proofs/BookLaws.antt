@@ -1,26 +1,25 @@
 -- Which jobs a book stands for, and what two lists of jobs have in common for which it stands.
-use Rattle.std.proofs.Common.{◌≡◌, ℕ, zero, suc, ◌+◌, ◌-◌, ◌<◌, ◌≤◌, cond, Bool, true, false, List, [], ◌∷◌, ◌++◌, length, length-append, get_or, slice_get, Option, Some, None, is_some, IsTrue, Contains, refl, sym, ◌∙◌, ap, subst, arith}
+use Rattle.std.proofs.Common.{◌≡◌, ℕ, zero, suc, ◌+◌, ◌<◌, ◌≤◌, cond, List, [], ◌∷◌, ◌++◌, length, length-append, get_or, slice_get, Option, Some, None, is_some, Contains, refl, sym, ◌∙◌, ap, subst, arith}
 use Rattle.std.specs.Arc.{arc_value}
 use Rattle.std.specs.List.{AllByRecursion}
 use Rattle.std.specs.Ordering.{nat_cmp}
 use Rattle.std.specs.Cmp.{nat_cmp_total}
-use Rattle.std.specs.FinMap.{FinMap, empty, get, insert, len, len-insert, contains_key}
+use Rattle.std.specs.FinMap.{FinMap, empty, get, insert, len, len-insert}
 use Rattle.flux_defs.specs.declared.vertices.Vertex.{Vertex}
 use Rattle.flux_defs.specs.declared.claims.Claim.{Claim}
 use Rattle.flux_defs.specs.declared.claims.Job.{Job}
 use Rattle.flux_defs.specs.declared.claims.Window.{Window}
 use Rattle.flux_defs.specs.Graph.{ResourceGraph}
 use Rattle.flux_defs.specs.ValidGraph.{StandsInPreorder}
-use Rattle.flux_defs.specs.Jobs.{vertex_of, take_of}
+use Rattle.flux_defs.specs.Jobs.{vertex_of}
 use Rattle.flux_defs.specs.Closed.{no_bars}
 use Rattle.flux_defs.specs.Available.{IsAvailable}
 use Rattle.graph_laws.proofs.Containment.{ParentsFirst}
 use Rattle.graph_laws.proofs.Preorder.{parents_first}
-use Rattle.planner_points.specs.declared.spans.Span.{Span}
-use Rattle.planner_points.specs.Spans.{used_at, free_at}
+use Rattle.planner_points.specs.Spans.{free_at}
 use Rattle.planner_min_tree.specs.Plans as Plans
 use Rattle.planner_min_tree.specs.Plans.{Plan}
-use Rattle.book_laws.specs.Amounts.{live_sum, hold_of, claim_within, TakesFromPool}
+use Rattle.book_laws.specs.Amounts.{live_sum}
 use Rattle.book_laws.specs.Grouped.{grouped}
 use Rattle.book_laws.proofs.GroupedLaws.{used_grouped}
 use Rattle.book_laws.proofs.Alike.{AmountAlike, available_alike}
@@ -36,7 +35,7 @@ use Rattle.prune_filters.specs.declared.rules.Rule.{Rule}
 use Rattle.prune_filters.specs.Filters.{IsCounted}
 use Rattle.resource_graph.specs.NamedGraph.{NamedGraph}
 use Rattle.vertex_accounts.specs.declared.books.Accounts.{Accounts}
-use Rattle.vertex_accounts.specs.Books.{AreAccounts, KeepsKind}
+use Rattle.vertex_accounts.specs.Books.{AreAccounts, KeepsKind, kept_count}
 use Rattle.book_state.specs.Books.{vertices_of, StandsIn, StandsFor}
 use Rattle.book_state.proofs.TieLaws.{agree_none, agree_more, agree_less, agree_along, without_middle}
 
@@ -114,29 +113,31 @@ moved g h r s a b t u jobs eg er ea et x =
 
 -- a job more, and a job less
 pub added : (g : NamedGraph) (r : List Rule) (a b : Accounts Plan) (t : FinMap nat_cmp Row) (jobs : List Job) (job : Job) (at : ℕ) → get t job.id ≡ None →
-    AreAccounts (λ (p : Plan). p.total) Plans.StandsFor g.resources.vertices (jobs ++ job ∷ []) b → ((kind : ℕ) → KeepsKind a kind → KeepsKind b kind) →
+    AreAccounts (λ (p : Plan). p.total) Plans.StandsFor g.resources.vertices (jobs ++ job ∷ []) b → ((kind : ℕ) → KeepsKind a kind → KeepsKind b kind) → kept_count b.totals ≡ kept_count a.totals →
     StandsIn g r a t jobs → StandsIn g r b (insert t job.id (live_row at)) (jobs ++ job ∷ [])
-added g r a b t jobs job at fresh accounts kinds x = record {
+added g r a b t jobs job at fresh accounts kinds same x = record {
   accounts_are = accounts;
   ties = agree_more t jobs job at fresh x.ties;
   few = one_more jobs job (len t) (len (insert t job.id (live_row at))) x.few (more_rows t job.id (live_row at) fresh);
   kinds = λ kind name named counted. kinds kind (x.kinds kind name named counted);
+  types = (let types = x.types in omega (arith, same, types));
 }
 
 pub removed : (g : NamedGraph) (r : List Rule) (a b : Accounts Plan) (t : FinMap nat_cmp Row) (before : List Job) (job : Job) (after : List Job) (at : ℕ) → get t job.id ≡ Some (live_row at) →
-    AreAccounts (λ (p : Plan). p.total) Plans.StandsFor g.resources.vertices (before ++ after) b → ((kind : ℕ) → KeepsKind a kind → KeepsKind b kind) →
+    AreAccounts (λ (p : Plan). p.total) Plans.StandsFor g.resources.vertices (before ++ after) b → ((kind : ℕ) → KeepsKind a kind → KeepsKind b kind) → kept_count b.totals ≡ kept_count a.totals →
     StandsIn g r a t (before ++ job ∷ after) → StandsIn g r b (insert t job.id (cancelled_row at)) (before ++ after)
-removed g r a b t before job after at live accounts kinds x = record {
+removed g r a b t before job after at live accounts kinds same x = record {
   accounts_are = accounts;
   ties = agree_along _ _ _ _ refl (sym (without_middle before after job x.ties.own)) (agree_less t (before ++ job ∷ after) job.id at x.ties);
   few = subst (λ (n : ℕ). length (before ++ after) ≤ n) (sym (same_rows t job.id (cancelled_row at) (live_row at) live)) (fewer before job after (len t) x.few);
   kinds = λ kind name named counted. kinds kind (x.kinds kind name named counted);
+  types = (let types = x.types in omega (arith, same, types));
 }
 
 -- no jobs
 pub none_stands : (g : NamedGraph) (r : List Rule) (a : Accounts Plan) → AreAccounts (λ (p : Plan). p.total) Plans.StandsFor g.resources.vertices [] a →
-    ((kind : ℕ) (name : List ℕ) → slice_get g.resources.kinds kind ≡ Some name → IsCounted r name → KeepsKind a kind) → StandsIn g r a empty []
-none_stands g r a accounts kinds = record { accounts_are = accounts; ties = agree_none; few = omega arith; kinds = kinds }
+    ((kind : ℕ) (name : List ℕ) → slice_get g.resources.kinds kind ≡ Some name → IsCounted r name → KeepsKind a kind) → kept_count a.totals ≤ length r → StandsIn g r a empty []
+none_stands g r a accounts kinds types = record { accounts_are = accounts; ties = agree_none; few = omega arith; kinds = kinds; types = types }
 
 -- equal parts stand for an equal list
 pub moved_to : (g h : NamedGraph) (r s : List Rule) (a b : Accounts Plan) (t u : FinMap nat_cmp Row) (jobs others : List Job) → others ≡ jobs → h ≡ g → s ≡ r → b ≡ a → u ≡ t → StandsIn g r a t jobs → StandsIn h s b u others

@@ -1,5 +1,5 @@
 -- Rows and jobs that agree go on to agree.
-use Rattle.std.proofs.Common.{◌≡◌, ◌≢◌, ℕ, Bool, true, false, not, ◌==◌, List, [], ◌∷◌, ◌++◌, ◌↔◌, IsTrue, Some, None, Option, inl, inr, refl, sym, ◌∙◌, ap, subst, true≢false, cond}
+use Rattle.std.proofs.Common.{◌≡◌, ◌≢◌, ℕ, false, not, ◌==◌, List, [], ◌∷◌, ◌++◌, ◌↔◌, IsTrue, Some, None, Option, inl, inr, refl, sym, ◌∙◌, ap, subst, true≢false, cond}
 use Rattle.std.proofs.lemmas.Bool.{and_parts, and_from, or_cases, or_left, or_right}
 use Rattle.std.proofs.lemmas.Bool.Decides.{eqb_tells}
 use Rattle.std.specs.List.{list_any}

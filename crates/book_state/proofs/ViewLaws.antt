@@ -1,24 +1,25 @@
 -- From the accounts of a book to the book.
-use Rattle.std.proofs.Common.{◌≡◌, ℕ, ◌+◌, ◌*◌, ◌<◌, ◌≤◌, List, [], ◌∷◌, ◌++◌, length, Option, IfSome, MatchOption, sym, ◌∙◌, ap, subst, arith}
+use Rattle.std.proofs.Common.{◌≡◌, ℕ, ◌+◌, ◌*◌, ◌<◌, ◌≤◌, List, [], ◌∷◌, ◌++◌, length, Option, Some, None, IfSome, sym, ap, subst, arith}
 use Rattle.std.specs.FinMap.{len}
 use Rattle.flux_defs.specs.declared.vertices.Vertex.{Vertex}
 use Rattle.flux_defs.specs.declared.claims.Job.{Job}
 use Rattle.flux_defs.specs.Digits.{dig}
 use Rattle.resource_graph.specs.NamedGraph.{NamedGraph, IsWhole}
+use Rattle.prune_filters.specs.Amples.{IsNextAmpleOrNone}
 use Rattle.planner_min_tree.specs.Plans as Plans
 use Rattle.planner_min_tree.specs.Plans.{Plan}
 use Rattle.vertex_accounts.specs.declared.books.Accounts.{Accounts}
-use Rattle.vertex_accounts.specs.Costs.{look_most, closed_most}
-use Rattle.vertex_accounts.specs.Books.{AreAccountsOf, AreAccounts, AllLookWithin}
+use Rattle.vertex_accounts.specs.Costs.{look_most, closed_most, accounts_most}
+use Rattle.vertex_accounts.specs.Books.{AreAccountsOf, AreAccounts, AllLookWithin, AllChangeWithin, kept_count}
 use Rattle.book_state.specs.declared.held.Kept.{Kept}
-use Rattle.book_state.specs.Books.{graph_of, vertices_of, accounts_of, rows_of, StandsFor, IsBook, MayAdd, cost_of}
+use Rattle.book_state.specs.Books.{graph_of, vertices_of, rules_of, accounts_of, rows_of, StandsFor, IsBook, MayAdd, cost_of, change_cost_of}
 use Rattle.flux_defs.specs.Closed.{no_bars}
 use Rattle.flux_defs.specs.Available.{IsAvailable}
 use Rattle.book_laws.specs.Amounts.{TakesFromPool}
 use Rattle.book_laws.specs.TotalLaws.{AreFair}
 use Rattle.book_laws.proofs.Adding.{fair_added}
 use Rattle.book_state.proofs.BookLaws.{both_of}
-use Rattle.book_state.proofs.CostLaws.{all_cost, times_cost, answer_covered, next_covered}
+use Rattle.book_state.proofs.CostLaws.{all_cost, all_change, times_cost, times_change, answer_covered, ample_covered, next_covered, change_covered}
 
 module _ (g : NamedGraph) (a : Accounts Plan) (book : Kept) (eg : g ≡ graph_of book) (ea : a ≡ accounts_of book) where
   pub accounts_at : (jobs : List Job) → StandsFor book jobs → AreAccounts (λ (p : Plan). p.total) Plans.StandsFor g.resources.vertices jobs a
@@ -44,6 +45,38 @@ module _ (g : NamedGraph) (a : Accounts Plan) (book : Kept) (eg : g ≡ graph_of
       let c = answer_covered (length g.resources.vertices) a.count (len (rows_of book)) whole.valid.few in
       let same = ap (λ (x : Accounts Plan). 512 * dig (2 * x.count + len (rows_of book) + 4)) ea in
       omega (arith, w, c, same)
+
+  pub ample_at : IsBook book → IsWhole g → (old new : ℕ) →
+      ((n : ℕ) → AllLookWithin (λ (p : Plan). 16 * dig (length p.points + 2)) n a → new ≤ old + (16 * dig (length a.times.points + 2) + 1 + look_most (length g.resources.vertices) n)) → new ≤ old + cost_of book
+  ample_at is whole old new work =
+      let at = accounts_at is.0 is.1 in
+      let w = work (16 * dig (2 * a.count + 2)) (all_cost a g.resources.vertices is.0 at) in
+      let t = times_cost a g.resources.vertices is.0 at (len (rows_of book)) is.1.few in
+      let c = ample_covered (length g.resources.vertices) a.count (len (rows_of book)) whole.valid.few in
+      let same = ap (λ (x : Accounts Plan). 512 * dig (2 * x.count + len (rows_of book) + 4)) ea in
+      omega (arith, w, t, c, same)
+
+  pub ample_later_at : IsBook book → (kind amount after : ℕ) (found : Option ℕ) →
+      ((jobs : List Job) → AreAccounts (λ (p : Plan). p.total) Plans.StandsFor g.resources.vertices jobs a → IsNextAmpleOrNone g.resources.vertices jobs kind amount after found) →
+      IfSome found (λ t. after < t)
+  ample_later_at is kind amount after found answer = later found (answer is.0 (accounts_at is.0 is.1))
+    where
+      later : (o : Option ℕ) → IsNextAmpleOrNone g.resources.vertices is.0 kind amount after o → IfSome o (λ t. after < t)
+      later None h = tt
+      later (Some t) h = h.later
+
+  -- a job of so many claims more or less
+  pub change_at : IsBook book → IsWhole g → (claims old mid new : ℕ) →
+      ((most : ℕ) → AllChangeWithin (λ (p : Plan). 256 * dig (length p.points + 2)) most a →
+      mid ≤ old + (accounts_most (length g.resources.vertices) most (kept_count a.totals) claims + 256 * dig (length a.times.points + 2))) →
+      new ≤ mid + 256 * dig (len (rows_of book) + 2) → new ≤ old + change_cost_of book claims
+  change_at is whole claims old mid new work row =
+      let at = accounts_at is.0 is.1 in
+      let rules = length (rules_of book) in
+      let types : kept_count a.totals ≤ rules = subst (λ (x : Accounts Plan). kept_count x.totals ≤ rules) (sym ea) is.1.types in
+      let covered = change_covered (length g.resources.vertices) a.count (len (rows_of book)) (kept_count a.totals) rules claims (256 * dig (length a.times.points + 2)) old mid new
+      whole.valid.few types (times_change a g.resources.vertices is.0 at (len (rows_of book)) is.1.few) (work (256 * dig (2 * a.count + 2)) (all_change a g.resources.vertices is.0 at)) row in
+      subst (λ (x : Accounts Plan). new ≤ old + 8192 * (claims + 1) * (1 + rules) * dig (2 * x.count + len (rows_of book) + 4)) ea covered
 
 -- the next point
 module _ (a : Accounts Plan) (book : Kept) (ea : a ≡ accounts_of book) where

@@ -1,16 +1,17 @@
 //! The book of jobs.
-ghost use Rattle.std.specs.Prelude.{◌≡◌, ◌↔◌, ℕ, ◌<◌, ◌∷◌, ◌++◌, [], List, Some, slice_get, Contains, IsTrue, IfOk};
+ghost use Rattle.std.specs.Prelude.{◌≡◌, ◌↔◌, ℕ, ◌+◌, ◌*◌, ◌<◌, ◌≤◌, ◌∷◌, ◌++◌, [], List, Some, length, slice_get, Contains, IsTrue, IfOk};
 ghost use Rattle.std.specs.Arc.{arc_value};
 ghost use Rattle.std.specs.FinMap as map;
 ghost use Rattle.flux_defs.specs.declared.claims.Job.{Job};
+ghost use Rattle.flux_defs.specs.Digits.{dig};
 ghost use Rattle.flux_defs.specs.Scheduler.{without_job};
 ghost use Rattle.job_table.specs.Rows.{live_row, cancelled_row, HasLiveRow};
 ghost use Rattle.prune_filters.specs.Filters.{IsCounted};
 ghost use Rattle.planner_min_tree.specs.Plans as Plans;
 ghost use Rattle.planner_min_tree.specs.Plans.{Plan};
-ghost use Rattle.vertex_accounts.specs.Books.{AreAccounts, KeepsKind};
+ghost use Rattle.vertex_accounts.specs.Books.{AreAccounts, KeepsKind, kept_count};
 ghost use Rattle.book_state.specs.Ties.{has_job};
-ghost use Rattle.book_state.specs.Books.{graph_of, rules_of, horizon_of, moment_of, rows_of, StandsFor, KeepsSetting, MayAdd};
+ghost use Rattle.book_state.specs.Books.{graph_of, rules_of, horizon_of, moment_of, rows_of, StandsFor, KeepsSetting, MayAdd, change_cost_of};
 
 use crate::held::{BookState, Kept};
 use flux_defs::{Job, Steps};
@@ -64,6 +65,7 @@ impl BookState {
     pub fn find<L: Ledger>(&self, id: u64, steps: &mut Steps<L>) -> Option<Row>
         ensures row { result ≡ map.get (rows_of self.now) id }
         ensures live { (jobs : List Job) → StandsFor self.now jobs → (HasLiveRow (rows_of self.now) id ↔ IsTrue (has_job jobs id)) }
+        ensures work { steps.new ≤ steps.old + 16 * dig (map.len (rows_of self.now) + 2) }
     {
         self.kept.table.find(id, steps)
     }
@@ -97,7 +99,8 @@ impl BookState {
         })
     }
 
-    /// The book with one job more, which the journal's entry at place `at` accepted.
+    /// The book with one job more, which the journal's entry at place `at` accepted. It costs by the job's claims and the
+    /// rules, whatever the graph's size.
     pub fn after_add<L: Ledger>(
         &self,
         alloc: Global,
@@ -110,6 +113,7 @@ impl BookState {
         ensures moment { IfOk result (λ book. moment_of book ≡ moment_of self.now) }
         ensures rows { IfOk result (λ book. rows_of book ≡ map.insert (rows_of self.now) job.now.id (live_row at)) }
         ensures jobs { IfOk result (λ book. (jobs : List Job) → StandsFor self.now jobs → StandsFor book (jobs ++ job.now ∷ [])) }
+        ensures work { steps.new ≤ steps.old + change_cost_of self.now (length job.now.claims) }
     {
         let graph = self.graph();
         let old = self.accounts();
@@ -126,7 +130,7 @@ impl BookState {
         })
     }
 
-    /// The book without this job, whose row is then not live.
+    /// The book without this job, whose row is then not live. It costs as the job's addition does.
     pub fn after_remove<L: Ledger>(
         &self,
         alloc: Global,
@@ -141,6 +145,7 @@ impl BookState {
             rows_of book ≡ map.insert (rows_of self.now) job.now.id (cancelled_row at)) }
         ensures jobs { IfOk result (λ book. (jobs : List Job) → StandsFor self.now jobs → Contains jobs job.now → StandsFor book (without_job job.now.id jobs)) }
         ensures once { IfOk result (λ book. (before after : List Job) → StandsFor self.now (before ++ job.now ∷ after) → StandsFor book (before ++ after)) }
+        ensures work { steps.new ≤ steps.old + change_cost_of self.now (length job.now.claims) }
     {
         let graph = self.graph();
         let old = self.accounts();
@@ -167,6 +172,7 @@ fn first_accounts(
 ) -> Result<Accounts<MinTree>, AllocError>
     ensures accounts { IfOk result (λ book. AreAccounts (λ (p : Plan). p.total) Plans.StandsFor graph.now.resources.vertices [] book) }
     ensures kinds { IfOk result (λ book. (kind : ℕ) (name : List ℕ) → slice_get graph.now.resources.kinds kind ≡ Some name → IsCounted rules.now name → KeepsKind book kind) }
+    ensures types { IfOk result (λ book. kept_count book.totals ≤ length rules.now) }
 {
     counted_accounts::<Brand>(alloc, graph, rules, horizon, Blank::new(1))
 }
@@ -183,6 +189,7 @@ fn counted_accounts<L: Ledger>(
     requires some { 0 < blank.parts }
     ensures accounts { IfOk result (λ book. AreAccounts (λ (p : Plan). p.total) Plans.StandsFor graph.now.resources.vertices [] book) }
     ensures kinds { IfOk result (λ book. (kind : ℕ) (name : List ℕ) → slice_get graph.now.resources.kinds kind ≡ Some name → IsCounted rules.now name → KeepsKind book kind) }
+    ensures types { IfOk result (λ book. kept_count book.totals ≤ length rules.now) }
 {
     let mut steps: Steps<L> = Steps::new(blank);
     Accounts::new(alloc, graph, rules, horizon, &mut steps)

@@ -3,6 +3,7 @@
 use crate::held::BookState;
 use flux_defs::{FreeView, Steps, Window};
 use planner_min_tree::MinTree;
+use prune_filters::TotalsView;
 use resource_graph::Graph;
 use std::sync::ledger::Ledger;
 use vertex_accounts::Accounts;
@@ -59,6 +60,20 @@ impl FreeView for BookState {
     fn next_point<L: Ledger>(&self, after: u64, steps: &mut Steps<L>) -> Option<u64> {
         let accounts = self.accounts();
         accounts.next_point(after, steps)
+    }
+}
+
+impl TotalsView for BookState {
+    fn next_ample<L: Ledger>(
+        &self,
+        after: u64,
+        kind: u32,
+        amount: u64,
+        steps: &mut Steps<L>,
+    ) -> Option<u64> {
+        let graph = self.graph();
+        let accounts = self.accounts();
+        accounts.next_ample(graph, after, kind, amount, steps)
     }
 }
 

@@ -1,1 +1,1 @@
-mod SpanLaws
+mod Places

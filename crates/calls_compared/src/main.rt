@@ -5,10 +5,11 @@
 
 ghost use Rattle.std.specs.Prelude.{◌≡◌, ◌<◌};
 
+mod adding;
+mod books;
 mod nodes;
 mod pages;
 mod planners;
-mod seeds;
 mod side_by_side;
 mod tables;
 
@@ -39,6 +40,7 @@ struct Answers {
     pages: Differing,
     tables: Differing,
     planners: (u64, u64),
+    books: [(u64, u64); 4],
 }
 
 fn played<L: Ledger>(alloc: Global, blank: Blank) -> Result<Answers, AllocError>
@@ -57,6 +59,7 @@ fn played<L: Ledger>(alloc: Global, blank: Blank) -> Result<Answers, AllocError>
         pages: pages::compared(alloc, &mut steps)?,
         tables: tables::compared(alloc, &mut steps)?,
         planners: planners::compared(alloc, &mut steps)?,
+        books: books::compared(alloc, &mut steps)?,
     })
 }
 
@@ -95,5 +98,17 @@ fn main(rt: HostRuntime) -> io::Result<()> {
         "planners: {differing} answers differ in 2000 turns; more than 16 spans at the end: {}",
         spans > 16
     )?;
+    let [cores, nodes, memory, none] = told.books;
+    for (rules, (differing, added)) in [
+        ("ALL:core", cores),
+        ("ALL:core,cluster:node", nodes),
+        ("ALL:memory", memory),
+        ("x:y", none),
+    ] {
+        println!(rt;
+            "books with {rules}: {differing} answers differ in 300 turns; more than 60 jobs went in: {}",
+            added > 60
+        )?;
+    }
     Ok(())
 }

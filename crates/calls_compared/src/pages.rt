@@ -1,8 +1,8 @@
 //! Lists beside plain ones.
 
 use crate::Differing;
-use crate::seeds::Seed;
 use flux_defs::Steps;
+use seeded_numbers::Seed;
 use snapshot_store::Pages;
 use std::alloc::{AllocError, Global};
 use std::sync::ledger::Ledger;

@@ -1,10 +1,10 @@
 //! Planners beside plain lists of spans.
 ghost use Rattle.std.specs.Prelude.{◌<◌};
 
-use crate::seeds::Seed;
 use flux_defs::{Steps, Window};
 use planner_min_tree::MinTree;
 use planner_points::{Planner, Span, SpanList};
+use seeded_numbers::Seed;
 use std::alloc::{AllocError, Global};
 use std::marker::Model;
 use std::sync::ledger::Ledger;

@@ -1,9 +1,9 @@
 //! Tables of jobs beside sorted maps.
 
 use crate::Differing;
-use crate::seeds::Seed;
 use flux_defs::Steps;
 use job_table::{JobTable, Row};
+use seeded_numbers::Seed;
 use std::alloc::{AllocError, Global};
 use std::collections::BTreeMap;
 use std::sync::ledger::Ledger;

@@ -30,12 +30,12 @@ valid_at vertices [] (suc i) need rest e v = absurd (cc)
 valid_at vertices (n ∷ ns) zero need rest e v = let same : n ≡ need = cc in subst (IsValidNeed vertices) same v.0
 valid_at vertices (n ∷ ns) (suc i) need rest e v = valid_at vertices ns i need rest e v.2
 
-pub no_spread_at : (needs : List Need) (i : ℕ) (need : Need) (rest : List Need) → drop i needs ≡ need ∷ rest →
-    AllByRecursion HasNoSpread needs → HasNoSpread need
-no_spread_at [] zero need rest e v = absurd (cc)
-no_spread_at [] (suc i) need rest e v = absurd (cc)
-no_spread_at (n ∷ ns) zero need rest e v = let same : n ≡ need = cc in subst HasNoSpread same v.0
-no_spread_at (n ∷ ns) (suc i) need rest e v = no_spread_at ns i need rest e v.1
+pub each_at : (P : Need → Type 0) (needs : List Need) (i : ℕ) (need : Need) (rest : List Need) →
+    drop i needs ≡ need ∷ rest → AllByRecursion P needs → P need
+each_at P [] zero need rest e v = absurd (cc)
+each_at P [] (suc i) need rest e v = absurd (cc)
+each_at P (n ∷ ns) zero need rest e v = let same : n ≡ need = cc in subst P same v.0
+each_at P (n ∷ ns) (suc i) need rest e v = each_at P ns i need rest e v.1
 
 pub amount_some : (vertices : List Vertex) (need : Need) → IsValidNeed vertices need → 1 ≤ amount_of need
 amount_some vertices (Vert' kind count hold m needs) v = v.0
@@ -80,7 +80,7 @@ may_ask_scaled k need (inr none) lt = may_ask_without (k * amount_of need) need 
 pub may_scale_at : (k : ℕ) (needs : List Need) (i : ℕ) (need : Need) (rest : List Need) → drop i needs ≡ need ∷ rest →
     MayScale k needs → MayScaleNeed k need
 may_scale_at k needs i need rest e (inl one) = inl one
-may_scale_at k needs i need rest e (inr none) = inr (no_spread_at needs i need rest e none)
+may_scale_at k needs i need rest e (inr none) = inr (each_at HasNoSpread needs i need rest e none)
 
 pub may_ask_at : (most best : ℕ) (needs : List Need) (i : ℕ) (need : Need) (rest : List Need) → best ≤ most →
     drop i needs ≡ need ∷ rest → amount_of need < 2 ^ 64 → MayScale most needs → MayAsk (best * amount_of need) need
@@ -88,7 +88,7 @@ may_ask_at most best needs i need rest le e lt (inl one) =
     let few : best * amount_of need ≤ 1 * amount_of need = mul-le-mul_right (amount_of need) (omega arith) in
     may_ask_few (best * amount_of need) need (omega arith)
 may_ask_at most best needs i need rest le e lt (inr none) = may_ask_without (best * amount_of need) need
-    (no_spread_at needs i need rest e none)
+    (each_at HasNoSpread needs i need rest e none)
 
 module _ (vertices : List Vertex) (ok : Claim → Type 0) where
   -- a vertex that may not be claimed serves nothing

@@ -4,7 +4,7 @@ use Rattle.std.proofs.lemmas.Bool.{cases_lt, or_cases, or_left, or_right}
 use Rattle.graph_laws.proofs.Containment.{equal_to, equal_from}
 use Rattle.std.specs.Prelude.{Any, Contains, map}
 use Rattle.prune_filters.specs.declared.shorts.Demand.{Demand}
-use Rattle.prune_filters.specs.Shorts.{AreDemandsOf, IsTooLittle, IsShortOf, IsShortFor}
+use Rattle.prune_filters.specs.Shorts.{AreDemandsOf, IsTooLittle, IsBelow, IsShortOf, IsShortFor}
 use Rattle.flux_defs.specs.declared.claims.Job.{Job}
 use Rattle.flux_defs.specs.declared.claims.Window.{Window}
 use Rattle.std.proofs.lemmas.List.{get_or-map, length-map, take_more}
@@ -14,8 +14,9 @@ use Rattle.flux_defs.specs.declared.requests.Need.TheBlock.{hidden-the_row-Need-
 use Rattle.flux_defs.specs.Needs.{amount_of}
 use Rattle.prune_filters.specs.Demands.{one_if, is_node_kind, demand, row_demand, needs_demand, capped}
 use Rattle.std.specs.List.{AllZip, list_any}
+use Rattle.prune_laws.proofs.Demanded.{list_row}
 use Rattle.dfu_match.specs.declared.wanting.Wanted.{Wanted}
-use Rattle.dfu_match.specs.Tables.{all_of, row_all, needs_all, Grows}
+use Rattle.dfu_match.specs.Tables.{all_of, row_all, needs_all, AreDemandsOfAll, Grows}
 
 -- capped at a number, sums and products are those of capped numbers
 sum_within : (most a b : ℕ) → min (min a most + min b most) most ≡ min (a + b) most
@@ -40,23 +41,13 @@ product_within most t x =
         rw e (omega (arith, one, two))
 
 module _ (vertices : List Vertex) (kind : ℕ) where
-  row_list : {m : _} (row : Row_of-Need m) →
-      row_demand vertices kind row ≡ needs_demand vertices kind (items-the_row-Need _ row)
-  row_list end_of-Need = refl
-  row_list (more_of-Need need rest) = ap (λ n. demand vertices kind (amount_of need) need + n) (row_list rest)
-
-  list_row : (needs : List Need) →
-      row_demand vertices kind (hidden-the_row-Need-0 needs) ≡ needs_demand vertices kind needs
-  list_row needs = row_list (hidden-the_row-Need-0 needs)
-      ∙ ap (needs_demand vertices kind) (items_hidden-the_row-Need-0 needs)
-
   pub demand_Vert : (n own count : ℕ) (hold : Bool) (needs : List Need) →
       demand vertices kind n (Vert own count hold needs) ≡ n * (one_if (own == kind) + needs_demand vertices kind needs)
-  demand_Vert n own count hold needs = ap (λ d. n * (one_if (own == kind) + d)) (list_row needs)
+  demand_Vert n own count hold needs = ap (λ d. n * (one_if (own == kind) + d)) (list_row vertices kind needs)
 
   pub demand_Spread : (n count : ℕ) (needs : List Need) → demand vertices kind n (Spread count needs) ≡
       one_if (is_node_kind vertices kind) + n * needs_demand vertices kind needs
-  demand_Spread n count needs = ap (λ d. one_if (is_node_kind vertices kind) + n * d) (list_row needs)
+  demand_Spread n count needs = ap (λ d. one_if (is_node_kind vertices kind) + n * d) (list_row vertices kind needs)
 
   -- in numbers of 64 bits
   pub capped_Vert : (n own count : ℕ) (hold : Bool) (needs : List Need) (d s r : ℕ) →
@@ -176,37 +167,66 @@ all_Vert kind count hold needs = ap (λ ns. Vert kind count hold needs ∷ ns) (
 pub all_Spread : (count : ℕ) (needs : List Need) → all_of (Spread count needs) ≡ Spread count needs ∷ needs_all needs
 all_Spread count needs = ap (λ ns. Spread count needs ∷ ns) (all_row needs)
 
+-- So much is demanded of each kind; the demands are of kinds among which are all of which some is.
+module _ (amount : ℕ → ℕ) where
+  -- the demand of a kind
+  abbrev pub demand_at : ℕ → Demand
+  demand_at kind = record { kind = kind; amount = capped (amount kind) }
+
+  pub demands_each : (kinds : List ℕ) (demands : List Demand) → demands ≡ map demand_at kinds →
+      (d : Demand) → Contains demands d → d.amount ≡ capped (amount d.kind)
+  demands_each kinds demands e d there = each_is there.0
+      (let lt : there.0 < length demands = there.1 in
+      let n = ap length e in
+      let same = length-map kinds demand_at in
+      omega (arith, lt, n, same)) (ap (λ ds. get_or ds there.0 d) (sym e) ∙ there.2)
+    where
+      each_is : (k : ℕ) → k < length kinds → get_or (map demand_at kinds) k d ≡ d → d.amount ≡ capped (amount d.kind)
+      each_is k lt is =
+          let same : d ≡ demand_at (get_or kinds k 0) = sym is ∙ get_or-map demand_at kinds k 0 d lt in
+          rw same refl
+
+  pub demands_all : (kinds : List ℕ) (demands : List Demand) → demands ≡ map demand_at kinds →
+      ((kind : ℕ) → 1 ≤ amount kind → Contains kinds kind) → (kind : ℕ) → 1 ≤ amount kind →
+      IsTrue (list_any (λ d. d.kind == kind) demands)
+  demands_all kinds demands e all kind some =
+      let there = all kind some in
+      subst (λ (ds : List Demand). IsTrue (list_any (λ d. d.kind == kind) ds)) (sym e)
+      (kind_there kinds there.0 there.1 there.2)
+    where
+      kind_there : (ks : List ℕ) (k : ℕ) → k < length ks → get_or ks k kind ≡ kind →
+          IsTrue (list_any (λ d. d.kind == kind) (map demand_at ks))
+      kind_there [] k lt e = absurd (omega arith)
+      kind_there (j ∷ ks) zero lt e = or_left (j == kind) (list_any (λ d. d.kind == kind) (map demand_at ks))
+          (equal_from j kind e)
+      kind_there (j ∷ ks) (suc k) lt e =
+          or_right (j == kind) (list_any (λ d. d.kind == kind) (map demand_at ks)) (kind_there ks k (omega arith) e)
+
 -- what one of the need demands of a kind
 abbrev pub asked : List Vertex → Need → ℕ → Demand
-asked vertices need kind = record { kind = kind; amount = capped (demand vertices kind 1 need) }
+asked vertices need = demand_at (λ kind. demand vertices kind 1 need)
+
+-- and what needs do in full
+abbrev pub asked_in_full : List Vertex → List Need → ℕ → Demand
+asked_in_full vertices needs = demand_at (λ kind. needs_demand vertices kind needs)
 
 -- the demands of kinds among which are all that the need demands are the need's
 pub are_demands : (vertices : List Vertex) (need : Need) (kinds : List ℕ) (demands : List Demand) →
     demands ≡ map (asked vertices need) kinds →
     ((kind : ℕ) → 1 ≤ demand vertices kind 1 need → Contains kinds kind) → AreDemandsOf vertices need demands
-are_demands vertices need kinds demands e all = subst (AreDemandsOf vertices need) (sym e) (record {
-  each = λ d there. each_is d there.0 (let lt : there.0 < length (map f kinds) = there.1 in let same =
-      length-map kinds f in omega (arith, lt, same)) there.2;
-  all = λ kind some. let there = all kind some in
-      kind_there kinds kind there.0 there.1 there.2;
-})
-  where
-    f : ℕ → Demand
-    f = asked vertices need
+are_demands vertices need kinds demands e all = record {
+  each = demands_each (λ kind. demand vertices kind 1 need) kinds demands e;
+  all = demands_all (λ kind. demand vertices kind 1 need) kinds demands e all;
+}
 
-    kind_there : (ks : List ℕ) (kind k : ℕ) → k < length ks → get_or ks k kind ≡ kind →
-        IsTrue (list_any (λ d. d.kind == kind) (map f ks))
-    kind_there [] kind k lt e = absurd (omega arith)
-    kind_there (j ∷ ks) kind zero lt e = or_left (j == kind) (list_any (λ d. d.kind == kind) (map f ks))
-        (equal_from j kind e)
-    kind_there (j ∷ ks) kind (suc k) lt e =
-        or_right (j == kind) (list_any (λ d. d.kind == kind) (map f ks)) (kind_there ks kind k (omega arith) e)
-
-    each_is : (d : Demand) (k : ℕ) → k < length kinds → get_or (map f kinds) k d ≡ d →
-        d.amount ≡ capped (demand vertices d.kind 1 need)
-    each_is d k lt is =
-        let same : d ≡ f (get_or kinds k 0) = sym is ∙ get_or-map f kinds k 0 d lt in
-        rw same refl
+pub are_demands_of_all : (vertices : List Vertex) (needs : List Need) (kinds : List ℕ) (demands : List Demand) →
+    demands ≡ map (asked_in_full vertices needs) kinds →
+    ((kind : ℕ) → 1 ≤ needs_demand vertices kind needs → Contains kinds kind) →
+    AreDemandsOfAll vertices needs demands
+are_demands_of_all vertices needs kinds demands e all = record {
+  each = demands_each (λ kind. needs_demand vertices kind needs) kinds demands e;
+  all = demands_all (λ kind. needs_demand vertices kind needs) kinds demands e all;
+}
 
 -- the demand of a kind that is there
 some_item : (ds : List Demand) (kind : ℕ) → IsTrue (list_any (λ d. d.kind == kind) ds) → Any (λ d. d.kind ≡ kind) ds
@@ -217,32 +237,45 @@ some_item (d ∷ ds) kind h = elim (or_cases (d.kind == kind) (list_any (λ e. e
       (suc r.0, r.1, (let lt : r.0 < length ds = r.2 in omega arith), r.3, r.4))
 ]
 
-module _ (vertices : List Vertex) (jobs : List Job) (w : Window) (keeps : ℕ → ℕ →
-    Type 0) (need : Need) (demands : List Demand)
-    (are : AreDemandsOf vertices need demands) (v : ℕ) where
-  -- short of the demands of a need is short for it, and so back
-  pub short_to : IsShortOf vertices jobs w keeps demands v → IsShortFor vertices jobs w keeps need v
-  short_to any =
+module _ (vertices : List Vertex) (jobs : List Job) (w : Window) (keeps : ℕ → ℕ → Type 0) (v : ℕ) (amount : ℕ → ℕ)
+    (demands : List Demand) where
+  -- short of the demands is short of some kind, and so back
+  pub below_to : ((d : Demand) → Contains demands d → d.amount ≡ capped (amount d.kind)) →
+      IsShortOf vertices jobs w keeps demands v →
+      (kind : ℕ) × IsBelow vertices jobs w keeps v kind (capped (amount kind))
+  below_to each any =
       let d = any.1 in
-      (d.kind, (any.4.0, subst (IsTooLittle vertices jobs w v d.kind) (are.each d (any.0, any.2, any.3)) any.4.1))
+      (d.kind, (any.4.0, subst (IsTooLittle vertices jobs w v d.kind) (each d (any.0, any.2, any.3)) any.4.1))
 
-  pub short_from : IsShortFor vertices jobs w keeps need v → IsShortOf vertices jobs w keeps demands v
-  short_from for =
-      let few : for.1.1.0 < capped (demand vertices for.0 1 need) = for.1.1.2 in
-      let any = some_item demands for.0 (are.all for.0 (omega arith)) in
+  pub below_from : ((d : Demand) → Contains demands d → d.amount ≡ capped (amount d.kind)) →
+      ((kind : ℕ) → 1 ≤ amount kind → IsTrue (list_any (λ d. d.kind == kind) demands)) →
+      (kind : ℕ) → IsBelow vertices jobs w keeps v kind (capped (amount kind)) →
+      IsShortOf vertices jobs w keeps demands v
+  below_from each all k is =
+      let few : is.1.0 < capped (amount k) = is.1.2 in
+      let any = some_item demands k (all k (omega arith)) in
       let d = any.1 in
-      let kind : d.kind ≡ for.0 = any.4 in (
+      let kind : d.kind ≡ k = any.4 in (
         any.0,
         d,
         any.2,
         any.3,
         (
-          subst (keeps v) (sym kind) for.1.0,
-          subst (IsTooLittle vertices jobs w v d.kind) (sym (are.each d (any.0, any.2, any.3)))
-              (subst (λ (k : ℕ). IsTooLittle vertices jobs w v k (capped (demand vertices k 1 need))) (sym kind)
-              for.1.1),
+          subst (keeps v) (sym kind) is.0,
+          subst (IsTooLittle vertices jobs w v d.kind) (sym (each d (any.0, any.2, any.3)))
+              (subst (λ (k : ℕ). IsTooLittle vertices jobs w v k (capped (amount k))) (sym kind) is.1),
         ),
       )
+
+module _ (vertices : List Vertex) (jobs : List Job) (w : Window) (keeps : ℕ → ℕ → Type 0) (need : Need)
+    (demands : List Demand) (are : AreDemandsOf vertices need demands) (v : ℕ) where
+  -- short of the demands of a need is short for it, and so back
+  pub short_to : IsShortOf vertices jobs w keeps demands v → IsShortFor vertices jobs w keeps need v
+  short_to = below_to vertices jobs w keeps v (λ kind. demand vertices kind 1 need) demands are.each
+
+  pub short_from : IsShortFor vertices jobs w keeps need v → IsShortOf vertices jobs w keeps demands v
+  short_from is = below_from vertices jobs w keeps v (λ kind. demand vertices kind 1 need) demands are.each are.all is.0
+      is.1
 
 -- counted in numbers of 64 bits
 pub count_Vert : (kind count : ℕ) (hold : Bool) (needs : List Need) (inner r : ℕ) →

@@ -2,3 +2,5 @@ pub mod Searches
 pub mod Bars
 pub mod Tables
 pub mod Walks
+pub mod Pairs
+pub mod Matches

@@ -1,9 +1,10 @@
 -- All needs of an ask in one list, and a table of what each demands.
-use Rattle.std.specs.Prelude.{◌≡◌, ℕ, ◌≤◌, ◌⊎◌, ◌↔◌, List, [], ◌∷◌, ◌++◌, drop, length, Option, Some, slice_get, IsTrue}
-use Rattle.std.specs.List.{AllZip}
+use Rattle.std.specs.Prelude.{◌≡◌, ℕ, ◌≤◌, ◌==◌, ◌⊎◌, ◌↔◌, List, Contains, [], ◌∷◌, ◌++◌, drop, length, Option, Some, slice_get, IsTrue}
+use Rattle.std.specs.List.{AllZip, list_any}
 use Rattle.flux_defs.specs.declared.vertices.Vertex.{Vertex}
 use Rattle.flux_defs.specs.declared.requests.Need.{Need, Vert', Pool, Spread', Row_of-Need, end_of-Need, more_of-Need}
-use Rattle.prune_filters.specs.Demands.{is_node_kind, capped}
+use Rattle.prune_filters.specs.Demands.{is_node_kind, needs_demand, capped}
+use Rattle.prune_filters.specs.declared.shorts.Demand.{Demand}
 use Rattle.prune_filters.specs.Shorts.{AreDemandsOf}
 use Rattle.dfu_match.specs.declared.wanting.Wanted.{Wanted}
 
@@ -51,3 +52,8 @@ StandAt all table index needs = (table ≡ []) ⊎ ((more : List Need) × (drop 
 -- the new table is the old one and then such entries, one a need
 abbrev pub Grows : (Need → Wanted → Type 0) → List Need → List Wanted → List Wanted → Type 0
 Grows P needs old new = (more : List Wanted) × (new ≡ old ++ more) × AllZip P needs more
+
+-- The demands are those of needs in full, each its amount: of each kind that they demand as much as they do.
+pub record AreDemandsOfAll (vertices : List Vertex) (needs : List Need) (demands : List Demand) : Type 0 where
+  pub each : (d : Demand) → Contains demands d → d.amount ≡ capped (needs_demand vertices d.kind needs)
+  pub all : (kind : ℕ) → 1 ≤ needs_demand vertices kind needs → IsTrue (list_any (λ d. d.kind == kind) demands)

@@ -1,5 +1,5 @@
 //! How far needs can be filled, without writing a claim: it takes no memory.
-ghost use Rattle.std.specs.Prelude.{◌≡◌, ◌+◌, ◌*◌, ◌<◌, ◌≤◌, length, List};
+ghost use Rattle.std.specs.Prelude.{◌≡◌, ℕ, ◌+◌, ◌*◌, ◌<◌, ◌≤◌, length, List};
 ghost use Rattle.flux_defs.specs.declared.vertices.Vertex.{Vertex};
 ghost use Rattle.flux_defs.specs.declared.claims.Claim.{Claim};
 ghost use Rattle.flux_defs.specs.declared.claims.Job.{Job};
@@ -8,7 +8,11 @@ ghost use Rattle.flux_defs.specs.Needs.{IsOfNeed, IsValidNeed, AreValidNeeds};
 ghost use Rattle.flux_defs.specs.Lowest.{CanServe};
 ghost use Rattle.match_laws.specs.Offers.{IsGreatest, SomeGroup, SomeFits};
 ghost use Rattle.dfu_match.specs.Searches.{open_to, scope_of, IsScope, MayAsk, MayScale};
-ghost use Rattle.dfu_match.specs.Tables.{needs_all, StandsAt, StandAt};
+ghost use Rattle.dfu_match.specs.Tables.{all_of, needs_all, StandsAt, StandAt};
+ghost use Rattle.dfu_match.specs.Pairs.{HasEachOpen, IsClear, IsClearScope, IsPlaceOf, IsPlaceOfAll, IsSpanOf, TakesEach, asked_totals};
+ghost use Rattle.flux_defs.specs.declared.requests.Need.{Need};
+ghost use Rattle.resource_graph.specs.Tables.{IsPast};
+ghost use Rattle.std.specs.List.{AllByRecursion};
 
 use crate::scopes::{kind_of, span_of};
 use crate::search::{Search, admits, free};
@@ -35,7 +39,16 @@ fn reach<F: FreeView, L: Ledger>(
         (let vs : List Vertex = s.now.graph.now.resources.vertices in
         let ok : Claim → Type 0 = open_to vs jobs s.now.barred.now s.now.window in
         IsGreatest (SomeGroup vs ok (scope_of scope) need.now) most result) }
+    ensures work { (jobs : List Job) → F.stands_for s.now.view.now jobs → (place from to : ℕ) →
+        (let vs : List Vertex = s.now.graph.now.resources.vertices in
+        let keeps : ℕ → ℕ → Type 0 = asked_totals s.now.wanted.now (F.keeps s.now.view.now) in
+        let all : List Need = needs_all s.now.needs.now in
+        IsPlaceOf all place need.now → IsClearScope vs jobs s.now.window keeps scope need.now →
+        IsSpanOf vs scope from to →
+        TakesEach (HasEachOpen vs jobs s.now.window keeps all) ((length all + 2) * F.cost s.now.view.now)
+        steps.old steps.new place (place + length (all_of need.now)) from to) }
 {
+    s.graph.is_valid();
     let Some(kind) = kind_of(s.graph, need) else {
         return 0;
     };
@@ -47,7 +60,7 @@ fn reach<F: FreeView, L: Ledger>(
             return reached;
         };
         reached += u128::from(serves(s, need, index, vertex, most - reached, steps));
-        at = vertex + 1;
+        at = s.graph.past(vertex);
     }
     reached
 }
@@ -74,7 +87,17 @@ pub(crate) fn serves<F: FreeView, L: Ledger>(
         let ok : Claim → Type 0 = open_to vs jobs s.now.barred.now s.now.window in
         (scope : Scope) → IsIn vs scope vertex →
         IsGreatest (CanServe vs ok scope need.now vertex) most result) }
+    ensures work { (jobs : List Job) → F.stands_for s.now.view.now jobs → (place past : ℕ) →
+        (let vs : List Vertex = s.now.graph.now.resources.vertices in
+        let keeps : ℕ → ℕ → Type 0 = asked_totals s.now.wanted.now (F.keeps s.now.view.now) in
+        let all : List Need = needs_all s.now.needs.now in
+        IsPlaceOf all place need.now → IsClear vs jobs s.now.window keeps need.now vertex →
+        IsPast vs vertex past →
+        TakesEach (HasEachOpen vs jobs s.now.window keeps all) ((length all + 2) * F.cost s.now.view.now)
+        (steps.old + 2 * F.cost s.now.view.now) steps.new (place + 1) (place + length (all_of need.now))
+        (vertex + 1) past) }
 {
+    s.graph.is_valid();
     match need {
         Need::Vert { hold, needs, .. } => {
             if !admits(s, *hold, vertex, steps) {
@@ -126,6 +149,14 @@ pub(crate) fn copies<F: FreeView, L: Ledger>(
         (let vs : List Vertex = s.now.graph.now.resources.vertices in
         let ok : Claim → Type 0 = open_to vs jobs s.now.barred.now s.now.window in
         IsGreatest (SomeFits vs ok (scope_of scope) needs.now) most result) }
+    ensures work { (jobs : List Job) → F.stands_for s.now.view.now jobs → (place from to : ℕ) →
+        (let vs : List Vertex = s.now.graph.now.resources.vertices in
+        let keeps : ℕ → ℕ → Type 0 = asked_totals s.now.wanted.now (F.keeps s.now.view.now) in
+        let all : List Need = needs_all s.now.needs.now in
+        IsPlaceOfAll all place needs.now →
+        AllByRecursion (IsClearScope vs jobs s.now.window keeps scope) needs.now → IsSpanOf vs scope from to →
+        TakesEach (HasEachOpen vs jobs s.now.window keeps all) ((length all + 2) * F.cost s.now.view.now)
+        steps.old steps.new place (place + length (needs_all needs.now)) from to) }
 {
     let mut best = most;
     let mut at = index;

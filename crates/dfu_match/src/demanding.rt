@@ -3,7 +3,7 @@ ghost use Rattle.std.specs.Prelude.{◌≡◌, ℕ, ◌+◌, ◌≤◌, ◌⊎�
 ghost use Rattle.flux_defs.specs.declared.vertices.Vertex.{Vertex};
 ghost use Rattle.prune_filters.specs.Demands.{one_if, is_node_kind, demand, needs_demand, capped};
 ghost use Rattle.prune_filters.specs.Shorts.{AreDemandsOf};
-ghost use Rattle.dfu_match.specs.Tables.{IsNodesKind, all_of, needs_all};
+ghost use Rattle.dfu_match.specs.Tables.{IsNodesKind, all_of, needs_all, AreDemandsOfAll};
 
 use flux_defs::{List, Need};
 use prune_filters::Demand;
@@ -147,6 +147,27 @@ pub(crate) fn demands_of(
         demands.push(Demand {
             kind: *kind,
             amount: demand_of(kinds, *kind, 1, need),
+        })?;
+    }
+    Ok(List::of_vec(demands))
+}
+
+/// What the needs demand in full, each its amount, each kind once.
+pub(crate) fn demands_in_full(
+    alloc: Global,
+    kinds: &Kinds,
+    needs: &List<Need>,
+) -> Result<List<Demand>, AllocError>
+    ensures demands { IfOk result (AreDemandsOfAll kinds.now.graph.now.resources.vertices needs.now) }
+    ensures few { IfOk result (λ demands. length demands ≤ length (needs_all needs.now)) }
+{
+    let mut found = Vec::new(alloc);
+    gather_all(kinds, needs, &mut found)?;
+    let mut demands = Vec::with_capacity(alloc, found.len())?;
+    for kind in found.as_slice() {
+        demands.push(Demand {
+            kind: *kind,
+            amount: demand_of_all(kinds, *kind, needs),
         })?;
     }
     Ok(List::of_vec(demands))

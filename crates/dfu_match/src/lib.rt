@@ -13,4 +13,4 @@ mod walking;
 mod wanting;
 mod writing;
 
-pub use matching::{match_at, some_fit};
+pub use matching::{Matched, Matcher, match_at, some_fit};

@@ -1,21 +1,29 @@
 //! The match of an ask, and whether it has one.
-ghost use Rattle.std.specs.Prelude.{◌≡◌, ◌<◌, ◌↔◌, IsTrue, List, IfOk, MatchOption};
+ghost use Rattle.std.specs.Prelude.{◌≡◌, ℕ, ◌+◌, ◌*◌, ◌<◌, ◌≤◌, ◌↔◌, IsTrue, List, length, IfOk, MatchOption};
 ghost use Rattle.flux_defs.specs.declared.claims.Job.{Job};
 ghost use Rattle.flux_defs.specs.Needs.{IsProperAsk};
 ghost use Rattle.flux_defs.specs.Asks.{SomeFit, IsLowestFirst};
+ghost use Rattle.flux_defs.specs.declared.requests.Need.{Need};
+ghost use Rattle.std.proofs.Props.{props};
+ghost use Rattle.dfu_match.specs.Bars.{BarsAll};
+ghost use Rattle.dfu_match.specs.Tables.{needs_all, TellsNeeds, AreDemandsOfAll};
+ghost use Rattle.dfu_match.specs.Pairs.{Pair, HasEachOpen, IsRootShort, IsEnoughFor};
+ghost use Rattle.dfu_match.specs.Matches.{IsMatched, IsKeptShort};
 
 use crate::bars::bars_all;
 use crate::counting::copies;
+use crate::demanding::{Kinds, demands_in_full};
 use crate::search::Search;
-use crate::wanting::table_of;
+use crate::wanting::{Wanted, table_of};
 use crate::writing::write_needs;
 use flux_defs::{Ask, Claim, FreeView, List, Steps, Window};
+use prune_filters::{Demand, first_short};
 use resource_graph::Graph;
 use std::alloc::{AllocError, Global};
 use std::sync::ledger::Ledger;
 
 /// Whether some claims of the ask fit over the window, in seconds, where `view` tells what is free of the graph. It
-/// takes no memory.
+/// takes no memory. It asks for no totals, and looks at each pair of a need (inner ones too) and a vertex once at most.
 pub fn some_fit<F: FreeView, L: Ledger>(
     graph: &Graph,
     view: &F,
@@ -26,8 +34,11 @@ pub fn some_fit<F: FreeView, L: Ledger>(
     requires over { F.graph view.now ≡ graph.now.resources.vertices }
     requires proper { IsProperAsk graph.now.resources.vertices ask.now }
     requires opens { window.from < window.to }
-    ensures { (jobs : List Job) → F.stands_for view.now jobs →
+    ensures answer { (jobs : List Job) → F.stands_for view.now jobs →
         (IsTrue result ↔ SomeFit graph.now.resources.vertices jobs ask.now window) }
+    ensures work { (jobs : List Job) → F.stands_for view.now jobs →
+        (let m : ℕ = length (needs_all ask.now.needs) in
+        steps.new ≤ steps.old + (m + 2) * (m * length graph.now.resources.vertices) * F.cost view.now) }
 {
     let shut = bars_all(graph, ask.barred.items());
     let search = Search {
@@ -42,8 +53,126 @@ pub fn some_fit<F: FreeView, L: Ledger>(
     copies(&search, &ask.needs, 0, None, 1, steps) > 0
 }
 
+/// An ask over a graph, ready for matches over any windows: what its needs demand is worked out once.
+#[derive(Drop)]
+pub struct Matcher<'a> {
+    pub graph: &'a Graph,
+    pub ask: &'a Ask,
+    /// What the needs demand in full.
+    whole: List<Demand>,
+    /// What one of each need demands.
+    wanted: List<Wanted>,
+    /// Whether the ask bars each node.
+    shut: bool,
+    ghost demands: { AreDemandsOfAll graph.now.resources.vertices ask.now.needs whole } by { Prim.hlevel props },
+    ghost few: { length whole ≤ length (needs_all ask.now.needs) },
+    ghost tells: { TellsNeeds graph.now.resources.vertices (needs_all ask.now.needs) wanted } by { Prim.hlevel props },
+    ghost all: { length wanted ≡ length (needs_all ask.now.needs) },
+    ghost shuts: { IsTrue shut → BarsAll graph.now.resources.vertices ask.now.barred },
+}
+
+/// What a match over a window comes to.
+#[derive(Debug, Drop)]
+pub enum Matched {
+    /// The lowest-first claims.
+    Fits(List<Claim>),
+    /// No claims fit: the root's total of this kind is below this amount, which the ask demands in full, at some moment.
+    Short(Demand),
+    /// No claims fit, though no total that is kept at the root is below what the ask demands.
+    NoFit,
+}
+
+impl<'a> Matcher<'a> {
+    /// The ask over the graph. The only error is want of memory.
+    pub fn of(alloc: Global, graph: &'a Graph, ask: &'a Ask) -> Result<Matcher<'a>, AllocError>
+        ensures graph { IfOk result (λ matcher. matcher.graph.now ≡ graph.now) }
+        ensures ask { IfOk result (λ matcher. matcher.ask.now ≡ ask.now) }
+    {
+        graph.is_valid();
+        let nodes = graph.kind_of(b"node");
+        let kinds = Kinds { graph, nodes };
+        let whole = demands_in_full(alloc, &kinds, &ask.needs)?;
+        let wanted = table_of(alloc, &kinds, &ask.needs)?;
+        let shut = bars_all(graph, ask.barred.items());
+        Ok(Matcher {
+            graph,
+            ask,
+            whole,
+            wanted,
+            shut,
+        })
+    }
+
+    /// What the match comes to over the window, in seconds, where `view` tells what is free of the graph. The only error
+    /// is want of memory. It looks as often as `match_at`.
+    pub fn over<F: FreeView, L: Ledger>(
+        &self,
+        alloc: Global,
+        view: &F,
+        window: Window,
+        steps: &mut Steps<L>,
+    ) -> Result<Matched, AllocError>
+        requires over { F.graph view.now ≡ self.now.graph.now.resources.vertices }
+        requires proper { IsProperAsk self.now.graph.now.resources.vertices self.now.ask.now }
+        requires opens { window.from < window.to }
+        ensures matched { IfOk result (λ matched. (jobs : List Job) → F.stands_for view.now jobs →
+            IsMatched self.now.graph.now.resources.vertices jobs (F.keeps view.now) self.now.ask.now window matched) }
+        ensures kept { IfOk result (IsKeptShort (F.keeps view.now)) }
+        ensures work { (jobs : List Job) → F.stands_for view.now jobs → (looks : ℕ) →
+            IsEnoughFor self.now.graph.now.resources.vertices jobs window (F.keeps view.now) self.now.ask.now.needs
+            looks → steps.new ≤ steps.old + looks * F.cost view.now }
+    {
+        self.graph.is_valid();
+        match first_short(view, 0, &self.whole, window, steps) {
+            Some(demand) => Ok(Matched::Short(demand)),
+            None => self.walked(alloc, view, window, steps),
+        }
+    }
+
+    /// The same, where no total at the root is too small.
+    fn walked<F: FreeView, L: Ledger>(
+        &self,
+        alloc: Global,
+        view: &F,
+        window: Window,
+        steps: &mut Steps<L>,
+    ) -> Result<Matched, AllocError>
+        requires over { F.graph view.now ≡ self.now.graph.now.resources.vertices }
+        requires proper { IsProperAsk self.now.graph.now.resources.vertices self.now.ask.now }
+        requires opens { window.from < window.to }
+        requires enough { (jobs : List Job) → F.stands_for view.now jobs →
+            IsRootShort self.now.graph.now.resources.vertices jobs window (F.keeps view.now) self.now.ask.now.needs
+            → ⊥ }
+        ensures matched { IfOk result (λ matched. (jobs : List Job) → F.stands_for view.now jobs →
+            IsMatched self.now.graph.now.resources.vertices jobs (F.keeps view.now) self.now.ask.now window matched) }
+        ensures kept { IfOk result (IsKeptShort (F.keeps view.now)) }
+        ensures work { (jobs : List Job) → F.stands_for view.now jobs → (pairs : List Pair) →
+            (let all : List Need = needs_all self.now.ask.now.needs in
+            HasEachOpen self.now.graph.now.resources.vertices jobs window (F.keeps view.now) all pairs →
+            steps.new ≤ steps.old + 2 * (length all + 2) * length pairs * F.cost view.now) }
+    {
+        let search = Search {
+            graph: self.graph,
+            view,
+            needs: &self.ask.needs,
+            wanted: self.wanted.items(),
+            barred: &self.ask.barred,
+            shut: self.shut,
+            window,
+        };
+        let mut claims = Vec::new(alloc);
+        if !write_needs(&search, &self.ask.needs, 0, 1, None, &mut claims, steps)? {
+            return Ok(Matched::NoFit);
+        }
+        Ok(Matched::Fits(List::of_vec(claims)))
+    }
+}
+
 /// The lowest-first claims of the ask over the window, in seconds, where `view` tells what is free of the graph; `None`
 /// exactly where no claims fit (RFC 14's request over RFC 4's graph). The only error is want of memory.
+///
+/// Where a total at the root is below what the ask demands in full, it looks no further. Else it looks at each pair of
+/// a need (inner ones too) and a vertex with no short vertex above it at most twice, and at no other pair.
 pub fn match_at<F: FreeView, L: Ledger>(
     alloc: Global,
     graph: &Graph,
@@ -55,25 +184,18 @@ pub fn match_at<F: FreeView, L: Ledger>(
     requires over { F.graph view.now ≡ graph.now.resources.vertices }
     requires proper { IsProperAsk graph.now.resources.vertices ask.now }
     requires opens { window.from < window.to }
-    ensures { IfOk result (λ found. (jobs : List Job) → F.stands_for view.now jobs →
+    ensures found { IfOk result (λ found. (jobs : List Job) → F.stands_for view.now jobs →
         MatchOption found
         (SomeFit graph.now.resources.vertices jobs ask.now window → ⊥)
         (IsLowestFirst graph.now.resources.vertices jobs ask.now window)) }
+    ensures work { (jobs : List Job) → F.stands_for view.now jobs → (looks : ℕ) →
+        IsEnoughFor graph.now.resources.vertices jobs window (F.keeps view.now) ask.now.needs looks →
+        steps.new ≤ steps.old + looks * F.cost view.now }
 {
-    let wanted = table_of(alloc, graph, &ask.needs)?;
-    let shut = bars_all(graph, ask.barred.items());
-    let search = Search {
-        graph,
-        view,
-        needs: &ask.needs,
-        wanted: wanted.items(),
-        barred: &ask.barred,
-        shut,
-        window,
-    };
-    let mut claims = Vec::new(alloc);
-    if !write_needs(&search, &ask.needs, 0, 1, None, &mut claims, steps)? {
-        return Ok(None);
+    let matcher = Matcher::of(alloc, graph, ask)?;
+    match matcher.over(alloc, view, window, steps)? {
+        Matched::Fits(claims) => Ok(Some(claims)),
+        Matched::Short(_) => Ok(None),
+        Matched::NoFit => Ok(None),
     }
-    Ok(Some(List::of_vec(claims)))
 }

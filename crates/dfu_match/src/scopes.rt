@@ -1,6 +1,7 @@
 //! Which vertices a need is looked for among.
 ghost use Rattle.std.specs.Prelude.{◌≡◌, ◌≤◌, length};
 ghost use Rattle.dfu_match.specs.Searches.{scope_of, IsScope, Covers, IsKindOfNeed};
+ghost use Rattle.dfu_match.specs.Pairs.{IsSpanOf};
 
 use flux_defs::Need;
 use resource_graph::Graph;
@@ -17,6 +18,7 @@ pub(crate) fn span_of(graph: &Graph, scope: Option<u32>) -> Span
     requires { IsScope graph.now.resources.vertices scope }
     ensures covers { Covers graph.now.resources.vertices (scope_of scope) result.from result.to }
     ensures within { result.to ≤ length graph.now.resources.vertices }
+    ensures span { IsSpanOf graph.now.resources.vertices scope result.from result.to }
 {
     graph.is_valid();
     match scope {

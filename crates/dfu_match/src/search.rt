@@ -1,5 +1,5 @@
 //! What a search looks at, and which claims are available to it.
-ghost use Rattle.std.specs.Prelude.{◌≡◌, ◌≢◌, ◌^◌, ℕ, [], ◌<◌, ◌↔◌, IsTrue, length, List};
+ghost use Rattle.std.specs.Prelude.{◌≡◌, ◌≢◌, ◌+◌, ◌*◌, ◌^◌, ℕ, [], ◌<◌, ◌≤◌, ◌↔◌, IsTrue, length, List};
 ghost use Rattle.std.specs.List.{list_any};
 ghost use Rattle.flux_defs.specs.declared.claims.Job.{Job};
 ghost use Rattle.flux_defs.specs.declared.claims.Claim.{Claim};
@@ -69,7 +69,8 @@ fn bars_below<F: FreeView>(s: &Search<F>, vertex: u32) -> bool
 /// Whether the vertex is closed at some moment of the window.
 fn closed<F: FreeView, L: Ledger>(s: &Search<F>, vertex: u32, steps: &mut Steps<L>) -> bool
     requires { vertex < length s.now.graph.now.resources.vertices }
-    ensures { (jobs : List Job) → F.stands_for s.now.view.now jobs →
+    ensures work { steps.new ≤ steps.old + F.cost s.now.view.now }
+    ensures answer { (jobs : List Job) → F.stands_for s.now.view.now jobs →
         (IsTrue result ↔ IsClosedIn (meets s.now.graph.now.resources.vertices jobs s.now.barred.now) s.now.window
         vertex) }
 {
@@ -79,7 +80,8 @@ fn closed<F: FreeView, L: Ledger>(s: &Search<F>, vertex: u32, steps: &mut Steps<
 /// Whether the vertex is touched at some moment of the window.
 fn touched<F: FreeView, L: Ledger>(s: &Search<F>, vertex: u32, steps: &mut Steps<L>) -> bool
     requires { vertex < length s.now.graph.now.resources.vertices }
-    ensures { (jobs : List Job) → F.stands_for s.now.view.now jobs →
+    ensures work { steps.new ≤ steps.old + F.cost s.now.view.now }
+    ensures answer { (jobs : List Job) → F.stands_for s.now.view.now jobs →
         (IsTrue result ↔ IsTouchedIn (meets s.now.graph.now.resources.vertices jobs s.now.barred.now) s.now.window
         vertex) }
 {
@@ -89,7 +91,8 @@ fn touched<F: FreeView, L: Ledger>(s: &Search<F>, vertex: u32, steps: &mut Steps
 /// The least that is free of the vertex at a moment of the window.
 pub(crate) fn free<F: FreeView, L: Ledger>(s: &Search<F>, vertex: u32, steps: &mut Steps<L>) -> u64
     requires { vertex < length s.now.graph.now.resources.vertices }
-    ensures { (jobs : List Job) → F.stands_for s.now.view.now jobs →
+    ensures work { steps.new ≤ steps.old + F.cost s.now.view.now }
+    ensures answer { (jobs : List Job) → F.stands_for s.now.view.now jobs →
         IsFreeIn (meets s.now.graph.now.resources.vertices jobs s.now.barred.now) s.now.window vertex result }
 {
     if bars_over(s, vertex) {
@@ -106,7 +109,8 @@ pub(crate) fn admits<F: FreeView, L: Ledger>(
     steps: &mut Steps<L>,
 ) -> bool
     requires { vertex < length s.now.graph.now.resources.vertices }
-    ensures { (jobs : List Job) → F.stands_for s.now.view.now jobs →
+    ensures work { steps.new ≤ steps.old + 2 * F.cost s.now.view.now }
+    ensures answer { (jobs : List Job) → F.stands_for s.now.view.now jobs →
         (IsTrue result ↔ open_to s.now.graph.now.resources.vertices jobs s.now.barred.now s.now.window
         (claim_on hold vertex)) }
 {

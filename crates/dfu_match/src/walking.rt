@@ -1,14 +1,16 @@
 //! The walk over the vertices of a need, which enters no subtree that is short for it.
-ghost use Rattle.std.specs.Prelude.{◌≡◌, ◌+◌, ◌⊎◌, ◌<◌, ◌≤◌, [], length, List, IfSome, IsTrue, MatchOption};
+ghost use Rattle.std.specs.Prelude.{◌≡◌, ℕ, ◌+◌, ◌*◌, ◌⊎◌, ◌<◌, ◌≤◌, ◌↔◌, [], length, List, IfSome, IfNone, IsTrue, MatchOption};
 ghost use Rattle.flux_defs.specs.declared.vertices.Vertex.{Vertex};
 ghost use Rattle.flux_defs.specs.declared.claims.Job.{Job};
 ghost use Rattle.flux_defs.specs.declared.claims.Claim.{Claim};
+ghost use Rattle.flux_defs.specs.declared.requests.Need.{Need};
 ghost use Rattle.flux_defs.specs.Graph.{HasKind, is_at_or_below};
 ghost use Rattle.flux_defs.specs.Needs.{IsValidNeed};
 ghost use Rattle.prune_filters.specs.Shorts.{IsShortFor};
 ghost use Rattle.dfu_match.specs.Searches.{open_to, IsKindOfNeed};
 ghost use Rattle.dfu_match.specs.Tables.{all_of, needs_all, StandsAt};
 ghost use Rattle.dfu_match.specs.Walks.{IsParentFrom, ServesNone};
+ghost use Rattle.dfu_match.specs.Pairs.{HasEachOpen, IsClear, IsClearBetween, IsClearBefore, IsPlaceOf, TakesEach, asked_totals};
 
 use crate::search::Search;
 use flux_defs::{FreeView, Need, Steps};
@@ -26,8 +28,10 @@ fn is_short<F: FreeView, L: Ledger>(
 ) -> bool
     requires stands { StandsAt (needs_all s.now.needs.now) s.now.wanted.now index need.now }
     requires vertex { vertex < length s.now.graph.now.resources.vertices }
-    ensures short { (jobs : List Job) → F.stands_for s.now.view.now jobs → IsTrue result →
-        IsShortFor s.now.graph.now.resources.vertices jobs s.now.window (F.keeps s.now.view.now) need.now vertex }
+    ensures short { (jobs : List Job) → F.stands_for s.now.view.now jobs →
+        (IsTrue result ↔ IsShortFor s.now.graph.now.resources.vertices jobs s.now.window
+        (asked_totals s.now.wanted.now (F.keeps s.now.view.now)) need.now vertex) }
+    ensures work { steps.new ≤ steps.old + length (all_of need.now) * F.cost s.now.view.now }
 {
     match s.wanted.get(index) {
         None => false,
@@ -59,8 +63,12 @@ fn own_short<F: FreeView, L: Ledger>(
     requires vertex { vertex < length s.now.graph.now.resources.vertices }
     ensures same { IfSome result (λ top. top ≡ vertex) }
     ensures short { (jobs : List Job) → F.stands_for s.now.view.now jobs →
-        IfSome result (IsShortFor s.now.graph.now.resources.vertices jobs s.now.window (F.keeps s.now.view.now)
-        need.now) }
+        IfSome result (IsShortFor s.now.graph.now.resources.vertices jobs s.now.window
+        (asked_totals s.now.wanted.now (F.keeps s.now.view.now)) need.now) }
+    ensures enough { (jobs : List Job) → F.stands_for s.now.view.now jobs →
+        IfNone result (IsShortFor s.now.graph.now.resources.vertices jobs s.now.window
+        (asked_totals s.now.wanted.now (F.keeps s.now.view.now)) need.now vertex → ⊥) }
+    ensures work { steps.new ≤ steps.old + length (all_of need.now) * F.cost s.now.view.now }
 {
     if is_short(s, need, index, vertex, steps) {
         return Some(vertex);
@@ -84,8 +92,19 @@ fn top_short<F: FreeView, L: Ledger>(
     ensures above { IfSome result (λ top. (low ≤ top)
         × IsTrue (is_at_or_below s.now.graph.now.resources.vertices vertex top)) }
     ensures short { (jobs : List Job) → F.stands_for s.now.view.now jobs →
-        IfSome result (IsShortFor s.now.graph.now.resources.vertices jobs s.now.window (F.keeps s.now.view.now)
-        need.now) }
+        IfSome result (IsShortFor s.now.graph.now.resources.vertices jobs s.now.window
+        (asked_totals s.now.wanted.now (F.keeps s.now.view.now)) need.now) }
+    ensures clear { (jobs : List Job) → F.stands_for s.now.view.now jobs →
+        (let clear : ℕ → ℕ → Type 0 = IsClearBetween s.now.graph.now.resources.vertices jobs s.now.window
+        (asked_totals s.now.wanted.now (F.keeps s.now.view.now)) need.now vertex in
+        MatchOption result (clear low (vertex + 1)) (clear low)) }
+    ensures work { (jobs : List Job) → F.stands_for s.now.view.now jobs → (place : ℕ) →
+        (let vs : List Vertex = s.now.graph.now.resources.vertices in
+        let keeps : ℕ → ℕ → Type 0 = asked_totals s.now.wanted.now (F.keeps s.now.view.now) in
+        let all : List Need = needs_all s.now.needs.now in
+        IsPlaceOf all place need.now → IsClearBetween vs jobs s.now.window keeps need.now vertex 0 low →
+        TakesEach (HasEachOpen vs jobs s.now.window keeps all)
+        (length (all_of need.now) * F.cost s.now.view.now) steps.old steps.new place (place + 1) low (vertex + 1)) }
 {
     s.graph.is_valid();
     match parent_from(s.graph, vertex, low) {
@@ -118,6 +137,19 @@ pub(crate) fn next_open<F: FreeView, L: Ledger>(
         (let vs : List Vertex = s.now.graph.now.resources.vertices in
         let ok : Claim → Type 0 = open_to vs jobs s.now.barred.now s.now.window in
         MatchOption result (ServesNone vs ok need.now from to) (ServesNone vs ok need.now from)) }
+    ensures clear { (jobs : List Job) → F.stands_for s.now.view.now jobs →
+        (let vs : List Vertex = s.now.graph.now.resources.vertices in
+        let keeps : ℕ → ℕ → Type 0 = asked_totals s.now.wanted.now (F.keeps s.now.view.now) in
+        IsClearBefore vs jobs s.now.window keeps need.now from to →
+        IfSome result (IsClear vs jobs s.now.window keeps need.now)) }
+    ensures work { (jobs : List Job) → F.stands_for s.now.view.now jobs → (place : ℕ) →
+        (let vs : List Vertex = s.now.graph.now.resources.vertices in
+        let keeps : ℕ → ℕ → Type 0 = asked_totals s.now.wanted.now (F.keeps s.now.view.now) in
+        let all : List Need = needs_all s.now.needs.now in
+        let taken : ℕ → Type 0 = TakesEach (HasEachOpen vs jobs s.now.window keeps all)
+        (length (all_of need.now) * F.cost s.now.view.now) steps.old steps.new place (place + 1) from in
+        IsPlaceOf all place need.now → IsClearBefore vs jobs s.now.window keeps need.now from to →
+        MatchOption result (taken to) (λ vertex. taken (vertex + 1))) }
 {
     s.graph.is_valid();
     let mut at = from;

@@ -10,7 +10,6 @@ ghost use Rattle.dfu_match.specs.Tables.{Grows};
 use crate::demanding::{Kinds, demands_of};
 use flux_defs::{List, Need};
 use prune_filters::Demand;
-use resource_graph::Graph;
 use std::alloc::{AllocError, Global};
 use text_forms::push;
 
@@ -48,16 +47,13 @@ fn count_all(needs: &List<Need>) -> usize
 /// What each need demands, first of a need and then of those within it.
 pub(crate) fn table_of(
     alloc: Global,
-    graph: &Graph,
+    kinds: &Kinds,
     needs: &List<Need>,
 ) -> Result<List<Wanted>, AllocError>
-    ensures { IfOk result (AllZip (TellsNeed graph.now.resources.vertices) (needs_all needs.now)) }
+    ensures { IfOk result (AllZip (TellsNeed kinds.now.graph.now.resources.vertices) (needs_all needs.now)) }
 {
-    graph.is_valid();
-    let nodes = graph.kind_of(b"node");
-    let kinds = Kinds { graph, nodes };
     let mut table = Vec::new(alloc);
-    list_all(alloc, &kinds, needs, &mut table)?;
+    list_all(alloc, kinds, needs, &mut table)?;
     Ok(List::of_vec(table))
 }
 

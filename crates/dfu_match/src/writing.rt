@@ -1,5 +1,5 @@
 //! Writes the lowest-first claims, each once, at the end of a list.
-ghost use Rattle.std.specs.Prelude.{◌≡◌, ◌*◌, ◌<◌, ◌≤◌, [], ◌∷◌, ◌++◌, false, length, List, IfOk, OnOk, MatchBool};
+ghost use Rattle.std.specs.Prelude.{◌≡◌, ℕ, ◌+◌, ◌*◌, ◌<◌, ◌≤◌, [], ◌∷◌, ◌++◌, false, length, List, IfOk, OnOk, MatchBool};
 ghost use Rattle.flux_defs.specs.declared.vertices.Vertex.{Vertex};
 ghost use Rattle.flux_defs.specs.declared.claims.Job.{Job};
 ghost use Rattle.flux_defs.specs.declared.claims.Claim.{Claim};
@@ -8,7 +8,11 @@ ghost use Rattle.flux_defs.specs.Needs.{amount_of, IsOfNeed, IsValidNeed, AreVal
 ghost use Rattle.flux_defs.specs.Lowest.{CanServe, FollowsPass, LowestPiece, Lowest};
 ghost use Rattle.match_laws.specs.Offers.{Extends, Offers, SomeGroup, SomeFits, LowestGroup};
 ghost use Rattle.dfu_match.specs.Searches.{open_to, scope_of, IsScope, MayAsk, MayScale, MayScaleNeed};
-ghost use Rattle.dfu_match.specs.Tables.{needs_all, StandsAt, StandAt};
+ghost use Rattle.dfu_match.specs.Tables.{all_of, needs_all, StandsAt, StandAt};
+ghost use Rattle.dfu_match.specs.Pairs.{HasEachOpen, IsClear, IsClearScope, IsPlaceOf, IsPlaceOfAll, IsSpanOf, Looks, LooksAll, TakesEach, asked_totals};
+ghost use Rattle.flux_defs.specs.declared.requests.Need.{Need};
+ghost use Rattle.resource_graph.specs.Tables.{IsPast};
+ghost use Rattle.std.specs.List.{AllByRecursion};
 
 use crate::counting::{copies, serves};
 use crate::scopes::{kind_of, span_of};
@@ -35,13 +39,22 @@ pub(crate) fn write_needs<F: FreeView, L: Ledger>(
     requires valid { AreValidNeeds s.now.graph.now.resources.vertices needs.now }
     requires may { MayScale k needs.now }
     requires some { 1 ≤ k }
-    ensures { IfOk result (λ fit. Extends out.old.items out.new.items
+    ensures written { IfOk result (λ fit. Extends out.old.items out.new.items
         (λ claims. (jobs : List Job) → F.stands_for s.now.view.now jobs →
         (let vs : List Vertex = s.now.graph.now.resources.vertices in
         let ok : Claim → Type 0 = open_to vs jobs s.now.barred.now s.now.window in
         MatchBool fit
         (Lowest vs ok k (scope_of scope) needs.now claims)
         (SomeFits vs ok (scope_of scope) needs.now k → ⊥)))) }
+    ensures work { (jobs : List Job) → F.stands_for s.now.view.now jobs → (place from to times : ℕ) →
+        (let vs : List Vertex = s.now.graph.now.resources.vertices in
+        let keeps : ℕ → ℕ → Type 0 = asked_totals s.now.wanted.now (F.keeps s.now.view.now) in
+        let all : List Need = needs_all s.now.needs.now in
+        IsPlaceOfAll all place needs.now →
+        AllByRecursion (IsClearScope vs jobs s.now.window keeps scope) needs.now → IsSpanOf vs scope from to →
+        LooksAll times needs.now →
+        TakesEach (HasEachOpen vs jobs s.now.window keeps all) (times * ((length all + 2) * F.cost s.now.view.now))
+        steps.old steps.new place (place + length (needs_all needs.now)) from to) }
 {
     let mut at = index;
     for need in needs.items() {
@@ -71,14 +84,23 @@ fn write_group<F: FreeView, L: Ledger>(
     requires valid { IsValidNeed s.now.graph.now.resources.vertices need.now }
     requires may { MayScaleNeed k need.now }
     requires some { 1 ≤ k }
-    ensures { IfOk result (λ filled. Extends out.old.items out.new.items
+    ensures written { IfOk result (λ filled. Extends out.old.items out.new.items
         (λ claims. (jobs : List Job) → F.stands_for s.now.view.now jobs →
         (let vs : List Vertex = s.now.graph.now.resources.vertices in
         let ok : Claim → Type 0 = open_to vs jobs s.now.barred.now s.now.window in
         MatchBool filled
         (LowestGroup vs ok (scope_of scope) need.now (k * amount_of need.now) claims)
         (SomeGroup vs ok (scope_of scope) need.now (k * amount_of need.now) → ⊥)))) }
+    ensures work { (jobs : List Job) → F.stands_for s.now.view.now jobs → (place from to times : ℕ) →
+        (let vs : List Vertex = s.now.graph.now.resources.vertices in
+        let keeps : ℕ → ℕ → Type 0 = asked_totals s.now.wanted.now (F.keeps s.now.view.now) in
+        let all : List Need = needs_all s.now.needs.now in
+        IsPlaceOf all place need.now → IsClearScope vs jobs s.now.window keeps scope need.now →
+        IsSpanOf vs scope from to → Looks times need.now →
+        TakesEach (HasEachOpen vs jobs s.now.window keeps all) (times * ((length all + 2) * F.cost s.now.view.now))
+        steps.old steps.new place (place + length (all_of need.now)) from to) }
 {
+    s.graph.is_valid();
     let Some(kind) = kind_of(s.graph, need) else {
         return Ok(false);
     };
@@ -89,9 +111,10 @@ fn write_group<F: FreeView, L: Ledger>(
         let Some(vertex) = next_open(s, need, index, kind, at, span.to, steps) else {
             return Ok(false);
         };
+        let next = s.graph.past(vertex);
         let served = offer(s, need, index, vertex, missing, out, steps)?;
         missing -= u128::from(served);
-        at = vertex + 1;
+        at = next;
     }
     Ok(true)
 }
@@ -121,7 +144,17 @@ fn offer<F: FreeView, L: Ledger>(
         (scope : Scope) → IsIn vs scope vertex →
         Offers (CanServe vs ok scope need.now vertex)
         (LowestPiece vs ok need.now vertex) most served claims))) }
+    ensures work { (jobs : List Job) → F.stands_for s.now.view.now jobs → (place past times : ℕ) →
+        (let vs : List Vertex = s.now.graph.now.resources.vertices in
+        let keeps : ℕ → ℕ → Type 0 = asked_totals s.now.wanted.now (F.keeps s.now.view.now) in
+        let all : List Need = needs_all s.now.needs.now in
+        IsPlaceOf all place need.now → IsClear vs jobs s.now.window keeps need.now vertex →
+        IsPast vs vertex past → Looks times need.now →
+        TakesEach (HasEachOpen vs jobs s.now.window keeps all) (times * ((length all + 2) * F.cost s.now.view.now))
+        (steps.old + 2 * F.cost s.now.view.now) steps.new (place + 1) (place + length (all_of need.now))
+        (vertex + 1) past) }
 {
+    s.graph.is_valid();
     match need {
         Need::Vert { hold, needs, .. } => {
             if !admits(s, *hold, vertex, steps) {
@@ -203,7 +236,7 @@ fn write_shared<F: FreeView, L: Ledger>(
     requires valid { AreValidNeeds s.now.graph.now.resources.vertices needs.now }
     requires may { MayScale k needs.now }
     requires some { 1 ≤ k }
-    ensures { IfOk result (λ fit. Extends out.old.items out.new.items
+    ensures written { IfOk result (λ fit. Extends out.old.items out.new.items
         (λ claims. (fit ≡ false → claims ≡ []) × ((jobs : List Job) → F.stands_for s.now.view.now jobs →
         (let vs : List Vertex = s.now.graph.now.resources.vertices in
         let ok : Claim → Type 0 = open_to vs jobs s.now.barred.now s.now.window in
@@ -211,6 +244,15 @@ fn write_shared<F: FreeView, L: Ledger>(
         (FollowsPass vs ok vertex
         (Lowest vs ok k (Beneath vertex) needs.now) claims)
         (SomeFits vs ok (Beneath vertex) needs.now k → ⊥))))) }
+    ensures work { (jobs : List Job) → F.stands_for s.now.view.now jobs → (place past times : ℕ) →
+        (let vs : List Vertex = s.now.graph.now.resources.vertices in
+        let keeps : ℕ → ℕ → Type 0 = asked_totals s.now.wanted.now (F.keeps s.now.view.now) in
+        let all : List Need = needs_all s.now.needs.now in
+        IsPlaceOfAll all place needs.now →
+        AllByRecursion (λ need. IsClear vs jobs s.now.window keeps need vertex) needs.now → IsPast vs vertex past →
+        LooksAll times needs.now →
+        TakesEach (HasEachOpen vs jobs s.now.window keeps all) (times * ((length all + 2) * F.cost s.now.view.now))
+        steps.old steps.new place (place + length (needs_all needs.now)) (vertex + 1) past) }
 {
     let mark = out.len();
     write_claim(out, Claim::Pass { vertex })?;

@@ -1,18 +1,26 @@
 -- A start that is later than it has to be.
-use Rattle.std.proofs.Common.{◌≡◌, ℕ, zero, suc, ◌+◌, ◌-◌, ◌<◌, ◌≤◌, List, [], ◌∷◌, inl, inr, sym, subst, arith, IsTrue}
+use Rattle.std.proofs.Common.{◌≡◌, ℕ, zero, suc, ◌+◌, ◌-◌, ◌<◌, ◌≤◌, List, [], ◌∷◌, ◌⊎◌, inl, inr, refl, sym, subst, arith, IsTrue}
 use Rattle.std.proofs.lemmas.Bool.{cases_lt}
 use Rattle.std.proofs.lemmas.Bool.Decides.{nat_tests, eqb_tells}
 use Rattle.flux_defs.specs.declared.vertices.Vertex.{Vertex}
 use Rattle.flux_defs.specs.declared.claims.Claim.{Claim}
 use Rattle.flux_defs.specs.declared.claims.Job.{Job}
 use Rattle.flux_defs.specs.declared.requests.Ask.{Ask}
-use Rattle.flux_defs.specs.Graph.{Everywhere}
+use Rattle.flux_defs.specs.Graph.{ResourceGraph, Everywhere}
+use Rattle.flux_defs.specs.ValidGraph.{IsValidGraph}
+use Rattle.flux_defs.specs.declared.claims.Window.{Window}
+use Rattle.flux_defs.specs.Needs.{IsProperAsk}
 use Rattle.flux_defs.specs.Jobs.{is_live, IsPoint, IsNextPoint}
 use Rattle.flux_defs.specs.Available.{is_available_at, IsAvailable}
 use Rattle.flux_defs.specs.Asks.{window_of, CountsWithin, scene_of, SomeFit, IsStart, IsEarliest}
 use Rattle.match_laws.proofs.Live.{LivesOn, available_on}
 use Rattle.match_laws.proofs.MoreAvailable.{fits_more}
+use Rattle.prune_laws.proofs.Demanded.{fit_total}
+use Rattle.dfu_match.specs.declared.matching.Matched.{Matched}
+use Rattle.dfu_match.specs.declared.matching.Matched.TheVariants.{Fits, Short, NoFit}
+use Rattle.dfu_match.specs.Matches.{IsMatched}
 use Rattle.earliest_search.specs.Starts.{NoneEnds}
+use Rattle.earliest_search.specs.Tried.{IsWorthTry}
 
 live_next : (m : ℕ) (job : Job) → (job.end ≡ m + 1 → ⊥) → IsTrue (is_live m job) → IsTrue (is_live (m + 1) job)
 live_next m job ne h = grind (arith, nat_tests)
@@ -26,13 +34,18 @@ later_window : (horizon : ℕ) (ask : Ask) (t : ℕ) → CountsWithin horizon as
     ((window_of horizon ask t).to ≤ (window_of horizon ask (t + 1)).to) × (t + 1 < (window_of horizon ask (t + 1)).to)
 later_window horizon ask t c = elim (eqb_tells ask.duration 0) [
   | inl yes' ↦ (rw yes'.0 (let a : horizon ≤ horizon = omega arith in a, c.0))
-  | inr no' ↦ (let d : ask.duration ≡ 0 → ⊥ = no'.1 in rw no'.0 (let a : t + ask.duration ≤ t + 1 + ask.duration = omega arith in a, let b : t + 1 < t + 1 + ask.duration = omega arith in b))
+  | inr no' ↦ (let d : ask.duration ≡ 0 → ⊥ = no'.1 in rw no'.0 (
+    let a : t + ask.duration ≤ t + 1 + ask.duration =
+        omega arith in a,
+    let b : t + 1 < t + 1 + ask.duration = omega arith in b,
+  ))
 ]
 
 module _ (vertices : List Vertex) (jobs : List Job) (horizon : ℕ) (ask : Ask) where
   -- where no job ends at t + 1, what is available over the window there is available over the window at t
   available_before : (t : ℕ) → CountsWithin horizon ask (t + 1) → NoneEnds jobs (t + 1) → (c : Claim) →
-      IsAvailable (scene_of vertices jobs ask) (window_of horizon ask (t + 1)) c → IsAvailable (scene_of vertices jobs ask) (window_of horizon ask t) c
+      IsAvailable (scene_of vertices jobs ask) (window_of horizon ask (t + 1)) c → IsAvailable (scene_of vertices jobs
+      ask) (window_of horizon ask t) c
   available_before t counts none c a m lo hi =
       let w = later_window horizon ask t counts in
       elim (cases_lt t m) [
@@ -40,10 +53,12 @@ module _ (vertices : List Vertex) (jobs : List Job) (horizon : ℕ) (ask : Ask) 
         | inr here ↦
             (let e : m ≡ t = omega arith in
             subst (λ (x : ℕ). IsTrue (is_available_at (scene_of vertices jobs ask) x c)) (sym e)
-            (available_on (scene_of vertices jobs ask) t (t + 1) (lives_on jobs t none) c (a (t + 1) (omega arith) w.1)))
+            (available_on (scene_of vertices jobs ask) t (t + 1) (lives_on jobs t none) c (a (t + 1) (omega arith)
+            w.1)))
       ]
 
-  pub start_before : (t : ℕ) → NoneEnds jobs (t + 1) → IsStart vertices jobs horizon ask (t + 1) → IsStart vertices jobs horizon ask t
+  pub start_before : (t : ℕ) → NoneEnds jobs (t + 1) → IsStart vertices jobs horizon ask (t + 1) → IsStart vertices
+      jobs horizon ask t
   start_before t none s =
       let c : CountsWithin horizon ask (t + 1) = s.0 in
       let lt : t + 1 < horizon = c.0 in
@@ -51,53 +66,94 @@ module _ (vertices : List Vertex) (jobs : List Job) (horizon : ℕ) (ask : Ask) 
         (omega arith, omega arith),
         (
           s.1.0,
-          fits_more vertices (IsAvailable (scene_of vertices jobs ask) (window_of horizon ask (t + 1))) (IsAvailable (scene_of vertices jobs ask) (window_of horizon ask t))
+          fits_more vertices (IsAvailable (scene_of vertices jobs ask) (window_of horizon ask (t + 1))) (IsAvailable
+              (scene_of vertices jobs ask) (window_of horizon ask t))
               (available_before t c none) 1 Everywhere ask.needs s.1.0 s.1.1,
         ),
       )
 
-  -- and so over a gap in which no job ends
-  start_over : (t d : ℕ) → ((u : ℕ) → t < u → u ≤ t + d → NoneEnds jobs u) → IsStart vertices jobs horizon ask (t + d) → IsStart vertices jobs horizon ask t
-  start_over t zero gap s = let e : t + 0 ≡ t = omega arith in subst (IsStart vertices jobs horizon ask) e s
-  start_over t (suc d) gap s =
-      let e : t + suc d ≡ t + d + 1 = omega arith in
-      start_over t d (λ u lo hi. gap u lo (omega arith))
-      (start_before (t + d) (gap (t + d + 1) (omega arith) (omega arith)) (subst (IsStart vertices jobs horizon ask) e s))
-
-  start_at_gap : (t u : ℕ) → t ≤ u → ((x : ℕ) → t < x → x ≤ u → NoneEnds jobs x) → IsStart vertices jobs horizon ask u → IsStart vertices jobs horizon ask t
-  start_at_gap t u le gap s =
-      let e : u ≡ t + (u - t) = omega arith in
-      start_over t (u - t) (λ x lo hi. gap x lo (omega arith)) (subst (IsStart vertices jobs horizon ask) e s)
-
-none_ends : (jobs : List Job) (x : ℕ) → (IsPoint jobs x → ⊥) → NoneEnds jobs x
-none_ends [] x none = tt
-none_ends (job ∷ jobs) x none = ((λ e. none (inl (inr (sym e)))), none_ends jobs x (λ p. none (inr p)))
+none_or_point : (jobs : List Job) (x : ℕ) → NoneEnds jobs x ⊎ IsPoint jobs x
+none_or_point [] x = inl tt
+none_or_point (job ∷ jobs) x = elim (eqb_tells job.end x) [
+  | inl same ↦ (let e : x ≡ job.end = sym same.1 in inr (inl (inr e)))
+  | inr other ↦ elim (none_or_point jobs x) [ inl none ↦ inl (other.1, none) | inr point ↦ inr (inr point) ]
+]
 
 -- no start stands before a moment
 abbrev pub NoStartBefore : List Vertex → List Job → ℕ → Ask → ℕ → ℕ → Type 0
-NoStartBefore vertices jobs horizon ask moment t = (u : ℕ) → moment ≤ u → u < t → IsStart vertices jobs horizon ask u → ⊥
+NoStartBefore vertices jobs horizon ask moment t = (u : ℕ) → moment ≤ u → u < t → IsStart vertices jobs horizon ask u
+    → ⊥
 
-module _ (vertices : List Vertex) (jobs : List Job) (horizon : ℕ) (ask : Ask) (moment t : ℕ) (before : NoStartBefore vertices jobs horizon ask moment t) where
+-- where a match came to no claims none fit
+pub no_fit : (vertices : List Vertex) (jobs : List Job) (keeps : ℕ → ℕ → Type 0) (ask : Ask) (w : Window)
+    (matched : Matched) → IsMatched vertices jobs keeps ask w matched →
+    ((claims : List Claim) → matched ≡ Fits claims → ⊥) → SomeFit vertices jobs ask w → ⊥
+no_fit vertices jobs keeps ask w (Fits claims) is never fit = never claims refl
+no_fit vertices jobs keeps ask w (Short demand) is never fit = is.0 fit
+no_fit vertices jobs keeps ask w NoFit is never fit = is.0 fit
+
+-- the ask can't start at a moment that isn't worth a try
+module _ (g : ResourceGraph) (names : List (List ℕ)) (valid : IsValidGraph g names) (jobs : List Job) (horizon : ℕ)
+    (ask : Ask) (proper : IsProperAsk g.vertices ask) (keeps : ℕ → ℕ → Type 0) where
+  pub worth_try : (matched : Matched) (w : Window) (u : ℕ) → IsMatched g.vertices jobs keeps ask w matched →
+      IsStart g.vertices jobs horizon ask u → IsWorthTry g.vertices jobs matched u
+  worth_try (Fits claims) w u is s = tt
+  worth_try NoFit w u is s = tt
+  worth_try (Short demand) w u is s =
+      let fit = s.1 in
+      let few = ends_later u s.0 in
+      let all = fit_total g names valid jobs ask.barred (window_of horizon ask u) ask.needs proper.needs demand.kind u
+      (omega arith) few fit.0 fit.1 in
+      omega (arith, all, is.2)
+    where
+      ends_later : (u : ℕ) → CountsWithin horizon ask u → u < (window_of horizon ask u).to
+      ends_later u c = elim (eqb_tells ask.duration 0) [
+        | inl none ↦ rw none.0 c.0
+        | inr some ↦ (let d : ask.duration ≡ 0 → ⊥ = some.1 in rw some.0 (let a : u < u + ask.duration = omega arith in
+            a))
+      ]
+
+module _ (vertices : List Vertex) (jobs : List Job) (horizon : ℕ) (ask : Ask) (moment t : ℕ) (before : NoStartBefore
+    vertices jobs horizon ask moment t) where
   module _ (none : SomeFit vertices jobs ask (window_of horizon ask t) → ⊥) where
-    up_to : (u : ℕ) → moment ≤ u → ((x : ℕ) → t < x → x ≤ u → IsPoint jobs x → ⊥) → IsStart vertices jobs horizon ask u → ⊥
-    up_to u lo gap s = elim (cases_lt u t) [
+    -- nothing starts up to a moment before which no later start or end of a job is a start
+    up_to : (d : ℕ) → ((u : ℕ) → t < u → u ≤ t + d → IsPoint jobs u → IsStart vertices jobs horizon ask u → ⊥) →
+        IsStart vertices jobs horizon ask (t + d) → ⊥
+    up_to zero passed s = let e : t + 0 ≡ t = omega arith in
+        none (subst (IsStart vertices jobs horizon ask) e s).1
+    up_to (suc d) passed s =
+        let e : t + suc d ≡ t + d + 1 = omega arith in
+        let s' = subst (IsStart vertices jobs horizon ask) e s in
+        elim (none_or_point jobs (t + d + 1)) [
+          | inl over ↦ up_to d (λ u lo hi. passed u lo (omega arith)) (start_before vertices jobs horizon ask (t + d)
+              over s')
+          | inr point ↦ passed (t + d + 1) (omega arith) (omega arith) point s'
+        ]
+
+    -- nothing starts before the next moment to try
+    pub none_to_next : (p : ℕ) →
+        ((u : ℕ) → t < u → u < p → IsPoint jobs u → IsStart vertices jobs horizon ask u → ⊥) →
+        NoStartBefore vertices jobs horizon ask moment p
+    none_to_next p passed u lo hi s = elim (cases_lt u t) [
       | inl lt ↦ before u lo lt s
-      | inr ge ↦ none (start_at_gap vertices jobs horizon ask t u ge (λ x a b. none_ends jobs x (gap x a b)) s).1
+      | inr ge ↦ (let e : u ≡ t + (u - t) = omega arith in
+          up_to (u - t) (λ x a b. passed x a (omega arith)) (subst (IsStart vertices jobs horizon ask) e s))
     ]
 
-    -- nothing starts before the next point
-    pub none_to_next : (p : ℕ) → IsNextPoint jobs t p → NoStartBefore vertices jobs horizon ask moment p
-    none_to_next p next u lo hi s = up_to u lo (λ x a b i. (let le : p ≤ x = next.least x a i in omega arith)) s
-
-    -- there is no later point: nothing starts
-    pub none_ever : ((p : ℕ) → t < p → IsPoint jobs p → ⊥) → (u : ℕ) → moment ≤ u → IsStart vertices jobs horizon ask u → ⊥
-    none_ever over u lo s = up_to u lo (λ x a b i. over x a i) s
+    -- there is none: nothing starts
+    pub none_ever : ((u : ℕ) → t < u → IsPoint jobs u → IsStart vertices jobs horizon ask u → ⊥) → (u : ℕ) →
+        moment ≤ u → IsStart vertices jobs horizon ask u → ⊥
+    none_ever passed u lo s = none_to_next (u + 1) (λ x a b. passed x a) u lo (omega arith) s
 
   -- no window from t on counts: nothing starts
   pub none_past : (CountsWithin horizon ask t → ⊥) → (u : ℕ) → moment ≤ u → IsStart vertices jobs horizon ask u → ⊥
   none_past over u lo s = elim (cases_lt u t) [
     | inl lt ↦ before u lo lt s
-    | inr ge ↦ (let a : u < horizon = s.0.0 in let b : u + ask.duration ≤ horizon = s.0.1 in over (omega arith, omega arith))
+    | inr ge ↦ (let a : u < horizon = s.0.0 in let b : u + ask.duration ≤ horizon = s.0.1 in over (
+      omega arith,
+      omega
+          arith,
+    ))
   ]
 
   pub is_earliest : moment ≤ t → IsStart vertices jobs horizon ask t → IsEarliest vertices jobs horizon ask moment t

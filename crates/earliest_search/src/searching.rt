@@ -1,12 +1,15 @@
 //! The search over starts.
-ghost use Rattle.std.specs.Prelude.{◌≡◌, ℕ, ◌≤◌, List, IfOk, MatchOption};
+ghost use Rattle.std.specs.Prelude.{◌≡◌, ℕ, ◌+◌, ◌<◌, ◌≤◌, List, IfOk, IfSome, MatchOption};
 ghost use Rattle.flux_defs.specs.declared.claims.Job.{Job};
 ghost use Rattle.flux_defs.specs.Needs.{IsProperAsk};
 ghost use Rattle.flux_defs.specs.Asks.{window_of, IsLowestFirst, IsStart, IsEarliest};
+ghost use Rattle.dfu_match.specs.Matches.{IsKeptShort};
+ghost use Rattle.earliest_search.specs.Tried.{TakesTries, IsNextTryOrNone};
 
 use crate::windows::{counts, window_at};
-use dfu_match::match_at;
-use flux_defs::{Ask, Claim, FreeView, List, Steps};
+use dfu_match::{Matched, Matcher};
+use flux_defs::{Ask, Claim, List, Steps};
+use prune_filters::TotalsView;
 use resource_graph::Graph;
 use std::alloc::{AllocError, Global};
 use std::sync::ledger::Ledger;
@@ -18,10 +21,31 @@ pub struct Found {
     pub claims: List<Claim>,
 }
 
+/// The next moment to try after one: where a total at the root was too small there, the next start or end of a job at
+/// which it isn't, and else the next one. `None` exactly where there is none.
+fn next_try<F: TotalsView, L: Ledger>(
+    view: &F,
+    after: u64,
+    matched: &Matched,
+    steps: &mut Steps<L>,
+) -> Option<u64>
+    requires { IsKeptShort (F.keeps view.now) matched.now }
+    ensures later { IfSome result (λ t. after < t) }
+    ensures next { (jobs : List Job) → F.stands_for view.now jobs →
+        IsNextTryOrNone (F.graph view.now) jobs matched.now after result }
+    ensures work { steps.new ≤ steps.old + F.cost view.now }
+{
+    match matched {
+        Matched::Short(demand) => view.next_ample(after, demand.kind, demand.amount, steps),
+        Matched::NoFit => view.next_point(after, steps),
+        Matched::Fits(_) => view.next_point(after, steps),
+    }
+}
+
 /// The least start from `now` on whose window counts and which some claims fit, with the lowest-first claims there;
 /// `None` exactly where there is no such start before the horizon. All times are in seconds. The only error is want of
 /// memory.
-pub fn earliest<F: FreeView, L: Ledger>(
+pub fn earliest<F: TotalsView, L: Ledger>(
     alloc: Global,
     graph: &Graph,
     view: &F,
@@ -32,21 +56,30 @@ pub fn earliest<F: FreeView, L: Ledger>(
 ) -> Result<Option<Found>, AllocError>
     requires over { F.graph view.now ≡ graph.now.resources.vertices }
     requires proper { IsProperAsk graph.now.resources.vertices ask.now }
-    ensures { IfOk result (λ found. (jobs : List Job) → F.stands_for view.now jobs →
+    ensures found { IfOk result (λ found. (jobs : List Job) → F.stands_for view.now jobs →
         MatchOption found
         ((t : ℕ) → now ≤ t → IsStart graph.now.resources.vertices jobs horizon ask.now t → ⊥)
         (λ f. IsEarliest graph.now.resources.vertices jobs horizon ask.now now f.start
         × IsLowestFirst graph.now.resources.vertices jobs ask.now (window_of horizon ask.now f.start) f.claims)) }
+    ensures work { (jobs : List Job) → F.stands_for view.now jobs →
+        TakesTries graph.now.resources.vertices jobs (F.keeps view.now) (F.cost view.now) horizon ask.now now horizon
+        steps.old steps.new }
+    ensures soon { IfOk result (λ found. (jobs : List Job) → F.stands_for view.now jobs →
+        IfSome found (λ f. TakesTries graph.now.resources.vertices jobs (F.keeps view.now) (F.cost view.now) horizon
+        ask.now now f.start steps.old steps.new)) }
 {
+    graph.is_valid();
+    let matcher = Matcher::of(alloc, graph, ask)?;
     let mut start = now;
     'starts: while counts(horizon, ask, start) {
         let window = window_at(horizon, ask, start);
-        match match_at(alloc, graph, view, ask, window, steps)? {
-            Some(claims) => return Ok(Some(Found { start, claims })),
-            None => match view.next_point(start, steps) {
-                None => return Ok(None),
-                Some(next) => start = next,
-            },
+        let matched = matcher.over(alloc, view, window, steps)?;
+        if let Matched::Fits(claims) = matched {
+            return Ok(Some(Found { start, claims }));
+        }
+        match next_try(view, start, &matched, steps) {
+            None => return Ok(None),
+            Some(next) => start = next,
         }
     }
     Ok(None)

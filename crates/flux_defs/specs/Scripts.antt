@@ -3,9 +3,18 @@ use Rattle.std.specs.Prelude.{◌≡◌, ℕ, ◌==◌, Bool, List, map, filter,
 use Rattle.std.specs.List.{list_any}
 use Rattle.flux_defs.specs.declared.journal.Entry.{Entry}
 use Rattle.flux_defs.specs.declared.journal.Line.{Line}
+use Rattle.flux_defs.specs.declared.journal.ClientLine.{ClientLine}
 use Rattle.flux_defs.specs.declared.journal.Script.{Script}
 use Rattle.flux_defs.specs.Scheduler.{Setting}
 use Rattle.flux_defs.specs.Histories.{IsLegal}
+
+-- the line that an entry answers
+abbrev pub line_of : Entry → ClientLine
+line_of e = record { client = e.client; line = e.line; command = e.command }
+
+-- the client's line
+abbrev pub client_line : ℕ → Line → ClientLine
+client_line client l = record { client = client; line = l.line; command = l.command }
 
 -- client c of the script has these lines
 abbrev pub HasLines : Script → ℕ → List Line → Type 0

@@ -13,6 +13,13 @@ use Rattle.flux_defs.specs.declared.verdicts.Verdict.TheVariants.{Found, NoFit, 
 use Rattle.flux_defs.specs.Asks.{window_of, CountsWithin, SomeFit, IsLowestFirst, IsStart, IsEarliest, IsSatisfiable}
 use Rattle.flux_defs.specs.Scheduler.{Setting, State, Where, Unless, accepted_reply}
 
+-- a command that is searched for: an allocate, a reserve or a satisfy
+abbrev pub IsSearchable : Command → Type 0
+IsSearchable (command.Allocate id ask) = Unit {0}
+IsSearchable (command.Reserve id ask) = Unit {0}
+IsSearchable (command.Satisfy ask) = Unit {0}
+IsSearchable c = ⊥
+
 -- the lowest-first claims at the start
 abbrev pub FoundAt : Setting → State → Ask → ℕ → Verdict → Type 0
 FoundAt g s ask start v =
@@ -35,7 +42,7 @@ FindsJob g s id ask AtStarts =
     Where (Contains s.used id) Known
     (Unless (IsSatisfiable g.graph.vertices ask) Unsat (Unless (CountsWithin g.horizon ask s.moment) Long AtStarts))
 
--- what a search of the state finds of a command: allocate, reserve and satisfy alone are searched for
+-- what a search of the state finds of a command
 abbrev pub Finds : Setting → State → Command → Verdict → Type 0
 Finds g s (command.Allocate id ask) = FindsJob g s id ask (FindsNow g s ask)
 Finds g s (command.Reserve id ask) = FindsJob g s id ask (FindsEarliest g s ask)

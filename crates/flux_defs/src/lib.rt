@@ -3,6 +3,8 @@
 #![tactic(auto)]
 
 pub mod claims;
+pub mod desks;
+pub mod events;
 pub mod gates;
 pub mod journal;
 pub mod limits;
@@ -15,6 +17,8 @@ pub mod vertices;
 pub mod views;
 
 pub use claims::{Claim, Job, Window};
+pub use desks::Desk;
+pub use events::Event;
 pub use gates::{Gate, OpenGate, Place};
 pub use journal::{ClientLine, Command, Entry, Line, Phase, Reply, Script};
 pub use limits::{

@@ -1,26 +1,33 @@
 //! The program: the top call with the words, files and streams of the system.
 #![tactic(auto)]
 
+mod words;
+
+use flux_defs::OpenGate;
 use flux_io::{StdFiles, StdSink, StdSource, write_all};
 use fluxion_shell::{Status, code, fault_line, run};
-use std::env;
 use std::process::ExitCode;
+use std::sync::Wait;
+use std::thread::Threads;
+use words::words_of;
 
-/// The words after the program's name, where there is memory for them.
-fn words(rt: &HostRuntime) -> Option<Vec<String>> {
-    env::args(rt).ok()?.skip(1).collect(rt.alloc()).ok()
+/// Runs the program over the files and streams of the system, with threads from a handle, and says how it ended.
+fn run_with<R: Threads + Wait + Sync>(host: &HostRuntime, rt: &R) -> Status {
+    let alloc = host.alloc();
+    let Ok(words) = words_of(alloc, host) else {
+        return Status::Memory;
+    };
+    let mut files = StdFiles::new(host);
+    let mut input = StdSource::new(host.stdin());
+    let mut out = StdSink::new(host.stdout());
+    run(
+        rt, alloc, &words, &mut files, &mut input, &mut out, &OpenGate,
+    )
 }
 
 fn main(rt: HostRuntime) -> ExitCode {
-    let alloc = rt.alloc();
-    let Some(words) = words(&rt) else {
-        return ExitCode::from(code(&Status::Memory));
-    };
-    let mut files = StdFiles::new(&rt);
-    let mut input = StdSource::new(rt.stdin());
-    let mut out = StdSink::new(rt.stdout());
-    let status = run(alloc, words.as_slice(), &mut files, &mut input, &mut out);
-    if let Ok(line) = fault_line(alloc, &status) {
+    let status = run_with(&rt, &rt);
+    if let Ok(line) = fault_line(rt.alloc(), &status) {
         let _ = write_all(&mut StdSink::new(rt.stderr()), &line);
     }
     ExitCode::from(code(&status))

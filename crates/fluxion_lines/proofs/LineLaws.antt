@@ -1,5 +1,5 @@
 -- One line after another.
-use Rattle.std.proofs.Common.{◌≡◌, ◌≢◌, ℕ, ◌+◌, ◌<◌, ◌==◌, ◌||◌, not, Bool, true, false, cond, List, [], ◌∷◌, ◌++◌, length, inl, inr, refl, sym, ◌∙◌, ap, arith, length-append, if◌then◌else◌}
+use Rattle.std.proofs.Common.{◌≡◌, ℕ, ◌+◌, ◌<◌, ◌==◌, ◌||◌, not, Bool, true, false, cond, List, [], ◌∷◌, ◌++◌, length, inl, inr, refl, sym, ◌∙◌, ap, arith, length-append, if◌then◌else◌}
 use Rattle.std.specs.List.{list_any, position_or_len}
 use Rattle.std.proofs.lemmas.Bool.{ne_eqb}
 use Rattle.std.specs.Str.{bytes_eq}
@@ -19,7 +19,7 @@ no_feed b raw none = ne_eqb b 10 none.0
 byte_more : (b : ℕ) (rest : List ℕ) (line : List ℕ) (lines : List (List ℕ)) → (b == 10) ≡ false → lines_of rest ≡ line ∷ lines → lines_of (b ∷ rest) ≡ (b ∷ line) ∷ lines
 byte_more b rest line lines none h = ap (λ t. if t then [] ∷ lines_of rest else with_byte b (lines_of rest)) none ∙ ap (with_byte b) h
 
-ended : (raw more : List ℕ) → Lacks 10 raw → lines_of (raw ++ (10 ∷ more)) ≡ raw ∷ lines_of more
+pub ended : (raw more : List ℕ) → Lacks 10 raw → lines_of (raw ++ (10 ∷ more)) ≡ raw ∷ lines_of more
 ended [] more none = refl
 ended (b ∷ raw) more none = byte_more b (raw ++ (10 ∷ more)) raw (lines_of more) (no_feed b raw none)
     (ended raw more none.1)

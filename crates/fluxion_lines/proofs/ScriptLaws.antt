@@ -49,16 +49,16 @@ in_mapped f [] x k lt e = absurd (omega arith)
 in_mapped f (y ∷ ys) x zero lt e = (0, omega arith, ap f e)
 in_mapped f (y ∷ ys) x (suc k) lt e = let r = in_mapped f ys x k (omega arith) e in (suc r.0, (let s = r.1 in omega arith), r.2)
 
-same_eq : (n : ℕ) → (n == n) ≡ true
+pub same_eq : (n : ℕ) → (n == n) ≡ true
 same_eq n = grind (arith, nat_tests)
 
 -- ---- numbers rise
 
-abbrev RiseFrom : ℕ → List ClientLine → Type 0
+abbrev pub RiseFrom : ℕ → List ClientLine → Type 0
 RiseFrom at [] = Unit {0}
 RiseFrom at (l ∷ ls) = (at ≤ l.line) × RiseFrom (l.line + 1) ls
 
-rises : (g : NamedGraph) (form : Form) (clients : List (List ℕ)) (at : ℕ) (raws : List (List ℕ)) → RiseFrom at (lines_from g form clients at raws)
+pub rises : (g : NamedGraph) (form : Form) (clients : List (List ℕ)) (at : ℕ) (raws : List (List ℕ)) → RiseFrom at (lines_from g form clients at raws)
 rises g form clients at [] = tt
 rises g form clients at (raw ∷ raws) = (omega arith, rises g form (with_text clients (client_in raw)) (at + 1) raws)
 
@@ -74,7 +74,7 @@ mapped_filter c true l ls = refl
 mapped_filter c false l ls = refl
 
 -- one line more
-by_more : (c : ℕ) (l : ClientLine) (ls : List ClientLine) →
+pub by_more : (c : ℕ) (l : ClientLine) (ls : List ClientLine) →
     lines_by c (l ∷ ls) ≡ cond (l.client == c) (line_held l ∷ lines_by c ls) (lines_by c ls)
 by_more c l ls = mapped_filter c (l.client == c) l ls
 
@@ -201,20 +201,30 @@ some_is : {X : Type 0} (x y : X) → Some x ≡ Some y → x ≡ y
 some_is x y e = cc
 
 module _ (g : NamedGraph) (form : Form) (bytes : List ℕ) where
-  abbrev lines : List ClientLine
+  abbrev pub lines : List ClientLine
   lines = numbered_lines g form bytes
 
-  abbrev count : ℕ
+  abbrev pub count : ℕ
   count = length (clients_of bytes)
 
-  has_lines : (c : ℕ) → c < count → HasLines (script_of g form bytes) c (lines_by c lines)
+  pub has_lines : (c : ℕ) → c < count → HasLines (script_of g form bytes) c (lines_by c lines)
   has_lines c lt = slice_get-map (λ client. lines_by client lines) (range_with_len 0 count) c ∙ ap (option_map (λ client. lines_by client lines)) (in_range count c lt)
 
-  lines_are : (c : ℕ) (ls : List Line) → HasLines (script_of g form bytes) c ls → lines_by c lines ≡ ls
+  pub lines_are : (c : ℕ) (ls : List Line) → HasLines (script_of g form bytes) c ls → lines_by c lines ≡ ls
   lines_are c ls had =
       let within = slice_get_within (map (λ client. lines_by client lines) (range_with_len 0 count)) c ls had in
       let long = length-map-range_with_len (λ client. lines_by client lines) 0 count in
       some_is (lines_by c lines) ls (sym (has_lines c (omega (arith, within, long))) ∙ had)
+
+  -- a client's numbers are those of its lines
+  pub numbers_are_own : (c : ℕ) → AllByRecursion (λ l. has_number (lines_by c lines) l.line ≡ (l.client == c)) lines
+  numbers_are_own c = own_numbers c 1 lines (rises g form [] 1 (lines_of bytes))
+
+  -- a client that has lines is among the clients
+  pub is_client : (c : ℕ) (ls : List Line) → HasLines (script_of g form bytes) c ls → c < count
+  is_client c ls had =
+      let within = slice_get_within (map (λ client. lines_by client lines) (range_with_len 0 count)) c ls had in
+      let long = length-map-range_with_len (λ client. lines_by client lines) 0 count in omega (arith, within, long)
 
   -- each line is one of its client's
   pub held : AllByRecursion (λ l. HasLines (script_of g form bytes) l.client (lines_by l.client lines) × Contains (lines_by l.client lines) (line_held l)) lines
@@ -235,7 +245,7 @@ module _ (g : NamedGraph) (form : Form) (bytes : List ℕ) where
   interleaves = record {
     known = at_each IsKnown (input_order g form bytes) (all_mapped IsKnown (λ l. l.line) lines (all_and lines known_line held held));
     each = λ c ls had. subst (λ (x : List Line). filter (has_number x) (input_order g form bytes) ≡ map (λ l. l.line) x) (lines_are c ls had)
-        (told_apart c (has_number (lines_by c lines)) lines (own_numbers c 1 lines (rises g form [] 1 (lines_of bytes))));
+        (told_apart c (has_number (lines_by c lines)) lines (numbers_are_own c));
   }
 
   -- each line is one of some client's lines

@@ -5,3 +5,4 @@ pub mod Lines
 pub mod Inputs
 pub mod Scripts
 pub mod Texts
+pub mod Columns

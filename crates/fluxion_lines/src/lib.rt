@@ -1,6 +1,7 @@
 //! Lines of commands, read, and the lines that answer them.
 #![tactic(auto)]
 
+mod columns;
 mod commands;
 pub mod input;
 mod lines;
@@ -9,6 +10,7 @@ pub mod replies;
 pub mod scripts;
 mod words;
 
+pub use columns::line_feeds;
 pub use commands::Form;
 pub use input::{Input, InputFault, Over, read_lines};
 pub use replies::{history_text, line_text};

@@ -1,4 +1,5 @@
-pub mod FourWords
-pub mod TwoWords
+pub mod CallLaws
 pub mod Output
 pub mod Shown
+pub mod RuleTexts
+pub mod Summaries

@@ -1,123 +1,194 @@
--- What a told graph file and a told input show.
-use Rattle.std.proofs.Common.{◌≡◌, ℕ, true, ◌+◌, ◌<◌, ◌≤◌, ◌⊎◌, List, [], ◌++◌, length, Option, Some, None, IfSome, MatchOption, inl, inr, refl, sym, ◌∙◌, ap, subst, arith}
-use Rattle.flux_io.specs.Counts.{Rose}
+-- What a told graph file and a told input show of an answer, and what it rests on.
+use Rattle.std.proofs.Common.{◌≡◌, ℕ, ◌<◌, ◌≤◌, ◌⊎◌, IsTrue, List, [], ◌++◌, length, Option, Some, None, IfSome, MatchOption, inl, inr, refl, sym, ◌∙◌, ap, subst, arith}
 use Rattle.flux_io.specs.Stores.{Stored, file_of}
 use Rattle.flux_io.specs.Streams.{TakesFront}
 use Rattle.resource_graph.specs.NamedGraph.{NamedGraph}
-use Rattle.graph_json.specs.GraphText.{IsGraphText}
-use Rattle.graph_json.specs.declared.faults.ReadFault.{ReadFault}
+use Rattle.graph_json.specs.GraphText.{IsGraphText, IsFirstFault}
 use Rattle.graph_json.proofs.TextLaws.{no_fault_told, one_graph_told}
+use Rattle.fluxion_lines.specs.declared.commands.Form.{Form}
 use Rattle.fluxion_lines.specs.declared.input.Over.{Over}
 use Rattle.fluxion_lines.specs.declared.input.Over.TheVariants as over_at
 use Rattle.fluxion_lines.specs.Inputs.{is_by_size, over_size_in, over_in}
 use Rattle.fluxion_lines.proofs.InputLaws.{size_told}
-use Rattle.fluxion_shell.specs.Outputs.{served_form}
 use Rattle.flux_defs.specs.declared.limits.TheConstants.{SHIPPED, MOST_FILE_BYTES}
 use Rattle.fluxion_shell.specs.declared.status.Status.{Status}
 use Rattle.fluxion_shell.specs.declared.status.Status.TheVariants as status
-use Rattle.fluxion_shell.specs.declared.status.Limited.{Limited}
-use Rattle.fluxion_shell.specs.declared.status.Which.TheVariants.{GraphBytes, InputBytes, Lines, LineBytes, Clients, Barred}
-use Rattle.fluxion_shell.specs.Causes.{past_graph, long_graph, long_input, told_file, WhereTold, OrEarlier, HasFault, AppendsFrontOfSome, ShowsLines, ShowsInput, limit_of, ShowsFile, ShowsStore, Shows, ShowsPrint, Known, FailsWith, HasGraphFile, HasShortInput}
+use Rattle.fluxion_shell.specs.Calls.{Served, Call, serve, print, load}
+use Rattle.fluxion_shell.specs.Causes.{past_graph, long_input, told_file, IsOfFile, OfServing, OfNaming, AppendsFrontOfSome, IsPastLimit, limit_of, HasCause, OrEarlier, IsWritten, ShowsLines, ShowsInput, ShowsFile, ShowsStore, IsFirstShown, HasGraphFile, IsInOrder, Known, FailsWith}
 
 pub known : (told : Option Stored) (name old new : List ℕ) → old ≡ [] →
-    IfSome told (λ files. (bytes : List ℕ) × (file_of files name ≡ Some bytes) × (length bytes ≤ 268435456) × (new ≡ old ++ bytes)) → Known told name new
+    IfSome told (λ files. (bytes : List ℕ) × (file_of files name ≡ Some bytes) × (length bytes ≤ 268435456)
+    × (new ≡ old ++ bytes)) → Known told name new
 known None name old new none h = tt
 known (Some files) name old new none (bytes, found, few, is) =
     let same : new ≡ bytes = is ∙ ap (λ xs. xs ++ bytes) none in
     (found ∙ ap Some (sym same), subst (λ (b : List ℕ). length b ≤ 268435456) (sym same) few)
 
--- an answer that came before any other
-pub earlier_answer : (result : Status) (A : Type 0) → (result ≡ status.Read) ⊎ (result ≡ status.Memory) → OrEarlier result A
-earlier_answer result A (inl read) = inl read
-earlier_answer result A (inr memory) = inr (inl memory)
+-- what holds of a file of the name holds of the told one
+told_holds : (told : Option Stored) (name : List ℕ) (P : List ℕ → Type 0) →
+    IfSome told (λ files. (bytes : List ℕ) × (file_of files name ≡ Some bytes) × P bytes) → IfSome
+    (told_file told name) P
+told_holds None name P h = tt
+told_holds (Some files) name P (bytes, at, p) = subst (λ (o : Option (List ℕ)). IfSome o P) (sym at) p
 
--- an answer that came before what the input shows
-pub earlier_lines : (past : Option Over) (result : Status) → (result ≡ status.Read) ⊎ (result ≡ status.Memory) → ShowsLines result past
-earlier_lines None result early = earlier_answer result _ early
-earlier_lines (Some over) result early = earlier_answer result _ early
+-- ---- an answer before any that is shown
 
-pub earlier_input : (g : NamedGraph) (left : Option (List ℕ)) (result : Status) → (result ≡ status.Read) ⊎ (result ≡ status.Memory) → IfSome left (ShowsInput result g)
-earlier_input g None result early = tt
-earlier_input g (Some input) result early =
-    ((λ many. earlier_answer result _ early), (λ few. earlier_lines (over_in SHIPPED g served_form input) result early))
+-- a failure to read or want of memory
+abbrev pub IsEarly : Type 0 → Status → Type 0
+IsEarly Failed s = ((s ≡ status.Read) × Failed) ⊎ (s ≡ status.Memory)
 
-module _ (told : Option Stored) (name : List ℕ) (bytes : List ℕ) (told_bytes : Known told name bytes) where
-  shown : (result : Status) (Then : NamedGraph → Type 0) → (length bytes ≤ 268435456 → ShowsFile result bytes Then) → ShowsStore result told name Then
-  shown result Then file = by told told_bytes
+earlier : {Failed Shown : Type 0} (s : Status) → IsEarly Failed s → OrEarlier Failed s Shown
+earlier s (inl read) = inl read
+earlier s (inr memory) = inr (inl memory)
+
+as_either : {F I : Type 0} (s : Status) → IsEarly F s → IsEarly (F ⊎ I) s
+as_either s (inl read) = inl (read.0, inl read.1)
+as_either s (inr memory) = inr memory
+
+earlier_lines : {Failed : Type 0} (past : Option Over) (s : Status) → IsEarly Failed s → ShowsLines Failed s past
+earlier_lines None s early = earlier s early
+earlier_lines (Some over) s early = earlier s early
+
+pub earlier_input : {Failed : Type 0} (form : Form) (g : NamedGraph) (left : Option (List ℕ)) (s : Status) →
+    IsEarly Failed s → IfSome left (ShowsInput Failed form s g)
+earlier_input form g None s early = tt
+earlier_input form g (Some input) s early = (
+  (λ many. earlier s early),
+  (λ few. earlier_lines (over_in SHIPPED g form input) s early),
+)
+
+earlier_store : {Failed : Type 0} (s : Status) (told : Option Stored) (name : List ℕ) (Then : NamedGraph → Type 0) →
+    IsEarly Failed s → ((g : NamedGraph) → Then g) → ShowsStore Failed s told name Then
+earlier_store {Failed} s told name Then early then_shown = by told
+  where
+    of_file : (o : Option (List ℕ)) → MatchOption o (OrEarlier Failed s (s ≡ status.NoGraphFile))
+        (λ file. ShowsFile Failed s file Then)
+    of_file None = earlier s early
+    of_file (Some file) = record { long = λ many. earlier s early; faulty = λ short fault has. earlier s early; graph = λ short g text. then_shown g }
+
+    by : (files : Option Stored) → ShowsStore Failed s files name Then
+    by None = tt
+    by (Some files) = of_file (file_of files name)
+
+pub earlier_first : (F I : Type 0) (call : Call) (told : Option Stored) (left : Option (List ℕ)) (s : Status) →
+    OfNaming call (λ name. Unit {0}) → IsEarly F s → IsFirstShown call told left F I s
+earlier_first F I (serve served) told left s names early =
+    earlier_store s told served.name (λ g. IfSome left (ShowsInput (F ⊎ I) served.form s g)) early
+    (λ g. earlier_input served.form g left s (as_either s early))
+earlier_first F I (print name) told left s names early =
+    earlier_store s told name (λ g. OrEarlier F s (IsWritten s)) early (λ g. earlier s early)
+earlier_first F I (load commands) told left s names early = absurd names
+
+-- ---- no graph was read
+
+module _ (F R I O : Type 0) (call : Call) (name : List ℕ) (told : Option Stored) (left : Option (List ℕ)) where
+  abbrev Fails : Status → Type 0
+  Fails = FailsWith told name F R
+
+  without_length : (P Q : List ℕ → Type 0) (o : Option Stored) →
+      IfSome o (λ files. (bytes : List ℕ) × (file_of files name ≡ Some bytes) × P bytes × Q bytes) →
+      IfSome o (λ files. (bytes : List ℕ) × (file_of files name ≡ Some bytes) × Q bytes)
+  without_length P Q None h = tt
+  without_length P Q (Some files) (bytes, at, p, q) = (bytes, at, q)
+
+  pub fails_cause : ((P : List ℕ → Type 0) → P name → OfNaming call P) → (s : Status) → Fails s →
+      HasCause call told left F R I O s
+  fails_cause names status.Ok h = absurd h
+  fails_cause names status.Usage h = absurd h
+  fails_cause names status.Write h = absurd h
+  fails_cause names status.Read h = inl (names (λ n. F) h)
+  fails_cause names status.Memory h = tt
+  fails_cause names (status.Graph fault) h =
+      names (λ n. IsOfFile fault × IfSome (told_file told n) (λ file. IsFirstFault file fault)) (
+        h.0,
+        told_holds told name (λ file. IsFirstFault file fault)
+            (without_length (λ bytes. length bytes ≤ MOST_FILE_BYTES) (λ bytes. IsFirstFault bytes fault) told h.1),
+      )
+  fails_cause names (status.Limit limited) h = inl
+      (names (λ n. (limited ≡ past_graph) × R × IfSome (told_file told n) (λ file. MOST_FILE_BYTES < length file)) (
+        h.0,
+        h.1,
+        told_holds told name (λ file. MOST_FILE_BYTES < length file) h.2,
+      ))
+  fails_cause names status.NoGraphFile h = names (λ n. R × IfSome told (λ files. file_of files n ≡ None)) h
+
+  -- the file is no graph's, so nothing is shown behind it
+  of_no_graph : (s : Status) (Then : NamedGraph → Type 0) → Fails s →
+      (IsEarly F s → ShowsStore F s told name Then) → ShowsStore F s told name Then
+  of_no_graph status.Ok Then h early = absurd h
+  of_no_graph status.Usage Then h early = absurd h
+  of_no_graph status.Write Then h early = absurd h
+  of_no_graph status.Read Then h early = early (inl (refl, h))
+  of_no_graph status.Memory Then h early = early (inr refl)
+  of_no_graph (status.Graph fault) Then h early = by told h.1
     where
-      by : (files : Option Stored) → Known files name bytes → ShowsStore result files name Then
+      by : (files : Option Stored) →
+          IfSome files (λ files. (bytes : List ℕ) × (file_of files name ≡ Some bytes)
+          × (length bytes ≤ MOST_FILE_BYTES) × IsFirstFault bytes fault) →
+          ShowsStore F (status.Graph fault) files name Then
+      by None g = tt
+      by (Some files) (bytes, at, few, first) =
+          subst (λ (o : Option (List ℕ)). MatchOption o (OrEarlier F (status.Graph fault)
+          (status.Graph fault ≡ status.NoGraphFile)) (λ file. ShowsFile F (status.Graph fault) file Then))
+          (sym at) (record {
+            long = λ many. absurd (omega arith);
+            faulty = λ short other too. inr (inr (fault, (first, h.0), refl));
+            graph = λ short g text. absurd (h.0.plain (no_fault_told bytes g fault text first));
+          })
+  of_no_graph (status.Limit limited) Then h early = by told h.2
+    where
+      by : (files : Option Stored) → IfSome files
+          (λ files. (bytes : List ℕ) × (file_of files name ≡ Some bytes) × (MOST_FILE_BYTES < length bytes)) →
+          ShowsStore F (status.Limit limited) files name Then
+      by None g = tt
+      by (Some files) (bytes, at, many) =
+          subst (λ (o : Option (List ℕ)). MatchOption o (OrEarlier F (status.Limit limited)
+          (status.Limit limited ≡ status.NoGraphFile)) (λ file. ShowsFile F (status.Limit limited) file Then))
+          (sym at) (record {
+            long = λ more. inr (inr (ap status.Limit h.0));
+            faulty = λ short fault has. absurd (omega arith);
+            graph = λ short g text. absurd (omega arith);
+          })
+  of_no_graph status.NoGraphFile Then h early = by told h.1
+    where
+      by : (files : Option Stored) → IfSome files (λ files. file_of files name ≡ None) →
+          ShowsStore F status.NoGraphFile files name Then
+      by None g = tt
+      by (Some files) none =
+          subst (λ (o : Option (List ℕ)). MatchOption o (OrEarlier F status.NoGraphFile
+          (status.NoGraphFile ≡ status.NoGraphFile)) (λ file. ShowsFile F status.NoGraphFile file Then))
+          (sym none) (inr (inr refl))
+
+-- what is shown where no graph was read
+pub fails_first : (F R I : Type 0) (call : Call) (told : Option Stored) (left : Option (List ℕ)) (s : Status) →
+    OfNaming call (λ name. FailsWith told name F R s) → IsFirstShown call told left F I s
+fails_first F R I (serve served) told left s h =
+    of_no_graph F R I ⊥ (serve served) served.name told left s (λ g. IfSome left (ShowsInput (F ⊎ I) served.form s g)) h
+    (earlier_first F I (serve served) told left s tt)
+fails_first F R I (print name) told left s h =
+    of_no_graph F R I ⊥ (print name) name told left s (λ g. OrEarlier F s (IsWritten s)) h
+    (earlier_first F I (print name) told left s tt)
+fails_first F R I (load commands) told left s h = absurd h
+
+-- ---- a graph was read
+
+module _ (F : Type 0) (told : Option Stored) (name : List ℕ) (bytes : List ℕ) (told_bytes : Known told name bytes)
+    (g : NamedGraph) (text : IsGraphText bytes g) where
+  -- what is shown after the file's graph
+  pub shows_then : (s : Status) (Then : NamedGraph → Type 0) → Then g → ShowsStore F s told name Then
+  shows_then s Then then_shown = by told told_bytes
+    where
+      file : length bytes ≤ 268435456 → ShowsFile F s bytes Then
+      file few = record {
+        long = λ many. absurd (omega arith);
+        faulty = λ short fault has. absurd (has.1.plain (no_fault_told bytes g fault text has.0));
+        graph = λ short other same. subst Then (one_graph_told bytes g other text same) then_shown;
+      }
+
+      by : (files : Option Stored) → Known files name bytes → ShowsStore F s files name Then
       by None is = tt
-      by (Some files) is = subst (λ (o : Option (List ℕ)). MatchOption o (OrEarlier result (result ≡ status.NoGraphFile)) (λ file. ShowsFile result file Then)) (sym is.0) (file is.1)
-
-  -- the fault of the bytes that were read is one of the told file
-  pub told_fault : (fault : ReadFault) → HasFault bytes fault →
-      IfSome told (λ files. (b : List ℕ) × (file_of files name ≡ Some b) × (length b ≤ MOST_FILE_BYTES)
-      × HasFault b fault)
-  told_fault fault has = by told told_bytes
-    where
-      by : (files : Option Stored) → Known files name bytes →
-          IfSome files (λ files. (b : List ℕ) × (file_of files name ≡ Some b) × (length b ≤ MOST_FILE_BYTES)
-          × HasFault b fault)
-      by None is = tt
-      by (Some files) is = (bytes, is.0, is.1, has)
-
-  module _ (g : NamedGraph) (text : IsGraphText bytes g) where
-    -- the file's graph was read, and this is shown after it
-    pub shows_then : (result : Status) (Then : NamedGraph → Type 0) → Then g → ShowsStore result told name Then
-    shows_then result Then then_shown = shown result Then (λ few. record {
-      long = λ many. absurd (omega arith);
-      faulty = λ short fault has. absurd (has.1 (no_fault_told bytes g fault text has.0));
-      graph = λ short other same. subst Then (one_graph_told bytes g other text same) then_shown;
-    })
-
-    -- the input is too long
-    pub shows_long_input : (left : Option (List ℕ)) → IfSome left (λ input. 268435456 < length input) → Shows long_input told name left
-    shows_long_input left long = shows_then long_input (λ h. IfSome left (ShowsInput long_input h)) (by left long)
-      where
-        by : (o : Option (List ℕ)) → IfSome o (λ input. 268435456 < length input) → IfSome o (ShowsInput long_input g)
-        by None h = tt
-        by (Some input) h = ((λ many. inr (inr refl)), (λ few. absurd (omega arith)))
-
-    -- the input was read, and this is shown of its lines
-    shows_lines : (left : Option (List ℕ)) (input : List ℕ) (result : Status) → length input ≤ 268435456 →
-        IfSome left (λ bytes. input ≡ bytes) → ShowsLines result (over_in SHIPPED g served_form input) →
-        Shows result told name left
-    shows_lines left input result few is lines_shown = shows_then result (λ h. IfSome left (ShowsInput result h)) (by left is)
-      where
-        by : (o : Option (List ℕ)) → IfSome o (λ bytes. input ≡ bytes) → IfSome o (ShowsInput result g)
-        by None h = tt
-        by (Some lines) h = (
-          (λ many. absurd (let same : length input ≡ length lines = ap length h in omega arith)),
-          (λ few. subst (λ (i : List ℕ). ShowsLines result (over_in SHIPPED g served_form i)) h lines_shown),
-        )
-
-    -- no line is past a limit
-    pub shows_read : (left : Option (List ℕ)) (input : List ℕ) (result : Status) → length input ≤ 268435456 →
-        IfSome left (λ bytes. input ≡ bytes) → over_in SHIPPED g served_form input ≡ None →
-        (result ≡ status.Ok) ⊎ (result ≡ status.Write) → Shows result told name left
-    shows_read left input result few is within ends = shows_lines left input result few is (subst (ShowsLines result) (sym within) (inr (inr ends)))
-
-    -- this line is
-    pub shows_over : (left : Option (List ℕ)) (input : List ℕ) (over : Over) → length input ≤ 268435456 →
-        IfSome left (λ bytes. input ≡ bytes) → over_in SHIPPED g served_form input ≡ Some over →
-        Shows (limit_of over) told name left
-    shows_over left input over few is past = shows_lines left input (limit_of over) few is (subst (ShowsLines (limit_of over)) (sym past) (inr (inr refl)))
-
-    -- reading the input failed, or memory was wanting
-    pub shows_earlier : (left : Option (List ℕ)) (result : Status) → (result ≡ status.Read) ⊎ (result ≡ status.Memory) → Shows result told name left
-    shows_earlier left result early = shows_then result (λ h. IfSome left (ShowsInput result h)) (earlier_input g left result early)
-
-  -- what holds of the bytes that were read holds of the told ones
-  pub where_told : (left : Option (List ℕ)) (input : List ℕ) (P : List ℕ → List ℕ → Type 0) → IfSome left (λ bytes. input ≡ bytes) → P bytes input → WhereTold (told_file told name) left P
-  where_told left input P is p = by told told_bytes
-    where
-      of_input : (o : Option (List ℕ)) → IfSome o (λ bytes. input ≡ bytes) → IfSome o (P bytes)
-      of_input None h = tt
-      of_input (Some lines) h = subst (P bytes) h p
-
-      by : (files : Option Stored) → Known files name bytes → WhereTold (told_file files name) left P
-      by None h = tt
-      by (Some files) h = subst (λ (o : Option (List ℕ)). WhereTold o left P) (sym h.0) (of_input left is)
+      by (Some files) is = subst (λ (o : Option (List ℕ)). MatchOption o (OrEarlier F s (s ≡ status.NoGraphFile))
+          (λ file. ShowsFile F s file Then)) (sym is.0) (file is.1)
 
   -- what holds of the bytes that were read holds of the told file
   pub where_file : (P : List ℕ → Type 0) → P bytes → IfSome (told_file told name) P
@@ -127,154 +198,84 @@ module _ (told : Option Stored) (name : List ℕ) (bytes : List ℕ) (told_bytes
       by None h = tt
       by (Some files) h = subst (λ (o : Option (List ℕ)). IfSome o P) (sym h.0) p
 
--- what holds of a file of the name holds of the told one
-told_holds : (told : Option Stored) (name : List ℕ) (P : List ℕ → Type 0) → IfSome told (λ files. (bytes : List ℕ) × (file_of files name ≡ Some bytes) × P bytes) → IfSome (told_file told name) P
-told_holds None name P h = tt
-told_holds (Some files) name P (bytes, at, p) = subst (λ (o : Option (List ℕ)). IfSome o P) (sym at) p
-
-pub input_is_no_graph : record { which = InputBytes; found = MOST_FILE_BYTES + 1 } ≡ past_graph → ⊥
-input_is_no_graph same = let which : InputBytes ≡ GraphBytes = ap (λ (l : Limited). l.which) same in cc
-
--- the limit of a line is no other answer
-limited_is : (a b : Limited) → status.Limit a ≡ status.Limit b → a ≡ b
-limited_is a b same = cc
-
-apart : (a b : Limited) → (a.which ≡ b.which → ⊥) → status.Limit a ≡ status.Limit b → ⊥
-apart a b other same = other (ap (λ (l : Limited). l.which) (limited_is a b same))
-
-pub over_is_no_graph : (over : Over) → limit_of over ≡ long_graph → ⊥
-over_is_no_graph (over_at.Lines line) same = apart (record { which = Lines; found = line }) past_graph (λ (which : Lines ≡ GraphBytes). cc) same
-over_is_no_graph (over_at.LineBytes line) same = apart (record { which = LineBytes; found = line }) past_graph (λ (which : LineBytes ≡ GraphBytes). cc) same
-over_is_no_graph (over_at.Clients line) same = apart (record { which = Clients; found = line }) past_graph (λ (which : Clients ≡ GraphBytes). cc) same
-over_is_no_graph (over_at.Barred line) same = apart (record { which = Barred; found = line }) past_graph (λ (which : Barred ≡ GraphBytes). cc) same
-
-abbrev past_input : Limited
-past_input = record { which = InputBytes; found = MOST_FILE_BYTES + 1 }
-
-pub over_is_no_input : (over : Over) → limit_of over ≡ long_input → ⊥
-over_is_no_input (over_at.Lines line) same = apart (record { which = Lines; found = line }) past_input (λ (which : Lines ≡ InputBytes). cc) same
-over_is_no_input (over_at.LineBytes line) same = apart (record { which = LineBytes; found = line }) past_input (λ (which : LineBytes ≡ InputBytes). cc) same
-over_is_no_input (over_at.Clients line) same = apart (record { which = Clients; found = line }) past_input (λ (which : Clients ≡ InputBytes). cc) same
-over_is_no_input (over_at.Barred line) same = apart (record { which = Barred; found = line }) past_input (λ (which : Barred ≡ InputBytes). cc) same
-
-found_is : (a b : Limited) → status.Limit a ≡ status.Limit b → a.found ≡ b.found
-found_is a b same = ap (λ (l : Limited). l.found) (limited_is a b same)
-
-pub over_is_one : (a b : Over) → limit_of a ≡ limit_of b → a ≡ b
-over_is_one (over_at.Lines m) (over_at.Lines n) same = ap over_at.Lines (found_is (record { which = Lines; found = m }) (record { which = Lines; found = n }) same)
-over_is_one (over_at.Lines m) (over_at.LineBytes n) same = absurd (apart (record { which = Lines; found = m }) (record { which = LineBytes; found = n }) (λ (which : Lines ≡ LineBytes). cc) same)
-over_is_one (over_at.Lines m) (over_at.Clients n) same = absurd (apart (record { which = Lines; found = m }) (record { which = Clients; found = n }) (λ (which : Lines ≡ Clients). cc) same)
-over_is_one (over_at.Lines m) (over_at.Barred n) same = absurd (apart (record { which = Lines; found = m }) (record { which = Barred; found = n }) (λ (which : Lines ≡ Barred). cc) same)
-over_is_one (over_at.LineBytes m) (over_at.Lines n) same = absurd (apart (record { which = LineBytes; found = m }) (record { which = Lines; found = n }) (λ (which : LineBytes ≡ Lines). cc) same)
-over_is_one (over_at.LineBytes m) (over_at.LineBytes n) same = ap over_at.LineBytes (found_is (record { which = LineBytes; found = m }) (record { which = LineBytes; found = n }) same)
-over_is_one (over_at.LineBytes m) (over_at.Clients n) same = absurd (apart (record { which = LineBytes; found = m }) (record { which = Clients; found = n }) (λ (which : LineBytes ≡ Clients). cc) same)
-over_is_one (over_at.LineBytes m) (over_at.Barred n) same = absurd (apart (record { which = LineBytes; found = m }) (record { which = Barred; found = n }) (λ (which : LineBytes ≡ Barred). cc) same)
-over_is_one (over_at.Clients m) (over_at.Lines n) same = absurd (apart (record { which = Clients; found = m }) (record { which = Lines; found = n }) (λ (which : Clients ≡ Lines). cc) same)
-over_is_one (over_at.Clients m) (over_at.LineBytes n) same = absurd (apart (record { which = Clients; found = m }) (record { which = LineBytes; found = n }) (λ (which : Clients ≡ LineBytes). cc) same)
-over_is_one (over_at.Clients m) (over_at.Clients n) same = ap over_at.Clients (found_is (record { which = Clients; found = m }) (record { which = Clients; found = n }) same)
-over_is_one (over_at.Clients m) (over_at.Barred n) same = absurd (apart (record { which = Clients; found = m }) (record { which = Barred; found = n }) (λ (which : Clients ≡ Barred). cc) same)
-over_is_one (over_at.Barred m) (over_at.Lines n) same = absurd (apart (record { which = Barred; found = m }) (record { which = Lines; found = n }) (λ (which : Barred ≡ Lines). cc) same)
-over_is_one (over_at.Barred m) (over_at.LineBytes n) same = absurd (apart (record { which = Barred; found = m }) (record { which = LineBytes; found = n }) (λ (which : Barred ≡ LineBytes). cc) same)
-over_is_one (over_at.Barred m) (over_at.Clients n) same = absurd (apart (record { which = Barred; found = m }) (record { which = Clients; found = n }) (λ (which : Barred ≡ Clients). cc) same)
-over_is_one (over_at.Barred m) (over_at.Barred n) same = ap over_at.Barred (found_is (record { which = Barred; found = m }) (record { which = Barred; found = n }) same)
-
--- of the limits that the input alone tells, the line is the first past one
-pub size_limit : (left : Option (List ℕ)) (input : List ℕ) (g : NamedGraph) (over : Over) →
-    IfSome left (λ bytes. input ≡ bytes) → is_by_size over ≡ true → over_in SHIPPED g served_form input ≡ Some over →
-    IfSome left (λ lines. over_size_in SHIPPED lines ≡ Some over)
-size_limit None input g over is by_size past = tt
-size_limit (Some lines) input g over is by_size past = subst (λ (i : List ℕ). over_size_in SHIPPED i ≡ Some over) is
-    (size_told SHIPPED g served_form input over by_size past)
-
--- it is a limit, and no other answer
-pub over_is_limit : (over : Over) → (limited : Limited) × (limit_of over ≡ status.Limit limited)
-over_is_limit (over_at.Lines line) = (record { which = Lines; found = line }, refl)
-over_is_limit (over_at.LineBytes line) = (record { which = LineBytes; found = line }, refl)
-over_is_limit (over_at.Clients line) = (record { which = Clients; found = line }, refl)
-over_is_limit (over_at.Barred line) = (record { which = Barred; found = line }, refl)
-
--- why no graph was read
-module _ (told : Option Stored) (name : List ℕ) (faults faults_now refused refused_now : ℕ) where
-  abbrev Fails : Status → Type 0
-  Fails = FailsWith told name faults faults_now refused refused_now
-
-  pub fails_limit : Fails long_graph → Rose refused refused_now
-      × IfSome (told_file told name) (λ file. MOST_FILE_BYTES < length file)
-  fails_limit h = (h.1, told_holds told name (λ file. MOST_FILE_BYTES < length file) h.2)
-
-  pub fails_graph : (fault : ReadFault) → Fails (status.Graph fault) → IfSome (told_file told name) (λ file. HasFault file fault)
-  fails_graph fault h = told_holds told name (λ file. HasFault file fault) (without_length told h.1)
+  -- and of the told ones
+  pub where_both : (left : Option (List ℕ)) (input : List ℕ) (P : List ℕ → List ℕ → Type 0) → IfSome left
+      (λ lines. input ≡ lines) → P bytes input →
+      IfSome (told_file told name) (λ file. IfSome left (P file))
+  where_both left input P is p = where_file (λ file. IfSome left (P file)) (of_input left is)
     where
-      without_length : (o : Option Stored) →
-          IfSome o (λ files. (bytes : List ℕ) × (file_of files name ≡ Some bytes) × (length bytes ≤ MOST_FILE_BYTES)
-          × HasFault bytes fault) →
-          IfSome o (λ files. (bytes : List ℕ) × (file_of files name ≡ Some bytes) × HasFault bytes fault)
-      without_length None g = tt
-      without_length (Some files) (bytes, at, short, has) = (bytes, at, has)
+      of_input : (o : Option (List ℕ)) → IfSome o (λ lines. input ≡ lines) → IfSome o (P bytes)
+      of_input None h = tt
+      of_input (Some lines) h = subst (P bytes) h p
 
-  pub fails_limits : (limited : Limited) → Fails (status.Limit limited) → status.Limit limited ≡ long_graph
-  fails_limits limited h = ap status.Limit h.0
+-- ---- what the input shows
 
-  earlier_store : (s : Status) (Then : NamedGraph → Type 0) → ((A : Type 0) → OrEarlier s A) → ((g : NamedGraph) → Then g) → ShowsStore s told name Then
-  earlier_store s Then early then_shown = by told
-    where
-      of_file : (o : Option (List ℕ)) → MatchOption o (OrEarlier s (s ≡ status.NoGraphFile)) (λ file. ShowsFile s file Then)
-      of_file None = early (s ≡ status.NoGraphFile)
-      of_file (Some file) = record { long = λ many. early _; faulty = λ short fault has. early _; graph = λ short g text. then_shown g }
+module _ (Failed : Type 0) (form : Form) (g : NamedGraph) where
+  -- it is too long
+  pub long_shown : (left : Option (List ℕ)) → IfSome left (λ input. 268435456 < length input) → IfSome left
+      (ShowsInput Failed form long_input g)
+  long_shown None h = tt
+  long_shown (Some input) h = ((λ many. inr (inr refl)), (λ few. absurd (omega arith)))
 
-      by : (files : Option Stored) → ShowsStore s files name Then
-      by None = tt
-      by (Some files) = of_file (file_of files name)
+  lines_shown : (left : Option (List ℕ)) (input : List ℕ) (s : Status) → length input ≤ 268435456 →
+      IfSome left (λ lines. input ≡ lines) → ShowsLines Failed s (over_in SHIPPED g form input) → IfSome left
+      (ShowsInput Failed form s g)
+  lines_shown None input s few is shown = tt
+  lines_shown (Some lines) input s few is shown = (
+    (λ many. absurd (let same : length input ≡ length lines = ap length is in omega arith)),
+    (λ short. subst (λ (i : List ℕ). ShowsLines Failed s (over_in SHIPPED g form i)) is shown),
+  )
 
-  -- what is shown where no graph was read
-  pub fails_shows : (s : Status) (Then : NamedGraph → Type 0) → Fails s → ((g : NamedGraph) → (s ≡ status.Read) ⊎ (s ≡ status.Memory) → Then g) → ShowsStore s told name Then
-  fails_shows status.Ok Then h early = absurd h
-  fails_shows status.Usage Then h early = absurd h
-  fails_shows status.Write Then h early = absurd h
-  fails_shows status.Read Then h early = earlier_store status.Read Then (λ A. inl refl) (λ g. early g (inl refl))
-  fails_shows status.Memory Then h early = earlier_store status.Memory Then (λ A. inr (inl refl)) (λ g. early g (inr refl))
-  fails_shows (status.Graph fault) Then h early = by told h.1
-    where
-      by : (files : Option Stored) →
-          IfSome files (λ files. (bytes : List ℕ) × (file_of files name ≡ Some bytes) × (length bytes ≤ MOST_FILE_BYTES)
-          × HasFault bytes fault) → ShowsStore (status.Graph fault) files name Then
-      by None g = tt
-      by (Some files) (bytes, at, few, has) =
-          subst (λ (o : Option (List ℕ)). MatchOption o (OrEarlier (status.Graph fault) (status.Graph fault ≡ status.NoGraphFile)) (λ file. ShowsFile (status.Graph fault) file Then)) (sym at) (record {
-            long = λ many. absurd (omega arith);
-            faulty = λ short other too. inr (inr (fault, has, refl));
-            graph = λ short g text. absurd (has.1 (no_fault_told bytes g fault text has.0));
-          })
-  fails_shows (status.Limit limited) Then h early = by told h.2
-    where
-      by : (files : Option Stored) →
-          IfSome files (λ files. (bytes : List ℕ) × (file_of files name ≡ Some bytes)
-          × (MOST_FILE_BYTES < length bytes)) → ShowsStore (status.Limit limited) files name Then
-      by None g = tt
-      by (Some files) (bytes, at, many) =
-          subst (λ (o : Option (List ℕ)). MatchOption o (OrEarlier (status.Limit limited) (status.Limit limited ≡ status.NoGraphFile)) (λ file. ShowsFile (status.Limit limited) file Then)) (sym at) (record {
-            long = λ more. inr (inr (ap status.Limit h.0));
-            faulty = λ short fault has. absurd (omega arith);
-            graph = λ short g text. absurd (omega arith);
-          })
-  fails_shows status.NoGraphFile Then h early = by told h.1
-    where
-      by : (files : Option Stored) → IfSome files (λ files. file_of files name ≡ None) → ShowsStore status.NoGraphFile files name Then
-      by None g = tt
-      by (Some files) none =
-          subst (λ (o : Option (List ℕ)). MatchOption o (OrEarlier status.NoGraphFile (status.NoGraphFile ≡ status.NoGraphFile)) (λ file. ShowsFile status.NoGraphFile file Then)) (sym none) (inr (inr refl))
+  -- no line is past a limit
+  pub written_shown : (left : Option (List ℕ)) (input : List ℕ) (s : Status) → length input ≤ 268435456 →
+      IfSome left (λ lines. input ≡ lines) → over_in SHIPPED g form input ≡ None → IsWritten s → IfSome left
+      (ShowsInput Failed form s g)
+  written_shown left input s few is within ends = lines_shown left input s few is
+      (subst (ShowsLines Failed s) (sym within) (inr (inr ends)))
+
+  -- this line is
+  pub over_shown : (left : Option (List ℕ)) (input : List ℕ) (over : Over) → length input ≤ 268435456 →
+      IfSome left (λ lines. input ≡ lines) → over_in SHIPPED g form input ≡ Some over → IfSome left
+      (ShowsInput Failed form (limit_of over) g)
+  over_shown left input over few is past = lines_shown left input (limit_of over) few is
+      (subst (ShowsLines Failed (limit_of over)) (sym past) (inr (inr refl)))
+
+  -- of the limits that the input alone tells, the line is the first past one
+  pub size_shown : (left : Option (List ℕ)) (input : List ℕ) (over : Over) →
+      IfSome left (λ lines. input ≡ lines) → over_in SHIPPED g form input ≡ Some over → IsTrue (is_by_size over) →
+      IfSome left (λ lines. over_size_in SHIPPED lines ≡ Some over)
+  size_shown None input over is past by_size = tt
+  size_shown (Some lines) input over is past by_size = subst (λ (i : List ℕ). over_size_in SHIPPED i ≡ Some over) is
+      (size_told SHIPPED g form input over by_size past)
+
+-- a line past a limit is the cause of the answer that tells it
+pub over_cause : (F R I O : Type 0) (served : Served) (told : Option Stored) (left : Option (List ℕ)) (over : Over) →
+    (IsTrue (is_by_size over) → IfSome left (λ input. over_size_in SHIPPED input ≡ Some over)) →
+    IfSome (told_file told served.name) (λ file. IfSome left (λ input. IsPastLimit served.form file input over)) →
+    HasCause (serve served) told left F R I O (limit_of over)
+over_cause F R I O served told left (over_at.Lines line) size past = inr (inr (over_at.Lines line, refl, size, past))
+over_cause F R I O served told left (over_at.LineBytes line) size past = inr
+    (inr (over_at.LineBytes line, refl, size, past))
+over_cause F R I O served told left (over_at.Clients line) size past = inr
+    (inr (over_at.Clients line, refl, size, past))
+over_cause F R I O served told left (over_at.Barred line) size past = inr (inr (over_at.Barred line, refl, size, past))
+
+-- ---- what was written
 
 -- a front of the text was appended
-pub front_of : (old new : Option (List ℕ)) (before now : Option ℕ) (text : List ℕ) (P : List ℕ → Type 0) → TakesFront old new before now text → P text → AppendsFrontOfSome old new P
+pub front_of : (old new : Option (List ℕ)) (before now : Option ℕ) (text : List ℕ) (P : List ℕ → Type 0) →
+    TakesFront old new before now text → P text → AppendsFrontOfSome old new P
 front_of old new before now text P front p = (front.front, front.rest, subst P front.whole p, front.appended)
 
 -- the text fits the room, so the output has no fault
-pub no_fault : (A : Type 0) (room : Option ℕ) (length_of before now : ℕ) (Each : ℕ → Type 0) → ((r : ℕ) → Each r → length_of ≤ r) →
+pub no_fault : (A : Type 0) (room : Option ℕ) (length_of before now : ℕ) (Each : ℕ → Type 0) →
+    ((r : ℕ) → Each r → length_of ≤ r) →
     IfSome room (λ r. length_of ≤ r → A × (now ≡ before)) → IfSome room (λ r. Each r → now ≡ before)
 no_fault A None n before now Each within fits = tt
 no_fault A (Some r) n before now Each within fits = λ each. (fits (within r each)).1
 
--- the answers that are left where nothing failed
+-- ---- completeness
+
 left_over : {A B C D : Type 0} → (A → ⊥) → (D → ⊥) → A ⊎ (B ⊎ (C ⊎ D)) → C ⊎ B
 left_over no_a no_d (inl a) = absurd (no_a a)
 left_over no_a no_d (inr (inl b)) = inr b
@@ -282,23 +283,57 @@ left_over no_a no_d (inr (inr (inl c))) = inl c
 left_over no_a no_d (inr (inr (inr d))) = absurd (no_d d)
 
 -- what is shown after a graph that is there
-after_graph : (result : Status) (told : Option Stored) (name : List ℕ) (Then : NamedGraph → Type 0) → ShowsStore result told name Then → (order : HasGraphFile told name) → Then order.graph
-after_graph result None name Then shows order = absurd (let none : None ≡ Some order.file = order.file-is in cc)
-after_graph result (Some files) name Then shows order =
-    let file : ShowsFile result order.file Then =
-    subst (λ (o : Option (List ℕ)). MatchOption o (OrEarlier result (result ≡ status.NoGraphFile)) (λ file. ShowsFile result file Then)) order.file-is shows in
-    file.graph order.short order.graph order.graph-is
+after_graph : (F : Type 0) (s : Status) (told : Option Stored) (name : List ℕ) (Then : NamedGraph → Type 0) →
+    ShowsStore F s told name Then → (file : HasGraphFile told name) → Then file.graph
+after_graph F s None name Then shows file = absurd (let none : None ≡ Some file.file = file.file-is in cc)
+after_graph F s (Some files) name Then shows file =
+    let shown : ShowsFile F s file.file Then =
+    subst (λ (o : Option (List ℕ)). MatchOption o (OrEarlier F s (s ≡ status.NoGraphFile))
+    (λ f. ShowsFile F s f Then)) file.file-is shows in
+    shown.graph file.short file.graph file.graph-is
 
--- where all is in order and nothing failed, all was answered, or memory was wanting
-pub completes : (result : Status) (told : Option Stored) (name : List ℕ) (left : Option (List ℕ)) → Shows result told name left →
-    (result ≡ status.Read → ⊥) → (result ≡ status.Write → ⊥) → (order : HasGraphFile told name) → HasShortInput order.graph left → (result ≡ status.Ok) ⊎ (result ≡ status.Memory)
-completes result told name left shows read write order lines =
-    let input : ShowsInput result order.graph lines.input =
-    subst (λ (o : Option (List ℕ)). IfSome o (ShowsInput result order.graph)) lines.input-is (after_graph result told name (λ g. IfSome left (ShowsInput result g)) shows order) in
-    left_over read write (subst (ShowsLines result) lines.within (input.1 lines.short))
+no_write : (F R I O : Type 0) (call : Call) (told : Option Stored) (left : Option (List ℕ)) (s : Status) →
+    HasCause call told left F R I O s → (O → ⊥) → s ≡ status.Write → ⊥
+no_write F R I O call told left s cause well is = well (subst (HasCause call told left F R I O) is cause)
 
--- the same of a run that writes the graph
-pub completes_print : (result : Status) (told : Option Stored) (name : List ℕ) → ShowsPrint result told name →
-    (result ≡ status.Read → ⊥) → (result ≡ status.Write → ⊥) → HasGraphFile told name → (result ≡ status.Ok) ⊎ (result ≡ status.Memory)
-completes_print result told name shows read write order =
-    left_over read write (after_graph result told name (λ g. OrEarlier result ((result ≡ status.Ok) ⊎ (result ≡ status.Write))) shows order)
+-- a call that answers no lines reads no input
+pub reads_none : (name : List ℕ) (told : Option Stored) (left left' : Option (List ℕ)) (F R I I' O : Type 0)
+    (s : Status) →
+    HasCause (print name) told left F R I O s → HasCause (print name) told left' F R I' O s
+reads_none name told left left' F R I I' O status.Ok h = h
+reads_none name told left left' F R I I' O status.Usage h = h
+reads_none name told left left' F R I I' O (status.Graph fault) h = h
+reads_none name told left left' F R I I' O status.Read h = h
+reads_none name told left left' F R I I' O status.Write h = h
+reads_none name told left left' F R I I' O status.Memory h = h
+reads_none name told left left' F R I I' O (status.Limit limited) h = h
+reads_none name told left left' F R I I' O status.NoGraphFile h = h
+
+-- a call that reads no file and no input rests on the output alone
+pub rests_on_output : (commands : ℕ) (told : Option Stored) (left : Option (List ℕ)) (F R I O : Type 0) (s : Status) →
+    HasCause (load commands) None None ⊥ ⊥ ⊥ O s → HasCause (load commands) told left F R I O s
+rests_on_output commands told left F R I O status.Ok h = h
+rests_on_output commands told left F R I O status.Usage h = h
+rests_on_output commands told left F R I O (status.Graph fault) h = h
+rests_on_output commands told left F R I O status.Read h = h
+rests_on_output commands told left F R I O status.Write h = h
+rests_on_output commands told left F R I O status.Memory h = h
+rests_on_output commands told left F R I O (status.Limit limited) h = h
+rests_on_output commands told left F R I O status.NoGraphFile h = h
+
+pub completes : (F R I O : Type 0) (call : Call) (told : Option Stored) (left : Option (List ℕ)) (s : Status) →
+    HasCause call told left F R I O s →
+    IsFirstShown call told left F I s → IsInOrder call told left → (OfNaming call (λ name. F) → ⊥) →
+    (OfServing call (λ served. I) → ⊥) → (O → ⊥) → (s ≡ status.Ok) ⊎ (s ≡ status.Memory)
+completes F R I O (serve served) told left s cause first (file, lines) no_files no_input no_out =
+    let input : ShowsInput (F ⊎ I) served.form s file.graph lines.input =
+    subst (λ (o : Option (List ℕ)). IfSome o (ShowsInput (F ⊎ I) served.form s file.graph)) lines.input-is
+    (after_graph F s told served.name (λ g. IfSome left (ShowsInput (F ⊎ I) served.form s g)) first file) in
+    left_over (λ failed. elim failed.1 [ inl f ↦ no_files f | inr i ↦ no_input i ])
+    (no_write F R I O (serve served) told left s cause no_out)
+    (subst (ShowsLines (F ⊎ I) s) lines.within (input.1 lines.short))
+completes F R I O (print name) told left s cause first file no_files no_input no_out =
+    left_over (λ failed. no_files failed.1) (no_write F R I O (print name) told left s cause no_out)
+    (after_graph F s told name (λ g. OrEarlier F s (IsWritten s)) first file)
+completes F R I O (load commands) told left s cause first order no_files no_input no_out =
+    left_over (λ failed. failed.1) (no_write F R I O (load commands) told left s cause no_out) first

@@ -1,5 +1,7 @@
-pub mod Forms
+pub mod Calls
 pub mod Outputs
 pub mod PlayedText
 pub mod Causes
+pub mod Runs
+pub mod Laws
 pub mod Ends

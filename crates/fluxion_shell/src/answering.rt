@@ -1,55 +1,103 @@
 //! The text that answers an input over a graph.
-ghost use Rattle.std.specs.Prelude.{◌≡◌, ◌++◌, ◌∷◌, [], Some, None, map, IsOk, IsErrOf, IfOk, OnOk};
+ghost use Rattle.std.specs.Prelude.{◌≡◌, ◌<◌, ◌^◌, Some, None, length, IsOk, IsErrOf, IfOk};
+ghost use Rattle.std.specs.List.{AllByRecursion};
+ghost use Rattle.std.specs.Arc.{arc_value};
+ghost use Rattle.flux_defs.specs.Scheduler.{IsProper};
 ghost use Rattle.fluxion_lines.specs.declared.input.Over.{Over};
+ghost use Rattle.fluxion_lines.specs.Columns.{line_feeds};
 ghost use Rattle.fluxion_lines.specs.Inputs.{over_in};
-ghost use Rattle.sched_core.specs.Played.{AreProper};
-ghost use Rattle.fluxion_shell.specs.Outputs.{served_form, IsSoundOutput};
+ghost use Rattle.fluxion_lines.specs.Texts.{history_text};
+ghost use Rattle.sched_core.specs.Courses.{empty_course};
+ghost use Rattle.turn_table.specs.declared.view.TheConstants.{ALL_SHARES};
+ghost use Rattle.one_history.specs.Together.{NumbersApart, IsPlayedTogether};
 ghost use Rattle.flux_defs.specs.declared.limits.TheConstants.{SHIPPED};
-ghost use Rattle.fluxion_shell.specs.PlayedText.{IsPlayedText};
+ghost use Rattle.fluxion_shell.specs.Calls.{served_held};
+ghost use Rattle.fluxion_shell.specs.Outputs.{IsOutput};
 
-use flux_defs::{ClientLine, Limits, List, Text};
-use fluxion_lines::{Form, Input, InputFault, history_text, read_lines};
+use crate::calls::Serving;
+use flux_defs::{Entry, Gate, Limits, List, Script, Text};
+use fluxion_lines::{InputFault, history_text, line_feeds, read_input};
+use one_history::{Played, play_script};
 use prune_filters::Rules;
 use resource_graph::Graph;
-use sched_core::{Core, play};
+use sched_core::Core;
+use snapshot_store::Pages;
 use std::alloc::{AllocError, Global};
-use std::sync::Arc;
+use std::sync::{Arc, Wait};
+use std::thread::Threads;
 
-/// The text of the history that answers lines in their order.
-fn played(
+/// The history of a script over the graph, and its clients' names: all clients hand in their lines beside each other.
+pub(crate) fn played<R: Threads + Wait + Sync, G: Gate + Sync>(
+    rt: &R,
     alloc: Global,
-    graph: Graph,
+    graph: &Arc<Graph>,
+    rules: Rules,
     horizon: u64,
-    clients: &List<Text>,
-    lines: Vec<ClientLine>,
-) -> Result<Text, AllocError>
-    requires { AreProper graph.resources.vertices lines.items }
-    ensures { IfOk result (IsPlayedText graph horizon clients.now lines.items) }
+    script: Script,
+    gate: &G,
+) -> Result<Played, AllocError>
+    requires few { length script.lines < ALL_SHARES }
+    requires proper { AllByRecursion (λ lines. AllByRecursion
+        (λ l. IsProper (arc_value graph.now).resources.vertices l.command) lines) script.lines }
+    requires apart { NumbersApart script }
+    ensures clients { IfOk result (λ played. played.clients ≡ script.clients) }
+    ensures together { IfOk result (λ played. IsPlayedTogether
+        (empty_course (arc_value graph.now).resources rules horizon SHIPPED.claims) played.core script) }
 {
-    let graph = Arc::new(alloc, graph)?;
-    let Ok(rules) = Rules::read(alloc, b"ALL:core") else {
-        return Err(AllocError);
-    };
-    let shared = Arc::try_clone(&graph)?;
-    let mut core = Core::new(alloc, shared, rules, horizon, Limits::shipped().claims)?;
-    play(&mut core, lines)?;
-    history_text(alloc, &graph, clients, core.entries())
+    let claims = Limits::shipped().claims;
+    let core = Core::new(alloc, Arc::try_clone(graph)?, rules, horizon, claims)?;
+    play_script(rt, alloc, core, script, gate)
 }
 
-/// The text of the history that answers the input's lines in their order, up to a horizon in seconds; or the first line
-/// that is past a limit.
-pub fn answer(alloc: Global, graph: Graph, horizon: u64, input: &[u8]) -> Result<Text, InputFault>
-    ensures output { IfOk result (IsSoundOutput graph horizon input.now) }
-    ensures within { IsOk result → over_in SHIPPED graph served_form input.now ≡ None }
+/// The text of a history. Its lines are told apart by their line feeds, so a text with another one, which no reply has,
+/// is not given out.
+fn text_of(
+    alloc: Global,
+    graph: &Graph,
+    clients: &List<Text>,
+    history: &Pages<Entry>,
+) -> Result<Text, AllocError>
+    ensures text { IfOk result (λ text. text ≡ history_text graph.now clients.now history.now) }
+    ensures lines { IfOk result (λ text. line_feeds text ≡ length history.now) }
+    ensures few { IsOk result → length history.now < 2 ^ 64 }
+{
+    let text = history_text(alloc, graph, clients, history)?;
+    let feeds = line_feeds(text.bytes()) as u64;
+    let entries = history.len();
+    if feeds != entries {
+        return Err(AllocError);
+    }
+    Ok(text)
+}
+
+/// The text of a history that answers the input's lines, as they are to be answered; or the first line that is past a
+/// limit. Where a session finds no memory there is no text.
+pub(crate) fn answer<R: Threads + Wait + Sync, G: Gate + Sync>(
+    rt: &R,
+    alloc: Global,
+    graph: Graph,
+    serving: Serving,
+    input: &[u8],
+    gate: &G,
+) -> Result<Text, InputFault>
+    ensures output { IfOk result (IsOutput (served_held serving) graph input.now) }
+    ensures within { IsOk result → over_in SHIPPED graph serving.form input.now ≡ None }
     ensures over { (over : Over) → IsErrOf result (InputFault.Over over) →
-        over_in SHIPPED graph served_form input.now ≡ Some over }
+        over_in SHIPPED graph serving.form input.now ≡ Some over }
 {
     graph.is_valid();
-    let limits = Limits::shipped();
-    let Input { clients, lines } = match read_lines(alloc, &graph, Form::Rfc14, input, &limits) {
-        Ok(read) => read,
+    let Serving {
+        name: _,
+        horizon,
+        rules,
+        form,
+    } = serving;
+    let script = match read_input(alloc, &graph, form, input, &Limits::shipped()) {
+        Ok(script) => script,
         Err(fault) => return Err(fault),
     };
-    let text = played(alloc, graph, horizon, &clients, lines.into_vec())?;
+    let graph = Arc::new(alloc, graph)?;
+    let Played { clients, core } = played(rt, alloc, &graph, rules, horizon, script, gate)?;
+    let text = text_of(alloc, &graph, &clients, core.entries())?;
     Ok(text)
 }

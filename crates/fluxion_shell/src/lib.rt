@@ -1,12 +1,14 @@
 //! The program as one call: words, files, input and output in, a status out.
 #![tactic(auto)]
 
-pub mod answering;
+mod answering;
+pub mod calls;
 mod fault_texts;
-pub mod loading;
+pub mod laws;
+mod loading;
 pub mod running;
 pub mod status;
-pub mod words;
+mod summing;
 
 pub use running::run;
 pub use status::{Limited, Status, Which, code, fault_line};

@@ -1,10 +1,12 @@
 //! The graph of a file.
 ghost use Rattle.std.specs.Prelude.{◌≡◌, IfOk, IfErr};
-ghost use Rattle.fluxion_shell.specs.Causes.{IsLoaded, FailsWith, past_graph, long_input};
+ghost use Rattle.flux_io.specs.Counts.{Rose};
+ghost use Rattle.fluxion_shell.specs.Causes.{IsLoaded, FailsWith};
 
 use crate::status::{Limited, Status, Which};
 use flux_defs::MOST_FILE_BYTES;
 use flux_io::{FileFail, Files, Got};
+use graph_build::GraphFault;
 use graph_json::{ReadFault, read_graph};
 use resource_graph::Graph;
 use std::alloc::Global;
@@ -19,10 +21,12 @@ pub(crate) fn too_long(which: Which) -> Status
     })
 }
 
-/// The graph of the file of this name, or why there is none.
+/// The graph of the file of this name, or why there is none. Want of memory is told as such, also where it comes as the
+/// fault of a graph.
 pub(crate) fn load<F: Files>(alloc: Global, name: &str, files: &mut F) -> Result<Graph, Status>
     ensures loaded { IfOk result (IsLoaded (F.told files.old) name.now) }
-    ensures failed { IfErr result (FailsWith (F.told files.old) name.now (F.faults files.old) (F.faults files.new) (F.refused files.old) (F.refused files.new)) }
+    ensures failed { IfErr result (FailsWith (F.told files.old) name.now
+        (Rose (F.faults files.old) (F.faults files.new)) (Rose (F.refused files.old) (F.refused files.new))) }
 {
     let mut bytes = Vec::new(alloc);
     match files.read(name, &mut bytes, MOST_FILE_BYTES) {
@@ -35,6 +39,7 @@ pub(crate) fn load<F: Files>(alloc: Global, name: &str, files: &mut F) -> Result
     match read_graph(alloc, bytes.as_slice()) {
         Ok(graph) => Ok(graph),
         Err(ReadFault::Memory) => Err(Status::Memory),
+        Err(ReadFault::Graph(GraphFault::Memory)) => Err(Status::Memory),
         Err(fault) => Err(Status::Graph(fault)),
     }
 }

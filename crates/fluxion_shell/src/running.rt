@@ -1,27 +1,26 @@
 //! The top call.
-ghost use Rattle.std.specs.Prelude.{◌≡◌, true, ◌⊎◌, ◌↔◌, ◌++◌, ◌<◌, ◌≤◌, ℕ, List, length, map, string_bytes, codes, IfOk, IfSome, None, Some};
-ghost use Rattle.std.specs.Io.KnownBytes.{Keeps, IsAtEnd};
+ghost use Rattle.std.specs.Prelude.{◌≡◌, ◌≤◌, ◌++◌, None, IfOk, codes};
 ghost use Rattle.flux_io.specs.Counts.{Rose};
-ghost use Rattle.flux_io.specs.Stores.{file_of};
 ghost use Rattle.graph_json.specs.WrittenGraph.{graph_text};
-ghost use Rattle.graph_json.specs.declared.faults.ReadFault.{ReadFault};
 ghost use Rattle.fluxion_lines.specs.declared.input.Over.{Over};
-ghost use Rattle.fluxion_lines.specs.Inputs.{is_by_size, over_size_in};
-ghost use Rattle.fluxion_shell.specs.Forms.{Served, IsServe, IsPrint, NamesFile};
-ghost use Rattle.fluxion_shell.specs.Outputs.{Answers, AnswersSoundly, Prints};
-ghost use Rattle.flux_defs.specs.declared.limits.TheConstants.{SHIPPED, MOST_FILE_BYTES};
-ghost use Rattle.fluxion_shell.specs.Causes.{long_graph, long_input, limit_of, IsPastLimit, told_file, WhereTold, AppendsSome, AppendsFrontOfSome, HasFault, Shows, ShowsPrint, HasGraphFile, HasShortInput};
+ghost use Rattle.load_script.specs.declared.lines.TheConstants.{MOST_COMMANDS};
+ghost use Rattle.fluxion_shell.specs.Calls.{Call, serve, print, load, IsCallOf, served_held};
+ghost use Rattle.fluxion_shell.specs.Causes.{limit_of, LeavesInput, LeavesFiles, HasCause, IsFirstShown};
+ghost use Rattle.fluxion_shell.specs.Runs.{TellsUsage, IsAnswered, IsAnsweredInPart, WritesNothing, FitsRoom};
 
 use crate::answering::answer;
+use crate::calls::{Asked, Serving, read_call};
 use crate::loading::{load, too_long};
 use crate::status::{Limited, Status, Which};
-use crate::words::{graph_name, serve_call};
-use flux_defs::{MOST_FILE_BYTES, Text};
+use crate::summing::summary;
+use flux_defs::{Gate, List, MOST_FILE_BYTES, Text};
 use flux_io::{Files, ReadAllFail, Sink, Source, read_all, write_all};
 use fluxion_lines::{InputFault, Over};
-use graph_json::{ReadFault, write_graph};
+use graph_json::write_graph;
 use resource_graph::Graph;
 use std::alloc::{AllocError, Global};
+use std::sync::Wait;
+use std::thread::Threads;
 
 /// The answer where a line is past a limit.
 fn limit_of(over: Over) -> Status
@@ -36,44 +35,32 @@ fn limit_of(over: Over) -> Status
     Status::Limit(Limited { which, found })
 }
 
-/// Answers the input's lines over the graph of the file of this name, up to a horizon.
-fn serve<F: Files, S: Source, O: Sink>(
+/// Answers the input's lines over the graph of a file.
+fn serve<R: Threads + Wait + Sync, F: Files, S: Source, O: Sink, G: Gate + Sync>(
+    rt: &R,
     alloc: Global,
-    name: &str,
-    horizon: u64,
+    serving: Serving,
     files: &mut F,
     input: &mut S,
     out: &mut O,
+    gate: &G,
 ) -> Status
-    ensures history { result ≡ Status.Ok → WhereTold (told_file (F.told files.old) name.now) (S.left input.old)
-        (λ file lines. AppendsSome (O.held out.old) (O.held out.new) (Answers horizon file lines)) }
-    ensures sound { result ≡ Status.Ok → WhereTold (told_file (F.told files.old) name.now) (S.left input.old)
-        (λ file lines. AppendsSome (O.held out.old) (O.held out.new) (AnswersSoundly horizon file lines)) }
-    ensures end { result ≡ Status.Ok → IsAtEnd (S.left input.new) }
-    ensures front { result ≡ Status.Write → WhereTold (told_file (F.told files.old) name.now) (S.left input.old)
-        (λ file lines. AppendsFrontOfSome (O.held out.old) (O.held out.new) (AnswersSoundly horizon file lines)) }
-    ensures nothing { (result ≡ Status.Ok → ⊥) → (result ≡ Status.Write → ⊥) → Keeps (O.held out.old) (O.held out.new) }
-    ensures usage { result ≡ Status.Usage → ⊥ }
-    ensures read { result ≡ Status.Read → Rose (F.faults files.old) (F.faults files.new) ⊎ Rose (S.faults input.old) (S.faults input.new) }
-    ensures write { result ≡ Status.Write → Rose (O.faults out.old) (O.faults out.new) }
-    ensures no_file { result ≡ Status.NoGraphFile → Rose (F.refused files.old) (F.refused files.new)
-        × IfSome (F.told files.old) (λ all. file_of all name.now ≡ None) }
-    ensures graph_limit { result ≡ long_graph → Rose (F.refused files.old) (F.refused files.new)
-        × IfSome (told_file (F.told files.old) name.now) (λ file. MOST_FILE_BYTES < length file) }
-    ensures input_limit { result ≡ long_input → IfSome (S.left input.old) (λ lines. MOST_FILE_BYTES < length lines) }
-    ensures line_limit { (over : Over) → is_by_size over ≡ true → result ≡ limit_of over →
-        IfSome (S.left input.old) (λ lines. over_size_in SHIPPED lines ≡ Some over) }
-    ensures past_limit { (over : Over) → result ≡ limit_of over → WhereTold (told_file (F.told files.old) name.now) (S.left input.old) (λ file lines. IsPastLimit file lines over) }
-    ensures limits { (limited : Limited) → result ≡ Status.Limit limited → (result ≡ long_graph) ⊎ (result ≡ long_input) ⊎ ((over : Over) × (result ≡ limit_of over)) }
-    ensures graph { (fault : ReadFault) → result ≡ Status.Graph fault →
-        IfSome (told_file (F.told files.old) name.now) (λ file. HasFault file fault) }
-    ensures graph_memory { result ≡ Status.Graph ReadFault.Memory → ⊥ }
-    ensures first { Shows result (F.told files.old) name.now (S.left input.old) }
-    ensures room { WhereTold (told_file (F.told files.old) name.now) (S.left input.old) (λ file lines.
-        IfSome (O.room out.old) (λ room. ((text : List ℕ) → Answers horizon file lines text → length text ≤ room) →
-        O.faults out.new ≡ O.faults out.old)) }
+    ensures answered { IsAnswered (serve (served_held serving)) (F.told files.old) (S.left input.old)
+        (O.held out.old) (O.held out.new) result }
+    ensures front { IsAnsweredInPart (serve (served_held serving)) (F.told files.old) (S.left input.old)
+        (O.held out.old) (O.held out.new) result }
+    ensures nothing { WritesNothing (O.held out.old) (O.held out.new) result }
+    ensures end { LeavesInput (serve (served_held serving)) result (S.left input.old) (S.left input.new)
+        (S.faults input.old) (S.faults input.new) }
+    ensures cause { HasCause (serve (served_held serving)) (F.told files.old) (S.left input.old)
+        (Rose (F.faults files.old) (F.faults files.new)) (Rose (F.refused files.old) (F.refused files.new))
+        (Rose (S.faults input.old) (S.faults input.new)) (Rose (O.faults out.old) (O.faults out.new)) result }
+    ensures first { IsFirstShown (serve (served_held serving)) (F.told files.old) (S.left input.old)
+        (Rose (F.faults files.old) (F.faults files.new)) (Rose (S.faults input.old) (S.faults input.new)) result }
+    ensures room { FitsRoom (serve (served_held serving)) (F.told files.old) (S.left input.old)
+        (O.room out.old) (O.faults out.old) (O.faults out.new) }
 {
-    let graph = match load(alloc, name, files) {
+    let graph = match load(alloc, serving.name.as_str(), files) {
         Ok(graph) => graph,
         Err(status) => return status,
     };
@@ -83,7 +70,7 @@ fn serve<F: Files, S: Source, O: Sink>(
         Err(ReadAllFail::Long) => return too_long(Which::InputBytes),
         Err(ReadAllFail::Memory) => return Status::Memory,
     };
-    let text = match answer(alloc, graph, horizon, lines.bytes()) {
+    let text = match answer(rt, alloc, graph, serving, lines.bytes(), gate) {
         Ok(text) => text,
         Err(InputFault::Over(over)) => return limit_of(over),
         Err(InputFault::Memory) => return Status::Memory,
@@ -103,26 +90,17 @@ fn printed(alloc: Global, graph: &Graph) -> Result<Text, AllocError>
     Ok(Text::of_vec(text))
 }
 
-/// Writes the graph of the file of this name.
+/// Writes the graph of the file of this name. It is given no input, so none is told.
 fn print_graph<F: Files, O: Sink>(alloc: Global, name: &str, files: &mut F, out: &mut O) -> Status
-    ensures printed { result ≡ Status.Ok → IfSome (told_file (F.told files.old) name.now) (λ file. AppendsSome (O.held out.old) (O.held out.new) (Prints file)) }
-    ensures front { result ≡ Status.Write → IfSome (told_file (F.told files.old) name.now) (λ file. AppendsFrontOfSome (O.held out.old) (O.held out.new) (Prints file)) }
-    ensures nothing { (result ≡ Status.Ok → ⊥) → (result ≡ Status.Write → ⊥) → Keeps (O.held out.old) (O.held out.new) }
-    ensures usage { result ≡ Status.Usage → ⊥ }
-    ensures read { result ≡ Status.Read → Rose (F.faults files.old) (F.faults files.new) }
-    ensures write { result ≡ Status.Write → Rose (O.faults out.old) (O.faults out.new) }
-    ensures no_file { result ≡ Status.NoGraphFile → Rose (F.refused files.old) (F.refused files.new)
-        × IfSome (F.told files.old) (λ all. file_of all name.now ≡ None) }
-    ensures graph_limit { result ≡ long_graph → Rose (F.refused files.old) (F.refused files.new)
-        × IfSome (told_file (F.told files.old) name.now) (λ file. MOST_FILE_BYTES < length file) }
-    ensures limits { (limited : Limited) → result ≡ Status.Limit limited → result ≡ long_graph }
-    ensures graph { (fault : ReadFault) → result ≡ Status.Graph fault →
-        IfSome (told_file (F.told files.old) name.now) (λ file. HasFault file fault) }
-    ensures graph_memory { result ≡ Status.Graph ReadFault.Memory → ⊥ }
-    ensures first { ShowsPrint result (F.told files.old) name.now }
-    ensures room { IfSome (told_file (F.told files.old) name.now) (λ file.
-        IfSome (O.room out.old) (λ room. ((text : List ℕ) → Prints file text → length text ≤ room) →
-        O.faults out.new ≡ O.faults out.old)) }
+    ensures answered { IsAnswered (print name.now) (F.told files.old) None (O.held out.old) (O.held out.new) result }
+    ensures front { IsAnsweredInPart (print name.now) (F.told files.old) None (O.held out.old) (O.held out.new) result }
+    ensures nothing { WritesNothing (O.held out.old) (O.held out.new) result }
+    ensures cause { HasCause (print name.now) (F.told files.old) None (Rose (F.faults files.old) (F.faults files.new))
+        (Rose (F.refused files.old) (F.refused files.new)) ⊥ (Rose (O.faults out.old) (O.faults out.new)) result }
+    ensures first { IsFirstShown (print name.now) (F.told files.old) None
+        (Rose (F.faults files.old) (F.faults files.new)) ⊥ result }
+    ensures room { FitsRoom (print name.now) (F.told files.old) None
+        (O.room out.old) (O.faults out.old) (O.faults out.new) }
 {
     let graph = match load(alloc, name, files) {
         Ok(graph) => graph,
@@ -138,64 +116,77 @@ fn print_graph<F: Files, O: Sink>(alloc: Global, name: &str, files: &mut F, out:
     }
 }
 
-/// Runs the program: `words` are those after its name. With `serve` and the name of a graph file it answers each line of
-/// the input over the graph of that file, and writes the answers; `--horizon` and a number of seconds after that name set
-/// where time ends. With `graph` and such a name it writes that graph, and reads no input.
-pub fn run<F: Files, S: Source, O: Sink>(
+/// Plays the load of so many commands, and writes its counts. It is given no files and no input, so none are told.
+fn print_summary<R: Threads + Wait + Sync, O: Sink, G: Gate + Sync>(
+    rt: &R,
     alloc: Global,
-    words: &[String],
+    commands: u64,
+    out: &mut O,
+    gate: &G,
+) -> Status
+    requires few { commands ≤ MOST_COMMANDS }
+    ensures answered { IsAnswered (load commands) None None (O.held out.old) (O.held out.new) result }
+    ensures front { IsAnsweredInPart (load commands) None None (O.held out.old) (O.held out.new) result }
+    ensures nothing { WritesNothing (O.held out.old) (O.held out.new) result }
+    ensures cause { HasCause (load commands) None None ⊥ ⊥ ⊥ (Rose (O.faults out.old) (O.faults out.new)) result }
+    ensures first { IsFirstShown (load commands) None None ⊥ ⊥ result }
+    ensures room { FitsRoom (load commands) None None (O.room out.old) (O.faults out.old) (O.faults out.new) }
+{
+    let text = match summary(rt, alloc, commands, gate) {
+        Ok(text) => text,
+        Err(_) => return Status::Memory,
+    };
+    match write_all(out, &text) {
+        Ok(()) => Status::Ok,
+        Err(_) => Status::Write,
+    }
+}
+
+/// Runs the program: `words` are those after its name, as the system gives them.
+///
+/// `serve GRAPH` answers each line of the input over the graph of that file, and writes the answers. `--horizon N` sets
+/// the second at which time ends, `--filters LIST` which totals are kept, and `--jobspec FORM` how the jobspecs are
+/// written. `graph GRAPH` writes the graph of that file, and reads no input. `load N` plays a script of N commands, from
+/// 1 to 20,000, over a graph of its own, and writes how often each reply came; it reads no file and no input, and what
+/// it writes is a function of N.
+///
+/// All clients of the input hand in their lines beside each other, a thread for each; the gate is told what they do.
+/// With one client the lines are answered in their order. It may wait.
+///
+/// # Errors
+/// Each status but `Ok` has its cause (clause `cause`); of those that told files and a told input show, the first
+/// comes.
+pub fn run<R: Threads + Wait + Sync, F: Files, S: Source, O: Sink, G: Gate + Sync>(
+    rt: &R,
+    alloc: Global,
+    words: &List<Text>,
     files: &mut F,
     input: &mut S,
     out: &mut O,
+    gate: &G,
 ) -> Status
-    ensures usage { (result ≡ Status.Usage) ↔ ((name : List ℕ) → NamesFile (map string_bytes words.now) name → ⊥) }
-    ensures history { (served : Served) → IsServe (map string_bytes words.now) served → result ≡ Status.Ok → WhereTold (told_file (F.told files.old) served.name) (S.left input.old)
-        (λ file lines. AppendsSome (O.held out.old) (O.held out.new) (Answers served.horizon file lines)) }
-    ensures sound { (served : Served) → IsServe (map string_bytes words.now) served → result ≡ Status.Ok → WhereTold (told_file (F.told files.old) served.name) (S.left input.old)
-        (λ file lines. AppendsSome (O.held out.old) (O.held out.new) (AnswersSoundly served.horizon file lines)) }
-    ensures front { (served : Served) → IsServe (map string_bytes words.now) served → result ≡ Status.Write → WhereTold (told_file (F.told files.old) served.name) (S.left input.old)
-        (λ file lines. AppendsFrontOfSome (O.held out.old) (O.held out.new) (AnswersSoundly served.horizon file lines)) }
-    ensures printed { (name : List ℕ) → IsPrint (map string_bytes words.now) name → result ≡ Status.Ok → IfSome (told_file (F.told files.old) name) (λ file. AppendsSome (O.held out.old) (O.held out.new) (Prints file)) }
-    ensures print_front { (name : List ℕ) → IsPrint (map string_bytes words.now) name → result ≡ Status.Write → IfSome (told_file (F.told files.old) name) (λ file. AppendsFrontOfSome (O.held out.old) (O.held out.new) (Prints file)) }
-    ensures idle { (name : List ℕ) → IsPrint (map string_bytes words.now) name → (S.left input.new ≡ S.left input.old) × (S.faults input.new ≡ S.faults input.old) }
-    ensures no_file { (name : List ℕ) → NamesFile (map string_bytes words.now) name → result ≡ Status.NoGraphFile → Rose (F.refused files.old) (F.refused files.new)
-        × IfSome (F.told files.old) (λ all. file_of all name ≡ None) }
-    ensures graph_limit { (name : List ℕ) → NamesFile (map string_bytes words.now) name → result ≡ long_graph → Rose (F.refused files.old) (F.refused files.new)
-        × IfSome (told_file (F.told files.old) name) (λ file. MOST_FILE_BYTES < length file) }
-    ensures graph { (name : List ℕ) → NamesFile (map string_bytes words.now) name → (fault : ReadFault) → result ≡ Status.Graph fault →
-        IfSome (told_file (F.told files.old) name) (λ file. HasFault file fault) }
-    ensures first { (served : Served) → IsServe (map string_bytes words.now) served → Shows result (F.told files.old) served.name (S.left input.old) }
-    ensures print_first { (name : List ℕ) → IsPrint (map string_bytes words.now) name → ShowsPrint result (F.told files.old) name }
-    ensures room { (served : Served) → IsServe (map string_bytes words.now) served → WhereTold (told_file (F.told files.old) served.name) (S.left input.old) (λ file lines.
-        IfSome (O.room out.old) (λ room. ((text : List ℕ) → Answers served.horizon file lines text → length text ≤ room) →
-        O.faults out.new ≡ O.faults out.old)) }
-    ensures print_room { (name : List ℕ) → IsPrint (map string_bytes words.now) name → IfSome (told_file (F.told files.old) name) (λ file.
-        IfSome (O.room out.old) (λ room. ((text : List ℕ) → Prints file text → length text ≤ room) →
-        O.faults out.new ≡ O.faults out.old)) }
-    ensures end { (served : Served) → IsServe (map string_bytes words.now) served → result ≡ Status.Ok → IsAtEnd (S.left input.new) }
-    ensures nothing { (result ≡ Status.Ok → ⊥) → (result ≡ Status.Write → ⊥) → Keeps (O.held out.old) (O.held out.new) }
-    ensures read { result ≡ Status.Read → Rose (F.faults files.old) (F.faults files.new) ⊎ Rose (S.faults input.old) (S.faults input.new) }
-    ensures write { result ≡ Status.Write → Rose (O.faults out.old) (O.faults out.new) }
-    ensures input_limit { result ≡ long_input → IfSome (S.left input.old) (λ lines. MOST_FILE_BYTES < length lines) }
-    ensures line_limit { (over : Over) → is_by_size over ≡ true → result ≡ limit_of over →
-        IfSome (S.left input.old) (λ lines. over_size_in SHIPPED lines ≡ Some over) }
-    ensures past_limit { (served : Served) → IsServe (map string_bytes words.now) served → (over : Over) → result ≡ limit_of over → WhereTold (told_file (F.told files.old) served.name) (S.left input.old)
-        (λ file lines. IsPastLimit file lines over) }
-    ensures print_limit { (name : List ℕ) → IsPrint (map string_bytes words.now) name → (over : Over) → result ≡ limit_of over → ⊥ }
-    ensures limits { (limited : Limited) → result ≡ Status.Limit limited → (result ≡ long_graph) ⊎ (result ≡ long_input) ⊎ ((over : Over) × (result ≡ limit_of over)) }
-    ensures graph_memory { result ≡ Status.Graph ReadFault.Memory → ⊥ }
-    ensures complete { (served : Served) → IsServe (map string_bytes words.now) served → (order : HasGraphFile (F.told files.old) served.name) → HasShortInput order.graph (S.left input.old) →
-        ¬ Rose (F.faults files.old) (F.faults files.new) → ¬ Rose (S.faults input.old) (S.faults input.new) → ¬ Rose (O.faults out.old) (O.faults out.new) →
-        (result ≡ Status.Ok) ⊎ (result ≡ Status.Memory) }
-    ensures print_complete { (name : List ℕ) → IsPrint (map string_bytes words.now) name → HasGraphFile (F.told files.old) name →
-        ¬ Rose (F.faults files.old) (F.faults files.new) → ¬ Rose (O.faults out.old) (O.faults out.new) →
-        (result ≡ Status.Ok) ⊎ (result ≡ Status.Memory) }
+    ensures usage { TellsUsage words.now result }
+    ensures answered { (call : Call) → IsCallOf words.now call →
+        IsAnswered call (F.told files.old) (S.left input.old) (O.held out.old) (O.held out.new) result }
+    ensures front { (call : Call) → IsCallOf words.now call →
+        IsAnsweredInPart call (F.told files.old) (S.left input.old) (O.held out.old) (O.held out.new) result }
+    ensures nothing { WritesNothing (O.held out.old) (O.held out.new) result }
+    ensures end { (call : Call) → IsCallOf words.now call →
+        LeavesInput call result (S.left input.old) (S.left input.new) (S.faults input.old) (S.faults input.new)
+        × LeavesFiles call (F.faults files.old) (F.faults files.new) (F.refused files.old) (F.refused files.new) }
+    ensures cause { (call : Call) → IsCallOf words.now call → HasCause call (F.told files.old) (S.left input.old)
+        (Rose (F.faults files.old) (F.faults files.new)) (Rose (F.refused files.old) (F.refused files.new))
+        (Rose (S.faults input.old) (S.faults input.new)) (Rose (O.faults out.old) (O.faults out.new)) result }
+    ensures first { (call : Call) → IsCallOf words.now call → IsFirstShown call (F.told files.old) (S.left input.old)
+        (Rose (F.faults files.old) (F.faults files.new)) (Rose (S.faults input.old) (S.faults input.new)) result }
+    ensures room { (call : Call) → IsCallOf words.now call →
+        FitsRoom call (F.told files.old) (S.left input.old) (O.room out.old) (O.faults out.old) (O.faults out.new) }
 {
-    if let Some(call) = serve_call(words) {
-        return serve(alloc, call.name, call.horizon, files, input, out);
-    }
-    match graph_name("graph", words) {
-        Some(name) => print_graph(alloc, name, files, out),
-        None => Status::Usage,
+    match read_call(alloc, words) {
+        Ok(Some(Asked::Serve(serving))) => { serve(rt, alloc, serving, files, input, out, gate) }
+        Ok(Some(Asked::Print(name))) => print_graph(alloc, name.as_str(), files, out),
+        Ok(Some(Asked::Load(commands))) => print_summary(rt, alloc, commands, out, gate),
+        Ok(None) => Status::Usage,
+        Err(_) => Status::Memory,
     }
 }

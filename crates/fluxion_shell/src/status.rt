@@ -29,8 +29,8 @@ pub enum Status {
     NoGraphFile,
 }
 
-/// Which limit was passed, and the number that was found past it: of bytes, one more than the limit; else the number of the
-/// line, from 1.
+/// Which limit was passed, and the number that was found past it: of bytes, one more than the limit; else the number of
+/// the line, from 1.
 #[derive(Clone, Copy, Debug, PartialEq, Eq)]
 pub struct Limited {
     pub which: Which,

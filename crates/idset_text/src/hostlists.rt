@@ -230,7 +230,7 @@ pub fn read_hostlist(alloc: Global, text: &[u8]) -> Result<List<Hosts>, TextFaul
 }
 
 /// Whether the digits are as many as the width, or more with no zero leading.
-fn is_wide(width: usize, digits: &[u8]) -> bool
+pub fn is_wide(width: usize, digits: &[u8]) -> bool
     ensures { result ≡ has_width width digits.now }
 {
     digits.len() == width || width < digits.len() && !leads_with_zero(digits)

@@ -3,3 +3,5 @@ pub mod FilterLaws
 pub mod TextLaws
 pub mod StepLaws
 pub mod BarLaws
+pub mod RankLaws
+pub mod ListedLaws

@@ -1,15 +1,14 @@
 -- A list of nodes narrowed step by step.
-use Rattle.std.proofs.Common.{◌≡◌, refl, sym, ◌∙◌, ap, ℕ, zero, suc, ◌≤◌, ◌<◌, ◌==◌, true, false, not, Bool, ◌&&◌, ◌||◌, List, [], ◌∷◌, Some, length, get_or, arith, eqb-true}
+use Rattle.std.proofs.Common.{◌≡◌, refl, sym, ◌∙◌, ap, ℕ, ◌==◌, true, false, not, Bool, ◌&&◌, ◌||◌, List, [], ◌∷◌, Some, length, arith, eqb-true}
 use Rattle.std.proofs.lemmas.List.Elements.{filter_agree}
 use Rattle.serde_json.specs.declared.value.Value.{Value}
-use Rattle.serde_json.specs.View.{view, items_view}
-use Rattle.serde_json.specs.Data.{Data, null, boolean, number, string, array, object, Members, depth, items_depth}
+use Rattle.serde_json.specs.View.{items_view}
+use Rattle.serde_json.specs.Data.{Data, null, boolean, number, string, array, object, Members}
 use Rattle.serde_json.specs.Find.{as_object}
 use Rattle.resource_graph.specs.NamedGraph.{NamedGraph}
 use Rattle.node_constraints.specs.Truth.{NodeFacts, facts_of, is_empty, some_true}
 use Rattle.node_constraints.specs.Narrowing.{where_true}
 use Rattle.node_constraints.proofs.FilterLaws.{filter_all, filter_twice, not_either}
-use Rattle.json_fields.proofs.Depths.{at_depth}
 
 -- ---- values
 

@@ -19,7 +19,7 @@ use Rattle.node_constraints.proofs.FaultLaws.{means_same}
 -- ---- one of a list
 
 module _ {X : Type 0} (test : X → Bool) (x : X) (sound : (y : X) → test y ≡ true → y ≡ x) (complete : test x ≡ true) where
-  any_there : (xs : List X) → list_any test xs ≡ true → Contains xs x
+  pub any_there : (xs : List X) → list_any test xs ≡ true → Contains xs x
   any_there [] found = absurd (cc)
   any_there (y ∷ ys) found = go (test y) refl (any_there ys) found
     where
@@ -27,7 +27,7 @@ module _ {X : Type 0} (test : X → Bool) (x : X) (sound : (y : X) → test y �
       go true is later any = (0, omega arith, sound y is)
       go false is later any = let below = later any in (suc (below.0), omega (arith, below.1), below.2)
 
-  there_any : (xs : List X) (k : ℕ) → k < length xs → slice_index_or xs k x ≡ x → list_any test xs ≡ true
+  pub there_any : (xs : List X) (k : ℕ) → k < length xs → slice_index_or xs k x ≡ x → list_any test xs ≡ true
   there_any [] k within at = absurd (omega (arith, within))
   there_any (y ∷ ys) zero within at = ap (λ z. test z || list_any test ys) at ∙ ap (λ b. b || list_any test ys) complete
   there_any (y ∷ ys) (suc k) within at = ap (λ b. test y || b) (there_any ys k (omega (arith, within)) at) ∙ either (test y)

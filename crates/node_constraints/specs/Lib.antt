@@ -3,3 +3,5 @@ pub mod Faults
 pub mod Bars
 pub mod Narrowing
 pub mod Reading
+pub mod Ranked
+pub mod Listed

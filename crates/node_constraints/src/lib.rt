@@ -4,8 +4,10 @@
 mod bars;
 mod faults;
 mod keys;
+mod listed;
 mod narrowing;
 mod nodes;
+mod ranks;
 mod texts;
 
 pub use bars::barred;

@@ -15,10 +15,11 @@ ghost use Rattle.node_constraints.specs.Narrowing.{where_true, Means, Finds};
 
 use crate::faults::ConstraintFault;
 use crate::keys::{Key, key_of};
+use crate::listed::Listed;
 use crate::nodes::{properties_of, take_away};
-use crate::texts::{are_texts, has_properties, is_listed, is_ranked, read_hostlists, read_idsets};
-use flux_defs::{List, Text};
-use idset_text::{Hosts, Range};
+use crate::ranks::Ranks;
+use crate::texts::{are_texts, has_properties, read_hostlists, read_idsets};
+use flux_defs::Text;
 use json_fields::{index_path, joined_path};
 use resource_graph::Graph;
 use serde_json::Value;
@@ -109,10 +110,10 @@ fn narrow_by_properties(
 }
 
 /// Whether the name of a node is one of the hosts of some list.
-fn is_among_hosts(graph: &Graph, node: u32, lists: &List<List<Hosts>>) -> bool
-    ensures { result ≡ list_any (λ hosts. is_among (names_of hosts) (facts_of graph.now node).name) lists.now }
+fn is_among_hosts(graph: &Graph, node: u32, listed: &Listed) -> bool
+    ensures { result ≡ list_any (λ hosts. is_among (names_of hosts) (facts_of graph.now node).name) listed.now.lists }
 {
-    is_listed(lists.items(), graph.name_at(node))
+    listed.has(graph.name_at(node))
 }
 
 /// Leaves the nodes for which the texts at `hostlist` are true.
@@ -128,15 +129,16 @@ fn narrow_by_hosts(
     let Some(lists) = read_hostlists(alloc, values)? else {
         return Err(fault_here(alloc));
     };
-    nodes.retain(|node| is_among_hosts(graph, *node, &lists));
+    let listed = Listed::of(alloc, lists)?;
+    nodes.retain(|node| is_among_hosts(graph, *node, &listed));
     Ok(())
 }
 
 /// Whether the rank of a node is one of the ids of some set.
-fn is_among_ids(graph: &Graph, node: u32, sets: &List<List<Range>>) -> bool
-    ensures { result ≡ option_map_or (λ r. list_any (λ ranges. list_any (λ id. id == r) (ids_of ranges)) sets.now) (facts_of graph.now node).rank false }
+fn is_among_ids(graph: &Graph, node: u32, ranks: &Ranks) -> bool
+    ensures { result ≡ option_map_or (λ r. list_any (λ ranges. list_any (λ id. id == r) (ids_of ranges)) ranks.now.sets) (facts_of graph.now node).rank false }
 {
-    is_ranked(sets.items(), graph.rank_at(node))
+    ranks.has(graph.rank_at(node))
 }
 
 /// Leaves the nodes for which the texts at `ranks` are true.
@@ -152,7 +154,8 @@ fn narrow_by_ranks(
     let Some(sets) = read_idsets(alloc, values)? else {
         return Err(fault_here(alloc));
     };
-    nodes.retain(|node| is_among_ids(graph, *node, &sets));
+    let ranks = Ranks::of(alloc, sets)?;
+    nodes.retain(|node| is_among_ids(graph, *node, &ranks));
     Ok(())
 }
 

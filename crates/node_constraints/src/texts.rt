@@ -1,16 +1,14 @@
-//! The texts of a constraint: each is read once, and then asked for each node.
-ghost use Rattle.std.specs.Prelude.{◌≡◌, ◌==◌, false, IfOk};
-ghost use Rattle.std.specs.List.{list_any};
-ghost use Rattle.std.specs.Option.{option_map_or};
+//! The texts of a constraint, each of which is read once.
+ghost use Rattle.std.specs.Prelude.{◌≡◌, IfOk};
 ghost use Rattle.serde_json.specs.View.{view, items_view};
-ghost use Rattle.idset_text.specs.Hostlists.{hostlist_of, names_of};
-ghost use Rattle.idset_text.specs.Idsets.{idset_of, ids_of};
+ghost use Rattle.idset_text.specs.Hostlists.{hostlist_of};
+ghost use Rattle.idset_text.specs.Idsets.{idset_of};
 ghost use Rattle.node_constraints.specs.Truth.{is_among, has_property, each_text};
 ghost use Rattle.node_constraints.specs.Faults.{is_text};
 ghost use Rattle.node_constraints.specs.Reading.{read_value, read_all};
 
 use flux_defs::{List, Text};
-use idset_text::{Hosts, Range, TextFault, has_host, has_id, read_hostlist, read_idset};
+use idset_text::{Hosts, Range, TextFault, read_hostlist, read_idset};
 use serde_json::Value;
 use std::alloc::{AllocError, Global};
 
@@ -91,20 +89,6 @@ pub(crate) fn read_hostlists(
     Ok(Some(List::of_vec(lists)))
 }
 
-/// Whether the name is one of the hosts.
-fn is_host(hosts: &List<Hosts>, name: &[u8]) -> bool
-    ensures { result ≡ is_among (names_of hosts.now) name.now }
-{
-    has_host(hosts, name)
-}
-
-/// Whether the name is one of the hosts of some list.
-pub(crate) fn is_listed(lists: &[List<Hosts>], name: &[u8]) -> bool
-    ensures { result ≡ list_any (λ hosts. is_among (names_of hosts) name.now) lists.now }
-{
-    lists.iter().any(|hosts| is_host(hosts, name))
-}
-
 // Idsets
 
 /// The ranges of a value, where it is an idset.
@@ -136,28 +120,4 @@ pub(crate) fn read_idsets(
         }
     }
     Ok(Some(List::of_vec(sets)))
-}
-
-/// Whether the rank is one of the ids.
-fn is_id(ranges: &List<Range>, rank: u32) -> bool
-    ensures { result ≡ list_any (λ id. id == rank) (ids_of ranges.now) }
-{
-    has_id(ranges, rank)
-}
-
-/// Whether the rank is one of the ids of some set.
-fn is_in_some(sets: &[List<Range>], rank: u32) -> bool
-    ensures { result ≡ list_any (λ ranges. list_any (λ id. id == rank) (ids_of ranges)) sets.now }
-{
-    sets.iter().any(|ranges| is_id(ranges, rank))
-}
-
-/// Whether there is a rank and it is one of the ids of some set.
-pub(crate) fn is_ranked(sets: &[List<Range>], rank: Option<u32>) -> bool
-    ensures { result ≡ option_map_or (λ r. list_any (λ ranges. list_any (λ id. id == r) (ids_of ranges)) sets.now) rank false }
-{
-    match rank {
-        Some(rank) => is_in_some(sets, rank),
-        None => false,
-    }
 }

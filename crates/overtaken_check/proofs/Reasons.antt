@@ -1,7 +1,6 @@
 -- What a walk tells, in the words of the definition.
-use Rattle.std.proofs.Common.{◌≡◌, ℕ, ◌<◌, List, length, Option, Some, None, MatchOption, slice_get, ◌⊎◌, inl, inr, refl, sym, ◌∙◌, ap, subst, arith, All}
-use Rattle.std.specs.List.{AllByRecursion}
-use Rattle.std.proofs.lemmas.List.Elements.{recursion_from_All, All-from_recursion}
+use Rattle.std.proofs.Common.{◌≡◌, ℕ, ◌<◌, List, length, Option, Some, None, MatchOption, slice_get, ◌⊎◌, inl, inr, sym, ◌∙◌, subst, All}
+use Rattle.std.proofs.lemmas.List.Elements.{All-from_recursion}
 use Rattle.flux_defs.specs.declared.vertices.Vertex.{Vertex}
 use Rattle.flux_defs.specs.declared.claims.Claim.{Claim}
 use Rattle.flux_defs.specs.declared.claims.Job.{Job}
@@ -11,18 +10,18 @@ use Rattle.flux_defs.specs.declared.journal.Command.{Command}
 use Rattle.flux_defs.specs.declared.journal.Command.TheVariants as command
 use Rattle.flux_defs.specs.declared.journal.Entry.{Entry}
 use Rattle.flux_defs.specs.declared.verdicts.Verdict.{Verdict}
-use Rattle.flux_defs.specs.declared.verdicts.Verdict.TheVariants.{Found, NoFit, Unsat, Sat, Long, Known}
+use Rattle.flux_defs.specs.declared.verdicts.Verdict.TheVariants.{Found, NoFit}
 use Rattle.flux_defs.specs.Jobs.{vertex_of}
 use Rattle.flux_defs.specs.Closed.{no_bars}
 use Rattle.flux_defs.specs.Available.{IsAvailable}
 use Rattle.flux_defs.specs.Asks.{window_of}
 use Rattle.flux_defs.specs.Scheduler.{Setting}
 use Rattle.flux_defs.specs.Histories.{state_at}
-use Rattle.flux_defs.specs.Overtaken.{Candidate, Frees, Delays, Blocks, IsFirstFrom, IsFirstTaken, NoneFrom, IsAllocate, IsPastFor, CanBeOvertaken, IsOvertaken}
+use Rattle.flux_defs.specs.Overtaken.{Candidate, Frees, Delays, Blocks, IsFirstFrom, NoneFrom, IsAllocate, IsPastFor, CanBeOvertaken, IsOvertaken}
 use Rattle.list_laws.proofs.Lists.{all_along, all_at}
 use Rattle.candidate_check.specs.Taken.{IsFirstGone}
 use Rattle.commit_laws.specs.CommitLaws.{state_now, StillStands}
-use Rattle.commit_laws.proofs.Commits.{InTime, StandsAs, stands_still}
+use Rattle.commit_laws.proofs.Commits.{InTime, stands_still}
 use Rattle.commit_laws.proofs.Stretch.{still_there}
 use Rattle.overtaken_check.specs.declared.causes.Cause.{Cause}
 use Rattle.overtaken_check.specs.declared.causes.Cause.TheVariants as cause

@@ -1,11 +1,10 @@
 -- Walks over the entries of a journal.
-use Rattle.std.proofs.Common.{◌≡◌, ℕ, ◌+◌, ◌<◌, ◌≤◌, ◌↔◌, Bool, true, false, List, [], ◌∷◌, ◌++◌, length, ◌⊎◌, inl, inr, refl, sym, ◌∙◌, ap, subst, arith, Option, Some, None, MatchOption, slice_get, take, IsTrue, true≢false}
+use Rattle.std.proofs.Common.{◌≡◌, ℕ, ◌+◌, ◌<◌, ◌≤◌, ◌↔◌, Bool, false, List, [], ◌∷◌, ◌++◌, length, inl, inr, refl, sym, ◌∙◌, ap, subst, arith, Option, Some, None, MatchOption, slice_get, take, IsTrue, true≢false}
 use Rattle.std.proofs.lemmas.Bool.{cases_lt}
 use Rattle.std.proofs.lemmas.List.{take_more}
 use Rattle.std.proofs.lemmas.Option.{get_or_from_slice_get, slice_get_within}
 use Rattle.flux_defs.specs.declared.vertices.Vertex.{Vertex}
 use Rattle.flux_defs.specs.declared.claims.Claim.{Claim}
-use Rattle.flux_defs.specs.declared.claims.Job.{Job}
 use Rattle.flux_defs.specs.declared.claims.Window.{Window}
 use Rattle.flux_defs.specs.declared.journal.Command.{Command}
 use Rattle.flux_defs.specs.declared.journal.Command.TheVariants as command
@@ -14,7 +13,7 @@ use Rattle.flux_defs.specs.declared.journal.Reply.TheVariants as reply
 use Rattle.flux_defs.specs.declared.journal.Entry.{Entry}
 use Rattle.flux_defs.specs.Scheduler.{State, first_state, after}
 use Rattle.flux_defs.specs.Histories.{state_after, state_at}
-use Rattle.flux_defs.specs.Overtaken.{HasEntry, Frees, Blocks, NoneFrom}
+use Rattle.flux_defs.specs.Overtaken.{HasEntry, Blocks, NoneFrom}
 use Rattle.commit_laws.proofs.Firsts.{none_yet}
 use Rattle.commit_laws.proofs.Grown.{state_append}
 use Rattle.overtaken_check.specs.Scans.{DelaysPast, MovesPast, AcceptsInWay, moment_past}

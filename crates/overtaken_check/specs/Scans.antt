@@ -1,5 +1,5 @@
 -- What a walk over the entries from a place on looks for.
-use Rattle.std.specs.Prelude.{◌≡◌, ℕ, ◌<◌, ◌≤◌, List, length, Option, Some, None, IsTrue}
+use Rattle.std.specs.Prelude.{◌≡◌, ℕ, ◌<◌, List, length, Option, Some, None, IsTrue}
 use Rattle.std.specs.List.{AllByRecursion, list_any}
 use Rattle.flux_defs.specs.declared.vertices.Vertex.{Vertex}
 use Rattle.flux_defs.specs.declared.claims.Claim.{Claim}
@@ -12,7 +12,7 @@ use Rattle.flux_defs.specs.declared.journal.Reply.{Reply}
 use Rattle.flux_defs.specs.declared.journal.Reply.TheVariants as reply
 use Rattle.flux_defs.specs.declared.journal.Entry.{Entry}
 use Rattle.flux_defs.specs.declared.verdicts.Verdict.{Verdict}
-use Rattle.flux_defs.specs.declared.verdicts.Verdict.TheVariants.{Found, NoFit}
+use Rattle.flux_defs.specs.declared.verdicts.Verdict.TheVariants.{Found}
 use Rattle.flux_defs.specs.Jobs.{vertex_of}
 use Rattle.flux_defs.specs.Closed.{no_bars}
 use Rattle.flux_defs.specs.Available.{IsAvailable}

@@ -1,7 +1,8 @@
 //! What one entry did.
-ghost use Rattle.std.specs.Prelude.{◌≡◌, ℕ, ◌+◌, ◌<◌, ◌↔◌, IsTrue, length, MatchOption};
+ghost use Rattle.std.specs.Prelude.{◌≡◌, ℕ, ◌+◌, ◌*◌, ◌<◌, ◌≤◌, ◌↔◌, IsTrue, length, MatchOption};
 ghost use Rattle.std.specs.List.{list_any};
 ghost use Rattle.flux_defs.specs.declared.journal.Reply.TheVariants as reply;
+ghost use Rattle.flux_defs.specs.Digits.{dig};
 ghost use Rattle.flux_defs.specs.Histories.{state_at};
 ghost use Rattle.flux_defs.specs.Jobs.{holds_over, is_on_or_below};
 ghost use Rattle.flux_defs.specs.Overtaken.{Frees, Blocks, conflicts};
@@ -21,7 +22,8 @@ fn is_cancel(entry: &Entry) -> bool
 
 /// Whether the entry at the place is an accepted cancel.
 pub(crate) fn frees_at<L: Ledger>(journal: &Pages<Entry>, at: u64, steps: &mut Steps<L>) -> bool
-    ensures { IsTrue result ↔ Frees journal.now at }
+    ensures answer { IsTrue result ↔ Frees journal.now at }
+    ensures work { steps.new ≤ steps.old + 2 * dig (length journal.now + 1) }
 {
     match journal.get(at, steps) {
         None => false,
@@ -66,8 +68,9 @@ pub(crate) fn moment_past<L: Ledger>(
 ) -> Option<u64>
     requires within { at < length journal.now }
     requires moment { moment ≡ (state_at journal.now at).moment }
-    ensures { MatchOption result (DelaysPast last journal.now at)
+    ensures answer { MatchOption result (DelaysPast last journal.now at)
         (λ next. (next ≡ (state_at journal.now (at + 1)).moment) × (DelaysPast last journal.now at → ⊥)) }
+    ensures work { steps.new ≤ steps.old + 2 * dig (length journal.now + 1) }
 {
     match journal.get(at, steps) {
         None => unreachable!(),
@@ -130,7 +133,8 @@ pub(crate) fn blocks_at<L: Ledger>(
     at: u64,
     steps: &mut Steps<L>,
 ) -> bool
-    ensures { IsTrue result ↔ Blocks graph.now.resources.vertices window claim journal.now at }
+    ensures answer { IsTrue result ↔ Blocks graph.now.resources.vertices window claim journal.now at }
+    ensures work { steps.new ≤ steps.old + 2 * dig (length journal.now + 1) }
 {
     match journal.get(at, steps) {
         None => false,

@@ -1,5 +1,5 @@
 //! Whether a candidate is overtaken, and by what.
-ghost use Rattle.std.specs.Prelude.{◌≡◌, ℕ, ◌+◌, ◌<◌, ◌≤◌, length, All, List, None, MatchOption};
+ghost use Rattle.std.specs.Prelude.{◌≡◌, ℕ, ◌+◌, ◌*◌, ◌<◌, ◌≤◌, length, All, List, None, MatchOption};
 ghost use Rattle.std.specs.List.{AllByRecursion};
 ghost use Rattle.flux_defs.specs.Jobs.{vertex_of};
 ghost use Rattle.flux_defs.specs.Closed.{no_bars};
@@ -11,6 +11,7 @@ ghost use Rattle.flux_defs.specs.Overtaken.{Frees, NoneFrom, IsOvertaken};
 ghost use Rattle.commit_laws.specs.CommitLaws.{state_now, StillStands};
 ghost use Rattle.candidate_check.specs.Taken.{IsFirstGone};
 ghost use Rattle.overtaken_check.specs.Scans.{cause_of, candidate_of, IsHindered, IsUnhindered, IsTakenFrom, IsFree, IsWhy, WereClaimed, WasFoundFor, MayBeFound};
+ghost use Rattle.overtaken_check.specs.Costs.{scan_most, claims_found};
 
 use crate::causes::Cause;
 use crate::scans::{first_block, first_cancel, first_delay};
@@ -30,7 +31,8 @@ fn hindered<L: Ledger>(
     steps: &mut Steps<L>,
 ) -> Option<Cause>
     requires { moment ≡ (state_at journal.now place).moment }
-    ensures { MatchOption result (IsUnhindered last journal.now place) (IsHindered last journal.now place) }
+    ensures answer { MatchOption result (IsUnhindered last journal.now place) (IsHindered last journal.now place) }
+    ensures work { steps.new ≤ steps.old + 2 * scan_most journal.now place }
 {
     if let Some(at) = first_cancel(journal, place, steps) {
         return Some(Cause::Freed { at });
@@ -54,8 +56,9 @@ fn blocked<L: Ledger>(
     requires frees { NoneFrom (Frees journal.now) place }
     requires was { WereClaimed graph.now.resources.vertices (state_at journal.now place).jobs window claims.now }
     requires gone { IsFirstGone graph.now.resources.vertices (state_now journal.now).jobs window claims.now index }
-    ensures { IsTakenFrom graph.now.resources.vertices (state_now journal.now).jobs window claims.now journal.now place
+    ensures answer { IsTakenFrom graph.now.resources.vertices (state_now journal.now).jobs window claims.now journal.now place
         result }
+    ensures work { steps.new ≤ steps.old + scan_most journal.now place }
 {
     match claims.get(index) {
         None => unreachable!(),
@@ -84,10 +87,11 @@ fn taken<F: FreeView, L: Ledger>(
     requires window { window.from < window.to }
     requires frees { NoneFrom (Frees journal.now) place }
     requires was { WereClaimed graph.now.resources.vertices (state_at journal.now place).jobs window claims.now }
-    ensures { MatchOption result
+    ensures answer { MatchOption result
         (AllByRecursion (IsAvailable (no_bars graph.now.resources.vertices (state_now journal.now).jobs) window)
         claims.now)
         (IsTakenFrom graph.now.resources.vertices (state_now journal.now).jobs window claims.now journal.now place) }
+    ensures work { steps.new ≤ steps.old + 2 * F.cost view.now * length claims.now + scan_most journal.now place }
 {
     match still_free(view, claims, window, steps) {
         None => None,
@@ -114,9 +118,10 @@ fn found_overtaken<F: FreeView, L: Ledger>(
     requires moment { moment ≡ (state_at journal.now place).moment }
     requires found { WasFoundFor graph.now.resources.vertices horizon (state_at journal.now place).jobs ask.now start
         claims.now }
-    ensures { MatchOption result
+    ensures answer { MatchOption result
         (IsFree graph.now.resources.vertices (window_of horizon ask.now start) claims.now last journal.now place)
         (IsWhy graph.now.resources.vertices (window_of horizon ask.now start) claims.now last journal.now place) }
+    ensures work { steps.new ≤ steps.old + 2 * F.cost view.now * length claims.now + 3 * scan_most journal.now place }
 {
     match hindered(journal, place, moment, last, steps) {
         Some(cause) => Some(cause),
@@ -128,7 +133,8 @@ fn found_overtaken<F: FreeView, L: Ledger>(
 }
 
 /// The first cause by which the candidate is overtaken: what a search found of the command where so many entries were
-/// searched, at the moment there. `None` exactly where nothing overtook it. It takes no memory.
+/// searched, at the moment there. `None` exactly where nothing overtook it. It takes no memory, two looks at the view for
+/// each claim that was found, and three at each entry since; the graph's size doesn't count.
 pub fn overtaken<F: FreeView, L: Ledger>(
     view: &F,
     graph: &Graph,
@@ -145,9 +151,10 @@ pub fn overtaken<F: FreeView, L: Ledger>(
     requires moment { moment ≡ (state_at journal.now place).moment }
     requires found { MayBeFound graph.now.resources.vertices horizon (state_at journal.now place).jobs verdict.now
         command.now }
-    ensures { (g : Setting) → g.graph.vertices ≡ graph.now.resources.vertices → g.horizon ≡ horizon →
+    ensures answer { (g : Setting) → g.graph.vertices ≡ graph.now.resources.vertices → g.horizon ≡ horizon →
         MatchOption result (StillStands g journal.now (candidate_of command.now place verdict.now))
         (λ cause. IsOvertaken g journal.now (candidate_of command.now place verdict.now) (cause_of cause)) }
+    ensures work { steps.new ≤ steps.old + 2 * F.cost view.now * length (claims_found verdict.now) + 3 * scan_most journal.now place }
 {
     match verdict {
         Verdict::Found { start, claims } => match command {

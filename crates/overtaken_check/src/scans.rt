@@ -1,8 +1,9 @@
 //! The first entry from a place on that did something.
-ghost use Rattle.std.specs.Prelude.{◌≡◌, ◌≤◌, length, MatchOption};
+ghost use Rattle.std.specs.Prelude.{◌≡◌, ◌+◌, ◌≤◌, length, MatchOption};
 ghost use Rattle.flux_defs.specs.Histories.{state_at};
 ghost use Rattle.flux_defs.specs.Overtaken.{Frees, Blocks, IsFirstFrom, NoneFrom};
 ghost use Rattle.overtaken_check.specs.Scans.{DelaysPast};
+ghost use Rattle.overtaken_check.specs.Costs.{scan_most};
 
 use crate::entries::{blocks_at, frees_at, moment_past};
 use flux_defs::{Claim, Entry, Steps, Window};
@@ -16,7 +17,8 @@ pub(crate) fn first_cancel<L: Ledger>(
     place: u64,
     steps: &mut Steps<L>,
 ) -> Option<u64>
-    ensures { MatchOption result (NoneFrom (Frees journal.now) place) (IsFirstFrom (Frees journal.now) place) }
+    ensures answer { MatchOption result (NoneFrom (Frees journal.now) place) (IsFirstFrom (Frees journal.now) place) }
+    ensures work { steps.new ≤ steps.old + scan_most journal.now place }
 {
     for at in place..journal.len() {
         if frees_at(journal, at, steps) {
@@ -36,8 +38,9 @@ pub(crate) fn first_delay<L: Ledger>(
     steps: &mut Steps<L>,
 ) -> Option<u64>
     requires { moment ≡ (state_at journal.now place).moment }
-    ensures { MatchOption result (NoneFrom (DelaysPast last journal.now) place)
+    ensures answer { MatchOption result (NoneFrom (DelaysPast last journal.now) place)
         (IsFirstFrom (DelaysPast last journal.now) place) }
+    ensures work { steps.new ≤ steps.old + scan_most journal.now place }
 {
     let mut present = moment;
     for at in place..journal.len() {
@@ -58,8 +61,9 @@ pub(crate) fn first_block<L: Ledger>(
     place: u64,
     steps: &mut Steps<L>,
 ) -> Option<u64>
-    ensures { MatchOption result (NoneFrom (Blocks graph.now.resources.vertices window claim journal.now) place)
+    ensures answer { MatchOption result (NoneFrom (Blocks graph.now.resources.vertices window claim journal.now) place)
         (IsFirstFrom (Blocks graph.now.resources.vertices window claim journal.now) place) }
+    ensures work { steps.new ≤ steps.old + scan_most journal.now place }
 {
     for at in place..journal.len() {
         if blocks_at(graph, window, claim, journal, at, steps) {

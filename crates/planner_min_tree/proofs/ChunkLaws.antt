@@ -120,6 +120,83 @@ change_in c (qs ∷ rs ∷ chunks) ps edit filled g e =
           ∙ sym (changed_left c qs (flat (rs ∷ chunks)) ge filled.0))
     ]
 
+-- one end of a span more leaves the latest point, and some point is there
+latest_more : (d : Mark) (ps : List Point) → latest_of ps ≤ latest_of (marked d ps)
+latest_more d [] = omega arith
+latest_more d (p ∷ ps) =
+    elim (cases_lt p.time d.time) [
+      | inl lt ↦ rw (if_le {a = suc p.time} {b = d.time} (p ∷ marked d ps) _ lt) (omega (arith, latest_more d ps))
+      | inr ge ↦ elim (cases_lt d.time p.time) [
+        | inl far ↦ rw (
+          if_gt {a = suc p.time} {b = d.time} (p ∷ marked d ps) _ (omega arith),
+          if_gt {a = p.time} {b = d.time} (added d p ∷ ps) (fresh d ∷ p ∷ ps) far,
+        ) (omega arith)
+        | inr near ↦ rw (
+          if_gt {a = suc p.time} {b = d.time} (p ∷ marked d ps) _ (omega arith),
+          if_le {a = p.time} {b = d.time} (added d p ∷ ps) (fresh d ∷ p ∷ ps) near,
+        ) (omega arith)
+      ]
+    ]
+
+some_more : (d : Mark) (ps : List Point) → 0 < length (marked d ps)
+some_more d [] = omega arith
+some_more d (p ∷ ps) =
+    elim (cases_lt p.time d.time) [
+      | inl lt ↦ rw (if_le {a = suc p.time} {b = d.time} (p ∷ marked d ps) _ lt) (omega arith)
+      | inr ge ↦ elim (cases_lt d.time p.time) [
+        | inl far ↦ rw (
+          if_gt {a = suc p.time} {b = d.time} (p ∷ marked d ps) _ (omega arith),
+          if_gt {a = p.time} {b = d.time} (added d p ∷ ps) (fresh d ∷ p ∷ ps) far,
+        ) (omega arith)
+        | inr near ↦ rw (
+          if_gt {a = suc p.time} {b = d.time} (p ∷ marked d ps) _ (omega arith),
+          if_le {a = p.time} {b = d.time} (added d p ∷ ps) (fresh d ∷ p ∷ ps) near,
+        ) (omega arith)
+      ]
+    ]
+
+-- the chunk at the place of two changes, changed twice, changes all points twice
+pub both_in : (d : Mark) (c : Change) (chunks : List (List Point)) (ps : List Point) (edit : Edit (List Point)) →
+    AreFilled chunks → chunk_at d.time chunks ≡ chunk_at (time_of c) chunks →
+    slice_get chunks (chunk_at d.time chunks) ≡ Some ps → flat (made edit) ≡ changed c (marked d ps) →
+    flat (edited chunks (chunk_at d.time chunks) edit) ≡ changed c (marked d (flat chunks))
+both_in d c [] ps edit filled same g e = absurd (cc)
+both_in d c (qs ∷ []) ps edit filled same g e =
+    let is : qs ≡ ps = cc in
+    flat_append (made edit) [] ∙ append-nil (flat (made edit)) ∙ e
+    ∙ ap (λ l. changed c (marked d l)) (sym is ∙ sym (append-nil qs))
+both_in d c (qs ∷ rs ∷ chunks) ps edit filled same g e =
+    elim (cases_lt (latest_of qs) d.time) [
+      | inl lt ↦ (let n : chunk_at d.time (qs ∷ rs ∷ chunks) ≡ suc (chunk_at d.time (rs ∷ chunks))
+          = if_le {a = suc (latest_of qs)} {b = d.time} _ _ lt in
+          elim (cases_lt (latest_of qs) (time_of c)) [
+            | inl less ↦ (let m : chunk_at (time_of c) (qs ∷ rs ∷ chunks) ≡ suc (chunk_at (time_of c) (rs ∷ chunks))
+                = if_le {a = suc (latest_of qs)} {b = time_of c} _ _ less in
+                let g' = rw n at g in
+                ap (λ n. flat (edited (qs ∷ rs ∷ chunks) n edit)) n
+                ∙ ap (λ l. qs ++ l) (both_in d c (rs ∷ chunks) ps edit filled.1 (omega (arith, n, m, same)) g' e)
+                ∙ sym (changed_right c qs (marked d (flat (rs ∷ chunks))) less)
+                ∙ ap (changed c) (sym (marked_right d qs (flat (rs ∷ chunks)) lt)))
+            | inr more ↦ (let m : chunk_at (time_of c) (qs ∷ rs ∷ chunks) ≡ 0
+                = if_gt {a = suc (latest_of qs)} {b = time_of c} _ _ (omega arith) in
+                absurd (omega (arith, n, m, same)))
+          ])
+      | inr ge ↦ (let n : chunk_at d.time (qs ∷ rs ∷ chunks) ≡ 0
+          = if_gt {a = suc (latest_of qs)} {b = d.time} _ _ (omega arith) in
+          elim (cases_lt (latest_of qs) (time_of c)) [
+            | inl less ↦ (let m : chunk_at (time_of c) (qs ∷ rs ∷ chunks) ≡ suc (chunk_at (time_of c) (rs ∷ chunks))
+                = if_le {a = suc (latest_of qs)} {b = time_of c} _ _ less in
+                absurd (omega (arith, n, m, same)))
+            | inr more ↦ (let g' = rw n at g in let is : qs ≡ ps = cc in
+                let later = latest_more d qs in
+                ap (λ n. flat (edited (qs ∷ rs ∷ chunks) n edit)) n
+                ∙ flat_append (made edit) (rs ∷ chunks)
+                ∙ ap (λ l. l ++ flat (rs ∷ chunks)) (e ∙ ap (λ l. changed c (marked d l)) (sym is))
+                ∙ sym (changed_left c (marked d qs) (flat (rs ∷ chunks)) (omega arith) (some_more d qs))
+                ∙ ap (changed c) (sym (marked_left d qs (flat (rs ∷ chunks)) ge filled.0)))
+          ])
+    ]
+
 filled_append : {X : Type 0} (xs ys : List (List X)) → AreFilled xs → AreFilled ys → AreFilled (xs ++ ys)
 filled_append [] ys a b = b
 filled_append (x ∷ xs) ys a b = (a.0, filled_append xs ys a.1 b)
@@ -142,3 +219,5 @@ one_part xs = append-nil xs
 pub ruleset made_facts = (two_parts, one_part)
 
 pub ruleset change_facts = (change_in, change_fills)
+
+pub ruleset both_facts = (both_in, change_fills)

@@ -8,3 +8,4 @@ pub mod Keeps
 pub mod Nexts
 pub mod Counts
 pub mod PlanFacts
+pub mod Rises

@@ -21,7 +21,7 @@ eq t u =
       | inr ge ↦ elim (cases_lt u t) [ inl gt ↦ inr (past_at t u 1 gt) | inr le ↦ inl (omega arith) ]
     ]
 
-some_end : (t : ℕ) (spans : List Span) → 0 < ends_of spans t → IsEnd spans t
+pub some_end : (t : ℕ) (spans : List Span) → 0 < ends_of spans t → IsEnd spans t
 some_end t [] h = absurd (omega arith)
 some_end t (s ∷ spans) h =
     elim (eq t s.window.from) [

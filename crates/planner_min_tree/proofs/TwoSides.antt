@@ -1,8 +1,8 @@
 -- What two lists of chunks, one after the other, say: what a walk over a tree of chunks rests on.
-use Rattle.std.proofs.Common.{◌≡◌, ℕ, suc, ◌+◌, ◌-◌, ◌^◌, ◌<◌, ◌≤◌, min, List, [], ◌∷◌, ◌++◌, length, refl, sym, ◌∙◌, ap, subst, arith, append_assoc, inl, inr}
+use Rattle.std.proofs.Common.{◌≡◌, ℕ, suc, ◌+◌, ◌-◌, ◌^◌, ◌<◌, ◌≤◌, min, List, [], ◌∷◌, ◌++◌, length, Some, None, refl, sym, ◌∙◌, ap, subst, arith, append_assoc, inl, inr}
 use Rattle.std.proofs.lemmas.Bool.{cases_lt}
 use Rattle.planner_min_tree.specs.declared.points.Point.{Point}
-use Rattle.planner_min_tree.specs.Points.{latest_of, need_of, rest_of, after, Runs, lowest_before, lowest_from, lowest_in, first_from}
+use Rattle.planner_min_tree.specs.Points.{latest_of, need_of, rest_of, after, Runs, lowest_before, lowest_from, lowest_in, first_from, top_of, highest, value_at, first_rise, rise_after}
 use Rattle.planner_min_tree.specs.Chunks.{flat, chunk_at}
 use Rattle.planner_min_tree.proofs.Dips as dips
 use Rattle.planner_min_tree.proofs.Dips.{if_le, if_gt}
@@ -125,6 +125,65 @@ module _ (xs ys : Chunks) where
         ∙ dips.in_both from to (flat xs) (flat ys) x a b runs
         ∙ ap (λ n. min (lowest_from from (flat xs) x) (lowest_before to (flat ys) n)) after_is
 
+    pub value_right : (m : ℕ) → latest_of (flat xs) ≤ m →
+        value_at m (flat (xs ++ ys)) x ≡ value_at m (flat ys) (x - need_of (flat xs) + rest_of (flat xs))
+    value_right m h = ap (λ ps. value_at m ps x) (flat_append xs ys)
+        ∙ dips.value_right m (flat xs) (flat ys) x h
+        ∙ ap (value_at m (flat ys)) after_is
+
+    pub value_left : (m : ℕ) → m < latest_of (flat xs) → value_at m (flat (xs ++ ys)) x ≡ value_at m (flat xs) x
+    value_left m h = ap (λ ps. value_at m ps x) (flat_append xs ys) ∙ dips.value_left m (flat xs) (flat ys) x h
+
+    -- where the first list never comes so high
+    module _ (q : ℕ) (low : x - need_of (flat xs) + top_of (flat xs) < q) where
+      low_left : highest (flat xs) x < q
+      low_left = let h = dips.runs_highest (flat xs) x runs_left in omega arith
+
+      pub rise_right : first_rise q (flat (xs ++ ys)) x
+          ≡ first_rise q (flat ys) (x - need_of (flat xs) + rest_of (flat xs))
+      rise_right = ap (λ ps. first_rise q ps x) (flat_append xs ys)
+          ∙ dips.rise_low q (flat xs) (flat ys) x low_left
+          ∙ ap (first_rise q (flat ys)) after_is
+
+      pub less_right : x - need_of (flat xs) + rest_of (flat xs) < q
+      less_right =
+          let a = after_is in
+          let l = dips.after_low q (flat xs) x low_left in
+          omega arith
+
+    pub rise_left : (q : ℕ) → x < q → q ≤ x - need_of (flat xs) + top_of (flat xs) →
+        first_rise q (flat (xs ++ ys)) x ≡ first_rise q (flat xs) x
+    rise_left q less high = ap (λ ps. first_rise q ps x) (flat_append xs ys)
+        ∙ dips.rise_high q (flat xs) (flat ys) x less
+        (let h = dips.runs_highest (flat xs) x runs_left in omega arith)
+
+    pub later_right : (from q : ℕ) → latest_of (flat xs) ≤ from →
+        rise_after from q (flat (xs ++ ys)) x
+        ≡ rise_after from q (flat ys) (x - need_of (flat xs) + rest_of (flat xs))
+    later_right from q h = ap (λ ps. rise_after from q ps x) (flat_append xs ys)
+        ∙ dips.later_right from q (flat xs) (flat ys) x h
+        ∙ ap (rise_after from q (flat ys)) after_is
+
+    module _ (from q : ℕ) (later : from < latest_of (flat xs)) where
+      pub later_first : (t : ℕ) → rise_after from q (flat xs) x ≡ Some t →
+          rise_after from q (flat (xs ++ ys)) x ≡ Some t
+      later_first t e = ap (λ ps. rise_after from q ps x) (flat_append xs ys)
+          ∙ dips.later_first from q (flat xs) (flat ys) x t later e
+
+      module _ (none : rise_after from q (flat xs) x ≡ None) where
+        pub later_second : rise_after from q (flat (xs ++ ys)) x
+            ≡ first_rise q (flat ys) (x - need_of (flat xs) + rest_of (flat xs))
+        later_second = ap (λ ps. rise_after from q ps x) (flat_append xs ys)
+            ∙ dips.later_second from q (flat xs) (flat ys) x later none
+            ∙ ap (first_rise q (flat ys)) after_is
+
+        pub later_less : value_at from (flat (xs ++ ys)) x < q → x - need_of (flat xs) + rest_of (flat xs) < q
+        later_less less =
+            let a = after_is in
+            let v = value_left from later in
+            let l = dips.later_less from q (flat xs) x later (omega arith) none in
+            omega arith
+
 pub ruleset place_facts = (place_right, place_left)
 
 pub ruleset first_facts = (first_right, first_left)
@@ -134,3 +193,23 @@ pub ruleset before_facts = (before_right, before_left, runs_left, runs_right, ne
 pub ruleset from_facts = (from_right, from_left, runs_left, runs_right, need_left, fits_left, need_right)
 
 pub ruleset in_facts = (in_right, in_left, in_both, runs_left, runs_right, need_left, fits_left)
+
+pub ruleset value_facts = (value_right, value_left, runs_left, runs_right, need_left, fits_left)
+
+pub ruleset rise_facts = (rise_right, rise_left, less_right, runs_left, runs_right, need_left, fits_left)
+
+pub ruleset after_facts = (
+  later_right,
+  later_first,
+  later_second,
+  later_less,
+  value_right,
+  value_left,
+  runs_left,
+  runs_right,
+  need_left,
+  fits_left,
+  need_right,
+)
+
+pub ruleset some_facts = (dips.rise_not, dips.runs_need)

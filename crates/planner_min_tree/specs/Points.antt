@@ -18,9 +18,15 @@ abbrev pub rest_of : List Point → ℕ
 rest_of [] = 0
 rest_of (p ∷ ps) = rest_of ps + ((p.given - p.taken) - need_of ps)
 
+-- how far it is above its lowest where it is highest, at the start or later
+abbrev pub top_of : List Point → ℕ
+top_of [] = 0
+top_of (p ∷ ps) = max ((p.taken - p.given) + (need_of ps - (p.given - p.taken)))
+    ((p.given - p.taken) - need_of ps + top_of ps)
+
 -- what the points do to a number, whatever it is
 abbrev pub dip_of : List Point → Dip
-dip_of ps = record { latest = latest_of ps; need = need_of ps; rest = rest_of ps }
+dip_of ps = record { latest = latest_of ps; need = need_of ps; rest = rest_of ps; top = top_of ps }
 
 -- the number after a point
 abbrev pub past : Point → ℕ → ℕ
@@ -71,3 +77,18 @@ count_before t (p ∷ ps) = if nat_lt p.time t then suc (count_before t ps) else
 abbrev pub first_from : ℕ → List Point → Option Point
 first_from t [] = None
 first_from t (p ∷ ps) = if nat_lt p.time t then first_from t ps else Some p
+
+-- the highest that it ever is
+abbrev pub highest : List Point → ℕ → ℕ
+highest [] x = x
+highest (p ∷ ps) x = max x (highest ps (past p x))
+
+-- the time of the first point after which it is so much
+abbrev pub first_rise : ℕ → List Point → ℕ → Option ℕ
+first_rise q [] x = None
+first_rise q (p ∷ ps) x = if nat_le q (past p x) then Some p.time else first_rise q ps (past p x)
+
+-- the same of the points that are later than a moment
+abbrev pub rise_after : ℕ → ℕ → List Point → ℕ → Option ℕ
+rise_after from q [] x = None
+rise_after from q (p ∷ ps) x = if nat_le p.time from then rise_after from q ps (past p x) else first_rise q (p ∷ ps) x

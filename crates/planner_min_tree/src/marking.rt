@@ -1,6 +1,6 @@
 //! Points with one end of a span more or less.
 ghost use Rattle.std.specs.Prelude.{◌≡◌, ◌+◌, ◌-◌, ◌*◌, ◌^◌, ◌<◌, ◌≤◌, List, length, insert, IfOk};
-ghost use Rattle.planner_min_tree.specs.Chunks.{flat, AreFilled};
+ghost use Rattle.planner_min_tree.specs.Chunks.{flat, AreFilled, chunk_at};
 ghost use Rattle.planner_min_tree.specs.Marks.{added, fresh, marked, unmarked, changed, time_of};
 ghost use Rattle.arrayvec.specs.ArrayVec.{array_vec_len};
 ghost use Rattle.balanced_tree.specs.Edits.{made};
@@ -273,6 +273,50 @@ fn many_changed<L: Ledger>(
     tree.edited(alloc, at, edit, steps)
 }
 
+/// The points of a tree after two changes of one chunk, the first an end of a span more: one edit makes both.
+#[tactic(auto, using(crate::proofs::ChunkLaws::both_facts))]
+fn chunk_changed_twice<L: Ledger>(
+    alloc: Global,
+    tree: Tree<Chunk, Dip>,
+    at: u64,
+    first: Mark,
+    second: Change,
+    steps: &mut Steps<L>,
+) -> Result<Tree<Chunk, Dip>, AllocError>
+    requires filled { AreFilled tree.0 }
+    requires within { at < length tree.0 }
+    requires first { at ≡ chunk_at first.time tree.0 }
+    requires second { chunk_at first.time tree.0 ≡ chunk_at (time_of second) tree.0 }
+    ensures items { IfOk result (λ new. flat new.0 ≡ changed second (marked first (flat tree.0))) }
+    ensures filled { IfOk result (λ new. AreFilled new.0) }
+    ensures work { steps.new ≤ steps.old + 4 * tree.1 + 3 }
+{
+    let edit = changed_twice(
+        alloc,
+        tree.get(at, steps).look(steps),
+        Change::More(first),
+        second,
+    )?;
+    tree.edited(alloc, at, edit, steps)
+}
+
+/// The points of a tree after two changes, one chunk after the other.
+fn chunks_changed<L: Ledger>(
+    alloc: Global,
+    tree: Tree<Chunk, Dip>,
+    first: Change,
+    second: Change,
+    steps: &mut Steps<L>,
+) -> Result<Tree<Chunk, Dip>, AllocError>
+    requires { AreFilled tree.0 }
+    ensures items { IfOk result (λ new. flat new.0 ≡ changed second (changed first (flat tree.0))) }
+    ensures filled { IfOk result (λ new. AreFilled new.0) }
+    ensures work { steps.new ≤ steps.old + 10 * tree.1 + 13 }
+{
+    let once = many_changed(alloc, tree, first, steps)?;
+    many_changed(alloc, once, second, steps)
+}
+
 /// The points of a tree after two changes. The tree stays.
 pub fn twice_changed<L: Ledger>(
     alloc: Global,
@@ -290,6 +334,14 @@ pub fn twice_changed<L: Ledger>(
         return few_changed(alloc, tree, first, second, steps);
     }
     let copy = tree.share()?;
-    let once = many_changed(alloc, copy, first, steps)?;
-    many_changed(alloc, once, second, steps)
+    match first {
+        Change::Less(_) => chunks_changed(alloc, copy, first, second, steps),
+        Change::More(mark) => {
+            let at = chunk_at(Side { tree }, mark.time, steps);
+            if chunk_at(Side { tree }, second.time(), steps) != at {
+                return chunks_changed(alloc, copy, first, second, steps);
+            }
+            chunk_changed_twice(alloc, copy, at, mark, second, steps)
+        }
+    }
 }

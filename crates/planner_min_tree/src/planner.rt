@@ -2,13 +2,13 @@
 ghost use Rattle.std.specs.Prelude.{◌≡◌, ℕ, ◌+◌, ◌*◌, ◌<◌, ◌≤◌, List, [], ◌∷◌, ◌++◌, length, IfOk, MatchOption};
 ghost use Rattle.flux_defs.specs.Digits.{dig};
 ghost use Rattle.planner_points.specs.declared.spans.Span.{Span};
-ghost use Rattle.planner_points.specs.Spans.{span_of, HasRoom, HasSpan, IsLeastFree, IsEnd, IsNextEnd, MayStart, IsFirstStart};
+ghost use Rattle.planner_points.specs.Spans.{span_of, HasRoom, HasSpan, IsLeastFree, IsEnd, IsNextEnd, MayStart, IsFirstStart, IsFirstFree, free_at};
 ghost use Rattle.planner_min_tree.specs.Plans.{StandsFor};
 
 use crate::chunks::Chunk;
 use crate::marking::{Change, Mark, twice_changed};
 use crate::points::{Dip, Point};
-use crate::walks::{Side, first_from, lowest_in};
+use crate::walks::{Side, first_from, lowest_in, rise_after, value_at};
 use balanced_tree::Tree;
 use flux_defs::{Steps, Window};
 use node_store::Share;
@@ -246,6 +246,23 @@ impl Planner for MinTree {
             };
             t = point.time;
         }
+    }
+
+    #[tactic(auto, using(crate::proofs::PlanFacts::cost_facts, crate::proofs::PlanFacts::marks_run))]
+    fn first_free<L: Ledger>(&self, from: u64, quantity: u64, steps: &mut Steps<L>) -> Option<u64>
+        ensures first { (spans : List Span) → StandsFor self.now spans →
+            MatchOption result
+            ((t : ℕ) → from ≤ t → free_at self.now.total spans t < quantity)
+            (IsFirstFree self.now.total spans from quantity) }
+        ensures work { steps.new ≤ steps.old + 16 * dig (length self.now.points + 2) }
+        ensures counted { steps.old ≤ steps.new }
+    {
+        let _height = self.points.height();
+        let side = Side { tree: &self.points };
+        if value_at(side, from, self.total, steps) >= quantity {
+            return Some(from);
+        }
+        rise_after(side, from, quantity, self.total, steps)
     }
 
     fn next_point<L: Ledger>(&self, after: u64, steps: &mut Steps<L>) -> Option<u64>

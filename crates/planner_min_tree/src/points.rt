@@ -1,7 +1,7 @@
 //! Points, and what a few of them one after the other say of a moment or a window.
-ghost use Rattle.std.specs.Prelude.{◌≡◌, ◌+◌, ◌-◌, ◌^◌, ◌<◌, ◌≤◌, List, [], ◌∷◌, ◌++◌, length, IfOk};
+ghost use Rattle.std.specs.Prelude.{◌≡◌, IsTrue, false, ◌+◌, ◌-◌, ◌^◌, ◌<◌, ◌≤◌, List, [], ◌∷◌, ◌++◌, length, IfOk};
 ghost use Rattle.std.specs.Option.{option_copied};
-ghost use Rattle.planner_min_tree.specs.Points.{past, Runs, dip_of, lowest, lowest_before, lowest_from, lowest_in, count_before, first_from};
+ghost use Rattle.planner_min_tree.specs.Points.{past, Runs, dip_of, lowest, lowest_before, lowest_from, lowest_in, count_before, first_from, value_at, first_rise, rise_after};
 
 use std::alloc::AllocError;
 
@@ -17,13 +17,14 @@ pub struct Point {
     pub given: u64,
 }
 
-/// What points do to what is free: it falls by `need` at most, and is `rest` above its lowest in the end. The latest of
-/// them is at the second `latest`.
+/// What points do to what is free: it falls by `need` at most, is `rest` above its lowest in the end, and `top` above it
+/// where it is highest, before the points or after one of them. The latest of them is at the second `latest`.
 #[derive(Clone, Copy, Debug, PartialEq, Eq)]
 pub struct Dip {
     pub latest: u64,
     pub need: u128,
     pub rest: u128,
+    pub top: u128,
 }
 
 impl Point {
@@ -45,10 +46,12 @@ impl Point {
         ensures { result ≡ dip_of (self.now ∷ []) }
     {
         let (taken, given) = (self.taken as u128, self.given as u128);
+        let (need, rest) = (taken.saturating_sub(given), given.saturating_sub(taken));
         Dip {
             latest: self.time,
-            need: taken.saturating_sub(given),
-            rest: given.saturating_sub(taken),
+            need,
+            rest,
+            top: need.max(rest),
         }
     }
 }
@@ -62,6 +65,7 @@ impl Dip {
             latest: 0,
             need: 0,
             rest: 0,
+            top: 0,
         }
     }
 
@@ -71,16 +75,25 @@ impl Dip {
         ensures { IfOk result (λ both. (xs ys : List Point) → self ≡ dip_of xs → other ≡ dip_of ys →
             both ≡ dip_of (xs ++ ys)) }
     {
-        let Some(need) = self.need.checked_add(other.need.saturating_sub(self.rest)) else {
+        let lower = other.need.saturating_sub(self.rest);
+        let higher = self.rest.saturating_sub(other.need);
+        let Some(need) = self.need.checked_add(lower) else {
             return Err(AllocError);
         };
-        let Some(rest) = other.rest.checked_add(self.rest.saturating_sub(other.need)) else {
+        let Some(rest) = other.rest.checked_add(higher) else {
+            return Err(AllocError);
+        };
+        let Some(first) = self.top.checked_add(lower) else {
+            return Err(AllocError);
+        };
+        let Some(second) = other.top.checked_add(higher) else {
             return Err(AllocError);
         };
         Ok(Dip {
             latest: self.latest.max(other.latest),
             need,
             rest,
+            top: first.max(second),
         })
     }
 
@@ -92,6 +105,18 @@ impl Dip {
     {
         let (need, rest) = (self.need as u64, self.rest as u64);
         free - need + rest
+    }
+}
+
+impl Dip {
+    /// Whether so much is free before the points or after one of them.
+    pub fn reaches(self, free: u64, quantity: u64) -> bool
+        requires { self.need ≤ free }
+        ensures high { IsTrue result → quantity ≤ free - self.need + self.top }
+        ensures low { result ≡ false → free - self.need + self.top < quantity }
+    {
+        let lowest = free - self.need as u64;
+        quantity.saturating_sub(lowest) as u128 <= self.top
     }
 }
 
@@ -199,6 +224,58 @@ pub fn lowest_in(points: &[Point], from: u64, to: u64, free: u64) -> u64
                 lowest_in(rest, from, to, point.past(free))
             } else {
                 lowest_before(points, to, free)
+            }
+        }
+    }
+}
+
+/// What is free at a moment.
+pub fn value_at(points: &[Point], m: u64, free: u64) -> u64
+    requires { Runs points.now free }
+    ensures { result ≡ value_at m points.now free }
+{
+    match points {
+        [] => free,
+        [point, rest @ ..] => {
+            if point.time <= m {
+                value_at(rest, m, point.past(free))
+            } else {
+                free
+            }
+        }
+    }
+}
+
+/// The time of the first point after which so much is free.
+pub fn first_rise(points: &[Point], quantity: u64, free: u64) -> Option<u64>
+    requires { Runs points.now free }
+    ensures { result ≡ first_rise quantity points.now free }
+{
+    match points {
+        [] => None,
+        [point, rest @ ..] => {
+            let past = point.past(free);
+            if quantity <= past {
+                Some(point.time)
+            } else {
+                first_rise(rest, quantity, past)
+            }
+        }
+    }
+}
+
+/// The same of the points that are later than a moment.
+pub fn rise_after(points: &[Point], from: u64, quantity: u64, free: u64) -> Option<u64>
+    requires { Runs points.now free }
+    ensures { result ≡ rise_after from quantity points.now free }
+{
+    match points {
+        [] => None,
+        [point, rest @ ..] => {
+            if point.time <= from {
+                rise_after(rest, from, quantity, point.past(free))
+            } else {
+                first_rise(points, quantity, free)
             }
         }
     }

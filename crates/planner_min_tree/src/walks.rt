@@ -1,7 +1,7 @@
 //! What a tree of points says of a moment or a window.
-ghost use Rattle.std.specs.Prelude.{◌≡◌, ◌+◌, ◌-◌, ◌*◌, ◌^◌, ◌<◌, ◌≤◌, length};
+ghost use Rattle.std.specs.Prelude.{◌≡◌, ◌+◌, ◌-◌, ◌*◌, ◌^◌, ◌<◌, ◌≤◌, length, IfNone};
 ghost use Rattle.planner_min_tree.specs.Chunks.{flat, chunk_at};
-ghost use Rattle.planner_min_tree.specs.Points.{Runs, lowest_before, lowest_from, lowest_in, first_from};
+ghost use Rattle.planner_min_tree.specs.Points.{Runs, lowest_before, lowest_from, lowest_in, first_from, value_at, first_rise, rise_after};
 
 use crate::chunks::Chunk;
 use crate::points::{self, Dip, Point};
@@ -134,6 +134,110 @@ pub fn lowest_in<L: Ledger>(
                 let first = lowest_from(Side { tree: left }, from, free, steps);
                 let second = lowest_before(Side { tree: right }, to, sum.past(free), steps);
                 first.min(second)
+            }
+        }
+    }
+}
+
+/// What is free at a moment.
+#[tactic(auto, using(crate::proofs::TwoSides::value_facts))]
+pub fn value_at<L: Ledger>(side: Side<'_>, m: u64, free: u64, steps: &mut Steps<L>) -> u64
+    requires { Runs (flat side.tree.now.0) free }
+    ensures value { result ≡ value_at m (flat side.entry.tree.now.0) free }
+    ensures work { steps.new ≤ steps.old + side.entry.tree.now.1 + 1 }
+    ensures counted { steps.old ≤ steps.new }
+{
+    match side.tree.shape(steps) {
+        Shape::Empty => free,
+        Shape::Leaf(chunk) => points::value_at(chunk.look(steps), m, free),
+        Shape::Fork(left, right) => {
+            let sum = left.sum();
+            if sum.latest <= m {
+                value_at(Side { tree: right }, m, sum.past(free), steps)
+            } else {
+                value_at(Side { tree: left }, m, free, steps)
+            }
+        }
+    }
+}
+
+/// The time of the first point after which so much is free, where less is before them. It goes down on one way.
+#[tactic(auto, using(crate::proofs::TwoSides::rise_facts))]
+fn first_rise<L: Ledger>(
+    side: Side<'_>,
+    quantity: u64,
+    free: u64,
+    steps: &mut Steps<L>,
+) -> Option<u64>
+    requires runs { Runs (flat side.tree.now.0) free }
+    requires less { free < quantity }
+    ensures value { result ≡ first_rise quantity (flat side.entry.tree.now.0) free }
+    ensures work { steps.new ≤ steps.old + side.entry.tree.now.1 + 1 }
+    ensures counted { steps.old ≤ steps.new }
+{
+    match side.tree.shape(steps) {
+        Shape::Empty => None,
+        Shape::Leaf(chunk) => points::first_rise(chunk.look(steps), quantity, free),
+        Shape::Fork(left, right) => {
+            let sum = left.sum();
+            if sum.reaches(free, quantity) {
+                first_rise(Side { tree: left }, quantity, free, steps)
+            } else {
+                first_rise(Side { tree: right }, quantity, sum.past(free), steps)
+            }
+        }
+    }
+}
+
+/// The same, which takes no step where there is none.
+#[tactic(auto, using(crate::proofs::TwoSides::some_facts))]
+fn some_rise<L: Ledger>(
+    side: Side<'_>,
+    quantity: u64,
+    free: u64,
+    steps: &mut Steps<L>,
+) -> Option<u64>
+    requires runs { Runs (flat side.tree.now.0) free }
+    requires less { free < quantity }
+    ensures value { result ≡ first_rise quantity (flat side.entry.tree.now.0) free }
+    ensures none { IfNone result (steps.new ≤ steps.old) }
+    ensures work { steps.new ≤ steps.old + side.entry.tree.now.1 + 1 }
+    ensures counted { steps.old ≤ steps.new }
+{
+    if !side.tree.sum().reaches(free, quantity) {
+        return None;
+    }
+    first_rise(side, quantity, free, steps)
+}
+
+/// The time of the first point that is later than a moment and after which so much is free, where less is at the moment.
+#[tactic(auto, using(crate::proofs::TwoSides::after_facts))]
+pub fn rise_after<L: Ledger>(
+    side: Side<'_>,
+    from: u64,
+    quantity: u64,
+    free: u64,
+    steps: &mut Steps<L>,
+) -> Option<u64>
+    requires runs { Runs (flat side.tree.now.0) free }
+    requires less { value_at from (flat side.tree.now.0) free < quantity }
+    ensures value { result ≡ rise_after from quantity (flat side.entry.tree.now.0) free }
+    ensures none { IfNone result (steps.new ≤ steps.old + side.entry.tree.now.1 + 1) }
+    ensures work { steps.new ≤ steps.old + 2 * (side.entry.tree.now.1 + 1) }
+    ensures counted { steps.old ≤ steps.new }
+{
+    match side.tree.shape(steps) {
+        Shape::Empty => None,
+        Shape::Leaf(chunk) => points::rise_after(chunk.look(steps), from, quantity, free),
+        Shape::Fork(left, right) => {
+            let sum = left.sum();
+            let past = sum.past(free);
+            if sum.latest <= from {
+                return rise_after(Side { tree: right }, from, quantity, past, steps);
+            }
+            match rise_after(Side { tree: left }, from, quantity, free, steps) {
+                Some(t) => Some(t),
+                None => some_rise(Side { tree: right }, quantity, past, steps),
             }
         }
     }

@@ -54,3 +54,10 @@ pub record IsFirstStart (total horizon : ℕ) (spans : List Span) (from duration
   pub later : from ≤ t
   pub starts : MayStart total horizon spans duration quantity t
   pub least : (u : ℕ) → from ≤ u → MayStart total horizon spans duration quantity u → t ≤ u
+
+-- the least moment from `from` on at which so much is free: that moment itself, or one at which a span starts or ends
+pub record IsFirstFree (total : ℕ) (spans : List Span) (from quantity t : ℕ) : Type 0 where
+  pub later : from ≤ t
+  pub free : quantity ≤ free_at total spans t
+  pub least : (u : ℕ) → from ≤ u → u < t → free_at total spans u < quantity
+  pub at : (t ≡ from) ⊎ IsEnd spans t

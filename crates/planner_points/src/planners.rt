@@ -1,7 +1,7 @@
 //! What every planner answers.
 ghost use Rattle.std.specs.Prelude.{◌≡◌, ℕ, ◌+◌, ◌<◌, ◌≤◌, List, [], ◌∷◌, ◌++◌, IfOk, MatchOption};
 ghost use Rattle.planner_points.specs.declared.spans.Span.{Span};
-ghost use Rattle.planner_points.specs.Spans.{free_at, span_of, HasRoom, HasSpan, IsLeastFree, IsEnd, IsNextEnd, MayStart, IsFirstStart};
+ghost use Rattle.planner_points.specs.Spans.{free_at, span_of, HasRoom, HasSpan, IsLeastFree, IsEnd, IsNextEnd, MayStart, IsFirstStart, IsFirstFree};
 
 use flux_defs::{Steps, Window};
 use std::alloc::{AllocError, Global};
@@ -19,7 +19,7 @@ pub trait Planner: Sized {
     /// The planner stands for these spans. It need not keep them.
     ghost stands_for: { Self → List Span → Type 0 };
 
-    /// How many steps `min_over` and `next_point` take at most.
+    /// How many steps `min_over`, `first_free` and `next_point` take at most.
     ghost look_cost: { Self → ℕ };
 
     /// How many steps `with_span` and `without_span` take at most.
@@ -93,6 +93,16 @@ pub trait Planner: Sized {
             MatchOption result
             ((t : ℕ) → from ≤ t → MayStart (total_of self.now) (horizon_of self.now) spans duration quantity t → ⊥)
             (IsFirstStart (total_of self.now) (horizon_of self.now) spans from duration quantity) };
+
+    /// The least second from `from` on at which so much is free; `None` exactly where at each of them less is. It takes
+    /// no memory.
+    fn first_free<L: Ledger>(&self, from: u64, quantity: u64, steps: &mut Steps<L>) -> Option<u64>
+        ensures first { (spans : List Span) → stands_for self.now spans →
+            MatchOption result
+            ((t : ℕ) → from ≤ t → free_at (total_of self.now) spans t < quantity)
+            (IsFirstFree (total_of self.now) spans from quantity) }
+        ensures work { steps.new ≤ steps.old + look_cost self.now }
+        ensures counted { steps.old ≤ steps.new };
 
     /// The least start or end of a span after that second; `None` exactly where there is none. It takes no memory.
     fn next_point<L: Ledger>(&self, after: u64, steps: &mut Steps<L>) -> Option<u64>

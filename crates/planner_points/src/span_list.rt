@@ -1,7 +1,7 @@
 //! A planner that keeps its spans as a list: plain and slow, to compare others with.
 ghost use Rattle.std.specs.Prelude.{◌≡◌, ℕ, ◌+◌, ◌-◌, ◌<◌, ◌≤◌, ◌↔◌, IsTrue, List, [], ◌∷◌, ◌++◌, length, Some, slice_get, IfOk, MatchOption};
 ghost use Rattle.planner_points.specs.declared.spans.Span.{Span};
-ghost use Rattle.planner_points.specs.Spans.{used_at, free_at, span_of, HasRoom, HasSpan, IsLeastFree, IsEnd, IsNextEnd, MayStart, IsFirstStart};
+ghost use Rattle.planner_points.specs.Spans.{used_at, free_at, span_of, HasRoom, HasSpan, IsLeastFree, IsEnd, IsNextEnd, MayStart, IsFirstStart, IsFirstFree};
 ghost use Rattle.planner_points.specs.Lists.{sooner, count_of};
 
 use crate::planners::Planner;
@@ -136,6 +136,27 @@ impl SpanList {
     }
 }
 
+impl SpanList {
+    /// The least second from the asked one on at which so much is free: the asked one, or one at which a span starts or ends.
+    fn first_left(&self, from: u64, quantity: u64) -> Option<u64>
+        ensures { MatchOption result
+            ((t : ℕ) → from ≤ t → free_at self.now.total self.now.spans.items t < quantity)
+            (IsFirstFree self.now.total self.now.spans.items from quantity) }
+    {
+        let spans = self.spans.as_slice();
+        let mut t = from;
+        'seconds: loop {
+            if left_at(spans, t, self.total) >= quantity {
+                return Some(t);
+            }
+            let Some(next) = next_end(spans, t) else {
+                return None;
+            };
+            t = next;
+        }
+    }
+}
+
 impl Planner for SpanList {
     ghost use Rattle.planner_points.specs.Lists.{AreSame, same_free_of};
 
@@ -207,6 +228,15 @@ impl Planner for SpanList {
         _steps: &mut Steps<L>,
     ) -> Option<u64> {
         self.first_start(from, duration, quantity)
+    }
+
+    fn first_free<L: Ledger>(
+        &self,
+        from: u64,
+        quantity: u64,
+        _steps: &mut Steps<L>,
+    ) -> Option<u64> {
+        self.first_left(from, quantity)
     }
 
     fn next_point<L: Ledger>(&self, after: u64, _steps: &mut Steps<L>) -> Option<u64> {

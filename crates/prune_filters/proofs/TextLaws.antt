@@ -47,7 +47,7 @@ pub no_rule : (item : List ℕ) → Lacks 58 item → IsRule item → ⊥
 no_rule item none (rule, s) = has_colon rule.high rule.low (subst (Lacks 58) s.spelled none)
 
 -- what stands before and behind the first colon is determined
-cut_once : (a b c d : List ℕ) → Lacks 58 a → Lacks 58 c → a ++ 58 ∷ b ≡ c ++ 58 ∷ d → (a ≡ c) × (b ≡ d)
+pub cut_once : (a b c d : List ℕ) → Lacks 58 a → Lacks 58 c → a ++ 58 ∷ b ≡ c ++ 58 ∷ d → (a ≡ c) × (b ≡ d)
 cut_once [] b [] d la lc e = (refl, cc)
 cut_once [] b (y ∷ c) d la lc e = absurd (lc.0 (let same : y ≡ 58 = cc in same))
 cut_once (x ∷ a) b [] d la lc e = absurd (la.0 (let same : x ≡ 58 = cc in same))

@@ -29,6 +29,10 @@ module _ (vertices : List Vertex) (jobs : List Job) (w : Window) where
     abbrev pub IsShortOf : List Demand → ℕ → Type 0
     IsShortOf demands v = Any (λ d. IsBelow v d.kind d.amount) demands
 
+    -- v is short of this one of these demands
+    abbrev pub IsShortIn : List Demand → ℕ → Demand → Type 0
+    IsShortIn demands v d = Contains demands d × IsBelow v d.kind d.amount
+
     -- v is short for the need: a total that is kept there is below what one of it demands
     abbrev pub IsShortFor : Need → ℕ → Type 0
     IsShortFor need v = (kind : ℕ) × IsBelow v kind (capped (demand vertices kind 1 need))

@@ -1,7 +1,7 @@
 //! Whether a kept total is below a demand.
-ghost use Rattle.std.specs.Prelude.{◌≡◌, ◌+◌, ◌*◌, ◌<◌, ◌≤◌, ◌↔◌, IsTrue, length, List};
+ghost use Rattle.std.specs.Prelude.{◌≡◌, ◌+◌, ◌*◌, ◌<◌, ◌≤◌, ◌↔◌, IsTrue, length, List, MatchOption, IfSome};
 ghost use Rattle.flux_defs.specs.declared.claims.Job.{Job};
-ghost use Rattle.prune_filters.specs.Shorts.{IsBelow, IsShortOf};
+ghost use Rattle.prune_filters.specs.Shorts.{IsBelow, IsShortOf, IsShortIn};
 
 use flux_defs::{FreeView, List, Steps, Window};
 use std::sync::ledger::Ledger;
@@ -28,12 +28,35 @@ pub fn short<F: FreeView, L: Ledger>(
         (IsTrue result ↔ IsShortOf (F.graph view.now) jobs window (F.keeps view.now) demands.now vertex) }
     ensures work { steps.new ≤ steps.old + length demands.now * F.cost view.now }
 {
+    match first_short(view, vertex, demands, window, steps) {
+        None => false,
+        Some(_) => true,
+    }
+}
+
+/// The first of the demands of which the vertex is short; `None` exactly where it is short of none. It takes no memory.
+pub fn first_short<F: FreeView, L: Ledger>(
+    view: &F,
+    vertex: u32,
+    demands: &List<Demand>,
+    window: Window,
+    steps: &mut Steps<L>,
+) -> Option<Demand>
+    requires vertex { vertex < length (F.graph view.now) }
+    requires opens { window.from < window.to }
+    ensures answer { (jobs : List Job) → F.stands_for view.now jobs →
+        MatchOption result
+        (IsShortOf (F.graph view.now) jobs window (F.keeps view.now) demands.now vertex → ⊥)
+        (IsShortIn (F.graph view.now) jobs window (F.keeps view.now) demands.now vertex) }
+    ensures kept { IfSome result (λ demand. F.keeps view.now vertex demand.kind) }
+    ensures work { steps.new ≤ steps.old + length demands.now * F.cost view.now }
+{
     for demand in demands.items() {
         if is_below(view, vertex, *demand, window, steps) {
-            return true;
+            return Some(*demand);
         }
     }
-    false
+    None
 }
 
 /// Whether the view tells a total below the amount.
@@ -48,6 +71,7 @@ fn is_below<F: FreeView, L: Ledger>(
     requires opens { window.from < window.to }
     ensures answer { (jobs : List Job) → F.stands_for view.now jobs →
         (IsTrue result ↔ IsBelow (F.graph view.now) jobs window (F.keeps view.now) vertex demand.kind demand.amount) }
+    ensures kept { IsTrue result → F.keeps view.now vertex demand.kind }
     ensures work { steps.new ≤ steps.old + F.cost view.now }
 {
     match view.total_over(vertex, demand.kind, window, steps) {

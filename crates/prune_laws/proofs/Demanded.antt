@@ -1,5 +1,5 @@
 -- What serves a need is free: the pieces of a fit lie in disjoint subtrees, each with what it claims free.
-use Rattle.std.proofs.Common.{◌≡◌, ◌≢◌, ℕ, suc, ◌+◌, ◌-◌, ◌*◌, ◌<◌, ◌≤◌, ◌==◌, nat_eq, nat_le, Bool, true, false, not, ◌&&◌, ◌||◌, if◌then◌else◌, List, [], ◌∷◌, length, Option, Some, None, slice_get, is_some, inl, inr, refl, sym, ◌∙◌, ap, subst, arith, IsTrue, true≢false}
+use Rattle.std.proofs.Common.{◌≡◌, ◌≢◌, ℕ, zero, suc, ◌+◌, ◌-◌, ◌*◌, ◌<◌, ◌≤◌, ◌==◌, nat_eq, nat_le, Bool, true, false, not, ◌&&◌, ◌||◌, if◌then◌else◌, List, [], ◌∷◌, length, Option, Some, None, slice_get, is_some, inl, inr, refl, sym, ◌∙◌, ap, subst, arith, IsTrue, true≢false}
 use Rattle.std.specs.Prelude.{IsSome}
 use Rattle.std.specs.List.{AllByRecursion, list_any, sum_by, enumerate_from}
 use Rattle.std.specs.Option.{IsSomeAnd, option_map_or}
@@ -11,22 +11,24 @@ use Rattle.flux_defs.specs.declared.claims.Claim.{Claim}
 use Rattle.flux_defs.specs.declared.claims.Claim.TheVariants.{Hold}
 use Rattle.flux_defs.specs.declared.claims.Job.{Job}
 use Rattle.flux_defs.specs.declared.claims.Window.{Window}
-use Rattle.flux_defs.specs.declared.requests.Need.{Need, Vert', Pool, Spread', Row_of-Need, end_of-Need, more_of-Need}
+use Rattle.flux_defs.specs.declared.requests.Need.{Need, Vert', Pool, Spread', Row_of-Need, end_of-Need, more_of-Need, items-the_row-Need, items_hidden-the_row-Need-0}
+use Rattle.flux_defs.specs.declared.requests.Need.TheBlock.{hidden-the_row-Need-0}
 use Rattle.flux_defs.specs.Graph.{ResourceGraph, Scope, Everywhere, Beneath, IsIn, HasKind, IsNode, is_at_or_below, is_below, is_pool, is_pool_kind, size_of}
 use Rattle.flux_defs.specs.ValidGraph.{IsValidGraph}
 use Rattle.flux_defs.specs.Jobs.{some_live_claim, holds_over}
 use Rattle.flux_defs.specs.Closed.{no_bars, is_closed, is_withheld}
 use Rattle.flux_defs.specs.Free.{free_at, taken_at, total_at}
 use Rattle.flux_defs.specs.Available.{IsAvailable}
-use Rattle.flux_defs.specs.Needs.{amount_of, IsOfNeed, HasNoSpread, HaveNoSpreadRow, IsValidNeed, AreValidRow}
-use Rattle.flux_defs.specs.Fits.{Pick, served, AreDistinct, Pieces, Piece, FitsRow}
-use Rattle.graph_laws.proofs.Containment.{below_trans, below_le, below_self, below_from, below_to, equal_to, equal_from, not_from, not_to}
+use Rattle.flux_defs.specs.Needs.{amount_of, IsOfNeed, HasNoSpread, HaveNoSpreadRow, IsValidNeed, AreValidNeeds, AreValidRow}
+use Rattle.flux_defs.specs.Fits.{Pick, served, AreDistinct, Pieces, Piece, Fits, FitsRow}
+use Rattle.graph_laws.proofs.Containment.{below_trans, below_le, below_parent, below_self, below_from, below_to, equal_to, equal_from, not_from, not_to}
 use Rattle.graph_laws.proofs.Preorder.{parents_first}
 use Rattle.flux_laws.proofs.Groups.{AreDisjoint, AtOrBelow, IsOfPicks, IsRootOf, picks_disjoint, siblings_disjoint, piece_vertex, disjoint_sym}
 use Rattle.flux_laws.proofs.Valid.{nodes_alike, none_nested}
+use Rattle.flux_laws.proofs.Rows.{fits_list, valid_to_row}
 use Rattle.list_laws.proofs.Tests.{false_from}
-use Rattle.prune_filters.specs.Demands.{one_if, is_node_kind, demand, row_demand, capped}
-use Rattle.prune_laws.specs.PruneLaws.{scene, TooLittleServesNone}
+use Rattle.prune_filters.specs.Demands.{one_if, is_node_kind, demand, row_demand, needs_demand, capped}
+use Rattle.prune_laws.specs.PruneLaws.{scene, TooLittleServesNone, TooLittleFitsNone}
 use Rattle.prune_laws.proofs.Sums.{set_sum, parts_sum, part_sum, one_sum}
 
 -- demands alone
@@ -85,6 +87,18 @@ module _ (vertices : List Vertex) (kind : ℕ) where
       let one = times_demand k (amount_of need) need h.0 in
       let r = copies_demand k rest h.1 in
       omega (arith, one, r)
+
+-- the row of a need's inner needs demands what their list does
+module _ (vertices : List Vertex) (kind : ℕ) where
+  row_list : {m : _} (row : Row_of-Need m) →
+      row_demand vertices kind row ≡ needs_demand vertices kind (items-the_row-Need _ row)
+  row_list end_of-Need = refl
+  row_list (more_of-Need need rest) = ap (λ n. demand vertices kind (amount_of need) need + n) (row_list rest)
+
+  pub list_row : (needs : List Need) →
+      row_demand vertices kind (hidden-the_row-Need-0 needs) ≡ needs_demand vertices kind needs
+  list_row needs = row_list (hidden-the_row-Need-0 needs)
+      ∙ ap (needs_demand vertices kind) (items_hidden-the_row-Need-0 needs)
 
 -- an item of which a test holds
 any_item : (test : Vertex → Bool) (xs : List Vertex) → IsTrue (list_any test xs) →
@@ -404,3 +418,46 @@ too_little_none g names valid jobs barred w need fine v short scope u q under so
     (λ x lt h. below_trans g.vertices (parents_first g valid.preorder) x u v lt h under) in
     let all : demand g.vertices kind q need ≤ total_at g.vertices jobs kind m u = there in
     omega (arith, part, all, one, few, is)
+
+-- each vertex is the root or below it
+root_over : (g : ResourceGraph) (names : List (List ℕ)) → IsValidGraph g names → (most v : ℕ) → v ≤ most →
+    v < length g.vertices → IsTrue (is_at_or_below g.vertices v 0)
+root_over g names valid most zero le lt = below_self g.vertices (parents_first g valid.preorder) 0 lt
+root_over g names valid zero (suc v) le lt = absurd (omega arith)
+root_over g names valid (suc most) (suc v) le lt =
+    let first = parents_first g valid.preorder in
+    let next = valid.preorder.next v lt in
+    let few = below_le g.vertices first v next.0 next.2 in
+    below_trans g.vertices first (suc v) next.0 0 lt (below_parent g.vertices first (suc v) next.0 lt next.1)
+    (root_over g names valid most next.0 (omega (arith, few)) (omega (arith, few)))
+
+-- where needs fit, the root has as much of each kind as they demand in full, at each moment
+pub fit_total : (g : ResourceGraph) (names : List (List ℕ)) → IsValidGraph g names → (jobs : List Job)
+    (barred : List ℕ) (w : Window) (needs : List Need) → AreValidNeeds g.vertices needs → (kind m : ℕ) →
+    w.from ≤ m → m < w.to → (claims : List Claim) →
+    Fits g.vertices (IsAvailable (scene g jobs barred) w) 1 Everywhere needs claims →
+    needs_demand g.vertices kind needs ≤ total_at g.vertices jobs kind m 0
+fit_total g names valid jobs barred w needs fine kind m lo hi claims fits =
+    let vs = g.vertices in
+    let ok : Claim → Type 0 = IsAvailable (scene g jobs barred) w in
+    let rows = subst (λ (P : List Claim → Type 0). P claims) (sym (fits_list vs ok needs 1 Everywhere)) fits in
+    let cover = row_cover g names valid jobs barred w kind m lo hi 1 (omega arith) Everywhere
+    (hidden-the_row-Need-0 needs) (valid_to_row vs needs fine) claims rows in
+    let some = cover.1 in
+    let once = once_demand vs kind (hidden-the_row-Need-0 needs) in
+    let list = list_row vs kind needs in
+    let part : _ ≤ total_at vs jobs kind m 0 =
+    part_sum kind (λ x. free_at (no_bars vs jobs) m x) vs cover.0 (λ x. is_at_or_below vs x 0)
+    (λ u lt t. root_over g names valid u u (omega arith) lt) in
+    omega (arith, some, once, list, part)
+
+-- where the root has too little for needs in full, none fit
+pub too_little_fit : TooLittleFitsNone
+too_little_fit g names valid jobs barred w needs fine kind short claims fits =
+    let vs = g.vertices in
+    let least = short.1 in
+    let m = least.reached.0 in
+    let few : short.0 < capped (needs_demand vs kind needs) = short.2 in
+    let is : total_at vs jobs kind m 0 ≡ short.0 = least.reached.3 in
+    let all = fit_total g names valid jobs barred w needs fine kind m least.reached.1 least.reached.2 claims fits in
+    omega (arith, all, few, is)

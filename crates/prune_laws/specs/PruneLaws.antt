@@ -1,18 +1,20 @@
 -- The laws of pruning, as statements.
 use Rattle.std.specs.Prelude.{ℕ, ◌≤◌, List, IsTrue}
+use Rattle.flux_defs.specs.declared.claims.Claim.{Claim}
 use Rattle.flux_defs.specs.declared.claims.Job.{Job}
 use Rattle.flux_defs.specs.declared.claims.Window.{Window}
 use Rattle.flux_defs.specs.declared.requests.Need.{Need}
-use Rattle.flux_defs.specs.Graph.{ResourceGraph, Scope, is_at_or_below}
+use Rattle.flux_defs.specs.Graph.{ResourceGraph, Scope, Everywhere, is_at_or_below}
 use Rattle.flux_defs.specs.ValidGraph.{IsValidGraph}
 use Rattle.flux_defs.specs.Jobs.{EachMoment}
 use Rattle.flux_defs.specs.Closed.{Scene}
 use Rattle.flux_defs.specs.Free.{total_at}
 use Rattle.flux_defs.specs.Available.{IsAvailable}
-use Rattle.flux_defs.specs.Needs.{IsValidNeed}
+use Rattle.flux_defs.specs.Needs.{IsValidNeed, AreValidNeeds}
+use Rattle.flux_defs.specs.Fits.{Fits}
 use Rattle.flux_defs.specs.Lowest.{CanServe}
-use Rattle.prune_filters.specs.Demands.{demand}
-use Rattle.prune_filters.specs.Shorts.{HasTooLittleFor}
+use Rattle.prune_filters.specs.Demands.{demand, needs_demand, capped}
+use Rattle.prune_filters.specs.Shorts.{HasTooLittleFor, IsTooLittle}
 
 -- what an ask with these bars meets
 abbrev pub scene : ResourceGraph → List Job → List ℕ → Scene
@@ -34,3 +36,11 @@ TooLittleServesNone = (g : ResourceGraph) (names : List (List ℕ)) → IsValidG
     (need : Need) → IsValidNeed g.vertices need → (v : ℕ) → HasTooLittleFor g.vertices jobs w need v →
     (scope : Scope) (u q : ℕ) → IsTrue (is_at_or_below g.vertices u v) → 1 ≤ q →
     CanServe g.vertices (IsAvailable (scene g jobs barred) w) scope need u q → ⊥
+
+-- Where the root has too little of some kind for needs in full, each its amount, no claims fit them.
+abbrev pub TooLittleFitsNone : Type 0
+TooLittleFitsNone = (g : ResourceGraph) (names : List (List ℕ)) → IsValidGraph g names →
+    (jobs : List Job) (barred : List ℕ) (w : Window)
+    (needs : List Need) → AreValidNeeds g.vertices needs →
+    (kind : ℕ) → IsTooLittle g.vertices jobs w 0 kind (capped (needs_demand g.vertices kind needs)) →
+    (claims : List Claim) → Fits g.vertices (IsAvailable (scene g jobs barred) w) 1 Everywhere needs claims → ⊥

@@ -1,12 +1,10 @@
 -- What was found in an earlier state, told of a core.
-use Rattle.std.proofs.Common.{◌≡◌, ℕ, List, ◌++◌, take, length, inl, inr, refl, sym, ◌∙◌, ap, subst, Contains}
+use Rattle.std.proofs.Common.{◌≡◌, ℕ, List, ◌++◌, take, inl, inr, refl, sym, ◌∙◌, ap, subst, Contains}
 use Rattle.std.proofs.Math.Seq.{take-length, take-append_seam}
-use Rattle.flux_defs.specs.declared.vertices.Vertex.{Vertex}
 use Rattle.flux_defs.specs.declared.requests.Ask.{Ask}
 use Rattle.flux_defs.specs.declared.journal.Command.{Command}
 use Rattle.flux_defs.specs.declared.journal.Command.TheVariants as command
 use Rattle.flux_defs.specs.declared.journal.Reply.{Reply}
-use Rattle.flux_defs.specs.declared.journal.Reply.TheVariants as reply
 use Rattle.flux_defs.specs.declared.journal.Entry.{Entry}
 use Rattle.flux_defs.specs.declared.verdicts.Verdict.{Verdict}
 use Rattle.flux_defs.specs.declared.verdicts.Verdict.TheVariants.{Found, NoFit, Unsat, Sat, Long, Known}
@@ -23,7 +21,7 @@ use Rattle.sched_core.specs.declared.finding.Starts.{Starts}
 use Rattle.sched_core.specs.declared.finding.Starts.TheVariants as starts
 use Rattle.sched_core.specs.declared.held.Site.{Site}
 use Rattle.sched_core.specs.declared.held.Kept.{Kept}
-use Rattle.sched_core.specs.Courses.{Course, state_of, left_by, graph_at, vertices_at, journal_in, setting_in, IsCore}
+use Rattle.sched_core.specs.Courses.{Course, state_of, left_by, journal_in, setting_in, IsCore}
 use Rattle.sched_core.specs.Answered.{FindsAt, Answers, command_of}
 use Rattle.sched_core.specs.Searched.{IsSearched}
 

@@ -1,6 +1,6 @@
 -- What is kept before the first entry, and what every core keeps.
 use Rattle.std.proofs.Common.{◌≡◌, ℕ, List, [], length, refl, sym, ◌∙◌, ap, subst, arith, Contains}
-use Rattle.std.specs.FinMap.{get, empty, get-empty}
+use Rattle.std.specs.FinMap.{get, len, empty, get-empty, len-empty}
 use Rattle.std.specs.Ordering.{nat_cmp}
 use Rattle.std.proofs.lemmas.List.{take_all}
 use Rattle.flux_defs.specs.declared.journal.Entry.{Entry}
@@ -9,6 +9,7 @@ use Rattle.flux_defs.specs.Histories.{IsLegal, HasProperCommands}
 use Rattle.flux_defs.specs.Sound.{IsSound, IsSoundThroughout}
 use Rattle.resource_graph.specs.NamedGraph.{IsWhole}
 use Rattle.sound_laws.proofs.Legal.{legal_keeps}
+use Rattle.job_table.specs.declared.tables.Row.{Row}
 use Rattle.book_state.specs.declared.held.BookState.{BookState}
 use Rattle.book_state.specs.Books.{graph_of, horizon_of, moment_of, rows_of, StandsFor}
 use Rattle.sched_core.specs.declared.held.Site.{Site}
@@ -25,6 +26,7 @@ book_none book moment rows jobs = record {
   moment = moment;
   table = λ id. subst (Told [] first_state id) (sym (ap (λ r. get r id) rows ∙ get-empty nat_cmp id))
       (record { unused = nothing id; none = refl });
+  few = (let none = ap len rows ∙ len-empty nat_cmp Row in omega (arith, none));
 }
 
 pub first_core : (site : Site) (kept : Kept) → IsWhole (graph_at site) → graph_of kept.book ≡ graph_at site →

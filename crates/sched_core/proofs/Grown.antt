@@ -1,6 +1,6 @@
 -- The book of a journal with one entry more.
-use Rattle.std.proofs.Common.{◌≡◌, ℕ, List, [], ◌∷◌, ◌++◌, length, length-append, slice_get, Option, Some, None, inl, inr, refl, sym, ◌∙◌, ap, subst, arith, Contains}
-use Rattle.std.specs.FinMap.{get, insert}
+use Rattle.std.proofs.Common.{◌≡◌, ℕ, List, [], ◌∷◌, ◌++◌, length, length-append, slice_get, Option, Some, None, inl, inr, refl, sym, ◌∙◌, ap, subst, arith, Contains, ◌+◌, ◌≤◌}
+use Rattle.std.specs.FinMap.{get, insert, len}
 use Rattle.std.proofs.lemmas.Bool.Decides.{eqb_tells}
 use Rattle.std.proofs.lemmas.Option.{slice_get_read, slice_get_within, get_or_from_slice_get}
 use Rattle.std.proofs.lemmas.List.{get_or_push}
@@ -20,6 +20,7 @@ use Rattle.job_table.specs.Rows.{live_row, cancelled_row}
 use Rattle.job_table.proofs.RowLaws.{get_same, get_other}
 use Rattle.book_state.specs.declared.held.BookState.{BookState}
 use Rattle.book_state.specs.Books.{moment_of, rows_of, StandsFor}
+use Rattle.book_state.proofs.BookLaws.{more_rows, same_rows}
 use Rattle.sched_core.specs.Courses.{left_by, IsRowOf, IsBookAt, IsBookOf}
 use Rattle.sched_core.specs.Answered.{ChangesNothing}
 use Rattle.sched_core.proofs.JobLaws.{Told, row_found, row_none, with_other, with_new, gone, stays}
@@ -63,6 +64,10 @@ told_as : (journal : List Entry) (s : State) (id : ℕ) (found other : Option Ro
 told_as journal s id found other is told = subst (Told journal s id) (sym is) told
 
 module _ (journal : List Entry) (e : Entry) (s : State) (book next : BookState) (at : IsBookAt journal s book) where
+  -- one row more at most
+  more_few : (new old : ℕ) → new ≡ old → old ≤ len (rows_of book) + 1 → new ≤ length (journal ++ e ∷ [])
+  more_few new old is one = let few = at.few in let longer = length-append journal (e ∷ []) in omega (arith, is, one, few, longer)
+
   -- a job was accepted
   accepted_at : (job : Job) → HasAccepted e job → get (rows_of book) job.id ≡ None → moment_of next ≡ moment_of book → rows_of next ≡ insert (rows_of book) job.id (live_row (length journal)) →
       StandsFor next (s.jobs ++ job ∷ []) → IsBookAt (journal ++ e ∷ []) (with_job s job) next
@@ -75,6 +80,7 @@ module _ (journal : List Entry) (e : Entry) (s : State) (book next : BookState) 
           (told_more journal e s (with_job s job) k (λ h. Contains-append_left s.used (job.id ∷ []) k h) (λ h. elim (Contains-push_cases s.used job.id k h) [ inl x ↦ x | inr y ↦ absurd (n.1 (sym y)) ])
           (with_other k s.jobs job (λ f. n.1 (sym f))) (get (rows_of book) k) (at.table k))
     ];
+    few = more_few (len (rows_of next)) (len (rows_of book) + 1) (ap len rows ∙ more_rows (rows_of book) job.id (live_row (length journal)) fresh) (omega arith);
   }
     where
       own : Told (journal ++ e ∷ []) (with_job s job) job.id (get (rows_of next) job.id)
@@ -100,6 +106,7 @@ module _ (journal : List Entry) (e : Entry) (s : State) (book next : BookState) 
       | inr n ↦ told_as (journal ++ e ∷ []) t k (get (rows_of book) k) (get (rows_of next) k) (ap (λ r. get r k) rows ∙ get_other (rows_of book) id (cancelled_row place) k n.1)
           (told_more journal e s t k (λ h. h) (λ h. h) (stays id k s.jobs n.1) (get (rows_of book) k) (at.table k))
     ];
+    few = more_few (len (rows_of next)) (len (rows_of book)) (ap len rows ∙ same_rows (rows_of book) id (cancelled_row place) (live_row place) live) (omega arith);
   }
     where
       t : State
@@ -127,6 +134,7 @@ module _ (journal : List Entry) (e : Entry) (s : State) (book next : BookState) 
     moment = moment;
     table = λ k. told_as (journal ++ e ∷ []) (record s { moment = m }) k (get (rows_of book) k) (get (rows_of next) k) (ap (λ r. get r k) rows)
         (told_more journal e s (record s { moment = m }) k (λ h. h) (λ h. h) refl (get (rows_of book) k) (at.table k));
+    few = more_few (len (rows_of next)) (len (rows_of book)) (ap len rows) (omega arith);
   }
 
 after_nothing : (s : State) (c : Command) (r : Reply) → ChangesNothing r → after s c r ≡ s

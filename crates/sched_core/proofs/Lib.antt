@@ -9,3 +9,5 @@ pub mod FirstCore
 pub mod PlayedLines
 pub mod SharedCore
 pub mod Committed
+pub mod CommitCounts
+pub mod SearchCounts

@@ -1,6 +1,6 @@
 -- What is shared is the same core.
-use Rattle.std.proofs.Common.{◌≡◌, ℕ, List, MatchOption, sym, ◌∙◌, ap, subst}
-use Rattle.std.specs.FinMap.{FinMap, get}
+use Rattle.std.proofs.Common.{◌≡◌, ℕ, List, MatchOption, sym, ◌∙◌, ap, subst, ◌≤◌, length}
+use Rattle.std.specs.FinMap.{FinMap, get, len}
 use Rattle.std.specs.Ordering.{nat_cmp}
 use Rattle.flux_defs.specs.declared.claims.Job.{Job}
 use Rattle.flux_defs.specs.declared.journal.Entry.{Entry}
@@ -9,8 +9,7 @@ use Rattle.flux_defs.specs.Histories.{IsLegal, HasProperCommands}
 use Rattle.resource_graph.specs.NamedGraph.{NamedGraph, IsWhole}
 use Rattle.prune_filters.specs.declared.rules.Rule.{Rule}
 use Rattle.job_table.specs.declared.tables.Row.{Row}
-use Rattle.book_state.specs.declared.held.BookState.{BookState}
-use Rattle.book_state.specs.Books.{graph_of, rules_of, horizon_of, moment_of, rows_of, StandsFor, KeepsSetting}
+use Rattle.book_state.specs.Books.{rules_of, moment_of, rows_of, StandsFor, KeepsSetting}
 use Rattle.sched_core.specs.declared.held.Site.{Site}
 use Rattle.sched_core.specs.declared.held.Kept.{Kept}
 use Rattle.sched_core.specs.Courses.{left_by, graph_at, vertices_at, journal_in, setting_of, setting_in, IsNew, IsRowOf, IsBookOf, IsCore}
@@ -37,6 +36,7 @@ module _ (site other : Site) (kept same : Kept) (core : IsCore site kept) (graph
         table = λ id. subst
             (λ (r : FinMap nat_cmp Row). MatchOption (get r id) (IsNew s id) (IsRowOf (journal_in kept) s id))
             (sym rows) (core.book-of.table id);
+        few = subst (λ (r : FinMap nat_cmp Row). len r ≤ length (journal_in kept)) (sym rows) core.book-of.few;
       }
 
   pub shared_core : moment_of same.book ≡ moment_of kept.book → rows_of same.book ≡ rows_of kept.book →

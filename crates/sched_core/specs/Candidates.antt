@@ -1,15 +1,10 @@
 -- Candidates: what a search of a state found, and what comes of committing it in a later one.
 use Rattle.std.specs.Prelude.{◌≡◌, ℕ, List, ◌++◌, length}
-use Rattle.flux_defs.specs.declared.journal.Command.{Command}
-use Rattle.flux_defs.specs.declared.journal.Command.TheVariants as command
 use Rattle.flux_defs.specs.declared.journal.Entry.{Entry}
-use Rattle.flux_defs.specs.declared.verdicts.Verdict.{Verdict}
-use Rattle.flux_defs.specs.Scheduler.{IsProper}
-use Rattle.flux_defs.specs.Verdicts.{Finds}
-use Rattle.flux_defs.specs.Overtaken.{Candidate, IsOvertaken}
+use Rattle.flux_defs.specs.Overtaken.{IsOvertaken}
 use Rattle.commit_laws.specs.CommitLaws.{StillStands}
 use Rattle.overtaken_check.specs.Scans.{cause_of}
-use Rattle.sched_core.specs.Courses.{Course, state_of}
+use Rattle.sched_core.specs.Courses.{Course}
 use Rattle.sched_core.specs.Answered.{IsDecided}
 use Rattle.sched_core.specs.declared.candidates.Commit.{Commit}
 use Rattle.sched_core.specs.declared.candidates.Commit.TheVariants as commit

@@ -1,7 +1,7 @@
 -- What a scheduler of one thread is seen as, and what it keeps.
-use Rattle.std.specs.Prelude.{◌≡◌, ℕ, List, [], ◌∷◌, ◌++◌, map, Contains, Some, None, if◌then◌else◌, MatchOption}
+use Rattle.std.specs.Prelude.{◌≡◌, ℕ, ◌≤◌, List, [], ◌∷◌, ◌++◌, length, map, Contains, Some, None, if◌then◌else◌, MatchOption}
 use Rattle.std.specs.Arc.{arc_value}
-use Rattle.std.specs.FinMap.{get}
+use Rattle.std.specs.FinMap.{get, len}
 use Rattle.flux_defs.specs.declared.vertices.Vertex.{Vertex}
 use Rattle.flux_defs.specs.declared.claims.Job.{Job}
 use Rattle.flux_defs.specs.declared.journal.Command.{Command}
@@ -61,13 +61,13 @@ pub record IsNew (s : State) (id : ℕ) : Type 0 where
   pub unused : Contains s.used id → ⊥
   pub none : job_with id s.jobs ≡ None
 
--- The book stands for the jobs of the state, at its moment; and exactly the ids that were ever accepted have rows,
--- which
--- tell of the journal's entries.
+-- The book stands for the jobs of the state, at its moment; exactly the ids that were ever accepted have rows, which
+-- tell of the journal's entries; and there are no more rows than entries.
 pub record IsBookAt (journal : List Entry) (s : State) (book : BookState) : Type 0 where
   pub jobs : StandsFor book s.jobs
   pub moment : moment_of book ≡ s.moment
   pub table : (id : ℕ) → MatchOption (get (rows_of book) id) (IsNew s id) (IsRowOf journal s id)
+  pub few : len (rows_of book) ≤ length journal
 
 -- the same of the state that the journal leaves
 abbrev pub IsBookOf : List Entry → BookState → Type 0

@@ -4,3 +4,5 @@ pub mod Played
 pub mod Searched
 pub mod Judged
 pub mod Candidates
+pub mod Costs
+pub mod SearchCosts

@@ -1,24 +1,16 @@
 -- Lines that were played, one after another.
-use Rattle.std.specs.Prelude.{◌≡◌, ℕ, List, ◌∷◌, ◌++◌, map}
+use Rattle.std.specs.Prelude.{◌≡◌, List, ◌∷◌, ◌++◌, map}
 use Rattle.std.specs.List.{AllByRecursion}
 use Rattle.flux_defs.specs.declared.vertices.Vertex.{Vertex}
 use Rattle.flux_defs.specs.declared.journal.Entry.{Entry}
-use Rattle.flux_defs.specs.declared.journal.Line.{Line}
 use Rattle.flux_defs.specs.Scheduler.{IsProper}
+use Rattle.flux_defs.specs.Scripts.{line_of}
 use Rattle.flux_defs.specs.declared.journal.ClientLine.{ClientLine}
 use Rattle.sched_core.specs.Courses.{Course}
 
 -- each of the lines has a command that is proper for the graph
 abbrev pub AreProper : List Vertex → List ClientLine → Type 0
 AreProper vertices lines = AllByRecursion (λ l. IsProper vertices l.command) lines
-
--- the line that an entry answers
-abbrev pub line_of : Entry → ClientLine
-line_of e = record { client = e.client; line = e.line; command = e.command }
-
--- the client's line
-abbrev pub of_client : ℕ → Line → ClientLine
-of_client client l = record { client = client; line = l.line; command = l.command }
 
 -- the new journal has entries more that answer the lines, each once and in their order; the setting stays
 pub record IsPlayed (old new : Course) (lines : List ClientLine) : Type 0 where

@@ -1,7 +1,6 @@
 -- What a candidate is seen as, and what it keeps.
 use Rattle.std.specs.Prelude.{◌≡◌, ℕ, length}
 use Rattle.flux_defs.specs.declared.journal.Command.{Command}
-use Rattle.flux_defs.specs.declared.journal.Command.TheVariants as command
 use Rattle.flux_defs.specs.declared.verdicts.Verdict.{Verdict}
 use Rattle.flux_defs.specs.Scheduler.{IsProper}
 use Rattle.flux_defs.specs.Verdicts.{Finds}
@@ -25,10 +24,3 @@ pub record IsSearched (command : Command) (snap : Course) (place : ℕ) (verdict
   pub place-is : place ≡ length snap.journal
   pub finds : Finds snap.setting (state_of snap) command verdict
   pub proper : IsProper snap.setting.graph.vertices command
-
--- a command that is searched for: an allocate, a reserve or a satisfy
-abbrev pub IsSearchable : Command → Type 0
-IsSearchable (command.Allocate id ask) = Unit {0}
-IsSearchable (command.Reserve id ask) = Unit {0}
-IsSearchable (command.Satisfy ask) = Unit {0}
-IsSearchable c = ⊥

@@ -1,8 +1,11 @@
 //! A journal with one entry more.
-ghost use Rattle.std.specs.Prelude.{◌≡◌, ℕ, ◌+◌, length, IfErr, OnOk};
+ghost use Rattle.std.specs.Prelude.{◌≡◌, ℕ, ◌+◌, ◌*◌, ◌≤◌, length, IfErr, OnOk};
 ghost use Rattle.flux_defs.specs.declared.journal.Entry.{Entry};
 ghost use Rattle.flux_defs.specs.Scheduler.{State, IsProper, Replies, after};
 ghost use Rattle.flux_defs.specs.declared.journal.Command.{Command};
+ghost use Rattle.flux_defs.specs.Digits.{dig};
+ghost use Rattle.book_state.specs.Books.{change_cost_of};
+ghost use Rattle.sched_core.specs.Costs.{AddsAtMost};
 ghost use Rattle.sched_core.specs.Courses.{left_by, journal_in, vertices_at, setting_in, IsCore, Grows};
 ghost use Rattle.sched_core.specs.Answered.{HasRoom};
 
@@ -37,6 +40,8 @@ pub(crate) fn append<L: Ledger>(
     requires reply { Replies (setting_in site.now kept.old) (left_by (journal_in kept.old)) entry.command entry.reply }
     ensures ok { OnOk result (Grows site.now kept.old kept.new entry) }
     ensures err { IfErr result (λ e. (kept.new ≡ kept.old) × (e.0 ≡ entry.command)) }
+    ensures work { (most : ℕ) → AddsAtMost most entry.reply →
+        steps.new ≤ steps.old + (change_cost_of kept.old.book most + 2 * dig (length (journal_in kept.old) + 1)) }
 {
     let Ok(book) = follow(
         site.alloc,

@@ -1,5 +1,6 @@
 //! Candidates.
 ghost use Rattle.std.specs.Prelude.{◌≡◌, IfOk};
+ghost use Rattle.sched_core.specs.Searched.{IsSearched};
 
 use crate::snaps::Snap;
 use flux_defs::{Command, List, Verdict};
@@ -39,11 +40,27 @@ impl Candidate {
         &self.command
     }
 
+    /// The command, taken out. It takes no memory.
+    pub fn into_command(self) -> Command
+        ensures { result ≡ self.command }
+    {
+        let Candidate { command, .. } = self;
+        command
+    }
+
     /// The verdict.
     pub fn verdict(&self) -> &Verdict
         ensures { result.now ≡ self.now.verdict }
     {
         &self.verdict
+    }
+
+    /// A law: the verdict is what a search finds in the state that was searched, and the command is proper there. It does
+    /// nothing.
+    pub fn is_found(&self)
+        ensures { IsSearched self.now.command self.now.snap self.now.place self.now.verdict }
+    {
+        let _ = &self.place;
     }
 
     /// How many entries the journal had that was searched.

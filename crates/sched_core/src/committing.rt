@@ -1,15 +1,20 @@
 //! The reply of an older candidate, or why it has none.
-ghost use Rattle.std.specs.Prelude.{◌≡◌, ℕ, IfOk, MatchOption, Contains};
+ghost use Rattle.std.specs.Prelude.{◌≡◌, ℕ, ◌+◌, ◌*◌, ◌≤◌, length, IfOk, MatchOption, Contains};
+ghost use Rattle.std.specs.FinMap.{len};
 ghost use Rattle.flux_defs.specs.declared.journal.Reply.TheVariants as reply;
+ghost use Rattle.flux_defs.specs.Digits.{dig};
 ghost use Rattle.flux_defs.specs.Scheduler.{Where};
 ghost use Rattle.flux_defs.specs.Histories.{state_at};
 ghost use Rattle.flux_defs.specs.Verdicts.{Finds, FindsJob, Yields, YieldsJob};
 ghost use Rattle.flux_defs.specs.Overtaken.{IsOvertaken};
 ghost use Rattle.commit_laws.specs.CommitLaws.{StillStands};
+ghost use Rattle.book_state.specs.Books.{rows_of, cost_of};
 ghost use Rattle.overtaken_check.specs.Scans.{cause_of, candidate_of};
+ghost use Rattle.overtaken_check.specs.Costs.{scan_most, claims_found};
 ghost use Rattle.sched_core.specs.Courses.{left_by, journal_in, setting_in, IsCore};
 ghost use Rattle.sched_core.specs.Answered.{FindsAt, none_at};
 ghost use Rattle.sched_core.specs.Judged.{IsJudgedOf};
+ghost use Rattle.sched_core.specs.Costs.{TellsAtMost};
 
 use crate::candidates::copy_verdict;
 use crate::finding::{Starts, is_used};
@@ -45,10 +50,12 @@ pub(crate) fn cause<L: Ledger>(
     requires moment { moment ≡ (state_at (journal_in kept.now) place).moment }
     requires found { Finds (setting_in site.now kept.now) (state_at (journal_in kept.now) place) command.now
         verdict.now }
-    ensures { MatchOption result
+    ensures answer { MatchOption result
         (StillStands (setting_in site.now kept.now) (journal_in kept.now) (candidate_of command.now place verdict.now))
         (λ cause. IsOvertaken (setting_in site.now kept.now) (journal_in kept.now)
         (candidate_of command.now place verdict.now) (cause_of cause)) }
+    ensures work { steps.new ≤ steps.old
+        + (2 * cost_of kept.now.book * length (claims_found verdict.now) + 3 * scan_most (journal_in kept.now) place) }
 {
     overtaken(
         &kept.book,
@@ -77,9 +84,10 @@ fn yield_job<L: Ledger>(
     requires core { IsCore site.now kept.now }
     requires found { FindsJob (setting_in site.now kept.now) (state_at (journal_in kept.now) place) id ask.now
         (FindsAt starts (setting_in site.now kept.now) (state_at (journal_in kept.now) place) ask.now) verdict }
-    ensures { Where (Contains (left_by (journal_in kept.now)).used id) reply.Exists
+    ensures answer { Where (Contains (left_by (journal_in kept.now)).used id) reply.Exists
         (YieldsJob (setting_in site.now kept.now) (left_by (journal_in kept.now)) id ask.now (none_at starts) verdict)
         result }
+    ensures work { steps.new ≤ steps.old + 16 * dig (len (rows_of kept.now.book) + 2) }
 {
     if is_used(&kept.book, id, steps) {
         return Reply::Exists;
@@ -98,7 +106,8 @@ pub(crate) fn yielded<L: Ledger>(
 ) -> Reply
     requires core { IsCore site.now kept.now }
     requires found { Finds (setting_in site.now kept.now) (state_at (journal_in kept.now) place) command.now verdict }
-    ensures { Yields (setting_in site.now kept.now) (left_by (journal_in kept.now)) command.now verdict result }
+    ensures answer { Yields (setting_in site.now kept.now) (left_by (journal_in kept.now)) command.now verdict result }
+    ensures work { steps.new ≤ steps.old + 16 * dig (len (rows_of kept.now.book) + 2) }
 {
     match command {
         Command::Allocate { job, ask } => {
@@ -139,8 +148,12 @@ pub(crate) fn judge<L: Ledger>(
     requires moment { moment ≡ (state_at (journal_in kept.now) place).moment }
     requires found { Finds (setting_in site.now kept.now) (state_at (journal_in kept.now) place) command.now
         verdict.now }
-    ensures { IfOk result (IsJudgedOf (setting_in site.now kept.now) (journal_in kept.now) command.now place
+    ensures answer { IfOk result (IsJudgedOf (setting_in site.now kept.now) (journal_in kept.now) command.now place
         verdict.now) }
+    ensures few { IfOk result (TellsAtMost (length (claims_found verdict.now))) }
+    ensures work { steps.new ≤ steps.old
+        + (2 * cost_of kept.now.book * length (claims_found verdict.now) + 3 * scan_most (journal_in kept.now) place
+        + 16 * dig (len (rows_of kept.now.book) + 2)) }
 {
     if let Some(cause) = cause(site, kept, command, place, moment, verdict, steps) {
         return Ok(Judged::Overtaken(cause));

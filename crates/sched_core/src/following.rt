@@ -1,13 +1,14 @@
 //! The book after an entry.
-ghost use Rattle.std.specs.Prelude.{◌≡◌, ℕ, ◌∷◌, ◌++◌, [], List, IsSome, IfOk};
+ghost use Rattle.std.specs.Prelude.{◌≡◌, ℕ, ◌+◌, ◌≤◌, ◌∷◌, ◌++◌, [], List, length, IsSome, IfOk};
 ghost use Rattle.flux_defs.specs.declared.journal.Command.TheVariants as command;
 ghost use Rattle.flux_defs.specs.declared.journal.Entry.{Entry};
 ghost use Rattle.flux_defs.specs.declared.journal.Reply.TheVariants as reply;
 ghost use Rattle.flux_defs.specs.Scheduler.{job_with};
 ghost use Rattle.flux_defs.specs.Overtaken.{HasAccepted};
-ghost use Rattle.book_state.specs.Books.{KeepsSetting, MayAdd};
+ghost use Rattle.book_state.specs.Books.{KeepsSetting, MayAdd, change_cost_of};
 ghost use Rattle.sched_core.specs.Courses.{left_by, IsBookOf};
 ghost use Rattle.sched_core.specs.Answered.{ChangesNothing, MayFollow};
+ghost use Rattle.sched_core.specs.Costs.{AddsAtMost};
 
 use crate::settling::live_job;
 use book_state::BookState;
@@ -28,6 +29,7 @@ fn after_accepted<L: Ledger>(
     requires may { MayAdd book.now job.now }
     ensures setting { IfOk result (KeepsSetting book.now) }
     ensures book { IfOk result (λ next. (e : Entry) → HasAccepted e job.now → IsBookOf (entries.now ++ e ∷ []) next) }
+    ensures work { steps.new ≤ steps.old + change_cost_of book.now (length job.now.claims) }
 {
     let next = book.after_add(alloc, job, entries.len(), steps)?;
     Ok(next)
@@ -86,6 +88,7 @@ pub(crate) fn follow<L: Ledger>(
     requires may { MayFollow book.now (left_by entries.now) command.now reply.now }
     ensures setting { IfOk result (KeepsSetting book.now) }
     ensures book { IfOk result (λ next. (e : Entry) → e.command ≡ command.now → e.reply ≡ reply.now → IsBookOf (entries.now ++ e ∷ []) next) }
+    ensures work { (most : ℕ) → AddsAtMost most reply.now → steps.new ≤ steps.old + change_cost_of book.now most }
 {
     match reply {
         Reply::Allocated(job) => after_accepted(alloc, entries, book, job, steps),

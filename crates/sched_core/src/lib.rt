@@ -20,4 +20,5 @@ pub mod snaps;
 pub use candidates::{Candidate, Commit};
 pub use playing::{play, play_client};
 pub use scheduler::Core;
+pub use searching::is_searched_for;
 pub use snaps::Snap;

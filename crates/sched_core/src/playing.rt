@@ -2,7 +2,8 @@
 ghost use Rattle.std.specs.Prelude.{◌≡◌, map, OnOk, IfErr};
 ghost use Rattle.flux_defs.specs.Histories.{IsLegal};
 ghost use Rattle.flux_defs.specs.Sound.{IsSoundThroughout};
-ghost use Rattle.sched_core.specs.Played.{AreProper, of_client, IsPlayed, IsPlayedInPart};
+ghost use Rattle.flux_defs.specs.Scripts.{client_line};
+ghost use Rattle.sched_core.specs.Played.{AreProper, IsPlayed, IsPlayedInPart};
 
 use crate::scheduler::Core;
 use flux_defs::{ClientLine, Line};
@@ -23,9 +24,9 @@ pub fn play(core: &mut Core, lines: Vec<ClientLine>) -> Result<(), AllocError>
 
 /// Decides the lines of one client in their order, as `play` does.
 pub fn play_client(core: &mut Core, client: u32, lines: Vec<Line>) -> Result<(), AllocError>
-    requires { AreProper core.old.setting.graph.vertices (map (of_client client) lines.items) }
-    ensures played { OnOk result (IsPlayed core.old core.new (map (of_client client) lines.items)) }
-    ensures err { IfErr result (λ _. IsPlayedInPart core.old core.new (map (of_client client) lines.items)) }
+    requires { AreProper core.old.setting.graph.vertices (map (client_line client) lines.items) }
+    ensures played { OnOk result (IsPlayed core.old core.new (map (client_line client) lines.items)) }
+    ensures err { IfErr result (λ _. IsPlayedInPart core.old core.new (map (client_line client) lines.items)) }
     ensures legal { IsLegal core.new.setting core.new.journal }
     ensures sound { IsSoundThroughout core.new.setting.graph.vertices core.new.journal }
 {
@@ -35,9 +36,9 @@ pub fn play_client(core: &mut Core, client: u32, lines: Vec<Line>) -> Result<(),
 }
 
 fn play_all_of(core: &mut Core, client: u32, lines: Vec<Line>) -> Result<(), AllocError>
-    requires { AreProper core.old.setting.graph.vertices (map (of_client client) lines.items) }
-    ensures played { OnOk result (IsPlayed core.old core.new (map (of_client client) lines.items)) }
-    ensures err { IfErr result (λ _. IsPlayedInPart core.old core.new (map (of_client client) lines.items)) }
+    requires { AreProper core.old.setting.graph.vertices (map (client_line client) lines.items) }
+    ensures played { OnOk result (IsPlayed core.old core.new (map (client_line client) lines.items)) }
+    ensures err { IfErr result (λ _. IsPlayedInPart core.old core.new (map (client_line client) lines.items)) }
 {
     for told in lines {
         let Line { line, command } = told;

@@ -1,14 +1,17 @@
 //! The scheduler of one thread.
-ghost use Rattle.std.specs.Prelude.{◌≡◌, ◌<◌, length, slice_get, IfOk, IfErr};
+ghost use Rattle.std.specs.Prelude.{◌≡◌, ℕ, ◌+◌, ◌<◌, ◌≤◌, length, slice_get, IfOk, IfErr};
 ghost use Rattle.std.specs.Option.{option_copied};
 ghost use Rattle.std.specs.Arc.{arc_value};
 ghost use Rattle.flux_defs.specs.Scheduler.{IsProper, Replies};
 ghost use Rattle.flux_defs.specs.Histories.{IsLegal, HasProperCommands};
+ghost use Rattle.flux_defs.specs.Verdicts.{IsSearchable};
 ghost use Rattle.flux_defs.specs.Sound.{IsSound, IsSoundThroughout};
 ghost use Rattle.sched_core.specs.Courses.{state_of, empty_course};
 ghost use Rattle.sched_core.specs.Answered.{IsDecided};
-ghost use Rattle.sched_core.specs.Searched.{IsSearchable};
+ghost use Rattle.overtaken_check.specs.Costs.{claims_found};
 ghost use Rattle.sched_core.specs.Candidates.{IsFor, IsJudged, IsCommitted};
+ghost use Rattle.sched_core.specs.Costs.{AddsAtMost, TellsAtMost, judge_most, append_most, commit_most};
+ghost use Rattle.sched_core.specs.SearchCosts.{CourseTakes, last_found};
 
 use crate::appending::append;
 use crate::candidates::{Candidate, Commit};
@@ -130,7 +133,8 @@ impl Core {
     }
 
     /// What is found of a command in the state of a snapshot; room for the claims is left aside. On want of memory,
-    /// which is the only error, the command comes back.
+    /// which is the only error, the command comes back. It looks for the id, at whether the ask fits the graph with no
+    /// jobs, and at the match at each moment that it tries.
     pub fn search<L: Ledger>(
         snap: &Snap,
         command: Command,
@@ -140,6 +144,7 @@ impl Core {
         requires proper { IsProper snap.now.setting.graph.vertices command }
         ensures ok { IfOk result (λ c. (c.command ≡ command) × (c.snap ≡ snap.now)) }
         ensures err { IfErr result (λ e. e.0 ≡ command) }
+        ensures work { CourseTakes snap.now command (last_found snap.now.setting.horizon result) steps.old steps.new }
     {
         let same = match snap.core.snap() {
             Ok(same) => same,
@@ -159,7 +164,8 @@ impl Core {
 
     /// Appends the entry of an older candidate's command, with the reply of a fresh decision, unless something overtook
     /// the candidate since: then it comes back with the cause, and nothing is changed. On want of memory, which is the
-    /// only error, it comes back too, and nothing is changed.
+    /// only error, it comes back too, and nothing is changed. It costs by the candidate's claims, the filter
+    /// rules and the entries since the search, whatever the graph's size.
     pub fn commit<L: Ledger>(
         &mut self,
         client: u32,
@@ -170,6 +176,7 @@ impl Core {
         requires candidate { IsFor self.old candidate }
         ensures ok { IfOk result (IsCommitted self.old self.new client line candidate) }
         ensures err { IfErr result (λ e. (self.new ≡ self.old) × (e.0 ≡ candidate)) }
+        ensures work { steps.new ≤ steps.old + commit_most self.old candidate }
         ensures legal { IsLegal self.new.setting self.new.journal }
         ensures sound { IsSoundThroughout self.new.setting.graph.vertices self.new.journal }
     {
@@ -188,6 +195,7 @@ impl Core {
         requires candidate { IsFor self.old candidate }
         ensures ok { IfOk result (IsCommitted self.old self.new client line candidate) }
         ensures err { IfErr result (λ e. (self.new ≡ self.old) × (e.0 ≡ candidate)) }
+        ensures work { steps.new ≤ steps.old + commit_most self.old candidate }
     {
         match self.judge(&candidate, steps) {
             Err(fault) => Err((candidate, fault)),
@@ -208,7 +216,9 @@ impl Core {
         steps: &mut Steps<L>,
     ) -> Result<Judged, AllocError>
         requires { IsFor self.now candidate.now }
-        ensures { IfOk result (IsJudged self.now candidate.now) }
+        ensures answer { IfOk result (IsJudged self.now candidate.now) }
+        ensures few { IfOk result (TellsAtMost (length (claims_found candidate.now.verdict))) }
+        ensures work { steps.new ≤ steps.old + judge_most self.now candidate.now }
     {
         let moment = candidate.snap.now();
         judge(
@@ -236,6 +246,7 @@ impl Core {
         ensures place { IfOk result (λ at. at ≡ length self.old.journal) }
         ensures decided { IfOk result (λ _. IsDecided self.old self.new client line candidate.command) }
         ensures err { IfErr result (λ e. (self.new ≡ self.old) × (e.0 ≡ candidate)) }
+        ensures work { (most : ℕ) → AddsAtMost most reply → steps.new ≤ steps.old + append_most self.old most }
     {
         let end = self.kept.journal.len();
         let Candidate {

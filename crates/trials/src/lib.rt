@@ -5,6 +5,10 @@
 #[cfg(test)]
 mod books;
 #[cfg(test)]
+mod crowds;
+#[cfg(test)]
+mod faults;
+#[cfg(test)]
 mod filters;
 #[cfg(test)]
 mod graph_files;
@@ -22,6 +26,8 @@ mod jobspecs;
 mod limits;
 #[cfg(test)]
 mod numbered_texts;
+#[cfg(test)]
+mod pruning;
 #[cfg(test)]
 mod resource_sets;
 #[cfg(test)]

@@ -1,13 +1,15 @@
 //! Runs of the program over objects in memory of which a call fails, a line that is too long for a row, and the numbers of
 //! all statuses.
 use crate::graphs::TWO_NODES;
-use flux_defs::{List, Text};
+use flux_defs::{List, OpenGate, Text};
 use flux_io::{MemFiles, MemSink, MemSource};
 use fluxion_shell::{Limited, Status, Which, code, fault_line, run};
 use graph_json::ReadFault;
 use std::alloc::{AllocError, Global};
 use std::process::Abort;
+use std::sync::Wait;
 use std::test::Fail;
+use std::thread::Threads;
 
 /// Two lines, of 206 bytes.
 const LINES: &[u8] =
@@ -18,11 +20,11 @@ const ANSWERS: &[u8] =
     b"0 1 a allocated 1 0 {\"execution\":{\"R_lite\":[{\"children\":{\"core\":\"0-2\"},\"rank\":\"0-1\"}],\"expiration\":315360000,\"nodelist\":[\"node[0-1]\"],\"starttime\":0},\"version\":1}\n1 2 a invalid command\n";
 
 /// The words of a run over the file `g`.
-fn words(alloc: Global, command: &str) -> Result<Vec<String>, AllocError> {
+fn words(alloc: Global, command: &str) -> Result<List<Text>, AllocError> {
     let mut words = Vec::new(alloc);
-    words.push(String::from_str(alloc, command)?)?;
-    words.push(String::from_str(alloc, "g")?)?;
-    Ok(words)
+    words.push(Text::of(alloc, command.as_bytes())?)?;
+    words.push(Text::of(alloc, b"g")?)?;
+    Ok(List::of_vec(words))
 }
 
 /// The file `g`, of two nodes.
@@ -50,7 +52,8 @@ const NONE: Fails = Fails {
 };
 
 /// How a run over this input ends, and what it wrote, 100 bytes at a time.
-fn ends(
+fn ends<R: Threads + Wait + Sync>(
+    rt: &R,
     alloc: Global,
     command: &str,
     lines: &[u8],
@@ -64,13 +67,15 @@ fn ends(
     let mut out = MemSink::new(alloc, 100, fail_out);
     out.reserve(1_000)?;
     let words = words(alloc, command)?;
-    let status = run(alloc, words.as_slice(), &mut files, &mut input, &mut out);
+    let status = run(
+        rt, alloc, &words, &mut files, &mut input, &mut out, &OpenGate,
+    );
     Ok((status, Vec::from_slice(alloc, out.bytes())?))
 }
 
 /// The run of a command ends with this number and this line, and has written no more than a front of the answers.
-fn fails_with(
-    rt: &impl Abort,
+fn fails_with<R: Abort + Threads + Wait + Sync>(
+    rt: &R,
     alloc: Global,
     command: &str,
     fails: Fails,
@@ -78,7 +83,7 @@ fn fails_with(
     line: &str,
     written: usize,
 ) -> Result<(), Fail> {
-    let (status, wrote) = ends(alloc, command, LINES, fails)?;
+    let (status, wrote) = ends(rt, alloc, command, LINES, fails)?;
     assert_eq!(rt; code(&status), number);
     assert_eq!(rt; fault_line(alloc, &status)?.bytes(), line.as_bytes());
     assert_eq!(rt; wrote.as_slice(), ANSWERS.get(..written).ok_or("a front")?);
@@ -109,7 +114,7 @@ fn a_long_line_is_past_a_limit(rt: HostRuntime) -> Result<(), Fail> {
         (1_048_577, 7, "fluxion: limit: line-bytes 1\n"),
     ] {
         let lines = vec![in alloc; b'a'; bytes]?;
-        let (status, _) = ends(alloc, "serve", lines.as_slice(), NONE)?;
+        let (status, _) = ends(&rt, alloc, "serve", lines.as_slice(), NONE)?;
         assert_eq!(rt; code(&status), number);
         assert_eq!(rt; fault_line(alloc, &status)?.bytes(), line.as_bytes());
     }

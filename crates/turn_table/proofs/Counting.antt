@@ -11,7 +11,8 @@ use Rattle.turn_table.specs.declared.view.TurnPhase.TheVariants.{Idle, Holding}
 use Rattle.turn_table.specs.Positions.{RisesBelow}
 use Rattle.turn_table.specs.Rule.{Fits, IsKept}
 use Rattle.turn_table.specs.Plays.{stores, looks, Stores, Loads}
-use Rattle.turn_table.proofs.Views.{prefix_length, each_set, counted_more, fits_more, fits_stores, fits_looks, rises}
+use Rattle.list_laws.proofs.Lists.{prefix_length}
+use Rattle.turn_table.proofs.Views.{each_set, counted_more, fits_more, fits_stores, fits_looks, rises}
 use Rattle.turn_table.proofs.Places.{HasIt, has_it, still_taken, unmoved}
 
 in_hand : {V : Type 0} (b x : V) (c : List (ℕ × Option V)) → (0, Some b) ∷ c ≡ (0, Some x) ∷ [] → b ≡ x

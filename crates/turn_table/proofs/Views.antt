@@ -11,6 +11,7 @@ use mathlib.Core.List.{IsPrefix}
 use lib.ListN.{get_elem?}
 use base.Growing.{prefix_refl, prefix_trans}
 use Rattle.atomic_table.proofs.Lists.{at_set, set_else, at_snoc}
+use Rattle.list_laws.proofs.Lists.{prefix_length}
 use Rattle.turn_table.specs.declared.view.View.{View}
 use Rattle.turn_table.specs.declared.view.TurnPhase.TheVariants.{Idle}
 use Rattle.turn_table.specs.Positions.{times, RisesBelow}
@@ -19,9 +20,6 @@ use Rattle.turn_table.specs.Plays.{longer, holds, stores, rests, looks, kept_sha
 use Rattle.turn_table.proofs.Positions.{times_append, times_once, times_range, times_merged}
 use Rattle.turn_table.proofs.Rising.{none_rises, all_rises, still_rises, longer_rises, is_range, merged_rises}
 use Rattle.turn_table.proofs.Sums.{sum_set, two_within, sum_alone}
-
-pub prefix_length : {E : Type 0} (xs ys : List E) → IsPrefix xs ys → length xs ≤ length ys
-prefix_length xs ys p = omega (arith, sym (ap length p.1) ∙ length-append xs p.0)
 
 pub set_at : {A : Type 0} (l : List A) (i : ℕ) (v w : A) → get_elem? l i ≡ some v → get_elem? (set l i w) i ≡ some w
 set_at [] i v w e = absurd (some-ne-none v (sym e))

@@ -1,12 +1,11 @@
 -- How the planners of an account change with the jobs.
-use Rattle.std.proofs.Common.{◌≡◌, ℕ, zero, suc, ◌+◌, ◌<◌, ◌≤◌, List, [], ◌∷◌, ◌++◌, length, Some, None, slice_get, refl, sym, ◌∙◌, ap, subst, arith}
+use Rattle.std.proofs.Common.{◌≡◌, ℕ, zero, suc, ◌<◌, List, [], ◌∷◌, ◌++◌, length, Some, slice_get, refl, sym, ◌∙◌, ap, subst, arith}
 use Rattle.std.specs.List.{sum_by}
 use Rattle.flux_defs.specs.declared.claims.Claim.{Claim}
 use Rattle.flux_defs.specs.declared.claims.Job.{Job}
 use Rattle.flux_defs.specs.declared.claims.Window.{Window}
-use Rattle.flux_defs.specs.Free.{IsLeastIn}
 use Rattle.planner_points.specs.declared.spans.Span.{Span}
-use Rattle.planner_points.specs.Spans.{IsLeastFree, free_at}
+use Rattle.planner_points.specs.Spans.{IsLeastFree}
 use Rattle.book_laws.specs.Grouped.{time_of, some_span, grouped, AreKept}
 use Rattle.book_laws.proofs.GroupedLaws.{grouped_append, grouped_middle}
 use Rattle.vertex_planners.specs.Kept.{Gains, Loses, AtEach}

@@ -1,5 +1,5 @@
 -- The accounts of a job more and of a job less.
-use Rattle.std.proofs.Common.{◌≡◌, ℕ, zero, suc, ◌+◌, ◌-◌, ◌<◌, ◌≤◌, cond, Bool, true, false, List, [], ◌∷◌, ◌++◌, length, Option, Some, None, slice_get, append-nil, refl, sym, ◌∙◌, ap, subst, arith}
+use Rattle.std.proofs.Common.{◌≡◌, ℕ, ◌+◌, ◌-◌, ◌≤◌, cond, Bool, true, false, List, [], ◌∷◌, ◌++◌, length, Option, Some, None, slice_get, append-nil, sym, ◌∙◌, ap, subst, arith}
 use Rattle.std.specs.List.{AllByRecursion, sum_by}
 use Rattle.std.proofs.lemmas.List.Sums.{sum_by-cons, sum_by-append}
 use Rattle.flux_defs.specs.declared.vertices.Vertex.{Vertex}
@@ -11,7 +11,7 @@ use Rattle.flux_defs.specs.ValidGraph.{StandsInPreorder}
 use Rattle.flux_defs.specs.Jobs.{is_live, take_of}
 use Rattle.list_laws.proofs.Lists.{all_append}
 use Rattle.planner_points.specs.declared.spans.Span.{Span}
-use Rattle.planner_points.specs.Spans.{span_of, used_at, free_at}
+use Rattle.planner_points.specs.Spans.{span_of, free_at}
 use Rattle.book_laws.specs.Amounts.{live_sum, is_hold, hold_of, claim_within, use_of}
 use Rattle.book_laws.specs.Grouped.{time_of, grouped, times_of, count_claims}
 use Rattle.book_laws.specs.TotalLaws.{AreFair}
@@ -27,7 +27,7 @@ use Rattle.vertex_accounts.specs.declared.accounts.Account.{Account}
 use Rattle.vertex_accounts.specs.declared.books.Accounts.{Accounts}
 use Rattle.vertex_accounts.specs.Quantities.{amount_in, total_in, most_claims}
 use Rattle.vertex_accounts.specs.Stands.{IsAccount}
-use Rattle.vertex_accounts.specs.Books.{IsUnitsOf, KeepsKind, IsOnGraph, AreAccountsOf, AreAccounts, Becomes, Joins, Leaves, HasRoomFor}
+use Rattle.vertex_accounts.specs.Books.{IsUnitsOf, IsOnGraph, AreAccounts, Becomes, Joins, Leaves, HasRoomFor}
 use Rattle.vertex_accounts.proofs.AccountLaws.{same_place}
 
 -- a number of at most 1 for each claim sums to at most the number of claims

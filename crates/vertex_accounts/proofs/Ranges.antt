@@ -1,5 +1,5 @@
 -- The capacity of a kind at a vertex is a difference of two sums: the vertices at and below it follow it without a gap.
-use Rattle.std.proofs.Common.{◌≡◌, ◌≢◌, ℕ, zero, suc, ◌+◌, ◌-◌, ◌<◌, ◌≤◌, ◌==◌, nat_le, nat_lt, Bool, true, false, ◌&&◌, cond, List, [], ◌∷◌, length, take, Some, slice_get, inl, inr, refl, sym, ◌∙◌, ap, subst, arith, IsTrue, true≢false}
+use Rattle.std.proofs.Common.{◌≡◌, ℕ, zero, suc, ◌+◌, ◌<◌, ◌≤◌, ◌==◌, nat_le, nat_lt, Bool, true, false, ◌&&◌, cond, List, [], ◌∷◌, length, take, Some, slice_get, inl, inr, refl, ◌∙◌, ap, arith, IsTrue}
 use Rattle.std.specs.List.{sum_by, enumerate_from}
 use Rattle.std.specs.Option.{option_map_or}
 use Rattle.std.proofs.lemmas.Bool.{and_parts, and_from}

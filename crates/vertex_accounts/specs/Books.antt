@@ -1,5 +1,5 @@
 -- Which jobs a book of accounts stands for.
-use Rattle.std.specs.Prelude.{◌≡◌, ℕ, ◌<◌, ◌≤◌, List, [], ◌∷◌, ◌++◌, length, Option, Some, None, sum_by, slice_get}
+use Rattle.std.specs.Prelude.{◌≡◌, ℕ, ◌<◌, ◌≤◌, if◌then◌else◌, is_some, List, [], ◌∷◌, ◌++◌, length, Option, Some, None, sum_by, slice_get}
 use Rattle.std.specs.List.{AllByRecursion}
 use Rattle.flux_defs.specs.declared.vertices.Vertex.{Vertex}
 use Rattle.flux_defs.specs.declared.claims.Job.{Job}
@@ -9,6 +9,7 @@ use Rattle.planner_points.specs.Spans.{HasRoom}
 use Rattle.book_laws.specs.Grouped.{time_of, times_of, count_claims}
 use Rattle.book_laws.specs.TotalLaws.{AreFair}
 use Rattle.vertex_planners.specs.Lists.{list_of}
+use Rattle.vertex_planners.specs.Work.{ChangesWithin}
 use Rattle.vertex_accounts.specs.declared.quantities.Quantity.{Quantity}
 use Rattle.vertex_accounts.specs.declared.quantities.Quantity.TheVariants.{Holds, Claims, Takes, Units}
 use Rattle.vertex_accounts.specs.declared.accounts.Account.{Account}
@@ -26,6 +27,14 @@ IsUnitsOf kind (Units capacities) = capacities.kind ≡ kind
 -- the book keeps totals of this type
 abbrev pub KeepsKind : {P : Type 0} → Accounts P → ℕ → Type 0
 KeepsKind {P = P} book kind = (account : Account P) × (slice_get book.totals kind ≡ Some (Some account))
+
+-- 1 for an account, and 0 for none
+abbrev pub kept_one : {P : Type 0} → Option (Account P) → ℕ
+kept_one entry = if is_some entry then 1 else 0
+
+-- of how many types there are accounts
+abbrev pub kept_count : {P : Type 0} → List (Option (Account P)) → ℕ
+kept_count totals = sum_by kept_one totals
 
 -- the accounts are of the graph of these vertices: of holds, claims and takes, and by type of units
 pub record AreAccountsOf {P : Type 0} (vertices : List Vertex) (book : Accounts P) : Type 0 where
@@ -61,6 +70,13 @@ pub record AllLookWithin {P : Type 0} (look_cost : P → ℕ) (most : ℕ) (book
   pub claims : LooksWithin look_cost most book.claims
   pub takes : LooksWithin look_cost most book.takes
   pub totals : (kind : ℕ) (account : Account P) → slice_get book.totals kind ≡ Some (Some account) → LooksWithin look_cost most account
+
+-- a change of a planner of the book takes at most so many steps, that of the times aside
+pub record AllChangeWithin {P : Type 0} (change_cost : P → ℕ) (most : ℕ) (book : Accounts P) : Type 0 where
+  pub holds : ChangesWithin change_cost most (list_of book.holds.planners)
+  pub claims : ChangesWithin change_cost most (list_of book.claims.planners)
+  pub takes : ChangesWithin change_cost most (list_of book.takes.planners)
+  pub totals : (kind : ℕ) (account : Account P) → slice_get book.totals kind ≡ Some (Some account) → ChangesWithin change_cost most (list_of account.planners)
 
 -- what an account of totals becomes by a change: none stays none, and some has the same quantity and what the change says of it
 abbrev pub Becomes : {P : Type 0} → (Account P → Account P → Type 0) → Option (Account P) → Option (Account P) → Type 0

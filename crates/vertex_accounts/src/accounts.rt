@@ -1,14 +1,16 @@
 //! Accounts of one quantity.
-ghost use Rattle.std.specs.Prelude.{◌≡◌, ℕ, ◌+◌, ◌*◌, ◌<◌, ◌≤◌, List, [], ◌∷◌, ◌++◌, length, sum_by, slice_get, slice_index_or, Some, IfOk};
+ghost use Rattle.std.specs.Prelude.{◌≡◌, ℕ, ◌+◌, ◌*◌, ◌<◌, ◌≤◌, List, [], ◌∷◌, ◌++◌, length, sum_by, slice_get, slice_index_or, Some, IfOk, MatchOption};
 ghost use Rattle.std.specs.List.{AllByRecursion};
 ghost use Rattle.flux_defs.specs.declared.vertices.Vertex.{Vertex};
 ghost use Rattle.flux_defs.specs.declared.claims.Job.{Job};
 ghost use Rattle.flux_defs.specs.Digits.{dig};
 ghost use Rattle.flux_defs.specs.Jobs.{vertex_of};
 ghost use Rattle.planner_points.specs.declared.spans.Span.{Span};
-ghost use Rattle.planner_points.specs.Spans.{HasRoom, IsLeastFree};
+ghost use Rattle.planner_points.specs.Spans.{free_at, HasRoom, IsLeastFree, IsFirstFree};
 ghost use Rattle.book_laws.specs.Grouped.{time_of, some_span, grouped};
+ghost use Rattle.vertex_planners.specs.Work.{ChangesWithin};
 ghost use Rattle.vertex_accounts.specs.Quantities.{amount_in, total_in, KnowsCapacities};
+ghost use Rattle.vertex_accounts.specs.Costs.{reach_of, account_most};
 
 use crate::quantities::Quantity;
 use flux_defs::{Job, Steps, Window};
@@ -69,6 +71,27 @@ impl<P: Planner + Drop> Account<P> {
         self.planners.least(vertex, window, steps)
     }
 
+    /// The least second from `from` on at which jobs leave so much of the vertex's total; `None` exactly where at each of
+    /// them they leave less. It takes no memory.
+    pub fn first_free<L: Ledger>(
+        &self,
+        vertex: u32,
+        from: u64,
+        quantity: u64,
+        steps: &mut Steps<L>,
+    ) -> Option<u64>
+        requires vertex { vertex < length (list_of self.now.planners) }
+        ensures first { (vertices : List Vertex) (jobs : List Job) → IsAccount P.total_of P.stands_for vertices jobs self.now →
+            (let total : ℕ = total_in vertices self.now.quantity vertex in
+            let spans : List Span = grouped (amount_in vertices self.now.quantity vertex) jobs in
+            MatchOption result ((t : ℕ) → from ≤ t → free_at total spans t < quantity) (IsFirstFree total spans from quantity)) }
+        ensures some_work { steps.old < steps.new }
+        ensures work { (p : P) → slice_get (list_of self.now.planners) vertex ≡ Some p →
+            steps.new ≤ steps.old + (2 * dig (length (list_of self.now.planners) + 1) + P.look_cost p + 1) }
+    {
+        self.planners.first_free(vertex, from, quantity, steps)
+    }
+
     /// The account of one job more, which has room at every vertex.
     pub fn with_job<L: Ledger>(
         &self,
@@ -85,6 +108,8 @@ impl<P: Planner + Drop> Account<P> {
         ensures quantity { IfOk result (λ account. account.quantity ≡ self.now.quantity) }
         ensures account { IfOk result (λ account. (before after : List Job) → IsAccount P.total_of P.stands_for graph.now.resources.vertices (before ++ after) self.now →
             IsAccount P.total_of P.stands_for graph.now.resources.vertices (before ++ job.now ∷ after) account) }
+        ensures work { (most : ℕ) → ChangesWithin P.change_cost most (list_of self.now.planners) →
+            steps.new ≤ steps.old + account_most (length graph.now.resources.vertices) most (reach_of self.now.quantity) (length job.now.claims) }
     {
         let window = Window {
             from: job.start,
@@ -115,6 +140,8 @@ impl<P: Planner + Drop> Account<P> {
         ensures account { IfOk result (λ account. (before after : List Job) →
             IsAccount P.total_of P.stands_for graph.now.resources.vertices (before ++ job.now ∷ after) self.now →
             IsAccount P.total_of P.stands_for graph.now.resources.vertices (before ++ after) account) }
+        ensures work { (most : ℕ) → ChangesWithin P.change_cost most (list_of self.now.planners) →
+            steps.new ≤ steps.old + account_most (length graph.now.resources.vertices) most (reach_of self.now.quantity) (length job.now.claims) }
     {
         let window = Window {
             from: job.start,

@@ -9,6 +9,7 @@ ghost use Rattle.flux_defs.specs.Closed.{IsClosedOver, IsTouchedOver};
 ghost use Rattle.flux_defs.specs.Free.{IsFreeOver, IsTotalOver};
 ghost use Rattle.book_laws.specs.Amounts.{is_hold, holds_along};
 ghost use Rattle.vertex_planners.specs.Chains.{ParentsIn};
+ghost use Rattle.prune_filters.specs.Amples.{IsNextAmpleOrNone};
 ghost use Rattle.vertex_accounts.specs.Costs.{look_most, closed_most};
 
 use crate::books::Accounts;
@@ -143,6 +144,7 @@ impl<P: Planner + Drop> Accounts<P> {
     }
 
     /// The least total of the type at the vertex, over a moment of the window, where the totals of the type are kept.
+    /// Where jobs leave nothing of it there, it doesn't look whether the vertex is closed.
     pub fn total_over<L: Ledger>(
         &self,
         graph: &Graph,
@@ -161,16 +163,25 @@ impl<P: Planner + Drop> Accounts<P> {
         ensures work { (most_looks : ℕ) → AllLookWithin P.look_cost most_looks self.now →
             steps.new ≤ steps.old + (closed_most (length graph.now.resources.vertices) most_looks + look_most (length graph.now.resources.vertices) most_looks) }
     {
-        let closed = self.closed_over(graph, vertex, window, steps);
         match self.totals.get(kind as usize) {
-            None => return None,
-            Some(None) => return None,
+            None => {
+                steps.tick();
+                return None;
+            }
+            Some(None) => {
+                steps.tick();
+                return None;
+            }
             Some(Some(account)) => {
                 graph.is_valid();
-                if closed {
+                let least = account.least(vertex, window, steps);
+                if least == 0 {
                     return Some(0);
                 }
-                return Some(account.least(vertex, window, steps));
+                if self.closed_over(graph, vertex, window, steps) {
+                    return Some(0);
+                }
+                return Some(least);
             }
         }
     }
@@ -185,6 +196,37 @@ impl<P: Planner + Drop> Accounts<P> {
     {
         steps.tick();
         self.times.next_point(after, steps)
+    }
+
+    /// The least start or end of a job that is later than the moment and at which the root's total of the type is that
+    /// much; `None` exactly where there is none. Totals of the type have to be kept.
+    pub fn next_ample<L: Ledger>(
+        &self,
+        graph: &Graph,
+        after: u64,
+        kind: u32,
+        amount: u64,
+        steps: &mut Steps<L>,
+    ) -> Option<u64>
+        requires graph { AreAccountsOf graph.now.resources.vertices self.now }
+        requires kept { KeepsKind self.now kind }
+        ensures answer { (jobs : List Job) → AreAccounts P.total_of P.stands_for graph.now.resources.vertices jobs self.now →
+            IsNextAmpleOrNone graph.now.resources.vertices jobs kind amount after result }
+        ensures some_work { steps.old < steps.new }
+        ensures work { (most_looks : ℕ) → AllLookWithin P.look_cost most_looks self.now →
+            steps.new ≤ steps.old + (P.look_cost self.now.times + 1 + look_most (length graph.now.resources.vertices) most_looks) }
+    {
+        let Some(next) = self.next_point(after, steps) else {
+            return None;
+        };
+        match self.totals.get(kind as usize) {
+            None => unreachable!(),
+            Some(None) => unreachable!(),
+            Some(Some(account)) => {
+                graph.is_valid();
+                return account.first_free(0, next, amount, steps);
+            }
+        }
     }
 }
 

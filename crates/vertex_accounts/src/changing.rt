@@ -1,5 +1,5 @@
 //! Accounts of one job more, and of one less.
-ghost use Rattle.std.specs.Prelude.{◌≡◌, ℕ, ◌+◌, ◌<◌, ◌≤◌, List, [], ◌∷◌, ◌++◌, length, Option, Some, sum_by, slice_get, IfOk};
+ghost use Rattle.std.specs.Prelude.{◌≡◌, ℕ, ◌+◌, ◌*◌, ◌<◌, ◌≤◌, List, [], ◌∷◌, ◌++◌, length, Option, Some, sum_by, slice_get, IfOk};
 ghost use Rattle.std.specs.List.{AllByRecursion};
 ghost use Rattle.flux_defs.specs.declared.vertices.Vertex.{Vertex};
 ghost use Rattle.flux_defs.specs.declared.claims.Job.{Job};
@@ -9,10 +9,12 @@ ghost use Rattle.book_laws.specs.Grouped.{time_of};
 ghost use Rattle.book_laws.specs.TotalLaws.{AreFair};
 ghost use Rattle.vertex_planners.specs.Lists.{list_of};
 ghost use Rattle.vertex_planners.specs.Kept.{AtEach};
+ghost use Rattle.vertex_planners.specs.Work.{ChangesWithin};
 ghost use Rattle.vertex_accounts.specs.declared.accounts.Account.{Account};
 ghost use Rattle.vertex_accounts.specs.Quantities.{amount_in};
 ghost use Rattle.vertex_accounts.specs.Stands.{IsAccountOf, IsAccount};
-ghost use Rattle.vertex_accounts.specs.Books.{IsOnGraph, Becomes, Joins, Leaves, AreAccounts, KeepsKind, HasRoomFor};
+ghost use Rattle.vertex_accounts.specs.Books.{IsOnGraph, Becomes, Joins, Leaves, AreAccounts, KeepsKind, HasRoomFor, AllChangeWithin, kept_one, kept_count};
+ghost use Rattle.vertex_accounts.specs.Costs.{account_most, accounts_most};
 
 use crate::accounts::Account;
 use crate::books::Accounts;
@@ -33,7 +35,9 @@ fn total_with<P: Planner + Drop, L: Ledger>(
     requires on_graph { IsOnGraph graph.now.resources.vertices job.now }
     requires graph { (a : Account P) → account.now ≡ Some a → IsAccountOf graph.now.resources.vertices a }
     requires room { (a : Account P) → account.now ≡ Some a → HasRoomFor P.total_of P.stands_for graph.now.resources.vertices job.now a }
-    ensures { IfOk result (λ new. Becomes (Joins P.total_of P.stands_for graph.now.resources.vertices job.now) account.now new) }
+    ensures account { IfOk result (λ new. Becomes (Joins P.total_of P.stands_for graph.now.resources.vertices job.now) account.now new) }
+    ensures work { (most : ℕ) → ((a : Account P) → account.now ≡ Some a → ChangesWithin P.change_cost most (list_of a.planners)) →
+        steps.new ≤ steps.old + kept_one account.now * account_most (length graph.now.resources.vertices) most 16 (length job.now.claims) }
 {
     match account {
         None => return Ok(None),
@@ -56,7 +60,9 @@ fn total_without<P: Planner + Drop, L: Ledger>(
     requires graph { (a : Account P) → account.now ≡ Some a → IsAccountOf graph.now.resources.vertices a }
     requires there { (a : Account P) → account.now ≡ Some a →
         (before : List Job) × (after : List Job) × IsAccount P.total_of P.stands_for graph.now.resources.vertices (before ++ job.now ∷ after) a }
-    ensures { IfOk result (λ new. Becomes (Leaves P.total_of P.stands_for graph.now.resources.vertices job.now) account.now new) }
+    ensures account { IfOk result (λ new. Becomes (Leaves P.total_of P.stands_for graph.now.resources.vertices job.now) account.now new) }
+    ensures work { (most : ℕ) → ((a : Account P) → account.now ≡ Some a → ChangesWithin P.change_cost most (list_of a.planners)) →
+        steps.new ≤ steps.old + kept_one account.now * account_most (length graph.now.resources.vertices) most 16 (length job.now.claims) }
 {
     match account {
         None => return Ok(None),
@@ -80,6 +86,8 @@ fn totals_with<P: Planner + Drop, L: Ledger>(
     requires room { (k : ℕ) (a : Account P) → slice_get totals.now k ≡ Some (Some a) → HasRoomFor P.total_of P.stands_for graph.now.resources.vertices job.now a }
     ensures len { IfOk result (λ new. length new ≡ length totals.now) }
     ensures each { IfOk result (λ new. AtEach (λ k. Becomes (Joins P.total_of P.stands_for graph.now.resources.vertices job.now)) totals.now new) }
+    ensures work { (most : ℕ) → ((k : ℕ) (a : Account P) → slice_get totals.now k ≡ Some (Some a) → ChangesWithin P.change_cost most (list_of a.planners)) →
+        steps.new ≤ steps.old + kept_count totals.now * account_most (length graph.now.resources.vertices) most 16 (length job.now.claims) }
 {
     let mut changed = Vec::new(alloc);
     for account in totals {
@@ -106,6 +114,8 @@ fn totals_without<P: Planner + Drop, L: Ledger>(
         (before : List Job) × (after : List Job) × IsAccount P.total_of P.stands_for graph.now.resources.vertices (before ++ job.now ∷ after) a }
     ensures len { IfOk result (λ new. length new ≡ length totals.now) }
     ensures each { IfOk result (λ new. AtEach (λ k. Becomes (Leaves P.total_of P.stands_for graph.now.resources.vertices job.now)) totals.now new) }
+    ensures work { (most : ℕ) → ((k : ℕ) (a : Account P) → slice_get totals.now k ≡ Some (Some a) → ChangesWithin P.change_cost most (list_of a.planners)) →
+        steps.new ≤ steps.old + kept_count totals.now * account_most (length graph.now.resources.vertices) most 16 (length job.now.claims) }
 {
     let mut changed = Vec::new(alloc);
     for account in totals {
@@ -134,6 +144,9 @@ impl<P: Planner + Drop> Accounts<P> {
         ensures accounts { IfOk result (λ book. (jobs : List Job) → AreAccounts P.total_of P.stands_for graph.now.resources.vertices jobs self.now →
             AreFair graph.now.resources.vertices (jobs ++ job.now ∷ []) → AreAccounts P.total_of P.stands_for graph.now.resources.vertices (jobs ++ job.now ∷ []) book) }
         ensures kinds { IfOk result (λ book. (kind : ℕ) → KeepsKind self.now kind → KeepsKind book kind) }
+        ensures types { IfOk result (λ book. kept_count book.totals ≡ kept_count self.now.totals) }
+        ensures work { (most : ℕ) → AllChangeWithin P.change_cost most self.now → steps.new ≤ steps.old +
+            (accounts_most (length graph.now.resources.vertices) most (kept_count self.now.totals) (length job.now.claims) + P.change_cost self.now.times) }
         ensures count { IfOk result (λ book. book.count ≡ self.now.count + length job.now.claims) }
     {
         graph.is_valid();
@@ -173,6 +186,9 @@ impl<P: Planner + Drop> Accounts<P> {
             AreAccounts P.total_of P.stands_for graph.now.resources.vertices (before ++ job.now ∷ after) self.now →
             AreAccounts P.total_of P.stands_for graph.now.resources.vertices (before ++ after) book) }
         ensures kinds { IfOk result (λ book. (kind : ℕ) → KeepsKind self.now kind → KeepsKind book kind) }
+        ensures types { IfOk result (λ book. kept_count book.totals ≡ kept_count self.now.totals) }
+        ensures work { (most : ℕ) → AllChangeWithin P.change_cost most self.now → steps.new ≤ steps.old +
+            (accounts_most (length graph.now.resources.vertices) most (kept_count self.now.totals) (length job.now.claims) + P.change_cost self.now.times) }
     {
         let count = self.count - job.claims.len() as u64;
         let window = Window {

@@ -1,10 +1,10 @@
 //! The accounts of no jobs.
-ghost use Rattle.std.specs.Prelude.{◌≡◌, ℕ, ◌+◌, ◌<◌, List, [], length, Option, Some, slice_get, IfOk, IsSome};
+ghost use Rattle.std.specs.Prelude.{◌≡◌, ℕ, ◌+◌, ◌<◌, ◌≤◌, List, [], length, Option, Some, slice_get, IfOk, IsSome};
 ghost use Rattle.flux_defs.specs.declared.vertices.Vertex.{Vertex};
 ghost use Rattle.prune_filters.specs.Filters.{IsCounted};
 ghost use Rattle.vertex_accounts.specs.declared.accounts.Account.{Account};
 ghost use Rattle.vertex_accounts.specs.Stands.{IsAccount};
-ghost use Rattle.vertex_accounts.specs.Books.{IsUnitsOf, AreAccounts, KeepsKind, IsFirst};
+ghost use Rattle.vertex_accounts.specs.Books.{IsUnitsOf, AreAccounts, KeepsKind, IsFirst, kept_count};
 
 use crate::accounts::Account;
 use crate::books::Accounts;
@@ -30,6 +30,7 @@ fn total_new<P: Planner + Drop, L: Ledger>(
 ) -> Result<Option<Account<P>>, AllocError>
     ensures account { IfOk result (λ new. IsFirst P.total_of P.stands_for graph.now.resources.vertices kind new) }
     ensures counted { IfOk result (λ new. IsCounted rules.now name.now → IsSome new) }
+    ensures only { IfOk result (λ new. IsSome new → IsCounted rules.now name.now) }
 {
     if !rules.counts(name) {
         return Ok(None);
@@ -56,6 +57,7 @@ fn totals_new<P: Planner + Drop, L: Ledger>(
         IsFirst P.total_of P.stands_for graph.now.resources.vertices kind entry) }
     ensures counted { IfOk result (λ totals. (kind : ℕ) (name : List ℕ) → slice_get graph.now.resources.kinds kind ≡ Some name → IsCounted rules.now name →
         (account : Account P) × (slice_get totals kind ≡ Some (Some account))) }
+    ensures few { IfOk result (λ totals. kept_count totals ≤ length rules.now) }
 {
     graph.is_valid();
     let mut totals = Vec::new(alloc);
@@ -82,6 +84,7 @@ impl<P: Planner + Drop> Accounts<P> {
     ) -> Result<Accounts<P>, AllocError>
         ensures accounts { IfOk result (λ book. AreAccounts P.total_of P.stands_for graph.now.resources.vertices [] book) }
         ensures kinds { IfOk result (λ book. (kind : ℕ) (name : List ℕ) → slice_get graph.now.resources.kinds kind ≡ Some name → IsCounted rules.now name → KeepsKind book kind) }
+        ensures types { IfOk result (λ book. kept_count book.totals ≤ length rules.now) }
     {
         let holds = Account::new(alloc, graph, Quantity::Holds, horizon, steps)?;
         let claims = Account::new(alloc, graph, Quantity::Claims, horizon, steps)?;

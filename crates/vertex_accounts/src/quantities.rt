@@ -1,10 +1,11 @@
 //! What an account counts.
-ghost use Rattle.std.specs.Prelude.{◌≡◌, ℕ, ◌<◌, List, length, sum_by, IfOk};
+ghost use Rattle.std.specs.Prelude.{◌≡◌, ℕ, ◌+◌, ◌*◌, ◌<◌, ◌≤◌, List, length, sum_by, IfOk};
 ghost use Rattle.std.specs.List.{AllByRecursion};
 ghost use Rattle.flux_defs.specs.Graph.{size_of};
 ghost use Rattle.flux_defs.specs.Jobs.{vertex_of};
-ghost use Rattle.vertex_planners.specs.Numbers.{amount_at, HasKeysBelow};
+ghost use Rattle.vertex_planners.specs.Numbers.{amount_at, count_of, HasKeysBelow};
 ghost use Rattle.vertex_accounts.specs.Quantities.{amount_in, total_in, KnowsCapacities};
+ghost use Rattle.vertex_accounts.specs.Costs.{reach_of};
 
 use crate::capacities::Capacities;
 use crate::measures::{Each, Holds, Parts, Takes};
@@ -53,6 +54,9 @@ impl Quantity {
         ensures sums { IfOk result (λ amounts. (v : ℕ) → amount_at amounts v ≡ sum_by (amount_in graph.now.resources.vertices self.now v) claims.now) }
         ensures keys { IfOk result (λ amounts. AllByRecursion (λ c. vertex_of c < length graph.now.resources.vertices) claims.now →
             HasKeysBelow (length graph.now.resources.vertices) amounts) }
+        ensures few { IfOk result (λ amounts. AllByRecursion (λ c. vertex_of c < length graph.now.resources.vertices) claims.now →
+            count_of amounts ≤ reach_of self.now * length claims.now) }
+        ensures work { steps.new ≤ steps.old + 1 }
     {
         match self {
             Quantity::Holds => return Ok(amounts_on(alloc, &Holds, claims)?),

@@ -2,3 +2,4 @@ pub mod Numbers
 pub mod Kept
 pub mod Lists
 pub mod Chains
+pub mod Work

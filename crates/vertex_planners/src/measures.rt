@@ -1,10 +1,10 @@
 //! What claims amount to, by vertices.
-ghost use Rattle.std.specs.Prelude.{◌≡◌, ℕ, ◌+◌, ◌<◌, ◌==◌, if◌then◌else◌, List, sum_by, length, IfOk, OnOk, IfSome};
+ghost use Rattle.std.specs.Prelude.{◌≡◌, ℕ, ◌+◌, ◌*◌, ◌<◌, ◌≤◌, ◌==◌, if◌then◌else◌, List, sum_by, length, IfOk, OnOk, IfSome};
 ghost use Rattle.std.specs.List.{AllByRecursion};
 ghost use Rattle.flux_defs.specs.declared.claims.Claim.{Claim};
 ghost use Rattle.flux_defs.specs.Graph.{chain, parent_of, is_at_or_below};
 ghost use Rattle.flux_defs.specs.Jobs.{vertex_of, is_on_or_below};
-ghost use Rattle.vertex_planners.specs.Numbers.{amount_at, HasKeysBelow};
+ghost use Rattle.vertex_planners.specs.Numbers.{amount_at, count_of, HasKeysBelow};
 ghost use Rattle.vertex_planners.specs.Chains.{sum_on, ParentsIn};
 
 use crate::amounts::Amounts;
@@ -30,6 +30,7 @@ pub fn amounts_on<M: Measure>(
 ) -> Result<Amounts, AllocError>
     ensures sums { IfOk result (λ amounts. (v : ℕ) → amount_at amounts v ≡ sum_by (λ c. if vertex_of c == v then M.amount measure.now c else 0) claims.now) }
     ensures keys { IfOk result (λ amounts. (most : ℕ) → AllByRecursion (λ c. vertex_of c < most) claims.now → HasKeysBelow most amounts) }
+    ensures few { IfOk result (λ amounts. count_of amounts ≤ length claims.now) }
 {
     let mut amounts = Amounts::new(alloc);
     for claim in claims {
@@ -49,6 +50,7 @@ fn raise(
     ensures sums { OnOk result ((v : ℕ) → amount_at amounts.new v ≡ amount_at amounts.old v + sum_on v more (chain vertices.now most from)) }
     ensures keys { OnOk result (ParentsIn vertices.now → IfSome from (λ v. v < length vertices.now) →
         HasKeysBelow (length vertices.now) amounts.old → HasKeysBelow (length vertices.now) amounts.new) }
+    ensures few { OnOk result (count_of amounts.new ≤ count_of amounts.old + length (chain vertices.now most from)) }
 {
     let Some(vertex) = from else {
         return Ok(());
@@ -84,6 +86,8 @@ pub fn amounts_within<M: Measure>(
         sum_by (λ c. if is_on_or_below graph.now.resources.vertices v c then M.amount measure.now c else 0) claims.now) }
     ensures keys { IfOk result (λ amounts. AllByRecursion (λ c. vertex_of c < length graph.now.resources.vertices) claims.now →
         HasKeysBelow (length graph.now.resources.vertices) amounts) }
+    ensures few { IfOk result (λ amounts. AllByRecursion (λ c. vertex_of c < length graph.now.resources.vertices) claims.now →
+        count_of amounts ≤ 16 * length claims.now) }
 {
     let mut amounts = Amounts::new(alloc);
     for claim in claims {
@@ -108,6 +112,7 @@ fn raise_from(
         amount_at amounts.old v + (if is_at_or_below graph.now.resources.vertices vertex v then more else 0)) }
     ensures keys { OnOk result (vertex < length graph.now.resources.vertices →
         HasKeysBelow (length graph.now.resources.vertices) amounts.old → HasKeysBelow (length graph.now.resources.vertices) amounts.new) }
+    ensures few { OnOk result (vertex < length graph.now.resources.vertices → count_of amounts.new ≤ count_of amounts.old + 16) }
 {
     if more == 0 {
         return Ok(());

@@ -1,11 +1,12 @@
 //! Planners by vertices.
-ghost use Rattle.std.specs.Prelude.{◌≡◌, ◌≢◌, ℕ, ◌+◌, ◌*◌, ◌<◌, ◌≤◌, List, [], ◌++◌, length, slice_get, slice_set, slice_index_or, Some, IfOk, OnOk};
+ghost use Rattle.std.specs.Prelude.{◌≡◌, ◌≢◌, ℕ, ◌+◌, ◌*◌, ◌<◌, ◌≤◌, List, [], ◌++◌, length, slice_get, slice_set, slice_index_or, Some, IfOk, OnOk, MatchOption};
 ghost use Rattle.flux_defs.specs.Digits.{dig};
 ghost use Rattle.planner_points.specs.declared.spans.Span.{Span};
-ghost use Rattle.planner_points.specs.Spans.{HasRoom, IsLeastFree};
+ghost use Rattle.planner_points.specs.Spans.{free_at, HasRoom, IsLeastFree, IsFirstFree};
 ghost use Rattle.book_laws.specs.Grouped.{some_span};
 ghost use Rattle.vertex_planners.specs.Numbers.{amount_at, count_of, HasKeysBelow};
 ghost use Rattle.vertex_planners.specs.Kept.{Gains, Loses, AtEach};
+ghost use Rattle.vertex_planners.specs.Work.{change_most, ChangesWithin};
 
 use crate::amounts::Amounts;
 use flux_defs::{Steps, Window};
@@ -72,6 +73,30 @@ impl<P: Planner + Drop> VertexPlanners<P> {
         }
     }
 
+    /// The least second from `from` on at which so much is free at the vertex; `None` exactly where at each of them less
+    /// is. It takes no memory.
+    pub fn first_free<L: Ledger>(
+        &self,
+        vertex: u32,
+        from: u64,
+        quantity: u64,
+        steps: &mut Steps<L>,
+    ) -> Option<u64>
+        requires vertex { vertex < length (list_of self.now) }
+        ensures first { (p : P) → slice_get (list_of self.now) vertex ≡ Some p → (spans : List Span) →
+            P.stands_for p spans → MatchOption result ((t : ℕ) → from ≤ t → free_at (P.total_of p) spans t < quantity)
+            (IsFirstFree (P.total_of p) spans from quantity) }
+        ensures some_work { steps.old < steps.new }
+        ensures work { (p : P) → slice_get (list_of self.now) vertex ≡ Some p →
+            steps.new ≤ steps.old + (2 * dig (length (list_of self.now) + 1) + P.look_cost p + 1) }
+    {
+        steps.tick();
+        match self.planners.get(vertex as u64, steps) {
+            Some(planner) => return planner.first_free(from, quantity, steps),
+            None => unreachable!(),
+        }
+    }
+
     /// The planners, of which each gains a span over the window of its vertex's number, if that isn't 0.
     pub fn gained<L: Ledger>(
         &self,
@@ -86,6 +111,8 @@ impl<P: Planner + Drop> VertexPlanners<P> {
             HasRoom (P.total_of p) spans window (amount_at amounts v) }
         ensures len { IfOk result (λ all. length (list_of all) ≡ length (list_of self.now)) }
         ensures gains { IfOk result (λ all. AtEach (λ v. Gains P.total_of P.stands_for window (amount_at amounts v)) (list_of self.now) (list_of all)) }
+        ensures work { (most : ℕ) → ChangesWithin P.change_cost most (list_of self.now) →
+            steps.new ≤ steps.old + count_of amounts * change_most (length (list_of self.now)) most }
     {
         let mut planners = self.planners.snap()?;
         let mut left = amounts;
@@ -109,6 +136,8 @@ impl<P: Planner + Drop> VertexPlanners<P> {
             (before : List Span) × (after : List Span) × P.stands_for p (before ++ (some_span window (amount_at amounts v) ++ after)) }
         ensures len { IfOk result (λ all. length (list_of all) ≡ length (list_of self.now)) }
         ensures loses { IfOk result (λ all. AtEach (λ v. Loses P.total_of P.stands_for window (amount_at amounts v)) (list_of self.now) (list_of all)) }
+        ensures work { (most : ℕ) → ChangesWithin P.change_cost most (list_of self.now) →
+            steps.new ≤ steps.old + count_of amounts * change_most (length (list_of self.now)) most }
     {
         let mut planners = self.planners.snap()?;
         let mut left = amounts;
@@ -136,6 +165,7 @@ fn gain<P: Planner + Drop, L: Ledger>(
     ensures here { OnOk result ((p r : P) → slice_get planners.old vertex ≡ Some p → slice_get planners.new vertex ≡ Some r →
         Gains P.total_of P.stands_for window quantity p r) }
     ensures others { OnOk result ((u : ℕ) → u ≢ vertex → slice_get planners.new u ≡ slice_get planners.old u) }
+    ensures work { (p : P) → slice_get planners.old vertex ≡ Some p → steps.new ≤ steps.old + change_most (length planners.old) (P.change_cost p) }
 {
     if quantity == 0 {
         return Ok(());
@@ -167,6 +197,7 @@ fn lose<P: Planner + Drop, L: Ledger>(
     ensures here { OnOk result ((p r : P) → slice_get planners.old vertex ≡ Some p → slice_get planners.new vertex ≡ Some r →
         Loses P.total_of P.stands_for window quantity p r) }
     ensures others { OnOk result ((u : ℕ) → u ≢ vertex → slice_get planners.new u ≡ slice_get planners.old u) }
+    ensures work { (p : P) → slice_get planners.old vertex ≡ Some p → steps.new ≤ steps.old + change_most (length planners.old) (P.change_cost p) }
 {
     if quantity == 0 {
         return Ok(());

@@ -12,24 +12,26 @@ use playing::play_row;
 use reading::{read_row, rows_in};
 use std::io;
 use std::process::ExitCode;
+use std::sync::Wait;
+use std::thread::Threads;
 
-/// Plays all rows, and answers whether each is as it should be.
-fn play_all(rt: &HostRuntime) -> io::Result<bool> {
-    let alloc = rt.alloc();
-    let mut files = StdFiles::new(rt.clone()?);
+/// Plays all rows, with threads from a handle, and answers whether each is as it should be.
+fn play_all<R: Threads + Wait + Sync>(host: &HostRuntime, rt: &R) -> io::Result<bool> {
+    let alloc = host.alloc();
+    let mut files = StdFiles::new(host.clone()?);
     let mut well = true;
-    for name in rows_in(rt, ".")? {
+    for name in rows_in(host, ".")? {
         let row = read_row(alloc, &mut files, name.as_str())?;
-        let played = play_row(alloc, &mut files, &row)?;
+        let played = play_row(rt, alloc, &mut files, &row)?;
         let told = judge(alloc, &row, &played)?;
-        println!(rt; "{name} {told}")?;
+        println!(host; "{name} {told}")?;
         well &= told.as_str() == "ok";
     }
     Ok(well)
 }
 
 fn main(rt: HostRuntime) -> ExitCode {
-    match play_all(&rt) {
+    match play_all(&rt, &rt) {
         Ok(true) => ExitCode::SUCCESS,
         Ok(false) => ExitCode::FAILURE,
         Err(e) => {

@@ -1,9 +1,11 @@
 //! The calls of a row, made over real files, with input and output in memory.
 use crate::reading::Row;
-use flux_defs::Text;
+use flux_defs::{List, OpenGate, Text};
 use flux_io::{Files, SureSink, SureSource};
 use fluxion_shell::{code, fault_line, run};
 use std::alloc::{AllocError, Global};
+use std::sync::Wait;
+use std::thread::Threads;
 
 /// How many bytes are read or written at once.
 const PIECE: usize = 1_000;
@@ -20,27 +22,28 @@ pub(crate) struct Played {
 }
 
 /// The words of a call.
-fn words_of(alloc: Global, call: &str) -> Result<Vec<String>, AllocError> {
+fn words_of(alloc: Global, call: &[u8]) -> Result<List<Text>, AllocError> {
     let mut words = Vec::new(alloc);
-    for word in call.split(' ') {
-        words.push(String::from_str(alloc, word)?)?;
+    for word in call.split(|byte| *byte == b' ') {
+        words.push(Text::of(alloc, word)?)?;
     }
-    Ok(words)
+    Ok(List::of_vec(words))
 }
 
 /// Makes a call, and adds what comes of it.
-fn play_call<F: Files>(
+fn play_call<R: Threads + Wait + Sync, F: Files>(
+    rt: &R,
     alloc: Global,
     files: &mut F,
     row: &Row,
-    call: &str,
+    call: &[u8],
     played: &mut Played,
 ) -> Result<(), AllocError> {
     let words = words_of(alloc, call)?;
     let mut input = SureSource::new(Text::of(alloc, row.input.as_slice())?, PIECE);
     let mut out = SureSink::new(alloc, PIECE);
     out.reserve(row.output.len().saturating_add(ROOM))?;
-    let status = run(alloc, words.as_slice(), files, &mut input, &mut out);
+    let status = run(rt, alloc, &words, files, &mut input, &mut out, &OpenGate);
     played.output.extend_from_slice(out.bytes())?;
     played
         .faults
@@ -50,7 +53,8 @@ fn play_call<F: Files>(
 }
 
 /// Makes the calls of a row in their order.
-pub(crate) fn play_row<F: Files>(
+pub(crate) fn play_row<R: Threads + Wait + Sync, F: Files>(
+    rt: &R,
     alloc: Global,
     files: &mut F,
     row: &Row,
@@ -60,8 +64,13 @@ pub(crate) fn play_row<F: Files>(
         faults: Vec::new(alloc),
         statuses: Vec::new(alloc),
     };
-    for call in row.calls.lines() {
-        play_call(alloc, files, row, call, &mut played)?;
+    for call in row
+        .calls
+        .as_slice()
+        .trim_ascii_end()
+        .split(|byte| *byte == b'\n')
+    {
+        play_call(rt, alloc, files, row, call, &mut played)?;
     }
     Ok(played)
 }

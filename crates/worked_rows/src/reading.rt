@@ -10,8 +10,8 @@ const MOST_BYTES: u64 = 16_777_216;
 /// What stands in the files of a row. A file that isn't there is empty.
 #[derive(Drop)]
 pub(crate) struct Row {
-    /// The calls, one a line, each with its words parted by single spaces.
-    pub(crate) calls: String,
+    /// The calls, one a line, each with its words parted by single spaces. They need not be UTF-8.
+    pub(crate) calls: Vec<u8>,
     /// What each call reads.
     pub(crate) input: Vec<u8>,
     /// What all calls together have to write.
@@ -50,12 +50,8 @@ fn read_file<F: Files>(alloc: Global, files: &mut F, row: &str, name: &str) -> i
 
 /// The row in a folder.
 pub(crate) fn read_row<F: Files>(alloc: Global, files: &mut F, name: &str) -> io::Result<Row> {
-    let calls = read_file(alloc, files, name, "args")?;
-    let Ok(calls) = String::from_utf8(calls) else {
-        return Err(Error::from(ErrorKind::InvalidData));
-    };
     Ok(Row {
-        calls,
+        calls: read_file(alloc, files, name, "args")?,
         input: read_file(alloc, files, name, "stdin")?,
         output: read_file(alloc, files, name, "stdout")?,
         faults: read_file(alloc, files, name, "stderr")?,

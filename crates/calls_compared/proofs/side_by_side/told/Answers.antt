@@ -1,4 +1,4 @@
-use Rattle.std.proofs.Common.{◌≡◌, ℕ, []}
+use Rattle.std.proofs.Common.{[]}
 use Rattle.planner_points.specs.Spans.{span_of, HasSpan}
 use Rattle.multi_planner.proofs.PlaceLaws.{through}
 use Rattle.calls_compared.proofs.side_by_side.told.Goals as goal

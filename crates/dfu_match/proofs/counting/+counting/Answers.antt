@@ -1,8 +1,8 @@
-use Rattle.std.proofs.Common.{arith, rules, ◌≡◌, ◌+◌, ◌<◌, ◌≤◌, ◌^◌, List, ◌∷◌, drop, refl, sym, ◌∙◌, inl, inr, true≢false}
+use Rattle.std.proofs.Common.{arith, rules, ◌≡◌, ◌+◌, ◌*◌, ◌<◌, ◌≤◌, ◌^◌, List, ◌∷◌, length, take, drop, refl, sym, ◌∙◌, inl, inr, true≢false}
 use Rattle.std.proofs.lemmas.List.{drop_all}
 use denote.Param.Weighed.{most}
 use Rattle.flux_defs.specs.declared.claims.Claim.{Claim}
-use Rattle.flux_defs.specs.declared.requests.Need.{Need}
+use Rattle.flux_defs.specs.declared.requests.Need.{Need, Vert, Spread}
 use Rattle.flux_defs.proofs.requests.Need.TheLaws.{the_size}
 use Rattle.flux_defs.specs.Needs.{amount_of, AreValidNeeds}
 use Rattle.flux_laws.proofs.Takes.{takes_less}
@@ -16,6 +16,11 @@ use Rattle.dfu_match.proofs.ScopeLaws.{none_before, none_skipped, none_after, no
 use Rattle.dfu_match.specs.Tables.{needs_all}
 use Rattle.dfu_match.proofs.TableLaws as tables
 use Rattle.dfu_match.proofs.CountLaws as laws
+use Rattle.dfu_match.specs.Tables.{all_of}
+use Rattle.dfu_match.specs.Pairs.{IsClearScope, asked_totals}
+use Rattle.dfu_match.proofs.OpenLaws.{clear_Vert, clear_Spread, none_inside, span_same}
+use Rattle.dfu_match.proofs.PairLaws.{takes_none}
+use Rattle.dfu_match.proofs.StepLaws as steps
 use Rattle.dfu_match.proofs.counting.+counting.Goals as goal
 
 pub copies-reach-reached-requires : goal.copies-reach-reached-requires
@@ -70,6 +75,7 @@ copies-loop-need-init g t c = record {
   within = omega arith;
   enough = λ jobs stands k le each. each;
   full = λ jobs stands lt. absurd (omega arith);
+  taken = λ jobs stands place from to at clear span. takes_none _ _ c.args.steps.now place (place + 0) from to;
 }
 
 pub copies-whole_times-best-requires-clause-some : goal.copies-whole_times-best-requires-clause-some
@@ -132,7 +138,52 @@ copies-loop-need-preserved g t c =
           laws.full_next vs ok (takes_less _ _) (scope_of c.args.scope) items i need (drop (i + 1) items) c.args.most
           c.loop-need.best c.reach-reached.result c.whole_times-best.result split greatest high
           c.whole_times-best.ensures.within (c.loop-need.invariant.full jobs stands);
+      taken = λ jobs stands place from to at clear span.
+          let all = needs_all c.args.s.now.needs.now in
+          let each = (length all + 2) * g.F.FreeView.cost c.args.s.now.view.now in
+          let keeps = asked_totals c.args.s.now.wanted.now (g.F.FreeView.keeps c.args.s.now.view.now) in
+          let before = length (needs_all (take i items)) in
+          let here = tables.place_first all (place + before) (drop i items) (drop (i + 1) items) need split
+          (tables.place_from all i place items at) in
+          let scope = laws.each_at (IsClearScope vs jobs c.args.s.now.window keeps c.args.scope) items i need
+          (drop (i + 1) items) split clear in
+          steps.listed_next _ each c.args.steps.now c.loop-need.steps c.reach-reached.new.steps place from to items
+          (drop (i + 1) items) i need c.loop-need-test.true c.need-item.is
+          (c.loop-need.invariant.taken jobs stands place from to at clear span)
+          (c.reach-reached.ensures.work jobs stands (place + before) from to here scope span);
     }
+
+pub copies-returns-then-best-eq0-clause-work : goal.copies-returns-then-best-eq0-clause-work
+copies-returns-then-best-eq0-clause-work g t c =
+    let vs = c.args.s.now.graph.now.resources.vertices in
+    let items : List Need = c.items-need-items.result.now in
+    let i = c.loop-need.need-index in
+    let need = c.need-item.result in
+    let split : drop i items ≡ need ∷ drop (i + 1) items = laws.item_split items i need c.loop-need-test.true
+    c.need-item.is in
+    rw (← c.items-need-items.ensures) (λ jobs stands place from to at clear span.
+    steps.listed_end _ ((length (needs_all c.args.s.now.needs.now) + 2) * g.F.FreeView.cost c.args.s.now.view.now)
+    c.args.steps.now c.reach-reached.new.steps place from to items (i + 1)
+    (let all = needs_all c.args.s.now.needs.now in
+    let each = (length all + 2) * g.F.FreeView.cost c.args.s.now.view.now in
+    let keeps = asked_totals c.args.s.now.wanted.now (g.F.FreeView.keeps c.args.s.now.view.now) in
+    let before = length (needs_all (take i items)) in
+    let here = tables.place_first all (place + before) (drop i items) (drop (i + 1) items) need split
+    (tables.place_from all i place items at) in
+    let scope = laws.each_at (IsClearScope vs jobs c.args.s.now.window keeps c.args.scope) items i need
+    (drop (i + 1) items) split clear in
+    steps.listed_next _ each c.args.steps.now c.loop-need.steps c.reach-reached.new.steps place from to items
+    (drop (i + 1) items) i need c.loop-need-test.true c.need-item.is
+    (c.loop-need.invariant.taken jobs stands place from to at clear span)
+    (c.reach-reached.ensures.work jobs stands (place + before) from to here scope span)))
+
+pub copies-returns-clause-work : goal.copies-returns-clause-work
+copies-returns-clause-work g t c =
+    let items : List Need = c.items-need-items.result.now in
+    rw (← c.items-need-items.ensures) (λ jobs stands place from to at clear span.
+    steps.listed_end _ ((length (needs_all c.args.s.now.needs.now) + 2) * g.F.FreeView.cost c.args.s.now.view.now)
+    c.args.steps.now c.loop-need.steps place from to items c.loop-need.need-index
+    (c.loop-need.invariant.taken jobs stands place from to at clear span))
 
 pub copies-returns-clause-greatest : goal.copies-returns-clause-greatest
 copies-returns-clause-greatest g t c = λ jobs stands.
@@ -169,6 +220,13 @@ reach-loop-reached-init g t c =
           c.span_of-span.result.from
           (none_before vs ok scope c.args.need.now c.span_of-span.result.from c.span_of-span.result.to
           c.span_of-span.ensures.covers);
+      walked = λ jobs stands place at clear.
+          let s = c.args.s.now in
+          steps.walked_start s.graph.now.resources s.graph.now.names c.is_valid.ensures.valid jobs s.window
+          (asked_totals s.wanted.now (g.F.FreeView.keeps s.view.now)) (needs_all s.needs.now) c.args.need.now place
+          ((length (needs_all s.needs.now) + 2) * g.F.FreeView.cost s.view.now) c.args.scope c.args.steps.now
+          c.span_of-span.result.from c.span_of-span.result.to c.span_of-span.ensures.span c.span_of-span.ensures.within
+          clear;
     }
 
 pub reach-returns-in_default-next_open-clause-greatest : goal.reach-returns-in_default-next_open-clause-greatest
@@ -185,29 +243,85 @@ reach-returns-in_default-next_open-clause-greatest g t c = λ jobs stands.
 
 pub reach-loop-reached-preserved : goal.reach-loop-reached-preserved
 reach-loop-reached-preserved g t c =
-    let vs = c.args.s.now.graph.now.resources.vertices in
+    let s = c.args.s.now in
+    let graph = s.graph.now in
+    let vs = graph.resources.vertices in
     let need = c.args.need.now in
+    let v = c.in-Some-next_open.vertex in
     let of_kind = rw c.in-Some.is at c.kind_of.ensures in
     let next = rw c.in-Some-next_open.is at c.next_open.ensures.of_kind in
     let low = next.1 in
+    let past = c.past-at.ensures in
+    let later = past.later in
     let is = found vs (λ claim. ⊥) (scope_of c.args.scope) need c.in-Some.kind c.span_of-span.result.from
-    c.loop-reached.at c.span_of-span.result.to c.in-Some-next_open.vertex c.span_of-span.ensures.covers
+    c.loop-reached.at c.span_of-span.result.to v c.span_of-span.ensures.covers
     c.loop-reached.invariant.from c.span_of-span.ensures.within of_kind next in
     record {
       within = (let few = c.serves.ensures.within in let same = c.from-reached.ensures in
           let before = c.loop-reached.invariant.within in omega arith);
-      from = (let before = c.loop-reached.invariant.from in omega arith);
+      from = (let before = c.loop-reached.invariant.from in omega (arith, before, low, later));
       reached = λ jobs stands.
-          let ok : Claim → Type 0 = open_to vs jobs c.args.s.now.barred.now c.args.s.now.window in
+          let ok : Claim → Type 0 = open_to vs jobs s.barred.now s.window in
           let scope = scope_of c.args.scope in
-          reached_next _ (serves_less vs ok (takes_less _ _) scope need) c.args.most c.in-Some-next_open.vertex
+          reached_over _ (serves_less vs ok (takes_less _ _) scope need) c.args.most (v + 1) c.past-at.result
+          (c.loop-reached.reached + c.from-reached.result) (omega (arith, later))
+          (none_skipped vs ok scope need (v + 1) c.past-at.result
+          (none_inside graph.resources graph.names c.is_valid.ensures.valid ok need c.in-Some.kind v c.past-at.result
+          of_kind next.0 past))
+          (reached_next _ (serves_less vs ok (takes_less _ _) scope need) c.args.most v
           c.loop-reached.reached c.from-reached.result
           (reached_over _ (serves_less vs ok (takes_less _ _) scope need) c.args.most c.loop-reached.at
-          c.in-Some-next_open.vertex c.loop-reached.reached low
-          (none_skipped vs ok scope need c.loop-reached.at c.in-Some-next_open.vertex
-          (rw c.in-Some-next_open.is at (c.next_open.ensures.skipped jobs stands))) (c.loop-reached.invariant.reached jobs stands))
-          (rw c.from-reached.ensures (c.serves.ensures.greatest jobs stands scope is.1));
+          v c.loop-reached.reached low
+          (none_skipped vs ok scope need c.loop-reached.at v
+          (rw c.in-Some-next_open.is at (c.next_open.ensures.skipped jobs stands)))
+          (c.loop-reached.invariant.reached jobs stands))
+          (rw c.from-reached.ensures (c.serves.ensures.greatest jobs stands scope is.1)));
+      walked = λ jobs stands place at clear.
+          let keeps = asked_totals s.wanted.now (g.F.FreeView.keeps s.view.now) in
+          let all = needs_all s.needs.now in
+          let cost = g.F.FreeView.cost s.view.now in
+          let before = c.loop-reached.invariant.walked jobs stands place at clear in
+          let alone = rw c.in-Some-next_open.is at (c.next_open.ensures.clear jobs stands before.clear) in
+          let walk = rw c.in-Some-next_open.is at (c.next_open.ensures.work jobs stands place at before.clear) in
+          steps.walked_next graph.resources graph.names c.is_valid.ensures.valid jobs s.window keeps all need place
+          ((length all + 2) * cost) c.args.scope (length (all_of need) * cost) (2 * cost) c.args.steps.now
+          c.loop-reached.steps c.next_open.new.steps c.serves.new.steps c.span_of-span.result.from c.loop-reached.at
+          c.span_of-span.result.to v c.past-at.result c.span_of-span.ensures.span c.span_of-span.ensures.within at
+          (steps.look_costs (length (all_of need)) (length all) cost (tables.place_few all place need at)) before low
+          next.2 alone past walk (c.serves.ensures.work jobs stands place c.past-at.result at alone past);
     }
+
+pub reach-returns-in_default-next_open-clause-work : goal.reach-returns-in_default-next_open-clause-work
+reach-returns-in_default-next_open-clause-work g t c = λ jobs stands place from to at clear span.
+    let s = c.args.s.now in
+    let graph = s.graph.now in
+    let need = c.args.need.now in
+    let keeps = asked_totals s.wanted.now (g.F.FreeView.keeps s.view.now) in
+    let all = needs_all s.needs.now in
+    let cost = g.F.FreeView.cost s.view.now in
+    let same = span_same graph.resources graph.names c.is_valid.ensures.valid c.args.scope from to
+    c.span_of-span.result.from c.span_of-span.result.to span c.span_of-span.ensures.span in
+    let before = c.loop-reached.invariant.walked jobs stands place at clear in
+    let walk = c.in_default-next_open.ensures.work jobs stands place at before.clear in
+    let enough = steps.look_costs (length (all_of need)) (length all) cost (tables.place_few all place need at) in
+    rw (same.0, same.1) (steps.walked_none graph.resources graph.names c.is_valid.ensures.valid jobs s.window keeps
+    all need place
+    ((length all + 2) * cost) (length (all_of need) * cost) c.args.steps.now c.loop-reached.steps
+    c.next_open.new.steps c.span_of-span.result.from c.loop-reached.at c.span_of-span.result.to
+    (omega (arith, enough)) before walk)
+
+pub reach-returns-clause-work : goal.reach-returns-clause-work
+reach-returns-clause-work g t c = λ jobs stands place from to at clear span.
+    let s = c.args.s.now in
+    let graph = s.graph.now in
+    let all = needs_all s.needs.now in
+    let same = span_same graph.resources graph.names c.is_valid.ensures.valid c.args.scope from to
+    c.span_of-span.result.from c.span_of-span.result.to span c.span_of-span.ensures.span in
+    rw (same.0, same.1) (steps.walked_end graph.resources graph.names c.is_valid.ensures.valid jobs s.window
+    (asked_totals s.wanted.now (g.F.FreeView.keeps s.view.now)) all c.args.need.now place
+    ((length all + 2) * g.F.FreeView.cost s.view.now) c.args.steps.now c.loop-reached.steps
+    c.span_of-span.result.from c.loop-reached.at c.span_of-span.result.to
+    (c.loop-reached.invariant.walked jobs stands place at clear))
 
 pub reach-returns-clause-greatest : goal.reach-returns-clause-greatest
 reach-returns-clause-greatest g t c = λ jobs stands.
@@ -225,7 +339,7 @@ serves-returns-then-not-admits-clause-greatest g t c = λ jobs stands scope with
     let ok : Claim → Type 0 = open_to vs jobs c.args.s.now.barred.now c.args.s.now.window in
     let none = laws.vertex_closed vs ok scope c.in-Vert.kind c.in-Vert.count c.in-Vert.hold c.in-Vert.needs
     c.args.vertex c.args.most
-    (λ may. true≢false (sym ((c.admits.ensures jobs stands).1 may) ∙ c.if-not-admits.true)) in
+    (λ may. true≢false (sym ((c.admits.ensures.answer jobs stands).1 may) ∙ c.if-not-admits.true)) in
     rw c.in-Vert.is none
 
 pub serves-copies-requires : goal.serves-copies-requires
@@ -268,7 +382,8 @@ serves-copies-requires-in-Spread g t c κs h =
           search rules,
           (
             tables.inside_Spread (needs_all c.args.s.now.needs.now) c.args.s.now.wanted.now c.args.index
-                c.index_within-in-Spread.result c.in-Spread.count c.in-Spread.needs c.index_within-in-Spread.ensures (rw c.in-Spread.is at c.requires.stands),
+                c.index_within-in-Spread.result c.in-Spread.count c.in-Spread.needs c.index_within-in-Spread.ensures
+                (rw c.in-Spread.is at c.requires.stands),
             (
               c.requires.vertex,
               (
@@ -288,7 +403,7 @@ serves-returns-else-not-admits-clause-greatest g t c = λ jobs stands scope with
     let is = rw c.in-Vert.is at c.requires.of_need in
     let one = laws.vertex_open vs ok scope c.in-Vert.kind c.in-Vert.count c.in-Vert.hold c.in-Vert.needs c.args.vertex
     c.args.most c.copies.result c.requires.some within is
-    ((c.admits.ensures jobs stands).0 c.if-not-admits.false) (c.copies.ensures.greatest jobs stands) in
+    ((c.admits.ensures.answer jobs stands).0 c.if-not-admits.false) (c.copies.ensures.greatest jobs stands) in
     rw c.in-Vert.is one
 
 pub serves-returns-in-Pool-clause-greatest : goal.serves-returns-in-Pool-clause-greatest
@@ -299,7 +414,7 @@ serves-returns-in-Pool-clause-greatest g t c = λ jobs stands scope within.
     let some = laws.pool_serves vs ok scope c.in-Pool.kind c.in-Pool.quantity c.args.vertex c.args.most c.free.result
     c.min.result within is
     (λ q. available_take (meets vs jobs c.args.s.now.barred.now) c.args.s.now.window c.args.vertex q c.free.result
-    (c.free.ensures jobs stands)) (rw c.from.ensures at c.min.ensures) in
+    (c.free.ensures.answer jobs stands)) (rw c.from.ensures at c.min.ensures) in
     rw c.in-Pool.is some
 
 pub serves-returns-then-not-admits-2-clause-greatest : goal.serves-returns-then-not-admits-2-clause-greatest
@@ -307,7 +422,7 @@ serves-returns-then-not-admits-2-clause-greatest g t c = λ jobs stands scope wi
     let vs = c.args.s.now.graph.now.resources.vertices in
     let ok : Claim → Type 0 = open_to vs jobs c.args.s.now.barred.now c.args.s.now.window in
     let none = laws.node_closed vs ok scope c.in-Spread.count c.in-Spread.needs c.args.vertex c.args.most
-    (λ may. true≢false (sym ((c.admits-in-Spread.ensures jobs stands).1 may) ∙ c.if-not-admits-2.true)) in
+    (λ may. true≢false (sym ((c.admits-in-Spread.ensures.answer jobs stands).1 may) ∙ c.if-not-admits-2.true)) in
     rw c.in-Spread.is none
 
 pub serves-returns-else-not-admits-2-clause-greatest : goal.serves-returns-else-not-admits-2-clause-greatest
@@ -317,6 +432,44 @@ serves-returns-else-not-admits-2-clause-greatest g t c = λ jobs stands scope wi
     let is = rw c.in-Spread.is at c.requires.of_need in
     let some = laws.node_open vs ok scope c.in-Spread.count c.in-Spread.needs c.args.vertex c.args.most
     c.copies-in-Spread.result within is
-    ((c.admits-in-Spread.ensures jobs stands).0 c.if-not-admits-2.false)
+    ((c.admits-in-Spread.ensures.answer jobs stands).0 c.if-not-admits-2.false)
     (c.copies-in-Spread.ensures.greatest jobs stands) in
     rw c.in-Spread.is some
+
+pub serves-returns-else-not-admits-clause-work : goal.serves-returns-else-not-admits-clause-work
+serves-returns-else-not-admits-clause-work g t c = λ jobs stands place past.
+    rw c.in-Vert.is (λ at clear after.
+    let s = c.args.s.now in
+    let graph = s.graph.now in
+    let fine = laws.valid_inside graph.resources.vertices c.in-Vert.kind c.in-Vert.count c.in-Vert.hold c.in-Vert.needs
+    (rw c.in-Vert.is at c.requires.valid) in
+    steps.takes_later _ ((length (needs_all s.needs.now) + 2) * g.F.FreeView.cost s.view.now)
+    (c.args.steps.now + 2 * g.F.FreeView.cost s.view.now) c.admits.new.steps c.copies.new.steps (place + 1)
+    (place + 1 + length (needs_all c.in-Vert.needs)) (place + length
+    (all_of (Vert c.in-Vert.kind c.in-Vert.count c.in-Vert.hold c.in-Vert.needs))) (c.args.vertex + 1) past
+    c.admits.ensures.work
+    (steps.after_Vert place c.in-Vert.kind c.in-Vert.count c.in-Vert.hold c.in-Vert.needs)
+    (c.copies.ensures.work jobs stands (place + 1) (c.args.vertex + 1) past
+    (tables.place_Vert (needs_all s.needs.now) place c.in-Vert.kind c.in-Vert.count c.in-Vert.hold c.in-Vert.needs at)
+    (clear_Vert graph.resources graph.names c.is_valid.ensures.valid jobs s.window
+    (asked_totals s.wanted.now (g.F.FreeView.keeps s.view.now)) c.in-Vert.kind c.in-Vert.count c.in-Vert.hold
+    c.in-Vert.needs c.args.vertex fine clear) (refl, after)))
+
+pub serves-returns-else-not-admits-2-clause-work : goal.serves-returns-else-not-admits-2-clause-work
+serves-returns-else-not-admits-2-clause-work g t c = λ jobs stands place past.
+    rw c.in-Spread.is (λ at clear after.
+    let s = c.args.s.now in
+    let graph = s.graph.now in
+    let fine = laws.valid_copy graph.resources.vertices c.in-Spread.count c.in-Spread.needs
+    (rw c.in-Spread.is at c.requires.valid) in
+    steps.takes_later _ ((length (needs_all s.needs.now) + 2) * g.F.FreeView.cost s.view.now)
+    (c.args.steps.now + 2 * g.F.FreeView.cost s.view.now) c.admits-in-Spread.new.steps c.copies-in-Spread.new.steps
+    (place + 1) (place + 1 + length (needs_all c.in-Spread.needs))
+    (place + length (all_of (Spread c.in-Spread.count c.in-Spread.needs)))
+    (c.args.vertex + 1) past c.admits-in-Spread.ensures.work
+    (steps.after_Spread place c.in-Spread.count c.in-Spread.needs)
+    (c.copies-in-Spread.ensures.work jobs stands (place + 1) (c.args.vertex + 1) past
+    (tables.place_Spread (needs_all s.needs.now) place c.in-Spread.count c.in-Spread.needs at)
+    (clear_Spread graph.resources graph.names c.is_valid.ensures.valid jobs s.window
+    (asked_totals s.wanted.now (g.F.FreeView.keeps s.view.now)) c.in-Spread.count
+    c.in-Spread.needs c.args.vertex fine clear) (refl, after)))

@@ -1,10 +1,13 @@
-use Rattle.std.proofs.Common.{◌-◌, ◌+◌, ◌<◌, ◌≤◌, List, ℕ, drop}
+use Rattle.std.proofs.Common.{◌-◌, ◌+◌, ◌*◌, ◌<◌, ◌≤◌, List, ℕ, length, take, drop}
 use Rattle.flux_defs.specs.declared.claims.Job.{Job}
 use Rattle.flux_defs.specs.Lowest.{CanServe}
 use Rattle.match_laws.specs.Offers.{SomeFits}
 use Rattle.match_laws.proofs.Walk.{Reached}
 use Rattle.match_laws.proofs.NeedLists.{AllFill}
+use Rattle.std.specs.List.{AllByRecursion}
 use Rattle.dfu_match.specs.Tables.{needs_all, StandAt}
+use Rattle.dfu_match.specs.Pairs.{HasEachOpen, IsClearScope, IsPlaceOf, IsPlaceOfAll, IsSpanOf, TakesEach, asked_totals}
+use Rattle.dfu_match.proofs.StepLaws.{Walked}
 use Rattle.dfu_match.specs.Searches.{open_to, scope_of}
 use Rattle.dfu_match.proofs.counting.+counting.Given as goal
 
@@ -22,6 +25,15 @@ invariant-copies-loop-need g l = record {
       SomeFits l.s.graph.now.resources.vertices
       (open_to l.s.graph.now.resources.vertices jobs l.s.barred.now l.s.window) (scope_of l.scope) l.need-items
       (l.best + 1) → ⊥;
+  taken : (jobs : List Job) → g.F.FreeView.stands_for l.s.view.now jobs → (place from to : ℕ) →
+      IsPlaceOfAll (needs_all l.s.needs.now) place l.need-items →
+      AllByRecursion (IsClearScope l.s.graph.now.resources.vertices jobs l.s.window
+      (asked_totals l.s.wanted.now (g.F.FreeView.keeps l.s.view.now)) l.scope) l.need-items →
+      IsSpanOf l.s.graph.now.resources.vertices l.scope from to →
+      TakesEach (HasEachOpen l.s.graph.now.resources.vertices jobs l.s.window
+      (asked_totals l.s.wanted.now (g.F.FreeView.keeps l.s.view.now)) (needs_all l.s.needs.now))
+      ((length (needs_all l.s.needs.now) + 2) * g.F.FreeView.cost l.s.view.now) l.initial.steps l.steps place
+      (place + length (needs_all (take l.need-index l.need-items))) from to;
 }
 
 -- so much is reached before the vertex `at`
@@ -33,6 +45,14 @@ invariant-reach-loop-reached g l = record {
       Reached (CanServe l.s.graph.now.resources.vertices
       (open_to l.s.graph.now.resources.vertices jobs l.s.barred.now l.s.window) (scope_of l.fn.scope) l.need)
       l.most l.at l.reached;
+  walked : (jobs : List Job) → g.F.FreeView.stands_for l.s.view.now jobs → (place : ℕ) →
+      IsPlaceOf (needs_all l.s.needs.now) place l.need →
+      IsClearScope l.s.graph.now.resources.vertices jobs l.s.window
+      (asked_totals l.s.wanted.now (g.F.FreeView.keeps l.s.view.now)) l.fn.scope l.need →
+      Walked l.s.graph.now.resources.vertices jobs l.s.window
+      (asked_totals l.s.wanted.now (g.F.FreeView.keeps l.s.view.now)) (needs_all l.s.needs.now) l.need place
+      ((length (needs_all l.s.needs.now) + 2) * g.F.FreeView.cost l.s.view.now) l.initial.steps l.steps l.span.from
+      l.at l.span.to;
 }
 
 abbrev pub decreases-reach-loop-reached : goal.decreases-reach-loop-reached

@@ -20,7 +20,8 @@ module _ (g : ResourceGraph) (names : List (List ℕ)) (valid : IsValidGraph g n
   names_none : (found : Option ℕ) → None ≡ kind_of need → IsNamedKind g (codes "node") found →
       IsKindOfNeed g.vertices need found
   names_none None e none = λ v h. no_node g names valid none v (subst (Of v) (sym e) h)
-  names_none (Some k) e is = λ v. subst (λ named. Of v named ↔ HasKind g.vertices k v) e (node_kind g names valid k is v)
+  names_none (Some k) e is = λ v. subst (λ named. Of v named ↔ HasKind g.vertices k v) e (node_kind g names valid k is
+      v)
 
 pub returns-in-Some : goal.returns-in-Some
 returns-in-Some c =

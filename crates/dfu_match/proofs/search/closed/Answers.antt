@@ -4,8 +4,10 @@ use Rattle.flux_defs.specs.Closed.{IsClosedOver}
 use Rattle.match_laws.proofs.ViewLaws.{closed_unbarred}
 use Rattle.dfu_match.proofs.search.closed.Goals as goal
 
-pub returns-else-bars_over : goal.returns-else-bars_over
-returns-else-bars_over g c = λ jobs stands.
+pub returns-else-bars_over-clause-answer : goal.returns-else-bars_over-clause-answer
+returns-else-bars_over-clause-answer g c = λ jobs stands.
     let s = c.args.s.now in
-    let told = subst (λ (vs : List Vertex). IsTrue c.closed_over.result ↔ IsClosedOver vs jobs s.window c.args.vertex) s.over (c.closed_over.ensures.answer jobs stands) in
-    closed_unbarred s.graph.now.resources.vertices jobs s.barred.now s.window c.args.vertex s.opens c.closed_over.result c.bars_over.result c.if-bars_over.false c.bars_over.ensures told
+    let told = subst (λ (vs : List Vertex). IsTrue c.closed_over.result ↔ IsClosedOver vs jobs s.window c.args.vertex)
+    s.over (c.closed_over.ensures.answer jobs stands) in
+    closed_unbarred s.graph.now.resources.vertices jobs s.barred.now s.window c.args.vertex s.opens
+    c.closed_over.result c.bars_over.result c.if-bars_over.false c.bars_over.ensures told

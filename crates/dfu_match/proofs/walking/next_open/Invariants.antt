@@ -1,7 +1,9 @@
-use Rattle.std.proofs.Common.{◌-◌, ◌≤◌, List, length}
+use Rattle.std.proofs.Common.{◌-◌, ◌+◌, ◌*◌, ◌≤◌, ℕ, List, length, min}
 use Rattle.flux_defs.specs.declared.claims.Job.{Job}
 use Rattle.dfu_match.specs.Searches.{open_to}
 use Rattle.dfu_match.specs.Walks.{ServesNone}
+use Rattle.dfu_match.specs.Tables.{all_of, needs_all}
+use Rattle.dfu_match.specs.Pairs.{HasEachOpen, IsClearBefore, IsPlaceOf, TakesEach, asked_totals}
 use Rattle.dfu_match.proofs.walking.next_open.Given as goal
 
 -- what the walk has passed over can't serve the need
@@ -11,6 +13,19 @@ invariant-look g l = record {
   skipped : (jobs : List Job) → g.F.FreeView.stands_for l.s.view.now jobs →
       ServesNone l.s.graph.now.resources.vertices
       (open_to l.s.graph.now.resources.vertices jobs l.s.barred.now l.s.window) l.need l.from l.at;
+  clear : (jobs : List Job) → g.F.FreeView.stands_for l.s.view.now jobs →
+      IsClearBefore l.s.graph.now.resources.vertices jobs l.s.window
+      (asked_totals l.s.wanted.now (g.F.FreeView.keeps l.s.view.now)) l.need l.from l.to →
+      IsClearBefore l.s.graph.now.resources.vertices jobs l.s.window
+      (asked_totals l.s.wanted.now (g.F.FreeView.keeps l.s.view.now)) l.need l.at l.to;
+  taken : (jobs : List Job) → g.F.FreeView.stands_for l.s.view.now jobs → (place : ℕ) →
+      IsPlaceOf (needs_all l.s.needs.now) place l.need →
+      IsClearBefore l.s.graph.now.resources.vertices jobs l.s.window
+      (asked_totals l.s.wanted.now (g.F.FreeView.keeps l.s.view.now)) l.need l.from l.to →
+      TakesEach (HasEachOpen l.s.graph.now.resources.vertices jobs l.s.window
+      (asked_totals l.s.wanted.now (g.F.FreeView.keeps l.s.view.now)) (needs_all l.s.needs.now))
+      (length (all_of l.need) * g.F.FreeView.cost l.s.view.now) l.initial.steps l.steps place (place + 1) l.from
+      (min l.at l.to);
 }
 
 abbrev pub decreases-look : goal.decreases-look

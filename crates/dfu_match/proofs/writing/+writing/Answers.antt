@@ -1,9 +1,9 @@
-use Rattle.std.proofs.Common.{arith, rules, ◌≡◌, ◌+◌, ◌*◌, ◌<◌, ◌≤◌, List, [], ◌∷◌, ◌++◌, drop, refl, sym, ◌∙◌, inl, inr, true≢false}
+use Rattle.std.proofs.Common.{arith, rules, ◌≡◌, ◌+◌, ◌*◌, ◌-◌, ◌<◌, ◌≤◌, List, [], ◌∷◌, ◌++◌, length, take, drop, append-nil, refl, sym, ◌∙◌, inl, inr, true≢false}
 use Rattle.std.proofs.lemmas.List.{drop_all}
 use denote.Param.Weighed.{most}
 use Rattle.flux_defs.specs.declared.claims.Claim.{Claim}
-use Rattle.flux_defs.specs.declared.claims.Claim.TheVariants.{Take, Hold}
-use Rattle.flux_defs.specs.declared.requests.Need.{Need}
+use Rattle.flux_defs.specs.declared.claims.Claim.TheVariants.{Take, Hold, Pass}
+use Rattle.flux_defs.specs.declared.requests.Need.{Need, Vert}
 use Rattle.flux_defs.proofs.requests.Need.TheLaws.{the_size}
 use Rattle.flux_defs.specs.Needs.{amount_of, AreValidNeeds}
 use Rattle.flux_laws.proofs.Takes.{takes_less}
@@ -17,6 +17,11 @@ use Rattle.dfu_match.specs.Tables.{needs_all}
 use Rattle.dfu_match.proofs.TableLaws as tables
 use Rattle.dfu_match.proofs.CountLaws as counts
 use Rattle.dfu_match.proofs.WriteLaws as laws
+use Rattle.dfu_match.specs.Tables.{all_of}
+use Rattle.dfu_match.specs.Pairs.{IsClearScope, asked_totals}
+use Rattle.dfu_match.proofs.OpenLaws.{clear_Vert, clear_Spread, none_inside, span_same}
+use Rattle.dfu_match.proofs.PairLaws.{takes_none, takes_within}
+use Rattle.dfu_match.proofs.StepLaws as steps
 use Rattle.dfu_match.proofs.writing.+writing.Goals as goal
 
 pub offer-returns-then-not-admits-clause-offers : goal.offer-returns-then-not-admits-clause-offers
@@ -26,13 +31,14 @@ offer-returns-then-not-admits-clause-offers g t c =
     let ok : Claim → Type 0 = open_to vs jobs c.args.s.now.barred.now c.args.s.now.window in
     let none = counts.vertex_closed vs ok scope c.in-Vert.kind c.in-Vert.count c.in-Vert.hold c.in-Vert.needs
     c.args.vertex c.args.most
-    (λ may. true≢false (sym ((c.admits.ensures jobs stands).1 may) ∙ c.if-not-admits.true)) in
+    (λ may. true≢false (sym ((c.admits.ensures.answer jobs stands).1 may) ∙ c.if-not-admits.true)) in
     rw c.in-Vert.is (laws.offers_none _ _ c.args.most 0 refl none))
 
 pub offer-copies-requires-clause-stand : goal.offer-copies-requires-clause-stand
 offer-copies-requires-clause-stand g t c =
     tables.inside_Vert (needs_all c.args.s.now.needs.now) c.args.s.now.wanted.now c.args.index c.index_within.result
-    c.in-Vert.kind c.in-Vert.count c.in-Vert.hold c.in-Vert.needs c.index_within.ensures (rw c.in-Vert.is at c.requires.stands)
+    c.in-Vert.kind c.in-Vert.count c.in-Vert.hold c.in-Vert.needs c.index_within.ensures
+    (rw c.in-Vert.is at c.requires.stands)
 
 pub offer-copies-requires-clause-valid : goal.offer-copies-requires-clause-valid
 offer-copies-requires-clause-valid g t c =
@@ -47,7 +53,7 @@ offer-returns-then-copies-eq0-clause-offers g t c =
     let is = rw c.in-Vert.is at c.requires.of_need in
     let none = counts.vertex_open vs ok scope c.in-Vert.kind c.in-Vert.count c.in-Vert.hold c.in-Vert.needs
     c.args.vertex c.args.most c.copies.result c.requires.some within is
-    ((c.admits.ensures jobs stands).0 c.if-not-admits.false) (c.copies.ensures.greatest jobs stands) in
+    ((c.admits.ensures.answer jobs stands).0 c.if-not-admits.false) (c.copies.ensures.greatest jobs stands) in
     rw c.in-Vert.is (laws.offers_none _ _ c.args.most c.copies.result c.if-copies-eq0.true none))
 
 pub offer-returns-then-hold-clause-offers : goal.offer-returns-then-hold-clause-offers
@@ -60,7 +66,7 @@ offer-returns-then-hold-clause-offers g t c = (
       let is = rw c.in-Vert.is at c.requires.of_need in
       rw c.in-Vert.is (laws.offers_held vs ok scope c.in-Vert.kind c.in-Vert.count c.in-Vert.hold c.in-Vert.needs
       c.args.vertex c.args.most c.copies.result c.if-hold.true c.if-copies-eq0.false c.requires.some within is
-      ((c.admits.ensures jobs stands).0 c.if-not-admits.false) (c.copies.ensures.greatest jobs stands)),
+      ((c.admits.ensures.answer jobs stands).0 c.if-not-admits.false) (c.copies.ensures.greatest jobs stands)),
 )
 
 pub offer-write_shared-requires : goal.offer-write_shared-requires
@@ -92,7 +98,7 @@ offer-write_shared-requires g t c κs h =
 
 pub offer-returns-then-not-fit-clause-offers : goal.offer-returns-then-not-fit-clause-offers
 offer-returns-then-not-fit-clause-offers g t c =
-    let wrote = c.in_ok-fit-in-Vert.ensures in (
+    let wrote = c.in_ok-fit-in-Vert.ensures.written in (
       wrote.0,
       wrote.1,
       λ jobs stands scope within.
@@ -102,12 +108,12 @@ offer-returns-then-not-fit-clause-offers g t c =
           let never = rw c.if-not-fit.true at (wrote.2.1 jobs stands) in
           rw c.in-Vert.is (laws.offers_unfit vs ok scope c.in-Vert.kind c.in-Vert.count c.in-Vert.hold c.in-Vert.needs
           c.args.vertex c.args.most wrote.0 (wrote.2.0 c.if-not-fit.true) c.requires.some within is
-          ((c.admits.ensures jobs stands).0 c.if-not-admits.false) never),
+          ((c.admits.ensures.answer jobs stands).0 c.if-not-admits.false) never),
     )
 
 pub offer-returns-else-not-fit-clause-offers : goal.offer-returns-else-not-fit-clause-offers
 offer-returns-else-not-fit-clause-offers g t c =
-    let wrote = c.in_ok-fit-in-Vert.ensures in (
+    let wrote = c.in_ok-fit-in-Vert.ensures.written in (
       wrote.0,
       wrote.1,
       λ jobs stands scope within.
@@ -117,7 +123,7 @@ offer-returns-else-not-fit-clause-offers g t c =
           let low = rw c.if-not-fit.false at (wrote.2.1 jobs stands) in
           rw c.in-Vert.is (laws.offers_shared vs ok scope c.in-Vert.kind c.in-Vert.count c.in-Vert.hold
           c.in-Vert.needs c.args.vertex c.args.most wrote.0 c.if-hold.false c.requires.some within is
-          ((c.admits.ensures jobs stands).0 c.if-not-admits.false) low),
+          ((c.admits.ensures.answer jobs stands).0 c.if-not-admits.false) low),
     )
 
 pub offer-returns-then-quantity-eq0-clause-offers : goal.offer-returns-then-quantity-eq0-clause-offers
@@ -154,7 +160,8 @@ offer-write_shared-requires-in-Spread g t c κs h =
           search rules,
           (
             tables.inside_Spread (needs_all c.args.s.now.needs.now) c.args.s.now.wanted.now c.args.index
-                c.index_within-in-Spread.result c.in-Spread.count c.in-Spread.needs c.index_within-in-Spread.ensures (rw c.in-Spread.is at c.requires.stands),
+                c.index_within-in-Spread.result c.in-Spread.count c.in-Spread.needs c.index_within-in-Spread.ensures
+                (rw c.in-Spread.is at c.requires.stands),
             (
               c.requires.vertex,
               (
@@ -172,7 +179,7 @@ offer-write_shared-requires-in-Spread g t c κs h =
 
 pub offer-returns-then-not-fit-2-clause-offers : goal.offer-returns-then-not-fit-2-clause-offers
 offer-returns-then-not-fit-2-clause-offers g t c =
-    let wrote = c.in_ok-fit-in-Spread.ensures in (
+    let wrote = c.in_ok-fit-in-Spread.ensures.written in (
       wrote.0,
       wrote.1,
       λ jobs stands scope within.
@@ -186,7 +193,7 @@ offer-returns-then-not-fit-2-clause-offers g t c =
 
 pub offer-returns-else-not-fit-2-clause-offers : goal.offer-returns-else-not-fit-2-clause-offers
 offer-returns-else-not-fit-2-clause-offers g t c =
-    let wrote = c.in_ok-fit-in-Spread.ensures in (
+    let wrote = c.in_ok-fit-in-Spread.ensures.written in (
       wrote.0,
       wrote.1,
       λ jobs stands scope within.
@@ -198,8 +205,8 @@ offer-returns-else-not-fit-2-clause-offers g t c =
           c.args.most c.serves-count.result wrote.0 c.if-count-eq0.false greatest low),
     )
 
-pub write_group-returns-in_default : goal.write_group-returns-in_default
-write_group-returns-in_default g t c =
+pub write_group-returns-in_default-clause-written : goal.write_group-returns-in_default-clause-written
+write_group-returns-in_default-clause-written g t c =
     laws.extends_none c.args.out.now.items _ (λ jobs stands some.
     let vs = c.args.s.now.graph.now.resources.vertices in
     let ok : Claim → Type 0 = open_to vs jobs c.args.s.now.barred.now c.args.s.now.window in
@@ -225,10 +232,18 @@ write_group-loop-missing-init g t c =
           rw total (filled_start _ _ (c.args.k * amount_of c.args.need.now) c.span_of-span.result.from
           (none_before vs ok (scope_of c.args.scope) c.args.need.now c.span_of-span.result.from
           c.span_of-span.result.to c.span_of-span.ensures.covers)));
+      walked = λ jobs stands place times here clear look.
+          let s = c.args.s.now in
+          steps.walked_start s.graph.now.resources s.graph.now.names c.is_valid.ensures.valid jobs s.window
+          (asked_totals s.wanted.now (g.F.FreeView.keeps s.view.now)) (needs_all s.needs.now) c.args.need.now place
+          (times * ((length (needs_all s.needs.now) + 2) * g.F.FreeView.cost s.view.now)) c.args.scope
+          c.args.steps.now c.span_of-span.result.from c.span_of-span.result.to c.span_of-span.ensures.span
+          c.span_of-span.ensures.within clear;
     }
 
-pub write_group-returns-in_default-next_open : goal.write_group-returns-in_default-next_open
-write_group-returns-in_default-next_open g t c =
+pub write_group-returns-in_default-next_open-clause-written :
+    goal.write_group-returns-in_default-next_open-clause-written
+write_group-returns-in_default-next_open-clause-written g t c =
     let wrote = c.loop-missing.invariant.written in (
       wrote.0,
       wrote.1,
@@ -246,40 +261,67 @@ write_group-returns-in_default-next_open g t c =
 
 pub write_group-loop-missing-preserved : goal.write_group-loop-missing-preserved
 write_group-loop-missing-preserved g t c =
-    let vs = c.args.s.now.graph.now.resources.vertices in
+    let s = c.args.s.now in
+    let graph = s.graph.now in
+    let vs = graph.resources.vertices in
     let need = c.args.need.now in
+    let v = c.in-Some-next_open.vertex in
     let of_kind = rw c.in-Some.is at c.kind_of.ensures in
     let next = rw c.in-Some-next_open.is at c.next_open.ensures.of_kind in
     let low = next.1 in
+    let past = c.past-next.ensures in
+    let later = past.later in
     let is = found vs (λ claim. ⊥) (scope_of c.args.scope) need c.in-Some.kind c.span_of-span.result.from
-    c.loop-missing.at c.span_of-span.result.to c.in-Some-next_open.vertex c.span_of-span.ensures.covers
+    c.loop-missing.at c.span_of-span.result.to v c.span_of-span.ensures.covers
     c.loop-missing.invariant.from c.span_of-span.ensures.within of_kind next in
     let before = c.loop-missing.invariant.written in
     let wrote = c.in_ok-served.ensures.offers in
     record {
       within = (let few = c.loop-missing.invariant.within in omega arith);
-      from = (let lo = c.loop-missing.invariant.from in omega arith);
+      from = (let lo = c.loop-missing.invariant.from in omega (arith, lo, low, later));
       written = (
         before.0 ++ wrote.0,
         laws.extends_twice c.args.out.now.items c.loop-missing.out.items c.offer.new.out.items before.0 wrote.0
             before.1 wrote.1,
         λ jobs stands.
-            let ok : Claim → Type 0 = open_to vs jobs c.args.s.now.barred.now c.args.s.now.window in
+            let ok : Claim → Type 0 = open_to vs jobs s.barred.now s.window in
             let scope = scope_of c.args.scope in
-            rw c.from-missing.ensures (filled_next _ (serves_less vs ok (takes_less _ _) scope need) _
-            (c.args.k * amount_of need) c.in-Some-next_open.vertex c.loop-missing.missing c.in_ok-served.served
+            filled_over _ _ (c.args.k * amount_of need) (v + 1) c.past-next.result
+            (c.loop-missing.missing - c.from-missing.result)
+            (before.0 ++ wrote.0) (omega (arith, later))
+            (none_skipped vs ok scope need (v + 1) c.past-next.result
+            (none_inside graph.resources graph.names c.is_valid.ensures.valid ok need c.in-Some.kind v
+            c.past-next.result
+            of_kind next.0 past))
+            (rw c.from-missing.ensures (filled_next _ (serves_less vs ok (takes_less _ _) scope need) _
+            (c.args.k * amount_of need) v c.loop-missing.missing c.in_ok-served.served
             before.0 wrote.0
             c.loop-missing-test.true
-            (filled_over _ _ (c.args.k * amount_of need) c.loop-missing.at c.in-Some-next_open.vertex
-            c.loop-missing.missing before.0 low
-            (none_skipped vs ok scope need c.loop-missing.at c.in-Some-next_open.vertex
+            (filled_over _ _ (c.args.k * amount_of need) c.loop-missing.at v c.loop-missing.missing before.0 low
+            (none_skipped vs ok scope need c.loop-missing.at v
             (rw c.in-Some-next_open.is at (c.next_open.ensures.skipped jobs stands))) (before.2 jobs stands))
-            (wrote.2 jobs stands scope is.1)),
+            (wrote.2 jobs stands scope is.1))),
       );
+      walked = λ jobs stands place times here clear look.
+          let keeps = asked_totals s.wanted.now (g.F.FreeView.keeps s.view.now) in
+          let all = needs_all s.needs.now in
+          let cost = g.F.FreeView.cost s.view.now in
+          let before = c.loop-missing.invariant.walked jobs stands place times here clear look in
+          let alone = rw c.in-Some-next_open.is at (c.next_open.ensures.clear jobs stands before.clear) in
+          let walk = rw c.in-Some-next_open.is at (c.next_open.ensures.work jobs stands place here before.clear) in
+          let enough = steps.look_costs (length (all_of need)) (length all) cost
+          (tables.place_few all place need here) in
+          let more = steps.times_costs times ((length all + 2) * cost) (steps.looks_some times need look) in
+          steps.walked_next graph.resources graph.names c.is_valid.ensures.valid jobs s.window keeps all need place
+          (times * ((length all + 2) * cost)) c.args.scope (length (all_of need) * cost) (2 * cost) c.args.steps.now
+          c.loop-missing.steps c.next_open.new.steps c.offer.new.steps c.span_of-span.result.from c.loop-missing.at
+          c.span_of-span.result.to v c.past-next.result c.span_of-span.ensures.span c.span_of-span.ensures.within here
+          (omega (arith, enough, more)) before next.1 next.2 alone past walk
+          (c.offer.ensures.work jobs stands place c.past-next.result times here alone past look);
     }
 
-pub write_group-returns : goal.write_group-returns
-write_group-returns g t c =
+pub write_group-returns-clause-written : goal.write_group-returns-clause-written
+write_group-returns-clause-written g t c =
     let wrote = c.loop-missing.invariant.written in
     let none : c.loop-missing.missing ≡ 0 = (let over = c.loop-missing-test.false in omega arith) in (
       wrote.0,
@@ -339,17 +381,19 @@ pub write_needs-loop-need-init : goal.write_needs-loop-need-init
 write_needs-loop-need-init g t c = record {
   stand = rw c.items-need-items.ensures c.requires.stand;
   written = laws.extends_none c.args.out.now.items _ (λ jobs stands rest low. low);
+  taken = λ jobs stands place from to times here clear span look.
+      takes_none _ _ c.args.steps.now place (place + 0) from to;
 }
 
-pub write_needs-returns-then-not-filled : goal.write_needs-returns-then-not-filled
-write_needs-returns-then-not-filled g t c =
+pub write_needs-returns-then-not-filled-clause-written : goal.write_needs-returns-then-not-filled-clause-written
+write_needs-returns-then-not-filled-clause-written g t c =
     let items : List Need = c.items-need-items.result.now in
     let i = c.loop-need.need-index in
     let need = c.need-item.result in
     let split : drop i items ≡ need ∷ drop (i + 1) items = counts.item_split items i need c.loop-need-test.true
     c.need-item.is in
     let before = c.loop-need.invariant.written in
-    let wrote = c.in_ok-filled.ensures in (
+    let wrote = c.in_ok-filled.ensures.written in (
       before.0 ++ wrote.0,
       laws.extends_twice c.args.out.now.items c.loop-need.out.items c.write_group.new.out.items before.0 wrote.0
           before.1 wrote.1,
@@ -369,7 +413,7 @@ write_needs-loop-need-preserved g t c =
     let split : drop i items ≡ need ∷ drop (i + 1) items = counts.item_split items i need c.loop-need-test.true
     c.need-item.is in
     let before = c.loop-need.invariant.written in
-    let wrote = c.in_ok-filled.ensures in
+    let wrote = c.in_ok-filled.ensures.written in
     record {
       stand = tables.stand_next (needs_all c.args.s.now.needs.now) c.args.s.now.wanted.now c.loop-need.at
           c.index_after-at.result (drop i items) (drop (i + 1) items) need split c.index_after-at.ensures
@@ -385,10 +429,24 @@ write_needs-loop-need-preserved g t c =
             completes_next vs ok c.args.k (scope_of c.args.scope) items (drop i items) (drop (i + 1) items) need
             before.0 wrote.0 split group (before.2 jobs stands),
       );
+      taken = λ jobs stands place from to times here clear span look.
+          let all = needs_all c.args.s.now.needs.now in
+          let each = times * ((length all + 2) * g.F.FreeView.cost c.args.s.now.view.now) in
+          let keeps = asked_totals c.args.s.now.wanted.now (g.F.FreeView.keeps c.args.s.now.view.now) in
+          let before = length (needs_all (take i items)) in
+          let place' = tables.place_first all (place + before) (drop i items) (drop (i + 1) items) need split
+          (tables.place_from all i place items here) in
+          let scope = counts.each_at (IsClearScope c.args.s.now.graph.now.resources.vertices jobs c.args.s.now.window
+          keeps c.args.scope) items i need (drop (i + 1) items) split clear in
+          steps.listed_next _ each c.args.steps.now c.loop-need.steps c.write_group.new.steps place from to items
+          (drop (i + 1) items) i need c.loop-need-test.true c.need-item.is
+          (c.loop-need.invariant.taken jobs stands place from to times here clear span look)
+          (c.write_group.ensures.work jobs stands (place + before) from to times place' scope span
+          (steps.looks_at times items i need (drop (i + 1) items) split look));
     }
 
-pub write_needs-returns : goal.write_needs-returns
-write_needs-returns g t c =
+pub write_needs-returns-clause-written : goal.write_needs-returns-clause-written
+write_needs-returns-clause-written g t c =
     let items : List Need = c.items-need-items.result.now in
     let wrote = c.loop-need.invariant.written in (
       wrote.0,
@@ -399,4 +457,432 @@ write_needs-returns g t c =
           rw (← c.items-need-items.ensures) (completes_end vs ok c.args.k (scope_of c.args.scope) items
           (drop c.loop-need.need-index items) wrote.0
           (drop_all c.loop-need.need-index items c.loop-need-test.false) (wrote.2 jobs stands)),
+    )
+
+pub offer-returns-then-copies-eq0-clause-work : goal.offer-returns-then-copies-eq0-clause-work
+offer-returns-then-copies-eq0-clause-work g t c = λ jobs stands place past times.
+    rw c.in-Vert.is (λ here clear after look.
+    let s = c.args.s.now in
+    let graph = s.graph.now in
+    let fine = counts.valid_inside graph.resources.vertices c.in-Vert.kind c.in-Vert.count c.in-Vert.hold
+    c.in-Vert.needs
+    (rw c.in-Vert.is at c.requires.valid) in
+    let inner = tables.place_Vert (needs_all s.needs.now) place c.in-Vert.kind c.in-Vert.count c.in-Vert.hold
+    c.in-Vert.needs here in
+    let free = clear_Vert graph.resources graph.names c.is_valid.ensures.valid jobs s.window
+    (asked_totals s.wanted.now (g.F.FreeView.keeps s.view.now)) c.in-Vert.kind c.in-Vert.count c.in-Vert.hold
+    c.in-Vert.needs
+    c.args.vertex fine clear in
+    takes_within _ ((length (needs_all s.needs.now) + 2) * g.F.FreeView.cost s.view.now)
+    (times * ((length (needs_all s.needs.now) + 2) * g.F.FreeView.cost s.view.now))
+    (c.args.steps.now + 2 * g.F.FreeView.cost s.view.now) c.copies.new.steps (place + 1)
+    (place + length (all_of (Vert c.in-Vert.kind c.in-Vert.count c.in-Vert.hold c.in-Vert.needs)))
+    (c.args.vertex + 1) past (place + 1) (place + length
+    (all_of (Vert c.in-Vert.kind c.in-Vert.count c.in-Vert.hold c.in-Vert.needs)))
+    (c.args.vertex + 1) past
+    (steps.times_costs times ((length (needs_all s.needs.now) + 2) * g.F.FreeView.cost s.view.now)
+    (steps.looks_some times (Vert c.in-Vert.kind c.in-Vert.count c.in-Vert.hold c.in-Vert.needs) look))
+    (omega arith) (omega arith) (omega arith) (omega arith)
+    (steps.takes_later _ ((length (needs_all s.needs.now) + 2) * g.F.FreeView.cost s.view.now)
+    (c.args.steps.now + 2 * g.F.FreeView.cost s.view.now) c.admits.new.steps c.copies.new.steps (place + 1)
+    (place + 1 + length (needs_all c.in-Vert.needs)) (place + length
+    (all_of (Vert c.in-Vert.kind c.in-Vert.count c.in-Vert.hold c.in-Vert.needs))) (c.args.vertex + 1) past
+    c.admits.ensures.work (steps.after_Vert place c.in-Vert.kind c.in-Vert.count c.in-Vert.hold c.in-Vert.needs)
+    (c.copies.ensures.work jobs stands (place + 1) (c.args.vertex + 1) past inner free (refl, after))))
+
+pub offer-returns-in_err-write_claim-in-Vert-clause-work : goal.offer-returns-in_err-write_claim-in-Vert-clause-work
+offer-returns-in_err-write_claim-in-Vert-clause-work g t c = λ jobs stands place past times.
+    rw c.in-Vert.is (λ here clear after look.
+    let s = c.args.s.now in
+    let graph = s.graph.now in
+    let fine = counts.valid_inside graph.resources.vertices c.in-Vert.kind c.in-Vert.count c.in-Vert.hold
+    c.in-Vert.needs
+    (rw c.in-Vert.is at c.requires.valid) in
+    let inner = tables.place_Vert (needs_all s.needs.now) place c.in-Vert.kind c.in-Vert.count c.in-Vert.hold
+    c.in-Vert.needs here in
+    let free = clear_Vert graph.resources graph.names c.is_valid.ensures.valid jobs s.window
+    (asked_totals s.wanted.now (g.F.FreeView.keeps s.view.now)) c.in-Vert.kind c.in-Vert.count c.in-Vert.hold
+    c.in-Vert.needs
+    c.args.vertex fine clear in
+    takes_within _ ((length (needs_all s.needs.now) + 2) * g.F.FreeView.cost s.view.now)
+    (times * ((length (needs_all s.needs.now) + 2) * g.F.FreeView.cost s.view.now))
+    (c.args.steps.now + 2 * g.F.FreeView.cost s.view.now) c.copies.new.steps (place + 1)
+    (place + length (all_of (Vert c.in-Vert.kind c.in-Vert.count c.in-Vert.hold c.in-Vert.needs)))
+    (c.args.vertex + 1) past (place + 1) (place + length
+    (all_of (Vert c.in-Vert.kind c.in-Vert.count c.in-Vert.hold c.in-Vert.needs)))
+    (c.args.vertex + 1) past
+    (steps.times_costs times ((length (needs_all s.needs.now) + 2) * g.F.FreeView.cost s.view.now)
+    (steps.looks_some times (Vert c.in-Vert.kind c.in-Vert.count c.in-Vert.hold c.in-Vert.needs) look))
+    (omega arith) (omega arith) (omega arith) (omega arith)
+    (steps.takes_later _ ((length (needs_all s.needs.now) + 2) * g.F.FreeView.cost s.view.now)
+    (c.args.steps.now + 2 * g.F.FreeView.cost s.view.now) c.admits.new.steps c.copies.new.steps (place + 1)
+    (place + 1 + length (needs_all c.in-Vert.needs)) (place + length
+    (all_of (Vert c.in-Vert.kind c.in-Vert.count c.in-Vert.hold c.in-Vert.needs))) (c.args.vertex + 1) past
+    c.admits.ensures.work (steps.after_Vert place c.in-Vert.kind c.in-Vert.count c.in-Vert.hold c.in-Vert.needs)
+    (c.copies.ensures.work jobs stands (place + 1) (c.args.vertex + 1) past inner free (refl, after))))
+
+pub offer-returns-then-hold-clause-work : goal.offer-returns-then-hold-clause-work
+offer-returns-then-hold-clause-work g t c = λ jobs stands place past times.
+    rw c.in-Vert.is (λ here clear after look.
+    let s = c.args.s.now in
+    let graph = s.graph.now in
+    let fine = counts.valid_inside graph.resources.vertices c.in-Vert.kind c.in-Vert.count c.in-Vert.hold
+    c.in-Vert.needs
+    (rw c.in-Vert.is at c.requires.valid) in
+    let inner = tables.place_Vert (needs_all s.needs.now) place c.in-Vert.kind c.in-Vert.count c.in-Vert.hold
+    c.in-Vert.needs here in
+    let free = clear_Vert graph.resources graph.names c.is_valid.ensures.valid jobs s.window
+    (asked_totals s.wanted.now (g.F.FreeView.keeps s.view.now)) c.in-Vert.kind c.in-Vert.count c.in-Vert.hold
+    c.in-Vert.needs
+    c.args.vertex fine clear in
+    takes_within _ ((length (needs_all s.needs.now) + 2) * g.F.FreeView.cost s.view.now)
+    (times * ((length (needs_all s.needs.now) + 2) * g.F.FreeView.cost s.view.now))
+    (c.args.steps.now + 2 * g.F.FreeView.cost s.view.now) c.copies.new.steps (place + 1)
+    (place + length (all_of (Vert c.in-Vert.kind c.in-Vert.count c.in-Vert.hold c.in-Vert.needs)))
+    (c.args.vertex + 1) past (place + 1) (place + length
+    (all_of (Vert c.in-Vert.kind c.in-Vert.count c.in-Vert.hold c.in-Vert.needs)))
+    (c.args.vertex + 1) past
+    (steps.times_costs times ((length (needs_all s.needs.now) + 2) * g.F.FreeView.cost s.view.now)
+    (steps.looks_some times (Vert c.in-Vert.kind c.in-Vert.count c.in-Vert.hold c.in-Vert.needs) look))
+    (omega arith) (omega arith) (omega arith) (omega arith)
+    (steps.takes_later _ ((length (needs_all s.needs.now) + 2) * g.F.FreeView.cost s.view.now)
+    (c.args.steps.now + 2 * g.F.FreeView.cost s.view.now) c.admits.new.steps c.copies.new.steps (place + 1)
+    (place + 1 + length (needs_all c.in-Vert.needs)) (place + length
+    (all_of (Vert c.in-Vert.kind c.in-Vert.count c.in-Vert.hold c.in-Vert.needs))) (c.args.vertex + 1) past
+    c.admits.ensures.work (steps.after_Vert place c.in-Vert.kind c.in-Vert.count c.in-Vert.hold c.in-Vert.needs)
+    (c.copies.ensures.work jobs stands (place + 1) (c.args.vertex + 1) past inner free (refl, after))))
+
+pub offer-returns-in_err-fit-in-Vert-clause-work : goal.offer-returns-in_err-fit-in-Vert-clause-work
+offer-returns-in_err-fit-in-Vert-clause-work g t c = λ jobs stands place past times.
+    rw c.in-Vert.is (λ here clear after look.
+    let s = c.args.s.now in
+    let graph = s.graph.now in
+    let fine = counts.valid_inside graph.resources.vertices c.in-Vert.kind c.in-Vert.count c.in-Vert.hold
+    c.in-Vert.needs
+    (rw c.in-Vert.is at c.requires.valid) in
+    let inner = tables.place_Vert (needs_all s.needs.now) place c.in-Vert.kind c.in-Vert.count c.in-Vert.hold
+    c.in-Vert.needs here in
+    let free = clear_Vert graph.resources graph.names c.is_valid.ensures.valid jobs s.window
+    (asked_totals s.wanted.now (g.F.FreeView.keeps s.view.now)) c.in-Vert.kind c.in-Vert.count c.in-Vert.hold
+    c.in-Vert.needs
+    c.args.vertex fine clear in
+    steps.takes_later _ (times * ((length (needs_all s.needs.now) + 2) * g.F.FreeView.cost s.view.now))
+    (c.args.steps.now + 2 * g.F.FreeView.cost s.view.now) c.admits.new.steps c.write_shared.new.steps (place + 1)
+    (place + 1 + length (needs_all c.in-Vert.needs)) (place + length
+    (all_of (Vert c.in-Vert.kind c.in-Vert.count c.in-Vert.hold c.in-Vert.needs))) (c.args.vertex + 1) past
+    c.admits.ensures.work (steps.after_Vert place c.in-Vert.kind c.in-Vert.count c.in-Vert.hold c.in-Vert.needs)
+    (c.write_shared.ensures.work jobs stands (place + 1) past times inner free after
+    (steps.looks_Vert times c.in-Vert.kind c.in-Vert.count c.in-Vert.hold c.in-Vert.needs look)))
+
+pub offer-returns-then-not-fit-clause-work : goal.offer-returns-then-not-fit-clause-work
+offer-returns-then-not-fit-clause-work g t c = λ jobs stands place past times.
+    rw c.in-Vert.is (λ here clear after look.
+    let s = c.args.s.now in
+    let graph = s.graph.now in
+    let fine = counts.valid_inside graph.resources.vertices c.in-Vert.kind c.in-Vert.count c.in-Vert.hold
+    c.in-Vert.needs
+    (rw c.in-Vert.is at c.requires.valid) in
+    let inner = tables.place_Vert (needs_all s.needs.now) place c.in-Vert.kind c.in-Vert.count c.in-Vert.hold
+    c.in-Vert.needs here in
+    let free = clear_Vert graph.resources graph.names c.is_valid.ensures.valid jobs s.window
+    (asked_totals s.wanted.now (g.F.FreeView.keeps s.view.now)) c.in-Vert.kind c.in-Vert.count c.in-Vert.hold
+    c.in-Vert.needs
+    c.args.vertex fine clear in
+    steps.takes_later _ (times * ((length (needs_all s.needs.now) + 2) * g.F.FreeView.cost s.view.now))
+    (c.args.steps.now + 2 * g.F.FreeView.cost s.view.now) c.admits.new.steps c.write_shared.new.steps (place + 1)
+    (place + 1 + length (needs_all c.in-Vert.needs)) (place + length
+    (all_of (Vert c.in-Vert.kind c.in-Vert.count c.in-Vert.hold c.in-Vert.needs))) (c.args.vertex + 1) past
+    c.admits.ensures.work (steps.after_Vert place c.in-Vert.kind c.in-Vert.count c.in-Vert.hold c.in-Vert.needs)
+    (c.write_shared.ensures.work jobs stands (place + 1) past times inner free after
+    (steps.looks_Vert times c.in-Vert.kind c.in-Vert.count c.in-Vert.hold c.in-Vert.needs look)))
+
+pub offer-returns-else-not-fit-clause-work : goal.offer-returns-else-not-fit-clause-work
+offer-returns-else-not-fit-clause-work g t c = λ jobs stands place past times.
+    rw c.in-Vert.is (λ here clear after look.
+    let s = c.args.s.now in
+    let graph = s.graph.now in
+    let fine = counts.valid_inside graph.resources.vertices c.in-Vert.kind c.in-Vert.count c.in-Vert.hold
+    c.in-Vert.needs
+    (rw c.in-Vert.is at c.requires.valid) in
+    let inner = tables.place_Vert (needs_all s.needs.now) place c.in-Vert.kind c.in-Vert.count c.in-Vert.hold
+    c.in-Vert.needs here in
+    let free = clear_Vert graph.resources graph.names c.is_valid.ensures.valid jobs s.window
+    (asked_totals s.wanted.now (g.F.FreeView.keeps s.view.now)) c.in-Vert.kind c.in-Vert.count c.in-Vert.hold
+    c.in-Vert.needs
+    c.args.vertex fine clear in
+    steps.takes_later _ (times * ((length (needs_all s.needs.now) + 2) * g.F.FreeView.cost s.view.now))
+    (c.args.steps.now + 2 * g.F.FreeView.cost s.view.now) c.admits.new.steps c.write_shared.new.steps (place + 1)
+    (place + 1 + length (needs_all c.in-Vert.needs)) (place + length
+    (all_of (Vert c.in-Vert.kind c.in-Vert.count c.in-Vert.hold c.in-Vert.needs))) (c.args.vertex + 1) past
+    c.admits.ensures.work (steps.after_Vert place c.in-Vert.kind c.in-Vert.count c.in-Vert.hold c.in-Vert.needs)
+    (c.write_shared.ensures.work jobs stands (place + 1) past times inner free after
+    (steps.looks_Vert times c.in-Vert.kind c.in-Vert.count c.in-Vert.hold c.in-Vert.needs look)))
+
+pub offer-returns-then-quantity-eq0-clause-work : goal.offer-returns-then-quantity-eq0-clause-work
+offer-returns-then-quantity-eq0-clause-work g t c = λ jobs stands place past times here clear after look.
+    let s = c.args.s.now in
+    let enough = place + length (all_of c.args.need.now) in
+    takes_within _ ((length (needs_all s.needs.now) + 2) * g.F.FreeView.cost s.view.now)
+    (times * ((length (needs_all s.needs.now) + 2) * g.F.FreeView.cost s.view.now))
+    (c.args.steps.now + 2 * g.F.FreeView.cost s.view.now) c.serves-quantity.new.steps (place + 1) enough
+    (c.args.vertex + 1) past (place + 1) enough
+    (c.args.vertex + 1) past
+    (steps.times_costs times ((length (needs_all s.needs.now) + 2) * g.F.FreeView.cost s.view.now)
+    (steps.looks_some times c.args.need.now look))
+    (omega arith) (omega arith) (omega arith) (omega arith)
+    (c.serves-quantity.ensures.work jobs stands place past here clear after)
+
+pub offer-returns-in_err-write_claim-in-Pool-clause-work : goal.offer-returns-in_err-write_claim-in-Pool-clause-work
+offer-returns-in_err-write_claim-in-Pool-clause-work g t c = λ jobs stands place past times here clear after look.
+    let s = c.args.s.now in
+    let enough = place + length (all_of c.args.need.now) in
+    takes_within _ ((length (needs_all s.needs.now) + 2) * g.F.FreeView.cost s.view.now)
+    (times * ((length (needs_all s.needs.now) + 2) * g.F.FreeView.cost s.view.now))
+    (c.args.steps.now + 2 * g.F.FreeView.cost s.view.now) c.serves-quantity.new.steps (place + 1) enough
+    (c.args.vertex + 1) past (place + 1) enough
+    (c.args.vertex + 1) past
+    (steps.times_costs times ((length (needs_all s.needs.now) + 2) * g.F.FreeView.cost s.view.now)
+    (steps.looks_some times c.args.need.now look))
+    (omega arith) (omega arith) (omega arith) (omega arith)
+    (c.serves-quantity.ensures.work jobs stands place past here clear after)
+
+pub offer-returns-in_ok-write_claim-in-Pool-clause-work : goal.offer-returns-in_ok-write_claim-in-Pool-clause-work
+offer-returns-in_ok-write_claim-in-Pool-clause-work g t c = λ jobs stands place past times here clear after look.
+    let s = c.args.s.now in
+    let enough = place + length (all_of c.args.need.now) in
+    takes_within _ ((length (needs_all s.needs.now) + 2) * g.F.FreeView.cost s.view.now)
+    (times * ((length (needs_all s.needs.now) + 2) * g.F.FreeView.cost s.view.now))
+    (c.args.steps.now + 2 * g.F.FreeView.cost s.view.now) c.serves-quantity.new.steps (place + 1) enough
+    (c.args.vertex + 1) past (place + 1) enough
+    (c.args.vertex + 1) past
+    (steps.times_costs times ((length (needs_all s.needs.now) + 2) * g.F.FreeView.cost s.view.now)
+    (steps.looks_some times c.args.need.now look))
+    (omega arith) (omega arith) (omega arith) (omega arith)
+    (c.serves-quantity.ensures.work jobs stands place past here clear after)
+
+pub offer-returns-then-count-eq0-clause-work : goal.offer-returns-then-count-eq0-clause-work
+offer-returns-then-count-eq0-clause-work g t c = λ jobs stands place past times here clear after look.
+    let s = c.args.s.now in
+    let enough = place + length (all_of c.args.need.now) in
+    takes_within _ ((length (needs_all s.needs.now) + 2) * g.F.FreeView.cost s.view.now)
+    (times * ((length (needs_all s.needs.now) + 2) * g.F.FreeView.cost s.view.now))
+    (c.args.steps.now + 2 * g.F.FreeView.cost s.view.now) c.serves-count.new.steps (place + 1) enough
+    (c.args.vertex + 1) past (place + 1) enough
+    (c.args.vertex + 1) past
+    (steps.times_costs times ((length (needs_all s.needs.now) + 2) * g.F.FreeView.cost s.view.now)
+    (steps.looks_some times c.args.need.now look))
+    (omega arith) (omega arith) (omega arith) (omega arith)
+    (c.serves-count.ensures.work jobs stands place past here clear after)
+
+pub offer-returns-in_err-fit-in-Spread-clause-work : goal.offer-returns-in_err-fit-in-Spread-clause-work
+offer-returns-in_err-fit-in-Spread-clause-work g t c = λ jobs stands place past times here clear after look.
+    let s = c.args.s.now in
+    let graph = s.graph.now in
+    let enough = place + length (all_of c.args.need.now) in
+    let valid = rw c.in-Spread.is at c.requires.valid in
+    let fine = counts.valid_copy graph.resources.vertices c.in-Spread.count c.in-Spread.needs valid in
+    let none = counts.plain_copy graph.resources.vertices c.in-Spread.count c.in-Spread.needs valid in
+    let inner = tables.place_Spread (needs_all s.needs.now) place c.in-Spread.count c.in-Spread.needs
+    (rw c.in-Spread.is at here) in
+    let free = clear_Spread graph.resources graph.names c.is_valid.ensures.valid jobs s.window
+    (asked_totals s.wanted.now (g.F.FreeView.keeps s.view.now)) c.in-Spread.count c.in-Spread.needs c.args.vertex fine
+    (rw c.in-Spread.is at clear) in
+    steps.takes_twice _ times ((length (needs_all s.needs.now) + 2) * g.F.FreeView.cost s.view.now)
+    (c.args.steps.now + 2 * g.F.FreeView.cost s.view.now)
+    c.serves-count.new.steps c.write_shared-in-Spread.new.steps (place + 1) enough (c.args.vertex + 1) past
+    (steps.looks_Spread times c.in-Spread.count c.in-Spread.needs (rw c.in-Spread.is at look))
+    (c.serves-count.ensures.work jobs stands place past here clear after)
+    (steps.takes_later _ (1 * ((length (needs_all s.needs.now) + 2) * g.F.FreeView.cost s.view.now))
+    c.serves-count.new.steps c.serves-count.new.steps c.write_shared-in-Spread.new.steps (place + 1)
+    (place + 1 + length (needs_all c.in-Spread.needs)) enough (c.args.vertex + 1) past (omega arith)
+    (rw c.in-Spread.is (steps.after_Spread place c.in-Spread.count c.in-Spread.needs))
+    (c.write_shared-in-Spread.ensures.work jobs stands (place + 1) past 1 inner free after (inr (refl, none))))
+
+pub offer-returns-then-not-fit-2-clause-work : goal.offer-returns-then-not-fit-2-clause-work
+offer-returns-then-not-fit-2-clause-work g t c = λ jobs stands place past times here clear after look.
+    let s = c.args.s.now in
+    let graph = s.graph.now in
+    let enough = place + length (all_of c.args.need.now) in
+    let valid = rw c.in-Spread.is at c.requires.valid in
+    let fine = counts.valid_copy graph.resources.vertices c.in-Spread.count c.in-Spread.needs valid in
+    let none = counts.plain_copy graph.resources.vertices c.in-Spread.count c.in-Spread.needs valid in
+    let inner = tables.place_Spread (needs_all s.needs.now) place c.in-Spread.count c.in-Spread.needs
+    (rw c.in-Spread.is at here) in
+    let free = clear_Spread graph.resources graph.names c.is_valid.ensures.valid jobs s.window
+    (asked_totals s.wanted.now (g.F.FreeView.keeps s.view.now)) c.in-Spread.count c.in-Spread.needs c.args.vertex fine
+    (rw c.in-Spread.is at clear) in
+    steps.takes_twice _ times ((length (needs_all s.needs.now) + 2) * g.F.FreeView.cost s.view.now)
+    (c.args.steps.now + 2 * g.F.FreeView.cost s.view.now)
+    c.serves-count.new.steps c.write_shared-in-Spread.new.steps (place + 1) enough (c.args.vertex + 1) past
+    (steps.looks_Spread times c.in-Spread.count c.in-Spread.needs (rw c.in-Spread.is at look))
+    (c.serves-count.ensures.work jobs stands place past here clear after)
+    (steps.takes_later _ (1 * ((length (needs_all s.needs.now) + 2) * g.F.FreeView.cost s.view.now))
+    c.serves-count.new.steps c.serves-count.new.steps c.write_shared-in-Spread.new.steps (place + 1)
+    (place + 1 + length (needs_all c.in-Spread.needs)) enough (c.args.vertex + 1) past (omega arith)
+    (rw c.in-Spread.is (steps.after_Spread place c.in-Spread.count c.in-Spread.needs))
+    (c.write_shared-in-Spread.ensures.work jobs stands (place + 1) past 1 inner free after (inr (refl, none))))
+
+pub offer-returns-else-not-fit-2-clause-work : goal.offer-returns-else-not-fit-2-clause-work
+offer-returns-else-not-fit-2-clause-work g t c = λ jobs stands place past times here clear after look.
+    let s = c.args.s.now in
+    let graph = s.graph.now in
+    let enough = place + length (all_of c.args.need.now) in
+    let valid = rw c.in-Spread.is at c.requires.valid in
+    let fine = counts.valid_copy graph.resources.vertices c.in-Spread.count c.in-Spread.needs valid in
+    let none = counts.plain_copy graph.resources.vertices c.in-Spread.count c.in-Spread.needs valid in
+    let inner = tables.place_Spread (needs_all s.needs.now) place c.in-Spread.count c.in-Spread.needs
+    (rw c.in-Spread.is at here) in
+    let free = clear_Spread graph.resources graph.names c.is_valid.ensures.valid jobs s.window
+    (asked_totals s.wanted.now (g.F.FreeView.keeps s.view.now)) c.in-Spread.count c.in-Spread.needs c.args.vertex fine
+    (rw c.in-Spread.is at clear) in
+    steps.takes_twice _ times ((length (needs_all s.needs.now) + 2) * g.F.FreeView.cost s.view.now)
+    (c.args.steps.now + 2 * g.F.FreeView.cost s.view.now)
+    c.serves-count.new.steps c.write_shared-in-Spread.new.steps (place + 1) enough (c.args.vertex + 1) past
+    (steps.looks_Spread times c.in-Spread.count c.in-Spread.needs (rw c.in-Spread.is at look))
+    (c.serves-count.ensures.work jobs stands place past here clear after)
+    (steps.takes_later _ (1 * ((length (needs_all s.needs.now) + 2) * g.F.FreeView.cost s.view.now))
+    c.serves-count.new.steps c.serves-count.new.steps c.write_shared-in-Spread.new.steps (place + 1)
+    (place + 1 + length (needs_all c.in-Spread.needs)) enough (c.args.vertex + 1) past (omega arith)
+    (rw c.in-Spread.is (steps.after_Spread place c.in-Spread.count c.in-Spread.needs))
+    (c.write_shared-in-Spread.ensures.work jobs stands (place + 1) past 1 inner free after (inr (refl, none))))
+
+pub write_group-returns-in_default-clause-work : goal.write_group-returns-in_default-clause-work
+write_group-returns-in_default-clause-work g t c = λ jobs stands place from to times here clear span look.
+    takes_none _ _ c.args.steps.now place (place + length (all_of c.args.need.now)) from to
+
+pub write_group-returns-in_default-next_open-clause-work : goal.write_group-returns-in_default-next_open-clause-work
+write_group-returns-in_default-next_open-clause-work g t c = λ jobs stands place from to times here clear span look.
+    let s = c.args.s.now in
+    let graph = s.graph.now in
+    let need = c.args.need.now in
+    let keeps = asked_totals s.wanted.now (g.F.FreeView.keeps s.view.now) in
+    let all = needs_all s.needs.now in
+    let cost = g.F.FreeView.cost s.view.now in
+    let same = span_same graph.resources graph.names c.is_valid.ensures.valid c.args.scope from to
+    c.span_of-span.result.from c.span_of-span.result.to span c.span_of-span.ensures.span in
+    let before = c.loop-missing.invariant.walked jobs stands place times here clear look in
+    let walk = c.in_default-next_open.ensures.work jobs stands place here before.clear in
+    let enough = steps.look_costs (length (all_of need)) (length all) cost (tables.place_few all place need here) in
+    let more = steps.times_costs times ((length all + 2) * cost) (steps.looks_some times need look) in
+    rw (same.0, same.1) (steps.walked_none graph.resources graph.names c.is_valid.ensures.valid jobs s.window keeps
+    all need place
+    (times * ((length all + 2) * cost)) (length (all_of need) * cost) c.args.steps.now c.loop-missing.steps
+    c.next_open.new.steps c.span_of-span.result.from c.loop-missing.at c.span_of-span.result.to
+    (omega (arith, enough, more)) before walk)
+
+pub write_group-returns-clause-work : goal.write_group-returns-clause-work
+write_group-returns-clause-work g t c = λ jobs stands place from to times here clear span look.
+    let s = c.args.s.now in
+    let graph = s.graph.now in
+    let need = c.args.need.now in
+    let keeps = asked_totals s.wanted.now (g.F.FreeView.keeps s.view.now) in
+    let all = needs_all s.needs.now in
+    let cost = g.F.FreeView.cost s.view.now in
+    let same = span_same graph.resources graph.names c.is_valid.ensures.valid c.args.scope from to
+    c.span_of-span.result.from c.span_of-span.result.to span c.span_of-span.ensures.span in
+    rw (same.0, same.1) (steps.walked_end graph.resources graph.names c.is_valid.ensures.valid jobs s.window keeps all
+    need place
+    (times * ((length all + 2) * cost)) c.args.steps.now c.loop-missing.steps
+    c.span_of-span.result.from c.loop-missing.at c.span_of-span.result.to
+    (c.loop-missing.invariant.walked jobs stands place times here clear look))
+
+pub write_group-returns-in_err-served-clause-work : goal.write_group-returns-in_err-served-clause-work
+write_group-returns-in_err-served-clause-work g t c = λ jobs stands place from to times here clear span look.
+    let s = c.args.s.now in
+    let graph = s.graph.now in
+    let need = c.args.need.now in
+    let keeps = asked_totals s.wanted.now (g.F.FreeView.keeps s.view.now) in
+    let all = needs_all s.needs.now in
+    let cost = g.F.FreeView.cost s.view.now in
+    let same = span_same graph.resources graph.names c.is_valid.ensures.valid c.args.scope from to
+    c.span_of-span.result.from c.span_of-span.result.to span c.span_of-span.ensures.span in
+    let v = c.in-Some-next_open.vertex in
+    let next = rw c.in-Some-next_open.is at c.next_open.ensures.of_kind in
+    let before = c.loop-missing.invariant.walked jobs stands place times here clear look in
+    let alone = rw c.in-Some-next_open.is at (c.next_open.ensures.clear jobs stands before.clear) in
+    let walk = rw c.in-Some-next_open.is at (c.next_open.ensures.work jobs stands place here before.clear) in
+    let enough = steps.look_costs (length (all_of need)) (length all) cost (tables.place_few all place need here) in
+    let more = steps.times_costs times ((length all + 2) * cost) (steps.looks_some times need look) in
+    rw (same.0, same.1) (steps.walked_end graph.resources graph.names c.is_valid.ensures.valid jobs s.window keeps all
+    need place
+    (times * ((length all + 2) * cost)) c.args.steps.now c.offer.new.steps
+    c.span_of-span.result.from c.past-next.result c.span_of-span.result.to
+    (steps.walked_next graph.resources graph.names c.is_valid.ensures.valid jobs s.window keeps all need place
+    (times * ((length all + 2) * cost)) c.args.scope (length (all_of need) * cost) (2 * cost) c.args.steps.now
+    c.loop-missing.steps c.next_open.new.steps c.offer.new.steps c.span_of-span.result.from c.loop-missing.at
+    c.span_of-span.result.to v c.past-next.result c.span_of-span.ensures.span c.span_of-span.ensures.within here
+    (omega (arith, enough, more)) before next.1 next.2 alone c.past-next.ensures walk
+    (c.offer.ensures.work jobs stands place c.past-next.result times here alone c.past-next.ensures look)))
+
+pub write_needs-returns-in_err-filled-clause-work : goal.write_needs-returns-in_err-filled-clause-work
+write_needs-returns-in_err-filled-clause-work g t c =
+    let items : List Need = c.items-need-items.result.now in
+    let i = c.loop-need.need-index in
+    let need = c.need-item.result in
+    let split : drop i items ≡ need ∷ drop (i + 1) items = counts.item_split items i need c.loop-need-test.true
+    c.need-item.is in
+    rw (← c.items-need-items.ensures) (λ jobs stands place from to times here clear span look.
+    steps.listed_end _ (times * ((length
+    (needs_all c.args.s.now.needs.now) + 2) * g.F.FreeView.cost c.args.s.now.view.now))
+    c.args.steps.now c.write_group.new.steps place from to items (i + 1)
+    (let all = needs_all c.args.s.now.needs.now in
+    let each = times * ((length all + 2) * g.F.FreeView.cost c.args.s.now.view.now) in
+    let keeps = asked_totals c.args.s.now.wanted.now (g.F.FreeView.keeps c.args.s.now.view.now) in
+    let before = length (needs_all (take i items)) in
+    let place' = tables.place_first all (place + before) (drop i items) (drop (i + 1) items) need split
+    (tables.place_from all i place items here) in
+    let scope = counts.each_at (IsClearScope c.args.s.now.graph.now.resources.vertices jobs c.args.s.now.window
+    keeps c.args.scope) items i need (drop (i + 1) items) split clear in
+    steps.listed_next _ each c.args.steps.now c.loop-need.steps c.write_group.new.steps place from to items
+    (drop (i + 1) items) i need c.loop-need-test.true c.need-item.is
+    (c.loop-need.invariant.taken jobs stands place from to times here clear span look)
+    (c.write_group.ensures.work jobs stands (place + before) from to times place' scope span
+    (steps.looks_at times items i need (drop (i + 1) items) split look))))
+
+pub write_needs-returns-then-not-filled-clause-work : goal.write_needs-returns-then-not-filled-clause-work
+write_needs-returns-then-not-filled-clause-work g t c =
+    let items : List Need = c.items-need-items.result.now in
+    let i = c.loop-need.need-index in
+    let need = c.need-item.result in
+    let split : drop i items ≡ need ∷ drop (i + 1) items = counts.item_split items i need c.loop-need-test.true
+    c.need-item.is in
+    rw (← c.items-need-items.ensures) (λ jobs stands place from to times here clear span look.
+    steps.listed_end _ (times * ((length
+    (needs_all c.args.s.now.needs.now) + 2) * g.F.FreeView.cost c.args.s.now.view.now))
+    c.args.steps.now c.write_group.new.steps place from to items (i + 1)
+    (let all = needs_all c.args.s.now.needs.now in
+    let each = times * ((length all + 2) * g.F.FreeView.cost c.args.s.now.view.now) in
+    let keeps = asked_totals c.args.s.now.wanted.now (g.F.FreeView.keeps c.args.s.now.view.now) in
+    let before = length (needs_all (take i items)) in
+    let place' = tables.place_first all (place + before) (drop i items) (drop (i + 1) items) need split
+    (tables.place_from all i place items here) in
+    let scope = counts.each_at (IsClearScope c.args.s.now.graph.now.resources.vertices jobs c.args.s.now.window
+    keeps c.args.scope) items i need (drop (i + 1) items) split clear in
+    steps.listed_next _ each c.args.steps.now c.loop-need.steps c.write_group.new.steps place from to items
+    (drop (i + 1) items) i need c.loop-need-test.true c.need-item.is
+    (c.loop-need.invariant.taken jobs stands place from to times here clear span look)
+    (c.write_group.ensures.work jobs stands (place + before) from to times place' scope span
+    (steps.looks_at times items i need (drop (i + 1) items) split look))))
+
+pub write_needs-returns-clause-work : goal.write_needs-returns-clause-work
+write_needs-returns-clause-work g t c =
+    let items : List Need = c.items-need-items.result.now in
+    rw (← c.items-need-items.ensures) (λ jobs stands place from to times here clear span look.
+    steps.listed_end _ (times * ((length
+    (needs_all c.args.s.now.needs.now) + 2) * g.F.FreeView.cost c.args.s.now.view.now))
+    c.args.steps.now c.loop-need.steps place from to items c.loop-need.need-index
+    (c.loop-need.invariant.taken jobs stands place from to times here clear span look))
+
+pub write_shared-returns-clause-written : goal.write_shared-returns-clause-written
+write_shared-returns-clause-written g t c =
+    let wrote = c.in_ok-fit.ensures.written in
+    let pass : List Claim = Pass c.args.vertex ∷ [] in
+    let all = laws.extends_twice c.args.out.now.items c.write_claim.new.out.items c.write_needs.new.out.items pass
+    wrote.0 c.in_ok-write_claim.ensures wrote.1 in
+    let long : c.len-mark.result ≡ length c.args.out.now.items = search rules in
+    let back : c.truncate.new.self.items ≡ c.args.out.now.items = rw (c.truncate.ensures.items, long)
+    (laws.cut_back c.args.out.now.items c.write_needs.new.out.items (pass ++ wrote.0) all) in (
+      [],
+      back ∙ sym (append-nil c.args.out.now.items),
+      (λ _. refl, λ jobs stands. rw c.if-fit.false at (wrote.2 jobs stands)),
     )

@@ -1,4 +1,5 @@
-use Rattle.std.proofs.Common.{◌-◌, ◌*◌, ◌≤◌, List, drop}
+use Rattle.std.proofs.Common.{◌-◌, ◌+◌, ◌*◌, ◌≤◌, ℕ, List, length, take, drop}
+use Rattle.std.specs.List.{AllByRecursion}
 use Rattle.flux_defs.specs.declared.claims.Job.{Job}
 use Rattle.flux_defs.specs.Needs.{amount_of}
 use Rattle.flux_defs.specs.Lowest.{CanServe, LowestPiece}
@@ -6,6 +7,8 @@ use Rattle.match_laws.specs.Offers.{Extends}
 use Rattle.match_laws.proofs.Walk.{Filled}
 use Rattle.match_laws.proofs.NeedLists.{Completes}
 use Rattle.dfu_match.specs.Tables.{needs_all, StandAt}
+use Rattle.dfu_match.specs.Pairs.{HasEachOpen, IsClearScope, IsPlaceOf, IsPlaceOfAll, IsSpanOf, Looks, LooksAll, TakesEach, asked_totals}
+use Rattle.dfu_match.proofs.StepLaws.{Walked}
 use Rattle.dfu_match.specs.Searches.{open_to, scope_of}
 use Rattle.dfu_match.proofs.writing.+writing.Given as goal
 
@@ -18,6 +21,15 @@ invariant-write_needs-loop-need g l = record {
       Completes l.s.graph.now.resources.vertices
       (open_to l.s.graph.now.resources.vertices jobs l.s.barred.now l.s.window) l.k (scope_of l.scope) l.need-items
       (drop l.need-index l.need-items) claims);
+  taken : (jobs : List Job) → g.F.FreeView.stands_for l.s.view.now jobs → (place from to times : ℕ) →
+      IsPlaceOfAll (needs_all l.s.needs.now) place l.need-items →
+      AllByRecursion (IsClearScope l.s.graph.now.resources.vertices jobs l.s.window
+      (asked_totals l.s.wanted.now (g.F.FreeView.keeps l.s.view.now)) l.scope) l.need-items →
+      IsSpanOf l.s.graph.now.resources.vertices l.scope from to → LooksAll times l.need-items →
+      TakesEach (HasEachOpen l.s.graph.now.resources.vertices jobs l.s.window
+      (asked_totals l.s.wanted.now (g.F.FreeView.keeps l.s.view.now)) (needs_all l.s.needs.now))
+      (times * ((length (needs_all l.s.needs.now) + 2) * g.F.FreeView.cost l.s.view.now)) l.initial.steps l.steps place
+      (place + length (needs_all (take l.need-index l.need-items))) from to;
 }
 
 -- the vertices before `at` have served all that they can, and `missing` is left
@@ -32,6 +44,14 @@ invariant-write_group-loop-missing g l = record {
       (LowestPiece l.s.graph.now.resources.vertices
       (open_to l.s.graph.now.resources.vertices jobs l.s.barred.now l.s.window) l.need)
       (l.fn.k * amount_of l.need) l.at l.missing claims);
+  walked : (jobs : List Job) → g.F.FreeView.stands_for l.s.view.now jobs → (place times : ℕ) →
+      IsPlaceOf (needs_all l.s.needs.now) place l.need →
+      IsClearScope l.s.graph.now.resources.vertices jobs l.s.window
+      (asked_totals l.s.wanted.now (g.F.FreeView.keeps l.s.view.now)) l.fn.scope l.need → Looks times l.need →
+      Walked l.s.graph.now.resources.vertices jobs l.s.window
+      (asked_totals l.s.wanted.now (g.F.FreeView.keeps l.s.view.now)) (needs_all l.s.needs.now) l.need place
+      (times * ((length (needs_all l.s.needs.now) + 2) * g.F.FreeView.cost l.s.view.now)) l.initial.steps l.steps
+      l.span.from l.at l.span.to;
 }
 
 abbrev pub decreases-write_group-loop-missing : goal.decreases-write_group-loop-missing

@@ -1,36 +1,179 @@
-use Rattle.std.proofs.Common.{arith, sym, ◌∙◌, true≢false}
+use Rattle.std.proofs.Common.{◌+◌, ◌*◌, List, length, arith, inl, inr, refl, subst, sym, ◌∙◌, true≢false}
+use Rattle.flux_defs.specs.declared.vertices.Vertex.{Vertex}
 use Rattle.flux_defs.specs.Asks.{window_of, IsLowestFirst}
 use Rattle.flux_laws.proofs.Determined.{lowest_fits}
-use Rattle.earliest_search.proofs.StartLaws.{is_earliest, none_to_next, none_ever, none_past}
+use Rattle.earliest_search.specs.Tried.{IsNextTry, IsNextTryOrNone}
+use Rattle.earliest_search.proofs.StartLaws.{is_earliest, no_fit, none_ever, none_past, none_to_next, worth_try}
+use Rattle.earliest_search.proofs.TriedLaws.{before_all, before_more, each_before, each_counted, try_more, try_all}
 use Rattle.earliest_search.proofs.searching.earliest.Goals as goal
 
-pub returns-in-Some : goal.returns-in-Some
-returns-in-Some g c = λ jobs stands.
+pub returns-in-Fits-clause-found : goal.returns-in-Fits-clause-found
+returns-in-Fits-clause-found g c = λ jobs stands.
     let vs = c.args.graph.now.resources.vertices in
     let ask = c.args.ask.now in
     let t = c.starts.start in
-    let low : IsLowestFirst vs jobs ask (window_of c.args.horizon ask t) c.in-Some.claims = rw c.window_at-window.ensures.window at (rw c.in-Some.is at (c.in_ok-claims.ensures jobs stands)) in (
-      is_earliest vs jobs c.args.horizon ask c.args.now t (c.starts.invariant.before jobs stands) c.starts.invariant.later
-          (c.counts.ensures.0 c.starts-test.true, (c.in-Some.claims, lowest_fits vs jobs ask (window_of c.args.horizon ask t) c.in-Some.claims low)),
+    let low : IsLowestFirst vs jobs ask (window_of c.args.horizon ask t) c.in-Fits.claims = rw
+    (c.in_ok-matcher.ensures.graph, c.in_ok-matcher.ensures.ask, c.window_at-window.ensures.window, c.in-Fits.is) at
+    (c.in_ok-matched.ensures.matched jobs stands) in (
+      is_earliest vs jobs c.args.horizon ask c.args.now t (c.starts.invariant.before jobs stands)
+          c.starts.invariant.later (
+            c.counts.ensures.0 c.starts-test.true,
+            (c.in-Fits.claims, lowest_fits vs jobs ask (window_of c.args.horizon ask t) c.in-Fits.claims low),
+          ),
       low,
     )
 
-pub returns-in-None-next_point : goal.returns-in-None-next_point
-returns-in-None-next_point g c = λ jobs stands.
-    let none = rw c.window_at-window.ensures.window at (rw c.in-None.is at (c.in_ok-claims.ensures jobs stands)) in
-    none_ever c.args.graph.now.resources.vertices jobs c.args.horizon c.args.ask.now c.args.now c.starts.start (c.starts.invariant.before jobs stands) none (c.in-None-next_point.ensures.answer jobs stands)
+pub returns-in-None : goal.returns-in-None
+returns-in-None g c =
+    let graph = c.args.graph.now in
+    let vs = graph.resources.vertices in
+    let ask = c.args.ask.now in
+    let t = c.starts.start in
+    let keeps = g.F.FreeView.keeps c.args.view.now in
+    record {
+      found = λ jobs stands.
+          let is = rw (c.in_ok-matcher.ensures.graph, c.in_ok-matcher.ensures.ask, c.window_at-window.ensures.window) at
+          (c.in_ok-matched.ensures.matched jobs stands) in
+          let next = subst (λ (us : List Vertex). IsNextTryOrNone us jobs c.in_ok-matched.matched t c.next_try.result)
+          c.requires.over (c.next_try.ensures.next jobs stands) in
+          let none = rw c.in-None.is at next in
+          none_ever vs jobs c.args.horizon ask c.args.now t (c.starts.invariant.before jobs stands)
+          (no_fit vs jobs keeps ask (window_of c.args.horizon ask t) c.in_ok-matched.matched is
+          (λ claims e. c.in_default.not-Fits claims e))
+          (λ u lo point s. none u lo point (worth_try graph.resources graph.names c.is_valid.ensures.valid jobs
+          c.args.horizon ask c.requires.proper keeps c.in_ok-matched.matched (window_of c.args.horizon ask t) u is s));
+      work = λ jobs stands tried looks has opens.
+          let cost = g.F.FreeView.cost c.args.view.now in
+          let counts = c.counts.ensures.0 c.starts-test.true in
+          let there = has t (c.starts.invariant.point jobs stands) counts (omega (arith, counts.0)) in
+          let more = try_more cost (λ u. (looks u + 1) * cost) tried t c.args.steps.now c.starts.steps
+          c.over.new.steps (looks t) refl there
+          (c.starts.invariant.spent jobs stands tried looks (each_counted jobs c.args.horizon c.args.ask.now c.args.now
+          tried t has) opens)
+          (c.over.ensures.work jobs stands (looks t) (rw (
+            c.in_ok-matcher.ensures.graph,
+            c.in_ok-matcher.ensures.ask,
+            c.window_at-window.ensures.window,
+          ) (opens t there counts))) in
+          let next = c.next_try.ensures.work in
+          let all = before_all (λ u. (looks u + 1) * cost) (t + 1) tried in
+          omega (arith, more, next, all);
+      soon = λ jobs stands. tt;
+    }
 
 pub starts-preserved : goal.starts-preserved
 starts-preserved g c =
-    let lt = c.in-Some-next_point.ensures.later in
+    let graph = c.args.graph.now in
+    let vs = graph.resources.vertices in
+    let ask = c.args.ask.now in
+    let t = c.starts.start in
+    let keeps = g.F.FreeView.keeps c.args.view.now in
+    let lt = c.in-Some.ensures.later in
     let le = c.starts.invariant.later in
     record {
       later = omega arith;
       before = λ jobs stands.
-          let none = rw c.window_at-window.ensures.window at (rw c.in-None.is at (c.in_ok-claims.ensures jobs stands)) in
-          none_to_next c.args.graph.now.resources.vertices jobs c.args.horizon c.args.ask.now c.args.now c.starts.start (c.starts.invariant.before jobs stands) none c.in-Some-next_point.next (c.in-Some-next_point.ensures.answer jobs stands);
+          let is = rw (c.in_ok-matcher.ensures.graph, c.in_ok-matcher.ensures.ask, c.window_at-window.ensures.window) at
+          (c.in_ok-matched.ensures.matched jobs stands) in
+          let next = subst (λ (us : List Vertex). IsNextTry us jobs c.in_ok-matched.matched t c.in-Some.next)
+          c.requires.over (c.in-Some.ensures.next jobs stands) in
+          none_to_next vs jobs c.args.horizon ask c.args.now t (c.starts.invariant.before jobs stands)
+          (no_fit vs jobs keeps ask (window_of c.args.horizon ask t) c.in_ok-matched.matched is
+          (λ claims e. c.in_default.not-Fits claims e)) c.in-Some.next
+          (λ u lo hi point s. next.least u lo hi point (worth_try graph.resources graph.names c.is_valid.ensures.valid
+          jobs c.args.horizon ask c.requires.proper keeps c.in_ok-matched.matched (window_of c.args.horizon ask t) u is
+          s));
+      point = λ jobs stands.
+          let next = c.in-Some.ensures.next jobs stands in
+          inr (omega (arith, le, lt), next.point);
+      spent = λ jobs stands tried looks has opens.
+          let cost = g.F.FreeView.cost c.args.view.now in
+          let counts = c.counts.ensures.0 c.starts-test.true in
+          let there = has t (c.starts.invariant.point jobs stands) counts lt in
+          let more = try_more cost (λ u. (looks u + 1) * cost) tried t c.args.steps.now c.starts.steps
+          c.over.new.steps (looks t) refl there
+          (c.starts.invariant.spent jobs stands tried looks (λ u is count less. has u is count (omega (
+            arith,
+            less,
+            lt,
+          ))) opens)
+          (c.over.ensures.work jobs stands (looks t) (rw (
+            c.in_ok-matcher.ensures.graph,
+            c.in_ok-matcher.ensures.ask,
+            c.window_at-window.ensures.window,
+          ) (opens t there counts))) in
+          let work = c.next_try.ensures.work in
+          let after = before_more (λ u. (looks u + 1) * cost) (t + 1) c.in-Some.next tried (omega (arith, lt)) in
+          omega (arith, more, work, after);
     }
 
-pub returns : goal.returns
-returns g c = λ jobs stands.
-    none_past c.args.graph.now.resources.vertices jobs c.args.horizon c.args.ask.now c.args.now c.starts.start (c.starts.invariant.before jobs stands) (λ counts. true≢false (sym (c.counts.ensures.1 counts) ∙ c.starts-test.false))
+pub returns-clause-found : goal.returns-clause-found
+returns-clause-found g c = λ jobs stands.
+    none_past c.args.graph.now.resources.vertices jobs c.args.horizon c.args.ask.now c.args.now c.starts.start
+    (c.starts.invariant.before jobs stands) (λ counts. true≢false (sym (c.counts.ensures.1 counts) ∙
+    c.starts-test.false))
+
+pub returns-in_err-matched-clause-work : goal.returns-in_err-matched-clause-work
+returns-in_err-matched-clause-work g c = λ jobs stands tried looks has opens.
+    let cost = g.F.FreeView.cost c.args.view.now in
+    let t = c.starts.start in
+    let counts = c.counts.ensures.0 c.starts-test.true in
+    let there = has t (c.starts.invariant.point jobs stands) counts (omega (arith, counts.0)) in
+    try_all cost (λ u. (looks u + 1) * cost) tried t c.args.steps.now c.starts.steps
+    c.over.new.steps (looks t) refl there
+    (c.starts.invariant.spent jobs stands tried looks (each_counted jobs c.args.horizon c.args.ask.now c.args.now
+    tried t has) opens)
+    (c.over.ensures.work jobs stands (looks t) (rw (
+      c.in_ok-matcher.ensures.graph,
+      c.in_ok-matcher.ensures.ask,
+      c.window_at-window.ensures.window,
+    ) (opens t there counts)))
+
+pub returns-in-Fits-clause-work : goal.returns-in-Fits-clause-work
+returns-in-Fits-clause-work g c = λ jobs stands tried looks has opens.
+    let cost = g.F.FreeView.cost c.args.view.now in
+    let t = c.starts.start in
+    let counts = c.counts.ensures.0 c.starts-test.true in
+    let there = has t (c.starts.invariant.point jobs stands) counts (omega (arith, counts.0)) in
+    try_all cost (λ u. (looks u + 1) * cost) tried t c.args.steps.now c.starts.steps
+    c.over.new.steps (looks t) refl there
+    (c.starts.invariant.spent jobs stands tried looks (each_counted jobs c.args.horizon c.args.ask.now c.args.now
+    tried t has) opens)
+    (c.over.ensures.work jobs stands (looks t) (rw (
+      c.in_ok-matcher.ensures.graph,
+      c.in_ok-matcher.ensures.ask,
+      c.window_at-window.ensures.window,
+    ) (opens t there counts)))
+
+pub returns-in-Fits-clause-soon : goal.returns-in-Fits-clause-soon
+returns-in-Fits-clause-soon g c = λ jobs stands tried looks has opens.
+    let cost = g.F.FreeView.cost c.args.view.now in
+    let t = c.starts.start in
+    let counts = c.counts.ensures.0 c.starts-test.true in
+    let there = has t (c.starts.invariant.point jobs stands) counts (omega arith) in
+    try_all cost (λ u. (looks u + 1) * cost) tried t c.args.steps.now c.starts.steps
+    c.over.new.steps (looks t) refl there
+    (c.starts.invariant.spent jobs stands tried looks (each_before jobs c.args.horizon c.args.ask.now c.args.now tried
+    t t (omega arith) has) opens)
+    (c.over.ensures.work jobs stands (looks t) (rw (
+      c.in_ok-matcher.ensures.graph,
+      c.in_ok-matcher.ensures.ask,
+      c.window_at-window.ensures.window,
+    ) (opens t there counts)))
+
+pub returns-clause-work : goal.returns-clause-work
+returns-clause-work g c = λ jobs stands tried looks has opens.
+    let cost = g.F.FreeView.cost c.args.view.now in
+    let t = c.starts.start in
+    let spent = c.starts.invariant.spent jobs stands tried looks
+    (each_counted jobs c.args.horizon c.args.ask.now c.args.now tried t has) opens in
+    let all = before_all (λ u. (looks u + 1) * cost) t tried in
+    omega (arith, spent, all)
+
+pub starts-init : goal.starts-init
+starts-init g c = record {
+  later = omega arith;
+  before = λ jobs stands u lo hi. absurd (omega (arith, lo, hi));
+  point = λ jobs stands. inl refl;
+  spent = λ jobs stands tried looks has opens. omega arith;
+}

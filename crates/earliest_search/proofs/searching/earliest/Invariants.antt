@@ -1,13 +1,26 @@
-use Rattle.std.proofs.Common.{◌-◌, ◌≤◌, List}
+use Rattle.std.proofs.Common.{◌-◌, ◌+◌, ◌*◌, ◌≤◌, ℕ, List}
 use Rattle.flux_defs.specs.declared.claims.Job.{Job}
+use Rattle.std.specs.Prelude.{Contains}
+use Rattle.flux_defs.specs.Asks.{CountsWithin, window_of}
+use Rattle.dfu_match.specs.Pairs.{IsEnoughFor}
+use Rattle.earliest_search.specs.Tried.{IsNowOrPoint}
 use Rattle.earliest_search.proofs.StartLaws.{NoStartBefore}
+use Rattle.earliest_search.proofs.TriedLaws.{HasEachBefore, weight_before}
 use Rattle.earliest_search.proofs.searching.earliest.Given as goal
 
 -- no start stands before the one that is tried
 abbrev pub invariant-starts : goal.invariant-starts
 invariant-starts g l = record {
   later : l.now ≤ l.start;
-  before : (jobs : List Job) → g.F.FreeView.stands_for l.view jobs → NoStartBefore l.graph.resources.vertices jobs l.horizon l.ask l.now l.start;
+  before : (jobs : List Job) → g.F.FreeView.stands_for l.view jobs → NoStartBefore l.graph.resources.vertices jobs
+      l.horizon l.ask l.now l.start;
+  point : (jobs : List Job) → g.F.FreeView.stands_for l.view jobs → IsNowOrPoint jobs l.now l.start;
+  spent : (jobs : List Job) → g.F.FreeView.stands_for l.view jobs → (tried : List ℕ) → (looks : ℕ → ℕ) →
+      HasEachBefore jobs l.horizon l.ask l.now l.start tried →
+      ((t : ℕ) → Contains tried t → CountsWithin l.horizon l.ask t →
+      IsEnoughFor l.graph.resources.vertices jobs (window_of l.horizon l.ask t) (g.F.FreeView.keeps l.view) l.ask.needs
+      (looks t)) →
+      l.steps ≤ l.initial.steps + weight_before (λ t. (looks t + 1) * g.F.FreeView.cost l.view) l.start tried;
 }
 
 abbrev pub decreases-starts : goal.decreases-starts

@@ -1,4 +1,4 @@
-use Rattle.std.proofs.Common.{rules, ℕ, ◌≡◌, ◌<◌, ◌+◌, ◌++◌, ◌∷◌, [], sym, ◌∙◌, ap, inr, refl, None, Some, length, length-append, map, arith, subst}
+use Rattle.std.proofs.Common.{rules, ◌≡◌, ◌<◌, ◌+◌, ◌++◌, ◌∷◌, [], sym, ◌∙◌, ap, inr, refl, None, Some, length, length-append, map, arith, subst}
 use Rattle.std.specs.List.{AllByRecursion}
 use Rattle.flux_defs.specs.Scheduler.{IsProper}
 use Rattle.text_table.specs.Tables.{with_text, with_texts}

@@ -1,4 +1,4 @@
-use Rattle.std.proofs.Common.{◌≡◌, ◌+◌, ◌++◌, List, drop, append_assoc, sym, ◌∙◌, ap}
+use Rattle.std.proofs.Common.{◌+◌, ◌++◌, List, drop, append_assoc, sym, ◌∙◌, ap}
 use Rattle.list_laws.proofs.Lists.{drop_here}
 use Rattle.flux_defs.specs.declared.journal.Entry.{Entry}
 use Rattle.fluxion_lines.specs.Texts.{line_text, name_of, history_text_from}

@@ -1,36 +1,44 @@
-use Rattle.std.proofs.Common.{◌≡◌, ℕ, List, Some, refl, sym, ◌∙◌, ap, subst}
+use Rattle.std.proofs.Common.{◌≤◌, length, refl, sym, ◌∙◌, ap, subst, arith}
+use Rattle.std.specs.Arc.{arc_value}
+use Rattle.std.specs.List.{AllByRecursion}
+use Rattle.flux_defs.specs.declared.journal.Script.{Script}
 use Rattle.flux_defs.specs.declared.limits.TheConstants.{SHIPPED}
-use Rattle.flux_defs.specs.declared.journal.ClientLine.{ClientLine}
-use Rattle.sched_core.specs.Played.{AreProper}
-use Rattle.fluxion_lines.specs.Inputs.{clients_of, over_in}
-use Rattle.fluxion_shell.specs.Outputs.{served_form}
-use Rattle.fluxion_shell.specs.PlayedText.{IsPlayedText}
-use Rattle.fluxion_shell.proofs.Output.{sound_output, told_over}
+use Rattle.flux_defs.specs.Scheduler.{IsProper}
+use Rattle.resource_graph.specs.NamedGraph.{NamedGraph}
+use Rattle.fluxion_lines.specs.Inputs.{over_in}
+use Rattle.fluxion_lines.proofs.ClientLaws.{numbers_apart, few_clients_within}
+use Rattle.one_history.specs.Together.{NumbersApart}
+use Rattle.fluxion_shell.specs.Calls.{served_held}
+use Rattle.fluxion_shell.proofs.Output.{held_output}
 use Rattle.fluxion_shell.proofs.answering.answer.Goals as goal
 
-pub returns-in-Err-clause-over : goal.returns-in-Err-clause-over
-returns-in-Err-clause-over c = λ over is.
-    let g = c.args.graph in
+pub played-requires-clause-few : goal.played-requires-clause-few
+played-requires-clause-few g c = λ κs l.
+    let graph = c.args.graph in
+    let form = c.args.serving.form in
     let input = c.args.input.now in
-    ap (λ l. over_in l g served_form input) (sym c.shipped-limits.ensures)
-    ∙ told_over (λ o. over_in c.shipped-limits.result g served_form input
-    ≡ Some o) c.in-Err.fault over c.in-Err.ensures.over is
+    let within = ap (λ l. over_in l graph form input) (sym c.shipped.ensures) ∙ c.in-Ok.ensures.within refl in
+    let few : length c.in-Ok.script.lines ≤ 64 =
+    subst (λ (s : Script). length s.lines ≤ 64) (sym c.in-Ok.ensures.script) (few_clients_within SHIPPED graph form input within) in
+    omega (arith, few)
 
-pub played-requires : goal.played-requires
-played-requires c =
-    subst (AreProper c.args.graph.resources.vertices) (sym c.into_vec.ensures) c.in-Ok.ensures.proper
+pub played-requires-clause-proper : goal.played-requires-clause-proper
+played-requires-clause-proper g c = λ κs l.
+    subst (λ (h : NamedGraph). AllByRecursion (λ lines. AllByRecursion (λ l. IsProper h.resources.vertices l.command) lines)
+    c.in-Ok.script.lines) (sym c.in_ok-graph.ensures.ok) c.in-Ok.ensures.proper
+
+pub played-requires-clause-apart : goal.played-requires-clause-apart
+played-requires-clause-apart g c = λ κs l.
+    subst NumbersApart (sym c.in-Ok.ensures.script) (numbers_apart c.args.graph c.args.serving.form c.args.input.now)
 
 pub returns-clause-output : goal.returns-clause-output
-returns-clause-output c =
-    let g = c.args.graph in
-    let lines = c.into_vec.ensures ∙ c.in-Ok.ensures.lines in
-    let text = c.in_ok-text.text in
-    sound_output g c.args.horizon c.args.input.now text
-    (subst (λ (ls : List ClientLine). IsPlayedText g c.args.horizon (clients_of c.args.input.now) ls text) lines
-    (subst (λ (names : List (List ℕ)). IsPlayedText g c.args.horizon names c.into_vec.result.items text)
-    c.in-Ok.ensures.clients c.in_ok-text.ensures))
-
-pub returns-clause-within : goal.returns-clause-within
-returns-clause-within c = λ _.
-    ap (λ l. over_in l c.args.graph served_form c.args.input.now) (sym c.shipped-limits.ensures)
-    ∙ c.in-Ok.ensures.within refl
+returns-clause-output g c =
+    let graph = c.args.graph in
+    let input = c.args.input.now in
+    let together = c.in_ok-clients.field-0.core in
+    let within = ap (λ l. over_in l graph c.args.serving.form input) (sym c.shipped.ensures) ∙ c.in-Ok.ensures.within refl in
+    held_output (served_held c.args.serving) graph (arc_value c.in_ok-graph.graph) c.deref.result.now input
+    c.in-Ok.script together c.in_ok-clients.field-0.clients c.entries.result.now c.in_ok-text.text c.in_ok-graph.ensures.ok c.deref.ensures
+    c.in_ok-clients.ensures.together c.in-Ok.ensures.script c.in_ok-clients.ensures.clients
+    c.entries.ensures
+    c.in_ok-text.ensures.text c.in_ok-text.ensures.lines (c.in_ok-text.ensures.few refl) within

@@ -1,7 +1,7 @@
-use Rattle.std.proofs.Common.{rules, ◌≡◌, ◌∙◌, sym, ap, subst, ◌++◌, ◌∷◌, ◌+◌, ◌*◌, ◌<◌, ◌≤◌, ◌&&◌, [], max, not, drop, arith, string_bytes, Some}
+use Rattle.std.proofs.Common.{rules, ◌≡◌, ◌∙◌, sym, ap, ◌++◌, ◌∷◌, ◌+◌, ◌&&◌, [], max, not, drop, arith, string_bytes, Some}
 use Rattle.std.proofs.lemmas.List.{drop_all}
 use Rattle.std.specs.Option.{option_or}
-use Rattle.serde_json.specs.Data.{depth, items_depth, members_depth}
+use Rattle.serde_json.specs.Data.{depth, members_depth}
 use Rattle.serde_json.specs.View.{view, items_view, members_view}
 use Rattle.serde_json.proofs.Views.{Entry}
 use Rattle.json_fields.specs.Paths.{index}

@@ -3,16 +3,16 @@ use Rattle.overtaken_check.specs.Scans.{AcceptsInWay}
 use Rattle.overtaken_check.proofs.Walks.{tells_none, tells_some, tells_along, to_block, from_block}
 use Rattle.overtaken_check.proofs.entries.blocks_at.Goals as goal
 
-pub returns-in-None : goal.returns-in-None
-returns-in-None g c =
+pub returns-in-None-clause-answer : goal.returns-in-None-clause-answer
+returns-in-None-clause-answer g c =
     let vs = c.args.graph.now.resources.vertices in
     let journal = c.args.journal.now in
     tells_along false (to_block vs c.args.window c.args.claim journal c.args.at)
     (from_block vs c.args.window c.args.claim journal c.args.at)
     (tells_none journal c.args.at (AcceptsInWay vs c.args.window c.args.claim) c.in-None.ensures.value)
 
-pub returns-in-Some : goal.returns-in-Some
-returns-in-Some g c =
+pub returns-in-Some-clause-answer : goal.returns-in-Some-clause-answer
+returns-in-Some-clause-answer g c =
     let vs = c.args.graph.now.resources.vertices in
     let journal = c.args.journal.now in
     tells_along c.accepts_in_way.result (to_block vs c.args.window c.args.claim journal c.args.at)

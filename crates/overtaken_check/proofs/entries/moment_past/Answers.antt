@@ -3,8 +3,8 @@ use Rattle.flux_defs.specs.declared.journal.Entry.{Entry}
 use Rattle.overtaken_check.proofs.Walks.{told_along, moment_next, to_delay, from_delay}
 use Rattle.overtaken_check.proofs.entries.moment_past.Goals as goal
 
-pub returns : goal.returns
-returns g c =
+pub returns-clause-answer : goal.returns-clause-answer
+returns-clause-answer g c =
     let journal = c.args.journal.now in
     let at = c.args.at in
     let last = c.args.last in

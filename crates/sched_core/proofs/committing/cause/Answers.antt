@@ -1,12 +1,10 @@
-use Rattle.std.proofs.Common.{List, refl, sym, ◌∙◌, ap, subst}
-use Rattle.flux_defs.specs.declared.claims.Job.{Job}
-use Rattle.flux_defs.specs.declared.vertices.Vertex.{Vertex}
+use Rattle.std.proofs.Common.{refl, sym, ◌∙◌, ap, subst}
 use Rattle.flux_defs.specs.Histories.{state_at}
 use Rattle.flux_defs.specs.Scheduler.{State}
 use Rattle.resource_graph.specs.NamedGraph.{NamedGraph}
 use Rattle.book_state.specs.Books.{StandsFor}
 use Rattle.overtaken_check.specs.Scans.{MayBeFound}
-use Rattle.sched_core.specs.Courses.{left_by, journal_in, setting_in, vertices_at, graph_at}
+use Rattle.sched_core.specs.Courses.{journal_in, setting_in}
 use Rattle.sched_core.proofs.Committed.{now_left, may_be_found}
 use Rattle.sched_core.proofs.committing.cause.Goals as goal
 
@@ -26,7 +24,7 @@ overtaken-requires g c =
           c.requires.found);
     }
 
-pub returns : goal.returns
-returns g c =
-    c.overtaken.ensures (setting_in c.args.site.now c.args.kept.now)
+pub returns-clause-answer : goal.returns-clause-answer
+returns-clause-answer g c =
+    c.overtaken.ensures.answer (setting_in c.args.site.now c.args.kept.now)
     (ap (λ n. n.resources.vertices) (sym c.deref.ensures)) refl

@@ -2,7 +2,6 @@ use Rattle.std.proofs.Common.{ℕ, inl, inr, refl, sym, ◌∙◌, subst, true�
 use Rattle.std.specs.Arc.{arc_value}
 use Rattle.flux_defs.specs.declared.journal.Reply.{Reply}
 use Rattle.flux_defs.specs.Histories.{state_at}
-use Rattle.resource_graph.specs.NamedGraph.{NamedGraph}
 use Rattle.book_state.specs.Books.{rules_of}
 use Rattle.sched_core.specs.Courses.{left_by, journal_in, setting_in, setting_of}
 use Rattle.sched_core.specs.Answered.{none_at, IsOfJob, Answers}
@@ -18,12 +17,12 @@ give-requires g c =
     (of_job (setting_in site kept) (state_at (journal_in kept) c.args.place) c.args.id c.args.ask.now c.args.starts
     c.args.verdict c.requires.found)
 
-pub returns-then-is_used : goal.returns-then-is_used
-returns-then-is_used g c =
-    inl ((c.is_used.ensures (journal_in c.args.kept.now) c.requires.core.book-of).0 c.if-is_used.true, refl)
+pub returns-then-is_used-clause-answer : goal.returns-then-is_used-clause-answer
+returns-then-is_used-clause-answer g c =
+    inl ((c.is_used.ensures.answer (journal_in c.args.kept.now) c.requires.core.book-of).0 c.if-is_used.true, refl)
 
-pub returns : goal.returns
-returns g c =
+pub returns-clause-answer : goal.returns-clause-answer
+returns-clause-answer g c =
     let site = c.args.site.now in
     let kept = c.args.kept.now in
     let core = c.requires.core in
@@ -36,7 +35,7 @@ returns g c =
     let id = c.args.id in
     let ask = c.args.ask.now in
     let none = none_at c.args.starts in
-    let tells = c.is_used.ensures j core.book-of in
+    let tells = c.is_used.ensures.answer j core.book-of in
     let unused : Contains s.used id → ⊥ = λ h. true≢false (sym (tells.1 h) ∙ c.if-is_used.false) in
     let given = c.give.ensures graph rules s (sym c.reached.ensures.moment) (sym c.reached.ensures.claim_count) in
     let by_none = subst (λ (r : Reply). Answers

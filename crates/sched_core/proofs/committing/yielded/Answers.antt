@@ -1,7 +1,5 @@
 use Rattle.std.proofs.Common.{sym, subst}
 use Rattle.flux_defs.specs.declared.journal.Command.{Command}
-use Rattle.flux_defs.specs.declared.journal.Command.TheVariants as command
-use Rattle.flux_defs.specs.declared.verdicts.Verdict.{Verdict}
 use Rattle.flux_defs.specs.Histories.{state_at}
 use Rattle.flux_defs.specs.Verdicts.{Finds, Yields}
 use Rattle.sched_core.specs.Courses.{left_by, journal_in, setting_in}
@@ -29,16 +27,16 @@ yield_job-requires-in-Reserve g c =
           c.in-Reserve.is c.requires.found;
     }
 
-pub returns-in-Allocate : goal.returns-in-Allocate
-returns-in-Allocate g c =
+pub returns-in-Allocate-clause-answer : goal.returns-in-Allocate-clause-answer
+returns-in-Allocate-clause-answer g c =
     let site = c.args.site.now in
     let kept = c.args.kept.now in
     subst (λ (k : Command). Yields (setting_in site kept) (left_by (journal_in kept)) k c.args.verdict
-    c.yield_job.result) (sym c.in-Allocate.is) c.yield_job.ensures
+    c.yield_job.result) (sym c.in-Allocate.is) c.yield_job.ensures.answer
 
-pub returns-in-Reserve : goal.returns-in-Reserve
-returns-in-Reserve g c =
+pub returns-in-Reserve-clause-answer : goal.returns-in-Reserve-clause-answer
+returns-in-Reserve-clause-answer g c =
     let site = c.args.site.now in
     let kept = c.args.kept.now in
     subst (λ (k : Command). Yields (setting_in site kept) (left_by (journal_in kept)) k c.args.verdict
-    c.yield_job-in-Reserve.result) (sym c.in-Reserve.is) c.yield_job-in-Reserve.ensures
+    c.yield_job-in-Reserve.result) (sym c.in-Reserve.is) c.yield_job-in-Reserve.ensures.answer

@@ -21,7 +21,7 @@ give-requires g c =
     let ask = c.args.ask.now in
     let set : NamedGraph → Setting = λ n. setting_of n.resources (rules_of kept.book) site.horizon site.claim_limit in
     let finds = subst (λ (n : NamedGraph). FindsJob (set n) s id ask (FindsAt c.args.starts (set n) s ask) v)
-    c.deref.ensures (c.in_ok-verdict.ensures (rules_of kept.book) site.claim_limit (journal_in kept) core.book-of)
+    c.deref.ensures (c.in_ok-verdict.ensures.found (rules_of kept.book) site.claim_limit (journal_in kept) core.book-of)
     in
     subst (λ (h : ℕ). IsOfJob h ask v) (sym c.reached.ensures.horizon)
     (of_job (setting_in site kept) s id ask c.args.starts v finds)
@@ -40,7 +40,7 @@ returns g c =
     let none = none_at c.args.starts in
     let set : NamedGraph → Setting = λ n. setting_of n.resources rules site.horizon site.claim_limit in
     let finds = subst (λ (n : NamedGraph). FindsJob (set n) s id ask (FindsAt c.args.starts (set n) s ask) v)
-    c.deref.ensures (c.in_ok-verdict.ensures rules site.claim_limit (journal_in kept) core.book-of) in
+    c.deref.ensures (c.in_ok-verdict.ensures.found rules site.claim_limit (journal_in kept) core.book-of) in
     let given = c.give.ensures graph rules s (sym c.reached.ensures.moment) (sym c.reached.ensures.claim_count) in
     let by_none = subst (λ (r : Reply). Answers
     (setting_of graph rules c.reached.result.horizon c.reached.result.claim_limit) s id ask r v c.give.result)

@@ -1,6 +1,4 @@
 use Rattle.std.proofs.Common.{refl}
-use Rattle.sched_core.specs.declared.held.Site.{Site}
-use Rattle.sched_core.specs.declared.held.Kept.{Kept}
 use Rattle.sched_core.proofs.SharedCore.{same_setting, shared_core}
 use Rattle.sched_core.proofs.sharing.shared.Goals as goal
 

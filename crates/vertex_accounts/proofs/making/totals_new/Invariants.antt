@@ -11,6 +11,7 @@ invariant-loop-name g l = record {
   len : length l.totals.items ≡ l.kind;
   accounts : (kind : ℕ) (entry : Option (Account _)) → slice_get l.totals.items kind ≡ Some entry → IsFirst g.P.Planner.total_of g.P.Planner.stands_for l.graph.resources.vertices kind entry;
   counted : (kind : ℕ) (name : List ℕ) → kind < l.kind → slice_get l.graph.resources.kinds kind ≡ Some name → IsCounted l.rules name → (account : Account _) × (slice_get l.totals.items kind ≡ Some (Some account));
+  only : (kind : ℕ) (account : Account _) → slice_get l.totals.items kind ≡ Some (Some account) → (name : List ℕ) × (slice_get l.graph.resources.kinds kind ≡ Some name) × IsCounted l.rules name;
 }
 
 abbrev pub decreases-loop-name : goal.decreases-loop-name

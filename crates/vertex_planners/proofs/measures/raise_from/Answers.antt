@@ -1,10 +1,11 @@
-use Rattle.std.proofs.Common.{◌+◌, ◌<◌, ℕ, List, Some, length, sym, ◌∙◌, ap, subst}
+use Rattle.std.proofs.Common.{◌+◌, ◌<◌, ℕ, List, Some, length, sym, ◌∙◌, ap, subst, arith}
 use Rattle.flux_defs.specs.declared.vertices.Vertex.{Vertex}
 use Rattle.flux_defs.specs.Graph.{chain}
 use Rattle.graph_laws.proofs.Preorder.{parents_first}
 use Rattle.vertex_planners.specs.Numbers.{amount_at, HasKeysBelow}
 use Rattle.vertex_planners.specs.Chains.{sum_on, ParentsIn}
 use Rattle.vertex_planners.proofs.ClaimSums.{once_above, parents_in, none_more}
+use Rattle.vertex_planners.proofs.Counts.{item_at}
 use Rattle.vertex_planners.proofs.measures.raise_from.Goals as goal
 
 pub returns-then-more-eq0-clause-sums : goal.returns-then-more-eq0-clause-sums
@@ -29,3 +30,12 @@ returns-clause-keys c = λ within keys.
     (subst ParentsIn (sym same) (parents_in g.vertices (parents_first g c.vertices.ensures.valid.valid.preorder)))
     (subst (λ (most : ℕ). c.args.vertex < most) (sym n) within)
     (subst (λ (most : ℕ). HasKeysBelow most c.args.amounts.now) (sym n) keys))
+
+pub returns-clause-few : goal.returns-clause-few
+returns-clause-few c = λ within.
+    let g = c.args.graph.now.resources in
+    let same = ap (λ (vs : List Vertex). length (chain vs (length vs) (Some c.args.vertex))) (c.items-vertices.ensures ∙ c.vertices.ensures.value) in
+    let (x, at) = item_at g.vertices c.args.vertex within in
+    let shallow = c.vertices.ensures.valid.valid.shallow c.args.vertex x at in
+    let few = c.in_ok-raise.ensures.few in
+    omega (arith, same, shallow, few)

@@ -1,20 +1,19 @@
-use Rattle.std.proofs.Common.{◌<◌, ◌++◌, ◌∷◌, [], ℕ, List, length, sym, ◌∙◌, ap, subst}
+use Rattle.std.proofs.Common.{◌<◌, ◌++◌, ◌∷◌, [], length, sym, ◌∙◌, ap, subst, ◌+◌, ◌*◌, ◌≤◌, arith}
 use Rattle.std.specs.List.{AllByRecursion}
-use Rattle.std.specs.Arc.{arc_value}
-use Rattle.std.specs.FinMap.{insert}
+use Rattle.std.specs.FinMap.{insert, len}
 use Rattle.flux_defs.specs.declared.claims.Job.{Job}
 use Rattle.flux_defs.specs.Jobs.{vertex_of}
 use Rattle.resource_graph.specs.NamedGraph.{NamedGraph}
 use Rattle.job_table.specs.Rows.{live_row}
-use Rattle.book_laws.specs.TotalLaws.{AreFair}
 use Rattle.planner_min_tree.specs.Plans as Plans
 use Rattle.planner_min_tree.specs.Plans.{Plan}
 use Rattle.vertex_accounts.specs.declared.books.Accounts.{Accounts}
-use Rattle.vertex_accounts.specs.Books.{AreAccounts, KeepsKind}
+use Rattle.vertex_accounts.specs.Books.{AreAccounts, KeepsKind, kept_count}
 use Rattle.book_state.specs.declared.held.Kept.{Kept}
-use Rattle.book_state.specs.Books.{graph_of, vertices_of, rules_of, rows_of, accounts_of, StandsFor, StandsIn}
+use Rattle.book_state.specs.Books.{graph_of, rules_of, rows_of, accounts_of}
 use Rattle.book_state.proofs.BookLaws.{moved, added}
-use Rattle.book_state.proofs.ViewLaws.{accounts_at, fair_with}
+use Rattle.book_state.proofs.ViewLaws.{accounts_at, fair_with, change_at}
+use Rattle.flux_defs.specs.Digits.{dig}
 use Rattle.book_state.proofs.held.BookState.after_add.Goals as goal
 
 pub with_job-requires-clause-on_graph : goal.with_job-requires-clause-on_graph
@@ -45,7 +44,8 @@ returns-clause-jobs g c = λ jobs x.
     (c.in_ok-try_clone.ensures ∙ ap graph_of c.self.view_is) (c.in_ok-try_clone-2.ensures ∙ ap rules_of c.self.view_is) c.in_ok-new.ensures.ok
     (c.in_ok-with_new.ensures.added ∙ ap (λ (b : Kept). insert (rows_of b) job.id (live_row c.args.at)) c.self.view_is)
     (added (graph_of k) (rules_of k) (accounts_of k) new (rows_of k) jobs job c.args.at c.requires.fresh acc
-    (λ kind h. c.in_ok-accounts.ensures.kinds kind (subst (λ (a : Accounts Plan). KeepsKind a kind) (sym ea) h)) x)
+    (λ kind h. c.in_ok-accounts.ensures.kinds kind (subst (λ (a : Accounts Plan). KeepsKind a kind) (sym ea) h))
+    (c.in_ok-accounts.ensures.types ∙ ap (λ (a : Accounts Plan). kept_count a.totals) ea) x)
 
 pub invariant_of-result : goal.invariant_of-result
 invariant_of-result g c =
@@ -63,5 +63,38 @@ invariant_of-result g c =
           (c.in_ok-try_clone.ensures ∙ ap graph_of c.self.view_is) (c.in_ok-try_clone-2.ensures ∙ ap rules_of c.self.view_is) c.in_ok-new.ensures.ok
           (c.in_ok-with_new.ensures.added ∙ ap (λ (b : Kept). insert (rows_of b) job.id (live_row c.args.at)) c.self.view_is)
           (added (graph_of k) (rules_of k) (accounts_of k) new (rows_of k) jobs job c.args.at c.requires.fresh acc
-          (λ kind h. c.in_ok-accounts.ensures.kinds kind (subst (λ (a : Accounts Plan). KeepsKind a kind) (sym ea) h)) x),
+          (λ kind h. c.in_ok-accounts.ensures.kinds kind (subst (λ (a : Accounts Plan). KeepsKind a kind) (sym ea) h))
+          (c.in_ok-accounts.ensures.types ∙ ap (λ (a : Accounts Plan). kept_count a.totals) ea) x),
     )
+
+pub returns-in_err-accounts-clause-work : goal.returns-in_err-accounts-clause-work
+returns-in_err-accounts-clause-work g c =
+    change_at c.graph-graph.result.now c.accounts-old.result.now c.args.self.now c.graph-graph.ensures.value c.accounts-old.ensures.value c.accounts-old.ensures.book c.graph-graph.ensures.valid
+    (length c.args.job.now.claims) c.args.steps.now c.with_job.new.steps c.with_job.new.steps c.with_job.ensures.work (omega arith)
+
+pub returns-in_err-try_clone-clause-work : goal.returns-in_err-try_clone-clause-work
+returns-in_err-try_clone-clause-work g c =
+    change_at c.graph-graph.result.now c.accounts-old.result.now c.args.self.now c.graph-graph.ensures.value c.accounts-old.ensures.value c.accounts-old.ensures.book c.graph-graph.ensures.valid
+    (length c.args.job.now.claims) c.args.steps.now c.with_job.new.steps c.with_job.new.steps c.with_job.ensures.work (omega arith)
+
+pub returns-in_err-try_clone-2-clause-work : goal.returns-in_err-try_clone-2-clause-work
+returns-in_err-try_clone-2-clause-work g c =
+    change_at c.graph-graph.result.now c.accounts-old.result.now c.args.self.now c.graph-graph.ensures.value c.accounts-old.ensures.value c.accounts-old.ensures.book c.graph-graph.ensures.valid
+    (length c.args.job.now.claims) c.args.steps.now c.with_job.new.steps c.with_job.new.steps c.with_job.ensures.work (omega arith)
+
+pub returns-in_err-new-clause-work : goal.returns-in_err-new-clause-work
+returns-in_err-new-clause-work g c =
+    change_at c.graph-graph.result.now c.accounts-old.result.now c.args.self.now c.graph-graph.ensures.value c.accounts-old.ensures.value c.accounts-old.ensures.book c.graph-graph.ensures.valid
+    (length c.args.job.now.claims) c.args.steps.now c.with_job.new.steps c.with_job.new.steps c.with_job.ensures.work (omega arith)
+
+pub returns-in_err-with_new-clause-work : goal.returns-in_err-with_new-clause-work
+returns-in_err-with_new-clause-work g c =
+    change_at c.graph-graph.result.now c.accounts-old.result.now c.args.self.now c.graph-graph.ensures.value c.accounts-old.ensures.value c.accounts-old.ensures.book c.graph-graph.ensures.valid
+    (length c.args.job.now.claims) c.args.steps.now c.with_job.new.steps c.with_new.new.steps c.with_job.ensures.work
+    (subst (λ (b : Kept). c.with_new.new.steps ≤ c.with_job.new.steps + 256 * dig (len (rows_of b) + 2)) c.self.view_is c.with_new.ensures.work)
+
+pub returns-clause-work : goal.returns-clause-work
+returns-clause-work g c =
+    change_at c.graph-graph.result.now c.accounts-old.result.now c.args.self.now c.graph-graph.ensures.value c.accounts-old.ensures.value c.accounts-old.ensures.book c.graph-graph.ensures.valid
+    (length c.args.job.now.claims) c.args.steps.now c.with_job.new.steps c.with_new.new.steps c.with_job.ensures.work
+    (subst (λ (b : Kept). c.with_new.new.steps ≤ c.with_job.new.steps + 256 * dig (len (rows_of b) + 2)) c.self.view_is c.with_new.ensures.work)

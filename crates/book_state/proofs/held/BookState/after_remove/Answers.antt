@@ -1,5 +1,5 @@
-use Rattle.std.proofs.Common.{◌≡◌, ◌++◌, ◌∷◌, ℕ, List, Some, sym, ◌∙◌, ap, subst}
-use Rattle.std.specs.FinMap.{get, insert}
+use Rattle.std.proofs.Common.{◌≡◌, ◌++◌, ◌∷◌, Some, sym, ◌∙◌, ap, subst, ◌+◌, ◌*◌, ◌≤◌, length, arith}
+use Rattle.std.specs.FinMap.{get, insert, len}
 use Rattle.flux_defs.specs.declared.claims.Job.{Job}
 use Rattle.flux_defs.specs.Scheduler.{without_job}
 use Rattle.resource_graph.specs.NamedGraph.{NamedGraph}
@@ -7,13 +7,14 @@ use Rattle.job_table.specs.Rows.{live_row, cancelled_row}
 use Rattle.planner_min_tree.specs.Plans as Plans
 use Rattle.planner_min_tree.specs.Plans.{Plan}
 use Rattle.vertex_accounts.specs.declared.books.Accounts.{Accounts}
-use Rattle.vertex_accounts.specs.Books.{AreAccounts, KeepsKind, IsOnGraph}
+use Rattle.vertex_accounts.specs.Books.{AreAccounts, KeepsKind, IsOnGraph, kept_count}
 use Rattle.vertex_accounts.proofs.JoinLaws.{middle_of}
 use Rattle.book_state.specs.declared.held.Kept.{Kept}
 use Rattle.book_state.specs.Books.{graph_of, vertices_of, rules_of, rows_of, accounts_of, StandsFor}
 use Rattle.book_state.proofs.BookLaws.{moved, moved_to, removed, split_at}
 use Rattle.book_state.proofs.TieLaws.{without_middle}
-use Rattle.book_state.proofs.ViewLaws.{accounts_at}
+use Rattle.book_state.proofs.ViewLaws.{accounts_at, change_at}
+use Rattle.flux_defs.specs.Digits.{dig}
 use Rattle.book_state.proofs.held.BookState.after_remove.Goals as goal
 
 pub without_job-requires-clause-on_graph : goal.without_job-requires-clause-on_graph
@@ -49,7 +50,8 @@ returns-clause-once g c = λ before after x.
     (c.in_ok-with_cancelled.ensures.cancelled at (subst (λ (b : Kept). get (rows_of b) job.id ≡ Some (live_row at)) (sym c.self.view_is) live)
     ∙ ap (λ (b : Kept). insert (rows_of b) job.id (cancelled_row at)) c.self.view_is)
     (removed (graph_of k) (rules_of k) (accounts_of k) new (rows_of k) before job after at live acc
-    (λ kind h. c.in_ok-accounts.ensures.kinds kind (subst (λ (a : Accounts Plan). KeepsKind a kind) (sym ea) h)) x)
+    (λ kind h. c.in_ok-accounts.ensures.kinds kind (subst (λ (a : Accounts Plan). KeepsKind a kind) (sym ea) h))
+    (c.in_ok-accounts.ensures.types ∙ ap (λ (a : Accounts Plan). kept_count a.totals) ea) x)
 
 pub returns-clause-jobs : goal.returns-clause-jobs
 returns-clause-jobs g c = λ jobs y has.
@@ -69,7 +71,8 @@ returns-clause-jobs g c = λ jobs y has.
     (c.in_ok-with_cancelled.ensures.cancelled at (subst (λ (b : Kept). get (rows_of b) job.id ≡ Some (live_row at)) (sym c.self.view_is) live)
     ∙ ap (λ (b : Kept). insert (rows_of b) job.id (cancelled_row at)) c.self.view_is)
     (removed (graph_of k) (rules_of k) (accounts_of k) new (rows_of k) before job after at live acc
-    (λ kind h. c.in_ok-accounts.ensures.kinds kind (subst (λ (a : Accounts Plan). KeepsKind a kind) (sym ea) h)) x)
+    (λ kind h. c.in_ok-accounts.ensures.kinds kind (subst (λ (a : Accounts Plan). KeepsKind a kind) (sym ea) h))
+    (c.in_ok-accounts.ensures.types ∙ ap (λ (a : Accounts Plan). kept_count a.totals) ea) x)
 
 pub invariant_of-result : goal.invariant_of-result
 invariant_of-result g c =
@@ -90,5 +93,38 @@ invariant_of-result g c =
           (c.in_ok-with_cancelled.ensures.cancelled at (subst (λ (b : Kept). get (rows_of b) job.id ≡ Some (live_row at)) (sym c.self.view_is) live)
           ∙ ap (λ (b : Kept). insert (rows_of b) job.id (cancelled_row at)) c.self.view_is)
           (removed (graph_of k) (rules_of k) (accounts_of k) new (rows_of k) before job after at live acc
-          (λ kind h. c.in_ok-accounts.ensures.kinds kind (subst (λ (a : Accounts Plan). KeepsKind a kind) (sym ea) h)) x),
+          (λ kind h. c.in_ok-accounts.ensures.kinds kind (subst (λ (a : Accounts Plan). KeepsKind a kind) (sym ea) h))
+          (c.in_ok-accounts.ensures.types ∙ ap (λ (a : Accounts Plan). kept_count a.totals) ea) x),
     )
+
+pub returns-in_err-accounts-clause-work : goal.returns-in_err-accounts-clause-work
+returns-in_err-accounts-clause-work g c =
+    change_at c.graph-graph.result.now c.accounts-old.result.now c.args.self.now c.graph-graph.ensures.value c.accounts-old.ensures.value c.accounts-old.ensures.book c.graph-graph.ensures.valid
+    (length c.args.job.now.claims) c.args.steps.now c.without_job.new.steps c.without_job.new.steps c.without_job.ensures.work (omega arith)
+
+pub returns-in_err-try_clone-clause-work : goal.returns-in_err-try_clone-clause-work
+returns-in_err-try_clone-clause-work g c =
+    change_at c.graph-graph.result.now c.accounts-old.result.now c.args.self.now c.graph-graph.ensures.value c.accounts-old.ensures.value c.accounts-old.ensures.book c.graph-graph.ensures.valid
+    (length c.args.job.now.claims) c.args.steps.now c.without_job.new.steps c.without_job.new.steps c.without_job.ensures.work (omega arith)
+
+pub returns-in_err-try_clone-2-clause-work : goal.returns-in_err-try_clone-2-clause-work
+returns-in_err-try_clone-2-clause-work g c =
+    change_at c.graph-graph.result.now c.accounts-old.result.now c.args.self.now c.graph-graph.ensures.value c.accounts-old.ensures.value c.accounts-old.ensures.book c.graph-graph.ensures.valid
+    (length c.args.job.now.claims) c.args.steps.now c.without_job.new.steps c.without_job.new.steps c.without_job.ensures.work (omega arith)
+
+pub returns-in_err-new-clause-work : goal.returns-in_err-new-clause-work
+returns-in_err-new-clause-work g c =
+    change_at c.graph-graph.result.now c.accounts-old.result.now c.args.self.now c.graph-graph.ensures.value c.accounts-old.ensures.value c.accounts-old.ensures.book c.graph-graph.ensures.valid
+    (length c.args.job.now.claims) c.args.steps.now c.without_job.new.steps c.without_job.new.steps c.without_job.ensures.work (omega arith)
+
+pub returns-in_err-with_cancelled-clause-work : goal.returns-in_err-with_cancelled-clause-work
+returns-in_err-with_cancelled-clause-work g c =
+    change_at c.graph-graph.result.now c.accounts-old.result.now c.args.self.now c.graph-graph.ensures.value c.accounts-old.ensures.value c.accounts-old.ensures.book c.graph-graph.ensures.valid
+    (length c.args.job.now.claims) c.args.steps.now c.without_job.new.steps c.with_cancelled.new.steps c.without_job.ensures.work
+    (subst (λ (b : Kept). c.with_cancelled.new.steps ≤ c.without_job.new.steps + 256 * dig (len (rows_of b) + 2)) c.self.view_is c.with_cancelled.ensures.work)
+
+pub returns-clause-work : goal.returns-clause-work
+returns-clause-work g c =
+    change_at c.graph-graph.result.now c.accounts-old.result.now c.args.self.now c.graph-graph.ensures.value c.accounts-old.ensures.value c.accounts-old.ensures.book c.graph-graph.ensures.valid
+    (length c.args.job.now.claims) c.args.steps.now c.without_job.new.steps c.with_cancelled.new.steps c.without_job.ensures.work
+    (subst (λ (b : Kept). c.with_cancelled.new.steps ≤ c.without_job.new.steps + 256 * dig (len (rows_of b) + 2)) c.self.view_is c.with_cancelled.ensures.work)

@@ -1,4 +1,4 @@
-use Rattle.std.proofs.Common.{[], sym, arith}
+use Rattle.std.proofs.Common.{[], sym}
 use Rattle.std.specs.Arc.{arc_value}
 use Rattle.std.specs.FinMap.{empty}
 use Rattle.book_state.proofs.BookLaws.{moved, none_stands}
@@ -9,11 +9,11 @@ invariant_of-result c = (
   [],
   moved c.deref.result.now (arc_value c.args.graph) c.args.rules (arc_value c.in_ok-new.field-0) c.in_ok-accounts.accounts (arc_value c.in_ok-new-2.field-0) empty c.empty.result []
       (sym c.deref.ensures) c.in_ok-new.ensures.ok c.in_ok-new-2.ensures.ok c.empty.ensures
-      (none_stands c.deref.result.now c.args.rules c.in_ok-accounts.accounts c.in_ok-accounts.ensures.accounts c.in_ok-accounts.ensures.kinds),
+      (none_stands c.deref.result.now c.args.rules c.in_ok-accounts.accounts c.in_ok-accounts.ensures.accounts c.in_ok-accounts.ensures.kinds c.in_ok-accounts.ensures.types),
 )
 
 pub returns-clause-jobs : goal.returns-clause-jobs
 returns-clause-jobs c =
     moved c.deref.result.now (arc_value c.args.graph) c.args.rules (arc_value c.in_ok-new.field-0) c.in_ok-accounts.accounts (arc_value c.in_ok-new-2.field-0) empty c.empty.result []
     (sym c.deref.ensures) c.in_ok-new.ensures.ok c.in_ok-new-2.ensures.ok c.empty.ensures
-    (none_stands c.deref.result.now c.args.rules c.in_ok-accounts.accounts c.in_ok-accounts.ensures.accounts c.in_ok-accounts.ensures.kinds)
+    (none_stands c.deref.result.now c.args.rules c.in_ok-accounts.accounts c.in_ok-accounts.ensures.accounts c.in_ok-accounts.ensures.kinds c.in_ok-accounts.ensures.types)

@@ -1,4 +1,4 @@
-use Rattle.std.proofs.Common.{◌+◌, ◌≤◌, ◌↔◌, ℕ, IsTrue, arith}
+use Rattle.std.proofs.Common.{arith}
 use Rattle.flux_defs.specs.Free.{IsFreeOver}
 use Rattle.book_state.proofs.ViewLaws.{graph_at, answer_at, inside_at, work_at}
 use Rattle.book_state.proofs.view.BookStateFreeView.free_over.Goals as goal

@@ -1,4 +1,4 @@
-use Rattle.std.proofs.Common.{◌+◌, ◌*◌, ◌≤◌, ℕ, IfSome, arith}
+use Rattle.std.proofs.Common.{◌+◌, ◌*◌, IfSome, arith}
 use Rattle.std.specs.FinMap.{len}
 use Rattle.flux_defs.specs.Free.{IsTotalOver}
 use Rattle.flux_defs.proofs.DigitLaws.{some_dig}

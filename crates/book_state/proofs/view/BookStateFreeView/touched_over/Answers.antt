@@ -1,4 +1,4 @@
-use Rattle.std.proofs.Common.{◌+◌, ◌≤◌, ◌↔◌, ℕ, IsTrue, arith}
+use Rattle.std.proofs.Common.{◌↔◌, IsTrue, arith}
 use Rattle.flux_defs.specs.Closed.{IsTouchedOver}
 use Rattle.book_state.proofs.ViewLaws.{graph_at, answer_at, inside_at, work_at}
 use Rattle.book_state.proofs.view.BookStateFreeView.touched_over.Goals as goal

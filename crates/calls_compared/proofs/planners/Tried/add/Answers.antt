@@ -1,4 +1,4 @@
-use Rattle.std.proofs.Common.{◌≡◌, ℕ, ◌≤◌, [], ◌∷◌, ◌++◌, append-nil, subst, sym, arith}
+use Rattle.std.proofs.Common.{◌≡◌, [], ◌++◌, append-nil, subst, sym, arith}
 use Rattle.planner_points.specs.Lists.{AreSame}
 use Rattle.planner_min_tree.specs.Plans.{StandsFor}
 use Rattle.calls_compared.proofs.planners.Tried.add.Goals as goal

@@ -1,7 +1,7 @@
-use Rattle.std.proofs.Common.{◌≡◌, ℕ, ◌<◌, ◌∷◌, ◌++◌, ◌∙◌, length, subst, sym, arith}
+use Rattle.std.proofs.Common.{◌<◌, ◌∙◌, length, subst, sym, arith}
 use Rattle.planner_points.specs.Lists.{AreSame}
 use Rattle.planner_min_tree.specs.Plans.{StandsFor}
-use Rattle.calls_compared.proofs.SpanLaws.{split}
+use Rattle.calls_compared.proofs.Places.{split}
 use Rattle.calls_compared.proofs.planners.Tried.remove.Goals as goal
 
 pub without_span-requires-clause-span : goal.without_span-requires-clause-span

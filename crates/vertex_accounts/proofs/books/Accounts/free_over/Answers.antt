@@ -1,4 +1,4 @@
-use Rattle.std.proofs.Common.{◌+◌, ◌≤◌, ℕ, length, sym, ◌∙◌, subst, arith, true≢false}
+use Rattle.std.proofs.Common.{length, sym, ◌∙◌, subst, arith, true≢false}
 use Rattle.book_laws.specs.Grouped.{grouped}
 use Rattle.planner_points.specs.Spans.{IsLeastFree}
 use Rattle.book_laws.proofs.Views.{free_closed, free_pool, free_plain}

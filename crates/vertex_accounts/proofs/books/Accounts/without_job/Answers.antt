@@ -1,11 +1,13 @@
-use Rattle.std.proofs.Common.{◌+◌, ◌-◌, ◌≤◌, ◌∷◌, ◌++◌, ℕ, List, Option, length, slice_get, sym, ◌∙◌, ap, subst, arith}
-use Rattle.planner_points.specs.declared.spans.Span.{Span}
+use Rattle.std.proofs.Common.{◌-◌, ◌∷◌, List, Option, length, slice_get, sym, ◌∙◌, ap, subst, arith, ◌*◌}
 use Rattle.book_laws.specs.Grouped.{times_of}
 use Rattle.book_laws.proofs.GroupedLaws.{times_append}
 use Rattle.vertex_planners.specs.Kept.{AtEach}
 use Rattle.vertex_accounts.specs.declared.accounts.Account.{Account}
-use Rattle.vertex_accounts.specs.Books.{Leaves, Becomes}
+use Rattle.vertex_accounts.specs.Books.{Leaves, Becomes, kept_count}
 use Rattle.vertex_accounts.proofs.JoinLaws.{left, kinds_stay}
+use Rattle.vertex_accounts.specs.declared.quantities.Quantity.TheVariants.{Holds, Claims, Takes}
+use Rattle.vertex_accounts.specs.Costs.{account_most}
+use Rattle.vertex_accounts.proofs.WorkLaws.{of_quantity, same_count}
 use Rattle.vertex_accounts.proofs.books.Accounts.without_job.Goals as goal
 
 pub totals_without-requires-clause-graph : goal.totals_without-requires-clause-graph
@@ -43,3 +45,73 @@ returns-clause-kinds g c = λ kind has.
     let vertices = c.args.graph.now.resources.vertices in
     kinds_stay g.P.Planner.total_of g.P.Planner.stands_for (Leaves g.P.Planner.total_of g.P.Planner.stands_for vertices c.args.job.now) c.items.result.now c.in_ok-totals.totals c.in_ok-totals.ensures.len c.in_ok-totals.ensures.each kind
     (has.0, ap (λ (xs : List (Option (Account g.row.P.Denot))). slice_get xs kind) c.items.ensures ∙ has.1)
+
+pub returns-in_err-holds-clause-work : goal.returns-in_err-holds-clause-work
+returns-in_err-holds-clause-work g c = λ most within.
+    let (before, after, is) = c.requires.there in
+    let n = length c.args.graph.now.resources.vertices in
+    let so_many = length c.args.job.now.claims in
+    let holds = of_quantity n most so_many _ _ c.args.self.now.holds.quantity Holds is.graph.holds.1 (c.in_err-holds.ensures.work most within.holds) in
+    omega (arith, holds)
+
+pub returns-in_err-claims-clause-work : goal.returns-in_err-claims-clause-work
+returns-in_err-claims-clause-work g c = λ most within.
+    let (before, after, is) = c.requires.there in
+    let n = length c.args.graph.now.resources.vertices in
+    let so_many = length c.args.job.now.claims in
+    let holds = of_quantity n most so_many _ _ c.args.self.now.holds.quantity Holds is.graph.holds.1 (c.in_ok-holds.ensures.work most within.holds) in
+    let claims = of_quantity n most so_many _ _ c.args.self.now.claims.quantity Claims is.graph.claims.1 (c.in_err-claims.ensures.work most within.claims) in
+    omega (arith, holds, claims)
+
+pub returns-in_err-takes-clause-work : goal.returns-in_err-takes-clause-work
+returns-in_err-takes-clause-work g c = λ most within.
+    let (before, after, is) = c.requires.there in
+    let n = length c.args.graph.now.resources.vertices in
+    let so_many = length c.args.job.now.claims in
+    let holds = of_quantity n most so_many _ _ c.args.self.now.holds.quantity Holds is.graph.holds.1 (c.in_ok-holds.ensures.work most within.holds) in
+    let claims = of_quantity n most so_many _ _ c.args.self.now.claims.quantity Claims is.graph.claims.1 (c.in_ok-claims.ensures.work most within.claims) in
+    let takes = of_quantity n most so_many _ _ c.args.self.now.takes.quantity Takes is.graph.takes.1 (c.in_err-takes.ensures.work most within.takes) in
+    omega (arith, holds, claims, takes)
+
+pub returns-in_err-totals-clause-work : goal.returns-in_err-totals-clause-work
+returns-in_err-totals-clause-work g c = λ most within.
+    let (before, after, is) = c.requires.there in
+    let n = length c.args.graph.now.resources.vertices in
+    let so_many = length c.args.job.now.claims in
+    let holds = of_quantity n most so_many _ _ c.args.self.now.holds.quantity Holds is.graph.holds.1 (c.in_ok-holds.ensures.work most within.holds) in
+    let claims = of_quantity n most so_many _ _ c.args.self.now.claims.quantity Claims is.graph.claims.1 (c.in_ok-claims.ensures.work most within.claims) in
+    let takes = of_quantity n most so_many _ _ c.args.self.now.takes.quantity Takes is.graph.takes.1 (c.in_ok-takes.ensures.work most within.takes) in
+    let same = ap (λ (xs : List (Option (Account g.row.P.Denot))). kept_count xs * account_most n most 16 so_many) c.items.ensures in
+    let counted = c.in_err-totals.ensures.work most (λ k a at. within.totals k a (sym (ap (λ (xs : List (Option (Account g.row.P.Denot))). slice_get xs k) c.items.ensures) ∙ at)) in
+    omega (arith, holds, claims, takes, counted, same)
+
+pub returns-in_err-times-clause-work : goal.returns-in_err-times-clause-work
+returns-in_err-times-clause-work g c = λ most within.
+    let (before, after, is) = c.requires.there in
+    let n = length c.args.graph.now.resources.vertices in
+    let so_many = length c.args.job.now.claims in
+    let holds = of_quantity n most so_many _ _ c.args.self.now.holds.quantity Holds is.graph.holds.1 (c.in_ok-holds.ensures.work most within.holds) in
+    let claims = of_quantity n most so_many _ _ c.args.self.now.claims.quantity Claims is.graph.claims.1 (c.in_ok-claims.ensures.work most within.claims) in
+    let takes = of_quantity n most so_many _ _ c.args.self.now.takes.quantity Takes is.graph.takes.1 (c.in_ok-takes.ensures.work most within.takes) in
+    let same = ap (λ (xs : List (Option (Account g.row.P.Denot))). kept_count xs * account_most n most 16 so_many) c.items.ensures in
+    let counted = c.in_ok-totals.ensures.work most (λ k a at. within.totals k a (sym (ap (λ (xs : List (Option (Account g.row.P.Denot))). slice_get xs k) c.items.ensures) ∙ at)) in
+    let times = c.in_err-times.ensures.work in
+    omega (arith, holds, claims, takes, counted, same, times)
+
+pub returns-clause-work : goal.returns-clause-work
+returns-clause-work g c = λ most within.
+    let (before, after, is) = c.requires.there in
+    let n = length c.args.graph.now.resources.vertices in
+    let so_many = length c.args.job.now.claims in
+    let holds = of_quantity n most so_many _ _ c.args.self.now.holds.quantity Holds is.graph.holds.1 (c.in_ok-holds.ensures.work most within.holds) in
+    let claims = of_quantity n most so_many _ _ c.args.self.now.claims.quantity Claims is.graph.claims.1 (c.in_ok-claims.ensures.work most within.claims) in
+    let takes = of_quantity n most so_many _ _ c.args.self.now.takes.quantity Takes is.graph.takes.1 (c.in_ok-takes.ensures.work most within.takes) in
+    let same = ap (λ (xs : List (Option (Account g.row.P.Denot))). kept_count xs * account_most n most 16 so_many) c.items.ensures in
+    let counted = c.in_ok-totals.ensures.work most (λ k a at. within.totals k a (sym (ap (λ (xs : List (Option (Account g.row.P.Denot))). slice_get xs k) c.items.ensures) ∙ at)) in
+    let times = c.in_ok-times.ensures.work in
+    omega (arith, holds, claims, takes, counted, same, times)
+
+pub returns-clause-types : goal.returns-clause-types
+returns-clause-types g c =
+    same_count (Leaves g.P.Planner.total_of g.P.Planner.stands_for c.args.graph.now.resources.vertices c.args.job.now) c.items.result.now c.in_ok-totals.totals c.in_ok-totals.ensures.len c.in_ok-totals.ensures.each
+    ∙ ap (λ (xs : List (Option (Account g.row.P.Denot))). kept_count xs) c.items.ensures

@@ -1,5 +1,4 @@
-use Rattle.std.proofs.Common.{◌≡◌, ◌+◌, ◌≤◌, ℕ, List, sym, ◌∙◌, ap, arith, slice_index_or}
-use Rattle.vertex_accounts.specs.Prefixes.{units_before}
+use Rattle.std.proofs.Common.{ℕ, List, sym, ◌∙◌, ap, arith, slice_index_or}
 use Rattle.vertex_accounts.proofs.Ranges.{capacity_between, capacity_past}
 use Rattle.vertex_accounts.proofs.capacities.Capacities.at.Goals as goal
 

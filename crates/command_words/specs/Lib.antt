@@ -1,0 +1,4 @@
+pub mod Givens
+pub mod Values
+pub mod Taken
+pub mod Commands

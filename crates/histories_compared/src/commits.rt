@@ -1,0 +1,154 @@
+//! A search at one place of a history, and a commit at a later one.
+ghost use Rattle.std.specs.Prelude.{◌≡◌, IfOk};
+ghost use Rattle.std.specs.Arc.{arc_value};
+ghost use Rattle.flux_defs.specs.Scheduler.{IsProper};
+ghost use Rattle.flux_defs.specs.Verdicts.{IsSearchable};
+ghost use Rattle.sched_core.specs.Candidates.{IsFor};
+
+use crate::overtaking;
+use crate::scenes::{Bounds, core_over, lines_in};
+use flux_defs::{ClientLine, Command, Steps};
+use overtaken_check::Cause;
+use resource_graph::Graph;
+use sched_core::{Candidate, Commit, Core, is_searched_for, play};
+use std::alloc::{AllocError, Global};
+use std::sync::Arc;
+use std::sync::ledger::Ledger;
+
+/// Lines that are played before a search, the line that is searched for, and lines that are played before the commit.
+#[derive(Clone, Copy)]
+pub struct Parts<'a> {
+    pub front: &'a str,
+    pub asked: &'a str,
+    pub later: &'a str,
+}
+
+/// What came of the search and of the commit: the verdict as a text, by what the commit says that the candidate is
+/// overtaken, by what it is overtaken by a plain walk, and the scheduler with the line's entry: of the commit, or of a
+/// decision after it where the candidate was overtaken.
+#[derive(Drop)]
+pub struct Outcome {
+    pub verdict: String,
+    pub told: Option<Cause>,
+    pub plain: Option<Cause>,
+    pub core: Core,
+}
+
+/// The first line of an input.
+fn line_in(alloc: Global, graph: &Graph, text: &str) -> Result<ClientLine, AllocError>
+    ensures proper { IfOk result (λ line. IsProper graph.now.resources.vertices line.command) }
+{
+    let lines = lines_in(alloc, graph, text)?;
+    let Some(found) = lines.get(0) else {
+        return Err(AllocError);
+    };
+    let command = found.command.copy(alloc)?;
+    Ok(ClientLine {
+        client: found.client,
+        line: found.line,
+        command,
+    })
+}
+
+/// A scheduler that has played the lines of an input.
+pub fn after(
+    alloc: Global,
+    graph: &Arc<Graph, Global>,
+    bounds: Bounds,
+    text: &str,
+) -> Result<Core, AllocError>
+    ensures { IfOk result (λ core. core.setting.graph ≡ (arc_value graph.now).resources) }
+{
+    let mut core = core_over(alloc, graph, bounds)?;
+    let lines = lines_in(alloc, graph, text)?;
+    play(&mut core, lines.into_vec())?;
+    Ok(core)
+}
+
+/// The last reply of a scheduler, as a text.
+pub fn last_reply(alloc: Global, core: &Core) -> Result<String, AllocError> {
+    let Some(entry) = core.entry(core.len().saturating_sub(1)) else {
+        return Ok(String::new(alloc));
+    };
+    format!(in alloc; "{:?}", entry.reply)
+}
+
+/// What is found of a command in the scheduler's state.
+fn search<L: Ledger>(
+    core: &Core,
+    command: Command,
+    steps: &mut Steps<L>,
+) -> Result<Candidate, AllocError>
+    requires searchable { IsSearchable command }
+    requires proper { IsProper core.now.setting.graph.vertices command }
+    ensures { IfOk result (λ candidate. candidate.snap ≡ core.now) }
+{
+    let snap = core.snap()?;
+    match Core::search(&snap, command, steps) {
+        Ok(candidate) => Ok(candidate),
+        Err((_, fault)) => Err(fault),
+    }
+}
+
+/// Decides the command of a candidate.
+fn decide(core: &mut Core, client: u32, line: u32, candidate: Candidate) -> Result<(), AllocError>
+    requires { IsFor core.old candidate }
+{
+    // this call tells that the command is proper
+    candidate.is_found();
+    match core.decide(client, line, candidate.into_command()) {
+        Ok(_) => Ok(()),
+        Err((_, fault)) => Err(fault),
+    }
+}
+
+/// The entry of the candidate's line, by a commit, or by a decision where it is overtaken; and by what it is.
+fn commit<L: Ledger>(
+    core: &mut Core,
+    client: u32,
+    line: u32,
+    candidate: Candidate,
+    steps: &mut Steps<L>,
+) -> Result<Option<Cause>, AllocError>
+    requires { IsFor core.old candidate }
+{
+    match core.commit(client, line, candidate, steps) {
+        Ok(Commit::Done { .. }) => Ok(None),
+        Ok(Commit::Stale { candidate, cause }) => {
+            decide(core, client, line, candidate)?;
+            Ok(Some(cause))
+        }
+        Err((_, fault)) => Err(fault),
+    }
+}
+
+/// What comes of a search behind the front and a commit behind the later lines.
+pub fn tried<L: Ledger>(
+    alloc: Global,
+    graph: &Arc<Graph, Global>,
+    bounds: Bounds,
+    parts: Parts<'_>,
+    steps: &mut Steps<L>,
+) -> Result<Outcome, AllocError> {
+    let mut core = after(alloc, graph, bounds, parts.front)?;
+    let ClientLine {
+        client,
+        line,
+        command,
+    } = line_in(alloc, graph, parts.asked)?;
+    if !is_searched_for(&command) {
+        return Err(AllocError);
+    }
+    let candidate = search(&core, command, steps)?;
+    let later = lines_in(alloc, graph, parts.later)?;
+    play(&mut core, later.into_vec())?;
+    let verdict = format!(in alloc; "{:?}", candidate.verdict())?;
+    let plain = overtaking::cause(alloc, graph, &core, bounds.horizon, &candidate, steps)?;
+    let told = commit(&mut core, client, line, candidate, steps)?;
+    Ok(Outcome {
+        verdict,
+        told,
+        plain,
+        core,
+    })
+}

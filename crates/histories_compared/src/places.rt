@@ -1,0 +1,143 @@
+//! Random histories: for each pair of places, a search at the first and a commit at the second, beside a fresh decision
+//! there and the causes of a plain walk.
+use crate::commits::{Outcome, Parts, after, last_reply, tried};
+use crate::lines::{random_ask, random_line};
+use crate::scenes::{Bounds, WITH_MEMORY, graph_of};
+use flux_defs::Steps;
+use overtaken_check::Cause;
+use resource_graph::Graph;
+use sched_core::Core;
+use seeded_numbers::Seed;
+use std::alloc::{AllocError, Global};
+use std::sync::Arc;
+use std::sync::ledger::Ledger;
+
+/// How many histories, and how many lines of each.
+const HISTORIES: u64 = 200;
+
+const LINES: usize = 8;
+
+/// The seconds, and the claims, of which a few histories come to the end.
+const BOUNDS: Bounds = Bounds {
+    horizon: 40,
+    claims: 24,
+};
+
+/// How many pairs of places; how often the reply or the cause differs; and how often nothing overtook the candidate, or
+/// which kind of cause.
+#[derive(Clone, Copy)]
+pub struct Counts {
+    pub pairs: u64,
+    pub replies: u64,
+    pub causes: u64,
+    pub fresh: u64,
+    pub freed: u64,
+    pub late: u64,
+    pub taken: u64,
+}
+
+/// The lines from one index on and before another, as an input.
+fn joined(alloc: Global, lines: &[String], from: usize, to: usize) -> Result<String, AllocError> {
+    let mut text = String::new(alloc);
+    for (at, line) in lines.iter().enumerate() {
+        if at >= from && at < to {
+            text.push_str(line.as_str())?;
+        }
+    }
+    Ok(text)
+}
+
+/// Counts a cause.
+fn count_cause(counts: &mut Counts, told: Option<Cause>) {
+    match told {
+        None => counts.fresh = counts.fresh.wrapping_add(1),
+        Some(Cause::Freed { .. }) => counts.freed = counts.freed.wrapping_add(1),
+        Some(Cause::Late { .. }) => counts.late = counts.late.wrapping_add(1),
+        Some(Cause::Taken { .. }) => counts.taken = counts.taken.wrapping_add(1),
+    }
+}
+
+/// Counts what came of a pair.
+fn count(
+    alloc: Global,
+    counts: &mut Counts,
+    outcome: &Outcome,
+    fresh: &Core,
+) -> Result<(), AllocError> {
+    let reply = last_reply(alloc, &outcome.core)?;
+    let wanted = last_reply(alloc, fresh)?;
+    counts.pairs = counts.pairs.wrapping_add(1);
+    if reply != wanted || outcome.core.len() != fresh.len() {
+        counts.replies = counts.replies.wrapping_add(1);
+    }
+    if outcome.told != outcome.plain {
+        counts.causes = counts.causes.wrapping_add(1);
+    }
+    count_cause(counts, outcome.told);
+    Ok(())
+}
+
+/// Tries a line at each pair of places of a history.
+fn try_line<L: Ledger>(
+    alloc: Global,
+    graph: &Arc<Graph, Global>,
+    lines: &[String],
+    asked: &str,
+    counts: &mut Counts,
+    steps: &mut Steps<L>,
+) -> Result<(), AllocError> {
+    for to in 0..=LINES {
+        let mut whole = joined(alloc, lines, 0, to)?;
+        whole.push_str(asked)?;
+        let fresh = after(alloc, graph, BOUNDS, whole.as_str())?;
+        for from in 0..=to {
+            let front = joined(alloc, lines, 0, from)?;
+            let later = joined(alloc, lines, from, to)?;
+            let parts = Parts {
+                front: front.as_str(),
+                asked,
+                later: later.as_str(),
+            };
+            let outcome = tried(alloc, graph, BOUNDS, parts, steps)?;
+            count(alloc, counts, &outcome, &fresh)?;
+        }
+    }
+    Ok(())
+}
+
+/// Random lines.
+fn random_lines(alloc: Global, seed: &mut Seed) -> Result<Vec<String>, AllocError> {
+    let mut lines = Vec::new(alloc);
+    for _ in 0..LINES {
+        lines.push(random_line(alloc, seed, 0)?)?;
+    }
+    Ok(lines)
+}
+
+/// What comes of all histories.
+pub fn compared<L: Ledger>(alloc: Global, steps: &mut Steps<L>) -> Result<Counts, AllocError> {
+    let graph = graph_of(alloc, WITH_MEMORY)?;
+    let mut counts = Counts {
+        pairs: 0,
+        replies: 0,
+        causes: 0,
+        fresh: 0,
+        freed: 0,
+        late: 0,
+        taken: 0,
+    };
+    let mut seed = Seed::of(29);
+    for _ in 0..HISTORIES {
+        let lines = random_lines(alloc, &mut seed)?;
+        let asked = random_ask(alloc, &mut seed, 0)?;
+        try_line(
+            alloc,
+            &graph,
+            lines.as_slice(),
+            asked.as_str(),
+            &mut counts,
+            steps,
+        )?;
+    }
+    Ok(counts)
+}

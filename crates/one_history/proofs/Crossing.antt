@@ -1,0 +1,122 @@
+-- A core may go to another thread: what it is made of may, one type after another. The check's own search looks for the
+-- whole at once, and stops at its limit.
+use denote.RattleType.{RattleType}
+use denote.Param.Send.{IsSend, IsSync, sendable, view_send}
+use denote.Param.SendFields.{as_row_send, as_row_sync, declared_send, declared_sync}
+use denote.Struct.Field.{row_field}
+use Rattle.std.proofs.Crossing.{crosses, Arc-send}
+use Rattle.std.proofs.MapsCrossing.{crosses as maps}
+use Rattle.balanced_tree.proofs.trees.Tree.TheLaws.TheKnot as tree
+use Rattle.job_table.proofs.parts.Part.TheLaws.TheKnot as part
+use Rattle.snapshot_store.proofs.parts.Part.TheLaws.TheKnot as page
+use Rattle.flux_defs.proofs.requests.Need.TheLaws.TheKnot as need
+use Rattle.planner_min_tree.specs.contracts.planner.MinTree as min_tree
+use Rattle.job_table.specs.contracts.tables.JobTable as table
+use Rattle.resource_graph.specs.contracts.graph.Graph as graph
+use Rattle.prune_filters.specs.contracts.rules.Rules as rule
+use Rattle.flux_defs.specs.contracts.journal.Entry as entry
+use Rattle.vertex_accounts.specs.contracts.books.Accounts as accounts
+use Rattle.vertex_accounts.specs.contracts.accounts.Account as account
+use Rattle.snapshot_store.specs.contracts.pages.Pages as pages
+use Rattle.book_state.specs.contracts.held.BookState as book
+use Rattle.book_state.specs.contracts.held.BookState.TheInside as book_inside
+use Rattle.book_state.specs.contracts.held.Kept as kept
+use Rattle.sched_core.specs.contracts.scheduler.Core as core
+use Rattle.sched_core.specs.contracts.scheduler.Core.TheInside as core_inside
+use Rattle.sched_core.specs.contracts.held.Kept as grown
+use Rattle.commit_book.specs.contracts.held.Held as held
+use Rattle.sched_core.specs.contracts.held.Site as site
+use Rattle.flux_defs.specs.contracts.lists.List as list
+use Rattle.std.specs.contracts.option.Option as option
+
+min_tree_send : IsSend min_tree.the_row
+min_tree_send = search (crosses, tree.crosses, sendable) depth 60 fits 20000
+
+min_tree_sync : IsSync min_tree.the_row
+min_tree_sync = search (crosses, tree.crosses, sendable) depth 60 fits 20000
+
+table_send : IsSend table.the_row
+table_send = search (crosses, part.crosses, sendable) depth 60 fits 20000
+
+table_sync : IsSync table.the_row
+table_sync = search (crosses, part.crosses, sendable) depth 60 fits 20000
+
+graph_send : IsSend graph.the_row
+graph_send = search (crosses, maps, sendable) depth 60 fits 20000
+
+graph_sync : IsSync graph.the_row
+graph_sync = search (crosses, maps, sendable) depth 60 fits 20000
+
+rules_send : IsSend rule.the_row
+rules_send = search (crosses, sendable) depth 60 fits 20000
+
+rules_sync : IsSync rule.the_row
+rules_sync = search (crosses, sendable) depth 60 fits 20000
+
+entry_send : IsSend entry.the_row
+entry_send = search (crosses, need.crosses, sendable) depth 60 fits 20000
+
+entry_sync : IsSync entry.the_row
+entry_sync = search (crosses, need.crosses, sendable) depth 60 fits 20000
+
+pages_send : (P : RattleType) → IsSend P → IsSync P → IsSend (pages.the_row P)
+pages_send P s y = search (crosses, page.crosses, sendable) depth 60 fits 20000
+
+pages_sync : (P : RattleType) → IsSend P → IsSync P → IsSync (pages.the_row P)
+pages_sync P s y = search (crosses, page.crosses, sendable) depth 60 fits 20000
+
+account_send : (P : RattleType) → IsSend P → IsSync P → IsSend (account.the_row P)
+account_send P s y = let p = pages_send P s y in search (crosses, sendable) depth 60 fits 20000
+
+account_sync : (P : RattleType) → IsSend P → IsSync P → IsSync (account.the_row P)
+account_sync P s y = let p = pages_sync P s y in search (crosses, sendable) depth 60 fits 20000
+
+list_send : (T : RattleType) → IsSend T → IsSend (list.the_row T)
+list_send T s = search (crosses, sendable) depth 60 fits 20000
+
+list_sync : (T : RattleType) → IsSync T → IsSync (list.the_row T)
+list_sync T y = search (crosses, sendable) depth 60 fits 20000
+
+option_send : (T : RattleType) → IsSend T → IsSend (option.the_row T)
+option_send T s = search (crosses, sendable) depth 60 fits 20000
+
+option_sync : (T : RattleType) → IsSync T → IsSync (option.the_row T)
+option_sync T y = search (crosses, sendable) depth 60 fits 20000
+
+accounts_send : (P : RattleType) → IsSend P → IsSync P → IsSend (accounts.the_row P)
+accounts_send P s y =
+    let a = account_send P s y in
+    let l = list_send (option.the_row (account.the_row P)) (option_send (account.the_row P) a) in
+    declared_send (accounts.the_type P) (a, (a, (a, (l, (as_row_send (row_field P) s, (search sendable, tt))))))
+
+accounts_sync : (P : RattleType) → IsSend P → IsSync P → IsSync (accounts.the_row P)
+accounts_sync P s y =
+    let a = account_sync P s y in
+    let l = list_sync (option.the_row (account.the_row P)) (option_sync (account.the_row P) a) in
+    declared_sync (accounts.the_type P) (a, (a, (a, (l, (as_row_sync (row_field P) y, (search sendable, tt))))))
+
+kept_send : IsSend kept.the_row
+kept_send =
+    let g = Arc-send graph.the_row graph_send graph_sync in
+    let r = Arc-send rule.the_row rules_send rules_sync in
+    let a = Arc-send (accounts.the_row min_tree.the_row) (accounts_send min_tree.the_row min_tree_send min_tree_sync)
+    (accounts_sync min_tree.the_row min_tree_send min_tree_sync) in
+    declared_send kept.the_type (g, (r, (search sendable, (search sendable, (a, (table_send, tt))))))
+
+book_send : IsSend book.the_row
+book_send = view_send book_inside.the_row _ _ _ _ (declared_send book_inside.the_type (kept_send, tt))
+
+grown_send : IsSend grown.the_row
+grown_send = declared_send grown.the_type (pages_send entry.the_row entry_send entry_sync, (book_send, (search sendable, tt)))
+
+site_send : IsSend site.the_row
+site_send =
+    let g = Arc-send graph.the_row graph_send graph_sync in
+    declared_send site.the_type (search (crosses, sendable) depth 20, (g, (search sendable, (search sendable, tt))))
+
+core_send : IsSend core.the_row
+core_send = view_send core_inside.the_row _ _ _ _ (declared_send core_inside.the_type (site_send, (grown_send, tt)))
+
+-- a core under a turn may go to another thread
+pub held_send : IsSend held.the_row
+held_send = declared_send held.the_type (core_send, tt)

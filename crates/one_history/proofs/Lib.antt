@@ -1,0 +1,4 @@
+pub mod Parts
+pub mod Interleaved
+pub mod Sessions
+pub mod Crossing

@@ -1,0 +1,45 @@
+use Rattle.std.proofs.Common.{arith}
+use Rattle.std.proofs.Math.Nat.{mul-le-mul_right}
+use Rattle.prune_filters.specs.Shorts.{IsBelow}
+use Rattle.prune_filters.proofs.ShortLaws.{found, none_next, none_at_all}
+use Rattle.prune_filters.proofs.shorts.first_short.Goals as goal
+
+pub returns-then-is_below : goal.returns-then-is_below
+returns-then-is_below g c =
+    let v = c.args.view.now in
+    record {
+      answer = λ jobs stands. rw (← c.items-demand-items.ensures) (found
+          (λ d. IsBelow (g.F.FreeView.graph v) jobs c.args.window (g.F.FreeView.keeps v) c.args.vertex d.kind d.amount)
+          c.items-demand-items.result.now c.loop-demand.demand-index _ c.loop-demand-test.true
+          ((c.is_below.ensures.answer jobs stands).0 c.if-is_below.true));
+      kept = c.is_below.ensures.kept c.if-is_below.true;
+      work = (
+          let each = mul-le-mul_right (g.F.FreeView.cost v) c.loop-demand-test.true in
+          let same = c.items-demand-items.ensures in
+          rw (← same) (omega (arith, each, c.loop-demand.invariant.spent, c.is_below.ensures.work)));
+    }
+
+pub loop-demand-preserved : goal.loop-demand-preserved
+loop-demand-preserved g c =
+    let v = c.args.view.now in
+    record {
+      none = λ jobs stands. none_next
+          (λ d. IsBelow (g.F.FreeView.graph v) jobs c.args.window (g.F.FreeView.keeps v) c.args.vertex d.kind d.amount)
+          c.items-demand-items.result.now c.loop-demand.demand-index _ c.is_below.result c.if-is_below.false
+          (c.is_below.ensures.answer jobs stands) c.loop-demand-test.true (c.loop-demand.invariant.none jobs stands);
+      spent = omega (arith, c.loop-demand.invariant.spent, c.is_below.ensures.work);
+    }
+
+pub returns : goal.returns
+returns g c =
+    let v = c.args.view.now in
+    record {
+      answer = λ jobs stands. rw (← c.items-demand-items.ensures) (none_at_all
+          (λ d. IsBelow (g.F.FreeView.graph v) jobs c.args.window (g.F.FreeView.keeps v) c.args.vertex d.kind d.amount)
+          c.items-demand-items.result.now c.loop-demand.demand-index c.loop-demand-test.false
+          (c.loop-demand.invariant.none jobs stands));
+      kept = tt;
+      work = (
+          let all = mul-le-mul_right (g.F.FreeView.cost v) c.loop-demand.auto.demand-index-end in
+          rw (← c.items-demand-items.ensures) (omega (arith, all, c.loop-demand.invariant.spent)));
+    }

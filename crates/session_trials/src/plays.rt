@@ -1,0 +1,70 @@
+//! Inputs, played on threads over two nodes of four cores.
+ghost use Rattle.std.specs.Prelude.{◌≡◌, ◌<◌, [], length, IfOk};
+ghost use Rattle.std.specs.List.{AllByRecursion};
+ghost use Rattle.std.specs.Arc.{arc_value};
+ghost use Rattle.flux_defs.specs.Scheduler.{IsProper};
+ghost use Rattle.turn_table.specs.declared.view.TheConstants.{ALL_SHARES};
+ghost use Rattle.one_history.specs.Together.{NumbersApart};
+
+use flux_defs::{Gate, Limits, Script};
+use fluxion_lines::{Form, read_input};
+use graph_json::read_graph;
+use one_history::{Played, play_script};
+use prune_filters::Rules;
+use resource_graph::Graph;
+use sched_core::Core;
+use std::alloc::Global;
+use std::sync::{Arc, Wait};
+use std::test::Fail;
+use std::thread::Threads;
+
+/// A cluster over two nodes of four cores each.
+pub(crate) const TWO_NODES: &str =
+    r#"{"graph":{"nodes":[{"id":"c","metadata":{"type":"cluster","id":0}},{"id":"n0","metadata":{"type":"node","id":0}},{"id":"n0.0","metadata":{"type":"core","id":0}},{"id":"n0.1","metadata":{"type":"core","id":1}},{"id":"n0.2","metadata":{"type":"core","id":2}},{"id":"n0.3","metadata":{"type":"core","id":3}},{"id":"n1","metadata":{"type":"node","id":1}},{"id":"n1.0","metadata":{"type":"core","id":0}},{"id":"n1.1","metadata":{"type":"core","id":1}},{"id":"n1.2","metadata":{"type":"core","id":2}},{"id":"n1.3","metadata":{"type":"core","id":3}}],"edges":[{"source":"c","target":"n0"},{"source":"n0","target":"n0.0"},{"source":"n0","target":"n0.1"},{"source":"n0","target":"n0.2"},{"source":"n0","target":"n0.3"},{"source":"c","target":"n1"},{"source":"n1","target":"n1.0"},{"source":"n1","target":"n1.1"},{"source":"n1","target":"n1.2"},{"source":"n1","target":"n1.3"}]}}"#;
+
+/// The graph of two nodes.
+pub(crate) fn two_nodes(alloc: Global) -> Result<Arc<Graph, Global>, Fail> {
+    match read_graph(alloc, TWO_NODES.as_bytes()) {
+        Ok(graph) => Ok(Arc::new(alloc, graph)?),
+        Err(_) => Err(Fail::from("no graph")),
+    }
+}
+
+/// A scheduler over the graph.
+pub(crate) fn core_over(alloc: Global, graph: &Arc<Graph, Global>) -> Result<Core, Fail>
+    ensures graph { IfOk result (λ core. core.setting.graph ≡ (arc_value graph.now).resources) }
+    ensures new { IfOk result (λ core. core.journal ≡ []) }
+{
+    let Ok(rules) = Rules::read(alloc, b"ALL:core") else {
+        return Err(Fail::from("no rules"));
+    };
+    let claims = Limits::shipped().claims;
+    Ok(Core::new(alloc, Arc::try_clone(graph)?, rules, 1_000, claims)?)
+}
+
+/// The script of an input.
+fn script_of(alloc: Global, graph: &Graph, input: &[u8]) -> Result<Script, Fail>
+    ensures few { IfOk result (λ script. length script.lines < ALL_SHARES) }
+    ensures proper { IfOk result (λ script. AllByRecursion (λ lines. AllByRecursion (λ l. IsProper graph.now.resources.vertices l.command) lines) script.lines) }
+    ensures apart { IfOk result (λ script. NumbersApart script) }
+{
+    match read_input(alloc, graph, Form::Rfc14, input, &Limits::shipped()) {
+        Ok(script) => Ok(script),
+        Err(_) => Err(Fail::from("no script")),
+    }
+}
+
+/// Plays an input, a thread a client.
+pub(crate) fn played<R: Threads + Wait + Sync, G: Gate + Sync>(
+    rt: &R,
+    alloc: Global,
+    graph: &Arc<Graph, Global>,
+    input: &[u8],
+    gate: &G,
+) -> Result<Played, Fail>
+    ensures { IfOk result (λ played. played.core.setting.graph ≡ (arc_value graph.now).resources) }
+{
+    let core = core_over(alloc, graph)?;
+    let script = script_of(alloc, graph, input)?;
+    Ok(play_script(rt, alloc, core, script, gate)?)
+}

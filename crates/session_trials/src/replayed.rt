@@ -1,0 +1,81 @@
+//! A history of eight clients beside the same history played by one scheduler of one thread.
+ghost use Rattle.std.specs.Prelude.{◌≡◌, ◌<◌};
+ghost use Rattle.std.specs.Arc.{arc_value};
+
+use crate::plays::{core_over, played, two_nodes};
+use flux_defs::OpenGate;
+use fluxion_lines::history_text;
+use resource_graph::Graph;
+use sched_core::Core;
+use std::alloc::{AllocError, Global};
+use std::sync::Arc;
+use std::test::Fail;
+
+const CLIENTS: u64 = 8;
+
+const ROUNDS: u64 = 6;
+
+// A jobspec for a slot of so many cores, for so many seconds.
+fn spec(alloc: Global, cores: u64, seconds: u64) -> Result<String, AllocError> {
+    format!(in alloc;
+        "{{\"version\":1,\"resources\":[{{\"type\":\"slot\",\"count\":1,\"label\":\"a\",\"with\":[{{\"type\":\"core\",\"count\":{cores}}}]}}],\"tasks\":[{{\"command\":[\"app\"],\"slot\":\"a\",\"count\":{{\"per_slot\":1}}}}],\"attributes\":{{\"system\":{{\"duration\":{seconds}}}}}}}"
+    )
+}
+
+// Six lines of a client: one of each command.
+fn six_lines(alloc: Global, client: u64, round: u64) -> Result<String, AllocError>
+    requires client { client < 8 }
+    requires round { round < 6 }
+{
+    let job = 100 * client + 10 * round;
+    let other = job + 1;
+    let moment = 7 * round;
+    let small = spec(alloc, 1 + round % 3, 60)?;
+    let large = spec(alloc, 4, 20 + client)?;
+    format!(in alloc;
+        "c{client} allocate {job} {small}\nc{client} reserve {other} {large}\nc{client} satisfy {large}\nc{client} info {other}\nc{client} cancel {job}\nc{client} advance {moment}\n"
+    )
+}
+
+fn all_lines(alloc: Global) -> Result<String, AllocError> {
+    let mut text = String::new(alloc);
+    for round in 0..ROUNDS {
+        for client in 0..CLIENTS {
+            text.push_str(six_lines(alloc, client, round)?.as_str())?;
+        }
+    }
+    Ok(text)
+}
+
+// The commands of a history, decided in its order by another scheduler.
+fn replayed(alloc: Global, graph: &Arc<Graph, Global>, core: &Core) -> Result<Core, Fail>
+    requires { core.now.setting.graph ≡ (arc_value graph.now).resources }
+{
+    core.is_sound();
+    let mut again = core_over(alloc, graph)?;
+    for at in 0..core.len() {
+        let Some(entry) = core.entry(at) else {
+            return Err(Fail::from("no entry"));
+        };
+        let command = entry.command.copy(alloc)?;
+        match again.decide(entry.client, entry.line, command) {
+            Ok(_) => {}
+            Err(_) => return Err(Fail::from("out of memory")),
+        }
+    }
+    Ok(again)
+}
+
+#[test]
+fn eight_clients_write_what_one_thread_writes(rt: HostRuntime) -> Result<(), Fail> {
+    let alloc = rt.alloc();
+    let graph = two_nodes(alloc)?;
+    let input = all_lines(alloc)?;
+    let together = played(&rt, alloc, &graph, input.as_bytes(), &OpenGate)?;
+    let alone = replayed(alloc, &graph, &together.core)?;
+    assert_eq!(rt; together.core.len(), 6 * CLIENTS * ROUNDS);
+    let text = history_text(alloc, &graph, &together.clients, together.core.entries())?;
+    let other = history_text(alloc, &graph, &together.clients, alone.entries())?;
+    assert_eq!(rt; text.bytes(), other.bytes());
+    Ok(())
+}
