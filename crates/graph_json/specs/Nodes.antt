@@ -6,6 +6,7 @@ use Rattle.std.specs.Ordering.{nat_cmp}
 use Rattle.std.specs.Cmp.Lexicographic.{slice_cmp}
 use Rattle.std.specs.BTreeSet.{insert_key}
 use Rattle.std.specs.Result.{result_err, result_map_both}
+use Rattle.flux_defs.specs.declared.limits.TheConstants.{MOST_NAME_BYTES, MOST_TYPE_BYTES}
 use Rattle.serde_json.specs.Data.{Data, null, boolean, number, string, array, object, Items, no_items, item, Members, no_members, member}
 use Rattle.serde_json.specs.Find.{as_str}
 use Rattle.serde_json.specs.View.{items_view, members_view}
@@ -45,11 +46,11 @@ default_name base n = base ++ option_map_or decimal n []
 
 -- a default name is no longer than other names
 abbrev pub short_name : List ℕ → Result (List ℕ) FieldFault
-short_name name = if nat_le (length name) 255 then Ok name else Err Text
+short_name name = if nat_le (length name) MOST_NAME_BYTES then Ok name else Err Text
 
 abbrev pub name_or_default : List ℕ → Option ℕ → Option Data → Result (List ℕ) FieldFault
 name_or_default base n None = short_name (default_name base n)
-name_or_default base n (Some d) = ruled_value (is_name 255) d
+name_or_default base n (Some d) = ruled_value (is_name MOST_NAME_BYTES) d
 
 abbrev pub name_given : List ℕ → Option ℕ → Data → Result (List ℕ) FieldFault
 name_given base n d = name_or_default base n (given (codes "name") d)
@@ -68,7 +69,7 @@ in_order texts = fold (insert_key (slice_cmp nat_cmp)) [] texts
 -- the first of a list's members from `member` on that is no name
 abbrev pub first_misfit : ℕ → ℕ → Items → Option FileMisfit
 first_misfit at m no_items = None
-first_misfit at m (item d ds) = option_or (result_err (at_field (Property at m) (ruled_value (is_name 255) d)))
+first_misfit at m (item d ds) = option_or (result_err (at_field (Property at m) (ruled_value (is_name MOST_NAME_BYTES) d)))
     (first_misfit at (suc m) ds)
 
 abbrev pub unless_misfit : {A : Type 0} → Option FileMisfit → A → Result A FileMisfit
@@ -82,7 +83,7 @@ properties_of at (boolean b) = Err (record { field = NodeField at Properties; fa
 properties_of at (number n) = Err (record { field = NodeField at Properties; fault = Kind })
 properties_of at (string s) = Err (record { field = NodeField at Properties; fault = Kind })
 properties_of at (array ds) = unless_misfit (first_misfit at 0 ds) (in_order (texts_in ds))
-properties_of at (object ms) = if list_all (is_name 255) (keys_of ms) then Ok (keys_of ms) else Err
+properties_of at (object ms) = if list_all (is_name MOST_NAME_BYTES) (keys_of ms) then Ok (keys_of ms) else Err
     (record { field = PropertyKey at; fault = Text })
 
 abbrev pub properties_or_none : ℕ → Option Data → Result (List (List ℕ)) FileMisfit
@@ -97,8 +98,8 @@ properties_given at d = properties_or_none at (given (codes "properties") d)
 -- a node with this id and this metadata, key by key
 abbrev pub node_with : ℕ → List ℕ → Data → Result FileNode FileMisfit
 node_with at id d =
-    result_and_then (at_key at TypeName (ruled_field (is_name 64) (codes "type") d)) (λ kind.
-    result_and_then (at_key at Basename (ruled_given (is_name 255) kind (codes "basename") d)) (λ base.
+    result_and_then (at_key at TypeName (ruled_field (is_name MOST_TYPE_BYTES) (codes "type") d)) (λ kind.
+    result_and_then (at_key at Basename (ruled_given (is_name MOST_NAME_BYTES) kind (codes "basename") d)) (λ base.
     result_and_then (at_key at Number (small_given (codes "id") d)) (λ n.
     result_and_then (at_key at Name (name_given base n d)) (λ name.
     result_and_then (at_key at Rank (small_given (codes "rank") d)) (λ rank.

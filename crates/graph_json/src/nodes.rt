@@ -3,6 +3,7 @@ ghost use Rattle.std.specs.Prelude.{◌≡◌, ◌+◌, IsSome, IsErrOf, Ok, Err
 ghost use Rattle.std.specs.Option.{option_map_or};
 ghost use Rattle.std.specs.List.{list_all};
 ghost use Rattle.std.specs.Result.{result_map_both};
+ghost use Rattle.flux_defs.specs.declared.limits.TheConstants.{MOST_NAME_BYTES};
 ghost use Rattle.serde_json.specs.Find.{as_object};
 ghost use Rattle.serde_json.specs.View.{view, items_view, members_view};
 ghost use Rattle.text_forms.specs.Names.{is_name};
@@ -84,7 +85,7 @@ fn name_of<'a>(
 
 /// Whether every key of an object is a name.
 fn keys_are_names(members: &Map<String, Value>) -> bool
-    ensures { result ≡ list_all (is_name 255) (keys_of (members_view members.now.entries)) }
+    ensures { result ≡ list_all (is_name MOST_NAME_BYTES) (keys_of (members_view members.now.entries)) }
 {
     members
         .keys()

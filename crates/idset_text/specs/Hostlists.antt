@@ -35,7 +35,7 @@ width_of digits = if has_leading_zero digits then length digits else 0
 
 -- the ends don't fall, a padded first end has as many digits as the last, and the longest name isn't too long
 abbrev pub fits : ℕ → List ℕ → List ℕ → ℕ → ℕ → Bool
-fits prefix_len first last lo hi = nat_le lo hi && (not (has_leading_zero first) || (length last == length first)) && nat_le (prefix_len + length (padded (width_of first) hi)) 255
+fits prefix_len first last lo hi = nat_le lo hi && (not (has_leading_zero first) || (length last == length first)) && nat_le (prefix_len + length (padded (width_of first) hi)) MOST_NAME_BYTES
 
 -- numbers behind a prefix of some length: `N` or `LO-HI`
 abbrev pub numbers_between : ℕ → List ℕ × List ℕ → Option Numbers

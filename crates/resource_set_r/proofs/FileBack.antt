@@ -4,6 +4,7 @@ use Rattle.std.specs.List.{AllByRecursion, list_all}
 use Rattle.std.proofs.lemmas.Bool.{and_parts}
 use Rattle.flux_defs.specs.declared.vertices.Vertex.{Vertex}
 use Rattle.flux_defs.specs.declared.claims.Job.{Job}
+use Rattle.flux_defs.specs.declared.limits.TheConstants.{GREATEST_NUMBER}
 use Rattle.resource_graph.specs.NamedGraph.{NamedGraph}
 use Rattle.text_forms.specs.Names.{is_name}
 use Rattle.graph_json.specs.FileGraph.{HasFileNumbers, IsFileGraph}
@@ -22,7 +23,8 @@ numbers_small : (xs : List Vertex) → AllByRecursion HasFileNumbers xs → AllB
 numbers_small [] all = tt
 numbers_small (x ∷ xs) all = (record { id = less x.id all.0.0; rank = less x.rank all.0.1 }, numbers_small xs all.1)
 
-pub can_be_read : (g : NamedGraph) (job : Job) → IsFileGraph g → AllByRecursion HasSmallQuantity job.claims → job.start ≤ 2 ^ 46 → job.end ≤ 2 ^ 46 → CanBeRead g job
+pub can_be_read : (g : NamedGraph) (job : Job) → IsFileGraph g → AllByRecursion HasSmallQuantity job.claims →
+    job.start ≤ GREATEST_NUMBER → job.end ≤ GREATEST_NUMBER → CanBeRead g job
 can_be_read g job file small start end = record {
   named = file.whole.valid.named;
   names = names_named g.names file.names;

@@ -5,6 +5,7 @@ use Rattle.flux_defs.specs.declared.vertices.Vertex.{Vertex}
 use Rattle.flux_defs.specs.declared.claims.Claim.{Claim}
 use Rattle.flux_defs.specs.declared.claims.Claim.TheVariants.{Take, Hold, Pass}
 use Rattle.flux_defs.specs.declared.claims.Job.{Job}
+use Rattle.flux_defs.specs.declared.limits.TheConstants.{GREATEST_NUMBER}
 use Rattle.resource_graph.specs.NamedGraph.{NamedGraph}
 use Rattle.idset_text.specs.Idsets.{ids_of, runs_of}
 use Rattle.idset_text.specs.Hostlists.{is_host_name, names_of}
@@ -34,8 +35,8 @@ pub record CanBeRead (g : NamedGraph) (job : Job) : Type 0 where
   pub names : AllByRecursion (λ name. IsTrue (is_host_name name)) g.names
   pub numbers : AllByRecursion HasIdNumbers g.resources.vertices
   pub quantities : AllByRecursion HasSmallQuantity job.claims
-  pub start : job.start ≤ 2 ^ 46
-  pub end : job.end ≤ 2 ^ 46
+  pub start : job.start ≤ GREATEST_NUMBER
+  pub end : job.end ≤ GREATEST_NUMBER
 
 -- an element as it is read: the longest runs of its ids
 abbrev pub row_of_element : Element → RRow

@@ -1,6 +1,7 @@
 -- Which bytes are a resource set and which, and which fault other bytes have.
-use Rattle.std.specs.Prelude.{◌≡◌, ◌⊎◌, ℕ, suc, ◌^◌, ◌==◌, Bool, true, List, [], ◌++◌, length, if◌then◌else◌, Option, Some, None, Result, Ok, Err, ⊤, codes}
+use Rattle.std.specs.Prelude.{◌≡◌, ◌⊎◌, ℕ, suc, ◌==◌, Bool, true, List, [], ◌++◌, length, if◌then◌else◌, Option, Some, None, Result, Ok, Err, ⊤, codes}
 use Rattle.std.specs.Result.{result_map_both}
+use Rattle.flux_defs.specs.declared.limits.TheConstants.{GREATEST_NUMBER}
 use Rattle.serde_json.specs.Data.{Data, Items, no_items, item}
 use Rattle.serde_json.specs.Find.{get, as_str}
 use Rattle.json_whole.specs.Field.{text_or_kind, u64_of}
@@ -63,7 +64,7 @@ hosts_in rows e = result_and_then (nodelist_or_none (get (codes "nodelist") e)) 
 -- a whole number up to 2 ^ 46, by default 0
 abbrev pub second_or_zero : FieldPath → Option Data → Result ℕ Misread
 second_or_zero at None = Ok 0
-second_or_zero at (Some d) = at_field at (u64_of 0 (2 ^ 46) (Some d))
+second_or_zero at (Some d) = at_field at (u64_of 0 GREATEST_NUMBER (Some d))
 
 -- ---- the whole
 

@@ -1,7 +1,8 @@
 //! Laws of what is written and read.
-ghost use Rattle.std.specs.Prelude.{◌≡◌, ◌≢◌, ℕ, ◌≤◌, ◌^◌, List};
+ghost use Rattle.std.specs.Prelude.{◌≡◌, ◌≢◌, ℕ, ◌≤◌, List};
 ghost use Rattle.std.specs.List.{AllByRecursion};
 ghost use Rattle.flux_defs.specs.declared.claims.Job.{Job};
+ghost use Rattle.flux_defs.specs.declared.limits.TheConstants.{GREATEST_NUMBER};
 ghost use Rattle.graph_json.specs.FileGraph.{IsFileGraph};
 ghost use Rattle.resource_graph.specs.NamedGraph.{NamedGraph};
 ghost use Rattle.resource_set_r.specs.ReadBack.{AreReadBack, CanBeRead, HasSmallQuantity};
@@ -27,9 +28,11 @@ pub fn a_text_has_one_set()
         IsFirstFault bytes b → a ≡ b }
 {}
 
-/// A law: a job with quantities of 64 bits, from and to seconds up to 2^46, on a graph that a graph file can hold is such a job.
+/// A law: a job with quantities of 64 bits, from and to seconds up to 2^46, on a graph that a graph file can hold is such a
+/// job.
 pub fn jobs_on_graphs_of_files_can_be_read()
-    ensures { (g : NamedGraph) (job : Job) → IsFileGraph g → AllByRecursion HasSmallQuantity job.claims → job.start ≤ 2 ^ 46 → job.end ≤ 2 ^ 46 → CanBeRead g job }
+    ensures { (g : NamedGraph) (job : Job) → IsFileGraph g → AllByRecursion HasSmallQuantity job.claims →
+        job.start ≤ GREATEST_NUMBER → job.end ≤ GREATEST_NUMBER → CanBeRead g job }
 {}
 
 /// A law: the ranks of R are those of the nodes for which some claim is on the node or below it, or which lie at or below a held
