@@ -1,5 +1,5 @@
 -- What a total that is too small at the root says of a match.
-use Rattle.std.proofs.Common.{◌≡◌, ℕ, List, subst}
+use Rattle.std.proofs.Common.{ℕ, List, subst}
 use Rattle.flux_defs.specs.declared.claims.Job.{Job}
 use Rattle.flux_defs.specs.declared.claims.Window.{Window}
 use Rattle.flux_defs.specs.declared.requests.Ask.{Ask}
@@ -7,7 +7,6 @@ use Rattle.flux_defs.specs.Graph.{ResourceGraph}
 use Rattle.flux_defs.specs.ValidGraph.{IsValidGraph}
 use Rattle.flux_defs.specs.Needs.{IsProperAsk}
 use Rattle.prune_filters.specs.declared.shorts.Demand.{Demand}
-use Rattle.prune_filters.specs.Demands.{needs_demand, capped}
 use Rattle.prune_filters.specs.Shorts.{IsTooLittle, IsShortIn}
 use Rattle.prune_laws.proofs.Demanded.{too_little_fit}
 use Rattle.dfu_match.specs.declared.matching.Matched.TheVariants.{Short}

@@ -9,7 +9,7 @@ use Rattle.flux_defs.specs.declared.claims.Window.{Window}
 use Rattle.flux_defs.specs.declared.requests.Need.{Need, Vert, Spread}
 use Rattle.flux_defs.specs.Graph.{ResourceGraph}
 use Rattle.flux_defs.specs.ValidGraph.{IsValidGraph}
-use Rattle.flux_defs.specs.Needs.{HasNoSpread}
+use Rattle.flux_defs.specs.Needs.{HasNoSpread, IsValidNeed}
 use Rattle.graph_laws.proofs.Containment.{below_le, below_to}
 use Rattle.graph_laws.proofs.Preorder.{parents_first}
 use Rattle.std.proofs.lemmas.Bool.{cases_lt}
@@ -20,10 +20,10 @@ use Rattle.dfu_match.specs.declared.wanting.Wanted.{Wanted}
 use Rattle.dfu_match.specs.Tables.{all_of, needs_all}
 use Rattle.dfu_match.specs.Pairs.{Pair, HasEachOpen, IsOpenFor, IsClear, IsClearScope, IsClearBetween, IsClearBefore, IsPlaceOf, IsPlaceOfAll, IsSpanOf, Looks, LooksAll, TakesEach, asked_totals, count_among}
 use Rattle.dfu_match.proofs.DemandLaws.{all_Vert, all_Spread, all_next}
-use Rattle.dfu_match.proofs.CountLaws.{each_at}
+use Rattle.dfu_match.proofs.CountLaws.{each_at, plain_copy, valid_copy, valid_inside}
 use Rattle.dfu_match.proofs.PairLaws.{count_here, count_most, count_split, count_within, takes_none, takes_one, takes_split, takes_upto, takes_visit, takes_within}
-use Rattle.dfu_match.proofs.TableLaws.{all_some, place_there, taken_few}
-use Rattle.dfu_match.proofs.OpenLaws.{clear_next, clear_start, past_within}
+use Rattle.dfu_match.proofs.TableLaws.{all_some, place_Spread, place_Vert, place_there, taken_few}
+use Rattle.dfu_match.proofs.OpenLaws.{clear_Spread, clear_Vert, clear_next, clear_start, past_within}
 
 -- a look at one vertex, with the demands asked_totals on the way to it, costs no more than that of all needs
 pub look_costs : (k m cost : ℕ) → k ≤ m → k * cost + 2 * cost ≤ (m + 2) * cost
@@ -67,6 +67,13 @@ module _ (each : List Pair → Type 0) where
       TakesEach each steps mid new first after from to → TakesEach each steps old new first past from to
   takes_later steps old mid new first after past from to le e t pairs has =
       let u = subst (λ n. TakesEach each steps mid new first n from to) e t pairs has in omega (arith, u, le)
+
+  -- once is no more than so many times
+  pub takes_times : (times steps old new first after from to : ℕ) → 1 ≤ times →
+      TakesEach each steps old new first after from to → TakesEach each (times * steps) old new first after from to
+  takes_times times steps old new first after from to some t =
+      takes_within each steps (times * steps) old new first after from to first after from to
+      (times_costs times steps some) (omega arith) (omega arith) (omega arith) (omega arith) t
 
   -- counted, and then written
   pub takes_twice : (times steps old mid new first after from to : ℕ) → times ≡ 2 →
@@ -136,6 +143,31 @@ module _ (vertices : List Vertex) (jobs : List Job) (w : Window) (keeps : ℕ �
       (omega arith) (omega arith) lo (omega arith)
       (takes_one pairs_of steps old new place v le (λ pairs has. has place v need
       (place_there all place need at) lt opens))
+
+-- where the needs within a need stand, and that no vertex from v up is short for them
+module _ (g : ResourceGraph) (names : List (List ℕ)) (valid : IsValidGraph g names) (jobs : List Job) (w : Window)
+    (keeps : ℕ → ℕ → Type 0) (all : List Need) (place : ℕ) where
+  pub in_vertex : (kind count : ℕ) (hold : Bool) (needs : List Need) (v : ℕ) →
+      IsValidNeed g.vertices (Vert kind count hold needs) → IsPlaceOf all place (Vert kind count hold needs) →
+      IsClear g.vertices jobs w keeps (Vert kind count hold needs) v →
+      IsPlaceOfAll all (place + 1) needs × AllByRecursion (λ n. IsClear g.vertices jobs w keeps n v) needs
+  in_vertex kind count hold needs v fine here clear = (
+    place_Vert all place kind count hold needs here,
+    clear_Vert g names valid jobs w keeps kind count hold needs v
+        (valid_inside g.vertices kind count hold needs fine) clear,
+  )
+
+  -- and no spread stands within a copy
+  pub in_copy : (count : ℕ) (needs : List Need) (v : ℕ) →
+      IsValidNeed g.vertices (Spread count needs) → IsPlaceOf all place (Spread count needs) →
+      IsClear g.vertices jobs w keeps (Spread count needs) v →
+      IsPlaceOfAll all (place + 1) needs × AllByRecursion (λ n. IsClear g.vertices jobs w keeps n v) needs
+      × AllByRecursion HasNoSpread needs
+  in_copy count needs v fine here clear = (
+    place_Spread all place count needs here,
+    clear_Spread g names valid jobs w keeps count needs v (valid_copy g.vertices count needs fine) clear,
+    plain_copy g.vertices count needs fine,
+  )
 
 -- A walk over the vertices of a need has come to `at`: none before it is short above what follows, and so many steps
 -- were taken for each open pair.

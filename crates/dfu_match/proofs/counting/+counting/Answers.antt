@@ -2,7 +2,7 @@ use Rattle.std.proofs.Common.{arith, rules, ◌≡◌, ◌+◌, ◌*◌, ◌<◌
 use Rattle.std.proofs.lemmas.List.{drop_all}
 use denote.Param.Weighed.{most}
 use Rattle.flux_defs.specs.declared.claims.Claim.{Claim}
-use Rattle.flux_defs.specs.declared.requests.Need.{Need, Vert, Spread}
+use Rattle.flux_defs.specs.declared.requests.Need.{Need}
 use Rattle.flux_defs.proofs.requests.Need.TheLaws.{the_size}
 use Rattle.flux_defs.specs.Needs.{amount_of, AreValidNeeds}
 use Rattle.flux_laws.proofs.Takes.{takes_less}
@@ -18,7 +18,7 @@ use Rattle.dfu_match.proofs.TableLaws as tables
 use Rattle.dfu_match.proofs.CountLaws as laws
 use Rattle.dfu_match.specs.Tables.{all_of}
 use Rattle.dfu_match.specs.Pairs.{IsClearScope, asked_totals}
-use Rattle.dfu_match.proofs.OpenLaws.{clear_Vert, clear_Spread, none_inside, span_same}
+use Rattle.dfu_match.proofs.OpenLaws.{none_inside, span_same}
 use Rattle.dfu_match.proofs.PairLaws.{takes_none}
 use Rattle.dfu_match.proofs.StepLaws as steps
 use Rattle.dfu_match.proofs.counting.+counting.Goals as goal
@@ -439,37 +439,18 @@ serves-returns-else-not-admits-2-clause-greatest g t c = λ jobs stands scope wi
 pub serves-returns-else-not-admits-clause-work : goal.serves-returns-else-not-admits-clause-work
 serves-returns-else-not-admits-clause-work g t c = λ jobs stands place past.
     rw c.in-Vert.is (λ at clear after.
-    let s = c.args.s.now in
-    let graph = s.graph.now in
-    let fine = laws.valid_inside graph.resources.vertices c.in-Vert.kind c.in-Vert.count c.in-Vert.hold c.in-Vert.needs
-    (rw c.in-Vert.is at c.requires.valid) in
-    steps.takes_later _ ((length (needs_all s.needs.now) + 2) * g.F.FreeView.cost s.view.now)
-    (c.args.steps.now + 2 * g.F.FreeView.cost s.view.now) c.admits.new.steps c.copies.new.steps (place + 1)
-    (place + 1 + length (needs_all c.in-Vert.needs)) (place + length
-    (all_of (Vert c.in-Vert.kind c.in-Vert.count c.in-Vert.hold c.in-Vert.needs))) (c.args.vertex + 1) past
-    c.admits.ensures.work
+    let within = steps.in_vertex _ _ c.is_valid.ensures.valid _ _ _ (needs_all c.args.s.now.needs.now) place _ _ _ _ _
+    (rw c.in-Vert.is at c.requires.valid) at clear in
+    steps.takes_later _ _ _ _ _ _ _ _ _ _ c.admits.ensures.work
     (steps.after_Vert place c.in-Vert.kind c.in-Vert.count c.in-Vert.hold c.in-Vert.needs)
-    (c.copies.ensures.work jobs stands (place + 1) (c.args.vertex + 1) past
-    (tables.place_Vert (needs_all s.needs.now) place c.in-Vert.kind c.in-Vert.count c.in-Vert.hold c.in-Vert.needs at)
-    (clear_Vert graph.resources graph.names c.is_valid.ensures.valid jobs s.window
-    (asked_totals s.wanted.now (g.F.FreeView.keeps s.view.now)) c.in-Vert.kind c.in-Vert.count c.in-Vert.hold
-    c.in-Vert.needs c.args.vertex fine clear) (refl, after)))
+    (c.copies.ensures.work jobs stands (place + 1) (c.args.vertex + 1) past within.0 within.1 (refl, after)))
 
 pub serves-returns-else-not-admits-2-clause-work : goal.serves-returns-else-not-admits-2-clause-work
 serves-returns-else-not-admits-2-clause-work g t c = λ jobs stands place past.
     rw c.in-Spread.is (λ at clear after.
-    let s = c.args.s.now in
-    let graph = s.graph.now in
-    let fine = laws.valid_copy graph.resources.vertices c.in-Spread.count c.in-Spread.needs
-    (rw c.in-Spread.is at c.requires.valid) in
-    steps.takes_later _ ((length (needs_all s.needs.now) + 2) * g.F.FreeView.cost s.view.now)
-    (c.args.steps.now + 2 * g.F.FreeView.cost s.view.now) c.admits-in-Spread.new.steps c.copies-in-Spread.new.steps
-    (place + 1) (place + 1 + length (needs_all c.in-Spread.needs))
-    (place + length (all_of (Spread c.in-Spread.count c.in-Spread.needs)))
-    (c.args.vertex + 1) past c.admits-in-Spread.ensures.work
+    let within = steps.in_copy _ _ c.is_valid.ensures.valid _ _ _ (needs_all c.args.s.now.needs.now) place _ _ _
+    (rw c.in-Spread.is at c.requires.valid) at clear in
+    steps.takes_later _ _ _ _ _ _ _ _ _ _ c.admits-in-Spread.ensures.work
     (steps.after_Spread place c.in-Spread.count c.in-Spread.needs)
-    (c.copies-in-Spread.ensures.work jobs stands (place + 1) (c.args.vertex + 1) past
-    (tables.place_Spread (needs_all s.needs.now) place c.in-Spread.count c.in-Spread.needs at)
-    (clear_Spread graph.resources graph.names c.is_valid.ensures.valid jobs s.window
-    (asked_totals s.wanted.now (g.F.FreeView.keeps s.view.now)) c.in-Spread.count
-    c.in-Spread.needs c.args.vertex fine clear) (refl, after)))
+    (c.copies-in-Spread.ensures.work jobs stands (place + 1) (c.args.vertex + 1) past within.0 within.1
+    (refl, after)))

@@ -19,8 +19,8 @@ use Rattle.dfu_match.proofs.CountLaws as counts
 use Rattle.dfu_match.proofs.WriteLaws as laws
 use Rattle.dfu_match.specs.Tables.{all_of}
 use Rattle.dfu_match.specs.Pairs.{IsClearScope, asked_totals}
-use Rattle.dfu_match.proofs.OpenLaws.{clear_Vert, clear_Spread, none_inside, span_same}
-use Rattle.dfu_match.proofs.PairLaws.{takes_none, takes_within}
+use Rattle.dfu_match.proofs.OpenLaws.{none_inside, span_same}
+use Rattle.dfu_match.proofs.PairLaws.{takes_none}
 use Rattle.dfu_match.proofs.StepLaws as steps
 use Rattle.dfu_match.proofs.writing.+writing.Goals as goal
 
@@ -462,289 +462,115 @@ write_needs-returns-clause-written g t c =
 pub offer-returns-then-copies-eq0-clause-work : goal.offer-returns-then-copies-eq0-clause-work
 offer-returns-then-copies-eq0-clause-work g t c = λ jobs stands place past times.
     rw c.in-Vert.is (λ here clear after look.
-    let s = c.args.s.now in
-    let graph = s.graph.now in
-    let fine = counts.valid_inside graph.resources.vertices c.in-Vert.kind c.in-Vert.count c.in-Vert.hold
-    c.in-Vert.needs
-    (rw c.in-Vert.is at c.requires.valid) in
-    let inner = tables.place_Vert (needs_all s.needs.now) place c.in-Vert.kind c.in-Vert.count c.in-Vert.hold
-    c.in-Vert.needs here in
-    let free = clear_Vert graph.resources graph.names c.is_valid.ensures.valid jobs s.window
-    (asked_totals s.wanted.now (g.F.FreeView.keeps s.view.now)) c.in-Vert.kind c.in-Vert.count c.in-Vert.hold
-    c.in-Vert.needs
-    c.args.vertex fine clear in
-    takes_within _ ((length (needs_all s.needs.now) + 2) * g.F.FreeView.cost s.view.now)
-    (times * ((length (needs_all s.needs.now) + 2) * g.F.FreeView.cost s.view.now))
-    (c.args.steps.now + 2 * g.F.FreeView.cost s.view.now) c.copies.new.steps (place + 1)
-    (place + length (all_of (Vert c.in-Vert.kind c.in-Vert.count c.in-Vert.hold c.in-Vert.needs)))
-    (c.args.vertex + 1) past (place + 1) (place + length
-    (all_of (Vert c.in-Vert.kind c.in-Vert.count c.in-Vert.hold c.in-Vert.needs)))
-    (c.args.vertex + 1) past
-    (steps.times_costs times ((length (needs_all s.needs.now) + 2) * g.F.FreeView.cost s.view.now)
-    (steps.looks_some times (Vert c.in-Vert.kind c.in-Vert.count c.in-Vert.hold c.in-Vert.needs) look))
-    (omega arith) (omega arith) (omega arith) (omega arith)
-    (steps.takes_later _ ((length (needs_all s.needs.now) + 2) * g.F.FreeView.cost s.view.now)
-    (c.args.steps.now + 2 * g.F.FreeView.cost s.view.now) c.admits.new.steps c.copies.new.steps (place + 1)
-    (place + 1 + length (needs_all c.in-Vert.needs)) (place + length
-    (all_of (Vert c.in-Vert.kind c.in-Vert.count c.in-Vert.hold c.in-Vert.needs))) (c.args.vertex + 1) past
-    c.admits.ensures.work (steps.after_Vert place c.in-Vert.kind c.in-Vert.count c.in-Vert.hold c.in-Vert.needs)
-    (c.copies.ensures.work jobs stands (place + 1) (c.args.vertex + 1) past inner free (refl, after))))
+    let within = steps.in_vertex _ _ c.is_valid.ensures.valid _ _ _ (needs_all c.args.s.now.needs.now) place _ _ _ _ _
+    (rw c.in-Vert.is at c.requires.valid) here clear in
+    steps.takes_times _ times _ _ _ _ _ _ _ (steps.looks_some times (Vert c.in-Vert.kind c.in-Vert.count c.in-Vert.hold c.in-Vert.needs) look)
+    (steps.takes_later _ _ _ _ _ _ _ _ _ _ c.admits.ensures.work
+    (steps.after_Vert place c.in-Vert.kind c.in-Vert.count c.in-Vert.hold c.in-Vert.needs)
+    (c.copies.ensures.work jobs stands (place + 1) (c.args.vertex + 1) past within.0 within.1 (refl, after))))
 
 pub offer-returns-in_err-write_claim-in-Vert-clause-work : goal.offer-returns-in_err-write_claim-in-Vert-clause-work
 offer-returns-in_err-write_claim-in-Vert-clause-work g t c = λ jobs stands place past times.
     rw c.in-Vert.is (λ here clear after look.
-    let s = c.args.s.now in
-    let graph = s.graph.now in
-    let fine = counts.valid_inside graph.resources.vertices c.in-Vert.kind c.in-Vert.count c.in-Vert.hold
-    c.in-Vert.needs
-    (rw c.in-Vert.is at c.requires.valid) in
-    let inner = tables.place_Vert (needs_all s.needs.now) place c.in-Vert.kind c.in-Vert.count c.in-Vert.hold
-    c.in-Vert.needs here in
-    let free = clear_Vert graph.resources graph.names c.is_valid.ensures.valid jobs s.window
-    (asked_totals s.wanted.now (g.F.FreeView.keeps s.view.now)) c.in-Vert.kind c.in-Vert.count c.in-Vert.hold
-    c.in-Vert.needs
-    c.args.vertex fine clear in
-    takes_within _ ((length (needs_all s.needs.now) + 2) * g.F.FreeView.cost s.view.now)
-    (times * ((length (needs_all s.needs.now) + 2) * g.F.FreeView.cost s.view.now))
-    (c.args.steps.now + 2 * g.F.FreeView.cost s.view.now) c.copies.new.steps (place + 1)
-    (place + length (all_of (Vert c.in-Vert.kind c.in-Vert.count c.in-Vert.hold c.in-Vert.needs)))
-    (c.args.vertex + 1) past (place + 1) (place + length
-    (all_of (Vert c.in-Vert.kind c.in-Vert.count c.in-Vert.hold c.in-Vert.needs)))
-    (c.args.vertex + 1) past
-    (steps.times_costs times ((length (needs_all s.needs.now) + 2) * g.F.FreeView.cost s.view.now)
-    (steps.looks_some times (Vert c.in-Vert.kind c.in-Vert.count c.in-Vert.hold c.in-Vert.needs) look))
-    (omega arith) (omega arith) (omega arith) (omega arith)
-    (steps.takes_later _ ((length (needs_all s.needs.now) + 2) * g.F.FreeView.cost s.view.now)
-    (c.args.steps.now + 2 * g.F.FreeView.cost s.view.now) c.admits.new.steps c.copies.new.steps (place + 1)
-    (place + 1 + length (needs_all c.in-Vert.needs)) (place + length
-    (all_of (Vert c.in-Vert.kind c.in-Vert.count c.in-Vert.hold c.in-Vert.needs))) (c.args.vertex + 1) past
-    c.admits.ensures.work (steps.after_Vert place c.in-Vert.kind c.in-Vert.count c.in-Vert.hold c.in-Vert.needs)
-    (c.copies.ensures.work jobs stands (place + 1) (c.args.vertex + 1) past inner free (refl, after))))
+    let within = steps.in_vertex _ _ c.is_valid.ensures.valid _ _ _ (needs_all c.args.s.now.needs.now) place _ _ _ _ _
+    (rw c.in-Vert.is at c.requires.valid) here clear in
+    steps.takes_times _ times _ _ _ _ _ _ _ (steps.looks_some times (Vert c.in-Vert.kind c.in-Vert.count c.in-Vert.hold c.in-Vert.needs) look)
+    (steps.takes_later _ _ _ _ _ _ _ _ _ _ c.admits.ensures.work
+    (steps.after_Vert place c.in-Vert.kind c.in-Vert.count c.in-Vert.hold c.in-Vert.needs)
+    (c.copies.ensures.work jobs stands (place + 1) (c.args.vertex + 1) past within.0 within.1 (refl, after))))
 
 pub offer-returns-then-hold-clause-work : goal.offer-returns-then-hold-clause-work
 offer-returns-then-hold-clause-work g t c = λ jobs stands place past times.
     rw c.in-Vert.is (λ here clear after look.
-    let s = c.args.s.now in
-    let graph = s.graph.now in
-    let fine = counts.valid_inside graph.resources.vertices c.in-Vert.kind c.in-Vert.count c.in-Vert.hold
-    c.in-Vert.needs
-    (rw c.in-Vert.is at c.requires.valid) in
-    let inner = tables.place_Vert (needs_all s.needs.now) place c.in-Vert.kind c.in-Vert.count c.in-Vert.hold
-    c.in-Vert.needs here in
-    let free = clear_Vert graph.resources graph.names c.is_valid.ensures.valid jobs s.window
-    (asked_totals s.wanted.now (g.F.FreeView.keeps s.view.now)) c.in-Vert.kind c.in-Vert.count c.in-Vert.hold
-    c.in-Vert.needs
-    c.args.vertex fine clear in
-    takes_within _ ((length (needs_all s.needs.now) + 2) * g.F.FreeView.cost s.view.now)
-    (times * ((length (needs_all s.needs.now) + 2) * g.F.FreeView.cost s.view.now))
-    (c.args.steps.now + 2 * g.F.FreeView.cost s.view.now) c.copies.new.steps (place + 1)
-    (place + length (all_of (Vert c.in-Vert.kind c.in-Vert.count c.in-Vert.hold c.in-Vert.needs)))
-    (c.args.vertex + 1) past (place + 1) (place + length
-    (all_of (Vert c.in-Vert.kind c.in-Vert.count c.in-Vert.hold c.in-Vert.needs)))
-    (c.args.vertex + 1) past
-    (steps.times_costs times ((length (needs_all s.needs.now) + 2) * g.F.FreeView.cost s.view.now)
-    (steps.looks_some times (Vert c.in-Vert.kind c.in-Vert.count c.in-Vert.hold c.in-Vert.needs) look))
-    (omega arith) (omega arith) (omega arith) (omega arith)
-    (steps.takes_later _ ((length (needs_all s.needs.now) + 2) * g.F.FreeView.cost s.view.now)
-    (c.args.steps.now + 2 * g.F.FreeView.cost s.view.now) c.admits.new.steps c.copies.new.steps (place + 1)
-    (place + 1 + length (needs_all c.in-Vert.needs)) (place + length
-    (all_of (Vert c.in-Vert.kind c.in-Vert.count c.in-Vert.hold c.in-Vert.needs))) (c.args.vertex + 1) past
-    c.admits.ensures.work (steps.after_Vert place c.in-Vert.kind c.in-Vert.count c.in-Vert.hold c.in-Vert.needs)
-    (c.copies.ensures.work jobs stands (place + 1) (c.args.vertex + 1) past inner free (refl, after))))
+    let within = steps.in_vertex _ _ c.is_valid.ensures.valid _ _ _ (needs_all c.args.s.now.needs.now) place _ _ _ _ _
+    (rw c.in-Vert.is at c.requires.valid) here clear in
+    steps.takes_times _ times _ _ _ _ _ _ _ (steps.looks_some times (Vert c.in-Vert.kind c.in-Vert.count c.in-Vert.hold c.in-Vert.needs) look)
+    (steps.takes_later _ _ _ _ _ _ _ _ _ _ c.admits.ensures.work
+    (steps.after_Vert place c.in-Vert.kind c.in-Vert.count c.in-Vert.hold c.in-Vert.needs)
+    (c.copies.ensures.work jobs stands (place + 1) (c.args.vertex + 1) past within.0 within.1 (refl, after))))
 
 pub offer-returns-in_err-fit-in-Vert-clause-work : goal.offer-returns-in_err-fit-in-Vert-clause-work
 offer-returns-in_err-fit-in-Vert-clause-work g t c = λ jobs stands place past times.
     rw c.in-Vert.is (λ here clear after look.
-    let s = c.args.s.now in
-    let graph = s.graph.now in
-    let fine = counts.valid_inside graph.resources.vertices c.in-Vert.kind c.in-Vert.count c.in-Vert.hold
-    c.in-Vert.needs
-    (rw c.in-Vert.is at c.requires.valid) in
-    let inner = tables.place_Vert (needs_all s.needs.now) place c.in-Vert.kind c.in-Vert.count c.in-Vert.hold
-    c.in-Vert.needs here in
-    let free = clear_Vert graph.resources graph.names c.is_valid.ensures.valid jobs s.window
-    (asked_totals s.wanted.now (g.F.FreeView.keeps s.view.now)) c.in-Vert.kind c.in-Vert.count c.in-Vert.hold
-    c.in-Vert.needs
-    c.args.vertex fine clear in
-    steps.takes_later _ (times * ((length (needs_all s.needs.now) + 2) * g.F.FreeView.cost s.view.now))
-    (c.args.steps.now + 2 * g.F.FreeView.cost s.view.now) c.admits.new.steps c.write_shared.new.steps (place + 1)
-    (place + 1 + length (needs_all c.in-Vert.needs)) (place + length
-    (all_of (Vert c.in-Vert.kind c.in-Vert.count c.in-Vert.hold c.in-Vert.needs))) (c.args.vertex + 1) past
-    c.admits.ensures.work (steps.after_Vert place c.in-Vert.kind c.in-Vert.count c.in-Vert.hold c.in-Vert.needs)
-    (c.write_shared.ensures.work jobs stands (place + 1) past times inner free after
+    let within = steps.in_vertex _ _ c.is_valid.ensures.valid _ _ _ (needs_all c.args.s.now.needs.now) place _ _ _ _ _
+    (rw c.in-Vert.is at c.requires.valid) here clear in
+    steps.takes_later _ _ _ _ _ _ _ _ _ _ c.admits.ensures.work
+    (steps.after_Vert place c.in-Vert.kind c.in-Vert.count c.in-Vert.hold c.in-Vert.needs)
+    (c.write_shared.ensures.work jobs stands (place + 1) past times within.0 within.1 after
     (steps.looks_Vert times c.in-Vert.kind c.in-Vert.count c.in-Vert.hold c.in-Vert.needs look)))
 
 pub offer-returns-then-not-fit-clause-work : goal.offer-returns-then-not-fit-clause-work
 offer-returns-then-not-fit-clause-work g t c = λ jobs stands place past times.
     rw c.in-Vert.is (λ here clear after look.
-    let s = c.args.s.now in
-    let graph = s.graph.now in
-    let fine = counts.valid_inside graph.resources.vertices c.in-Vert.kind c.in-Vert.count c.in-Vert.hold
-    c.in-Vert.needs
-    (rw c.in-Vert.is at c.requires.valid) in
-    let inner = tables.place_Vert (needs_all s.needs.now) place c.in-Vert.kind c.in-Vert.count c.in-Vert.hold
-    c.in-Vert.needs here in
-    let free = clear_Vert graph.resources graph.names c.is_valid.ensures.valid jobs s.window
-    (asked_totals s.wanted.now (g.F.FreeView.keeps s.view.now)) c.in-Vert.kind c.in-Vert.count c.in-Vert.hold
-    c.in-Vert.needs
-    c.args.vertex fine clear in
-    steps.takes_later _ (times * ((length (needs_all s.needs.now) + 2) * g.F.FreeView.cost s.view.now))
-    (c.args.steps.now + 2 * g.F.FreeView.cost s.view.now) c.admits.new.steps c.write_shared.new.steps (place + 1)
-    (place + 1 + length (needs_all c.in-Vert.needs)) (place + length
-    (all_of (Vert c.in-Vert.kind c.in-Vert.count c.in-Vert.hold c.in-Vert.needs))) (c.args.vertex + 1) past
-    c.admits.ensures.work (steps.after_Vert place c.in-Vert.kind c.in-Vert.count c.in-Vert.hold c.in-Vert.needs)
-    (c.write_shared.ensures.work jobs stands (place + 1) past times inner free after
+    let within = steps.in_vertex _ _ c.is_valid.ensures.valid _ _ _ (needs_all c.args.s.now.needs.now) place _ _ _ _ _
+    (rw c.in-Vert.is at c.requires.valid) here clear in
+    steps.takes_later _ _ _ _ _ _ _ _ _ _ c.admits.ensures.work
+    (steps.after_Vert place c.in-Vert.kind c.in-Vert.count c.in-Vert.hold c.in-Vert.needs)
+    (c.write_shared.ensures.work jobs stands (place + 1) past times within.0 within.1 after
     (steps.looks_Vert times c.in-Vert.kind c.in-Vert.count c.in-Vert.hold c.in-Vert.needs look)))
 
 pub offer-returns-else-not-fit-clause-work : goal.offer-returns-else-not-fit-clause-work
 offer-returns-else-not-fit-clause-work g t c = λ jobs stands place past times.
     rw c.in-Vert.is (λ here clear after look.
-    let s = c.args.s.now in
-    let graph = s.graph.now in
-    let fine = counts.valid_inside graph.resources.vertices c.in-Vert.kind c.in-Vert.count c.in-Vert.hold
-    c.in-Vert.needs
-    (rw c.in-Vert.is at c.requires.valid) in
-    let inner = tables.place_Vert (needs_all s.needs.now) place c.in-Vert.kind c.in-Vert.count c.in-Vert.hold
-    c.in-Vert.needs here in
-    let free = clear_Vert graph.resources graph.names c.is_valid.ensures.valid jobs s.window
-    (asked_totals s.wanted.now (g.F.FreeView.keeps s.view.now)) c.in-Vert.kind c.in-Vert.count c.in-Vert.hold
-    c.in-Vert.needs
-    c.args.vertex fine clear in
-    steps.takes_later _ (times * ((length (needs_all s.needs.now) + 2) * g.F.FreeView.cost s.view.now))
-    (c.args.steps.now + 2 * g.F.FreeView.cost s.view.now) c.admits.new.steps c.write_shared.new.steps (place + 1)
-    (place + 1 + length (needs_all c.in-Vert.needs)) (place + length
-    (all_of (Vert c.in-Vert.kind c.in-Vert.count c.in-Vert.hold c.in-Vert.needs))) (c.args.vertex + 1) past
-    c.admits.ensures.work (steps.after_Vert place c.in-Vert.kind c.in-Vert.count c.in-Vert.hold c.in-Vert.needs)
-    (c.write_shared.ensures.work jobs stands (place + 1) past times inner free after
+    let within = steps.in_vertex _ _ c.is_valid.ensures.valid _ _ _ (needs_all c.args.s.now.needs.now) place _ _ _ _ _
+    (rw c.in-Vert.is at c.requires.valid) here clear in
+    steps.takes_later _ _ _ _ _ _ _ _ _ _ c.admits.ensures.work
+    (steps.after_Vert place c.in-Vert.kind c.in-Vert.count c.in-Vert.hold c.in-Vert.needs)
+    (c.write_shared.ensures.work jobs stands (place + 1) past times within.0 within.1 after
     (steps.looks_Vert times c.in-Vert.kind c.in-Vert.count c.in-Vert.hold c.in-Vert.needs look)))
 
 pub offer-returns-then-quantity-eq0-clause-work : goal.offer-returns-then-quantity-eq0-clause-work
 offer-returns-then-quantity-eq0-clause-work g t c = λ jobs stands place past times here clear after look.
-    let s = c.args.s.now in
-    let enough = place + length (all_of c.args.need.now) in
-    takes_within _ ((length (needs_all s.needs.now) + 2) * g.F.FreeView.cost s.view.now)
-    (times * ((length (needs_all s.needs.now) + 2) * g.F.FreeView.cost s.view.now))
-    (c.args.steps.now + 2 * g.F.FreeView.cost s.view.now) c.serves-quantity.new.steps (place + 1) enough
-    (c.args.vertex + 1) past (place + 1) enough
-    (c.args.vertex + 1) past
-    (steps.times_costs times ((length (needs_all s.needs.now) + 2) * g.F.FreeView.cost s.view.now)
-    (steps.looks_some times c.args.need.now look))
-    (omega arith) (omega arith) (omega arith) (omega arith)
+    steps.takes_times _ times _ _ _ _ _ _ _ (steps.looks_some times c.args.need.now look)
     (c.serves-quantity.ensures.work jobs stands place past here clear after)
 
 pub offer-returns-in_err-write_claim-in-Pool-clause-work : goal.offer-returns-in_err-write_claim-in-Pool-clause-work
 offer-returns-in_err-write_claim-in-Pool-clause-work g t c = λ jobs stands place past times here clear after look.
-    let s = c.args.s.now in
-    let enough = place + length (all_of c.args.need.now) in
-    takes_within _ ((length (needs_all s.needs.now) + 2) * g.F.FreeView.cost s.view.now)
-    (times * ((length (needs_all s.needs.now) + 2) * g.F.FreeView.cost s.view.now))
-    (c.args.steps.now + 2 * g.F.FreeView.cost s.view.now) c.serves-quantity.new.steps (place + 1) enough
-    (c.args.vertex + 1) past (place + 1) enough
-    (c.args.vertex + 1) past
-    (steps.times_costs times ((length (needs_all s.needs.now) + 2) * g.F.FreeView.cost s.view.now)
-    (steps.looks_some times c.args.need.now look))
-    (omega arith) (omega arith) (omega arith) (omega arith)
+    steps.takes_times _ times _ _ _ _ _ _ _ (steps.looks_some times c.args.need.now look)
     (c.serves-quantity.ensures.work jobs stands place past here clear after)
 
 pub offer-returns-in_ok-write_claim-in-Pool-clause-work : goal.offer-returns-in_ok-write_claim-in-Pool-clause-work
 offer-returns-in_ok-write_claim-in-Pool-clause-work g t c = λ jobs stands place past times here clear after look.
-    let s = c.args.s.now in
-    let enough = place + length (all_of c.args.need.now) in
-    takes_within _ ((length (needs_all s.needs.now) + 2) * g.F.FreeView.cost s.view.now)
-    (times * ((length (needs_all s.needs.now) + 2) * g.F.FreeView.cost s.view.now))
-    (c.args.steps.now + 2 * g.F.FreeView.cost s.view.now) c.serves-quantity.new.steps (place + 1) enough
-    (c.args.vertex + 1) past (place + 1) enough
-    (c.args.vertex + 1) past
-    (steps.times_costs times ((length (needs_all s.needs.now) + 2) * g.F.FreeView.cost s.view.now)
-    (steps.looks_some times c.args.need.now look))
-    (omega arith) (omega arith) (omega arith) (omega arith)
+    steps.takes_times _ times _ _ _ _ _ _ _ (steps.looks_some times c.args.need.now look)
     (c.serves-quantity.ensures.work jobs stands place past here clear after)
 
 pub offer-returns-then-count-eq0-clause-work : goal.offer-returns-then-count-eq0-clause-work
 offer-returns-then-count-eq0-clause-work g t c = λ jobs stands place past times here clear after look.
-    let s = c.args.s.now in
-    let enough = place + length (all_of c.args.need.now) in
-    takes_within _ ((length (needs_all s.needs.now) + 2) * g.F.FreeView.cost s.view.now)
-    (times * ((length (needs_all s.needs.now) + 2) * g.F.FreeView.cost s.view.now))
-    (c.args.steps.now + 2 * g.F.FreeView.cost s.view.now) c.serves-count.new.steps (place + 1) enough
-    (c.args.vertex + 1) past (place + 1) enough
-    (c.args.vertex + 1) past
-    (steps.times_costs times ((length (needs_all s.needs.now) + 2) * g.F.FreeView.cost s.view.now)
-    (steps.looks_some times c.args.need.now look))
-    (omega arith) (omega arith) (omega arith) (omega arith)
+    steps.takes_times _ times _ _ _ _ _ _ _ (steps.looks_some times c.args.need.now look)
     (c.serves-count.ensures.work jobs stands place past here clear after)
 
 pub offer-returns-in_err-fit-in-Spread-clause-work : goal.offer-returns-in_err-fit-in-Spread-clause-work
 offer-returns-in_err-fit-in-Spread-clause-work g t c = λ jobs stands place past times here clear after look.
-    let s = c.args.s.now in
-    let graph = s.graph.now in
-    let enough = place + length (all_of c.args.need.now) in
-    let valid = rw c.in-Spread.is at c.requires.valid in
-    let fine = counts.valid_copy graph.resources.vertices c.in-Spread.count c.in-Spread.needs valid in
-    let none = counts.plain_copy graph.resources.vertices c.in-Spread.count c.in-Spread.needs valid in
-    let inner = tables.place_Spread (needs_all s.needs.now) place c.in-Spread.count c.in-Spread.needs
-    (rw c.in-Spread.is at here) in
-    let free = clear_Spread graph.resources graph.names c.is_valid.ensures.valid jobs s.window
-    (asked_totals s.wanted.now (g.F.FreeView.keeps s.view.now)) c.in-Spread.count c.in-Spread.needs c.args.vertex fine
-    (rw c.in-Spread.is at clear) in
-    steps.takes_twice _ times ((length (needs_all s.needs.now) + 2) * g.F.FreeView.cost s.view.now)
-    (c.args.steps.now + 2 * g.F.FreeView.cost s.view.now)
-    c.serves-count.new.steps c.write_shared-in-Spread.new.steps (place + 1) enough (c.args.vertex + 1) past
-    (steps.looks_Spread times c.in-Spread.count c.in-Spread.needs (rw c.in-Spread.is at look))
+    let within = steps.in_copy _ _ c.is_valid.ensures.valid _ _ _ (needs_all c.args.s.now.needs.now) place _ _ _
+    (rw c.in-Spread.is at c.requires.valid) (rw c.in-Spread.is at here) (rw c.in-Spread.is at clear) in
+    steps.takes_twice _ times _ _ _ _ _ _ _ _ (steps.looks_Spread times c.in-Spread.count c.in-Spread.needs (rw c.in-Spread.is at look))
     (c.serves-count.ensures.work jobs stands place past here clear after)
-    (steps.takes_later _ (1 * ((length (needs_all s.needs.now) + 2) * g.F.FreeView.cost s.view.now))
-    c.serves-count.new.steps c.serves-count.new.steps c.write_shared-in-Spread.new.steps (place + 1)
-    (place + 1 + length (needs_all c.in-Spread.needs)) enough (c.args.vertex + 1) past (omega arith)
+    (steps.takes_later _ _ c.serves-count.new.steps c.serves-count.new.steps _ _ _ _ _ _ (omega arith)
     (rw c.in-Spread.is (steps.after_Spread place c.in-Spread.count c.in-Spread.needs))
-    (c.write_shared-in-Spread.ensures.work jobs stands (place + 1) past 1 inner free after (inr (refl, none))))
+    (c.write_shared-in-Spread.ensures.work jobs stands (place + 1) past 1 within.0 within.1 after
+    (inr (refl, within.2))))
 
 pub offer-returns-then-not-fit-2-clause-work : goal.offer-returns-then-not-fit-2-clause-work
 offer-returns-then-not-fit-2-clause-work g t c = λ jobs stands place past times here clear after look.
-    let s = c.args.s.now in
-    let graph = s.graph.now in
-    let enough = place + length (all_of c.args.need.now) in
-    let valid = rw c.in-Spread.is at c.requires.valid in
-    let fine = counts.valid_copy graph.resources.vertices c.in-Spread.count c.in-Spread.needs valid in
-    let none = counts.plain_copy graph.resources.vertices c.in-Spread.count c.in-Spread.needs valid in
-    let inner = tables.place_Spread (needs_all s.needs.now) place c.in-Spread.count c.in-Spread.needs
-    (rw c.in-Spread.is at here) in
-    let free = clear_Spread graph.resources graph.names c.is_valid.ensures.valid jobs s.window
-    (asked_totals s.wanted.now (g.F.FreeView.keeps s.view.now)) c.in-Spread.count c.in-Spread.needs c.args.vertex fine
-    (rw c.in-Spread.is at clear) in
-    steps.takes_twice _ times ((length (needs_all s.needs.now) + 2) * g.F.FreeView.cost s.view.now)
-    (c.args.steps.now + 2 * g.F.FreeView.cost s.view.now)
-    c.serves-count.new.steps c.write_shared-in-Spread.new.steps (place + 1) enough (c.args.vertex + 1) past
-    (steps.looks_Spread times c.in-Spread.count c.in-Spread.needs (rw c.in-Spread.is at look))
+    let within = steps.in_copy _ _ c.is_valid.ensures.valid _ _ _ (needs_all c.args.s.now.needs.now) place _ _ _
+    (rw c.in-Spread.is at c.requires.valid) (rw c.in-Spread.is at here) (rw c.in-Spread.is at clear) in
+    steps.takes_twice _ times _ _ _ _ _ _ _ _ (steps.looks_Spread times c.in-Spread.count c.in-Spread.needs (rw c.in-Spread.is at look))
     (c.serves-count.ensures.work jobs stands place past here clear after)
-    (steps.takes_later _ (1 * ((length (needs_all s.needs.now) + 2) * g.F.FreeView.cost s.view.now))
-    c.serves-count.new.steps c.serves-count.new.steps c.write_shared-in-Spread.new.steps (place + 1)
-    (place + 1 + length (needs_all c.in-Spread.needs)) enough (c.args.vertex + 1) past (omega arith)
+    (steps.takes_later _ _ c.serves-count.new.steps c.serves-count.new.steps _ _ _ _ _ _ (omega arith)
     (rw c.in-Spread.is (steps.after_Spread place c.in-Spread.count c.in-Spread.needs))
-    (c.write_shared-in-Spread.ensures.work jobs stands (place + 1) past 1 inner free after (inr (refl, none))))
+    (c.write_shared-in-Spread.ensures.work jobs stands (place + 1) past 1 within.0 within.1 after
+    (inr (refl, within.2))))
 
 pub offer-returns-else-not-fit-2-clause-work : goal.offer-returns-else-not-fit-2-clause-work
 offer-returns-else-not-fit-2-clause-work g t c = λ jobs stands place past times here clear after look.
-    let s = c.args.s.now in
-    let graph = s.graph.now in
-    let enough = place + length (all_of c.args.need.now) in
-    let valid = rw c.in-Spread.is at c.requires.valid in
-    let fine = counts.valid_copy graph.resources.vertices c.in-Spread.count c.in-Spread.needs valid in
-    let none = counts.plain_copy graph.resources.vertices c.in-Spread.count c.in-Spread.needs valid in
-    let inner = tables.place_Spread (needs_all s.needs.now) place c.in-Spread.count c.in-Spread.needs
-    (rw c.in-Spread.is at here) in
-    let free = clear_Spread graph.resources graph.names c.is_valid.ensures.valid jobs s.window
-    (asked_totals s.wanted.now (g.F.FreeView.keeps s.view.now)) c.in-Spread.count c.in-Spread.needs c.args.vertex fine
-    (rw c.in-Spread.is at clear) in
-    steps.takes_twice _ times ((length (needs_all s.needs.now) + 2) * g.F.FreeView.cost s.view.now)
-    (c.args.steps.now + 2 * g.F.FreeView.cost s.view.now)
-    c.serves-count.new.steps c.write_shared-in-Spread.new.steps (place + 1) enough (c.args.vertex + 1) past
-    (steps.looks_Spread times c.in-Spread.count c.in-Spread.needs (rw c.in-Spread.is at look))
+    let within = steps.in_copy _ _ c.is_valid.ensures.valid _ _ _ (needs_all c.args.s.now.needs.now) place _ _ _
+    (rw c.in-Spread.is at c.requires.valid) (rw c.in-Spread.is at here) (rw c.in-Spread.is at clear) in
+    steps.takes_twice _ times _ _ _ _ _ _ _ _ (steps.looks_Spread times c.in-Spread.count c.in-Spread.needs (rw c.in-Spread.is at look))
     (c.serves-count.ensures.work jobs stands place past here clear after)
-    (steps.takes_later _ (1 * ((length (needs_all s.needs.now) + 2) * g.F.FreeView.cost s.view.now))
-    c.serves-count.new.steps c.serves-count.new.steps c.write_shared-in-Spread.new.steps (place + 1)
-    (place + 1 + length (needs_all c.in-Spread.needs)) enough (c.args.vertex + 1) past (omega arith)
+    (steps.takes_later _ _ c.serves-count.new.steps c.serves-count.new.steps _ _ _ _ _ _ (omega arith)
     (rw c.in-Spread.is (steps.after_Spread place c.in-Spread.count c.in-Spread.needs))
-    (c.write_shared-in-Spread.ensures.work jobs stands (place + 1) past 1 inner free after (inr (refl, none))))
+    (c.write_shared-in-Spread.ensures.work jobs stands (place + 1) past 1 within.0 within.1 after
+    (inr (refl, within.2))))
 
 pub write_group-returns-in_default-clause-work : goal.write_group-returns-in_default-clause-work
 write_group-returns-in_default-clause-work g t c = λ jobs stands place from to times here clear span look.

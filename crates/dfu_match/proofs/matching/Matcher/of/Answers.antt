@@ -1,4 +1,3 @@
-use Rattle.std.proofs.Common.{◌≡◌}
 use Rattle.dfu_match.specs.Tables.{needs_all, TellsNeed}
 use Rattle.dfu_match.proofs.DemandLaws.{tell_at, tell_many}
 use Rattle.dfu_match.proofs.ScopeLaws.{nodes_told}

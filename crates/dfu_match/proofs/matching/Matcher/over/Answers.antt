@@ -1,9 +1,7 @@
 use Rattle.std.proofs.Common.{List, length, inl, inr, subst}
-use Rattle.std.specs.Prelude.{MatchOption}
 use Rattle.flux_defs.specs.declared.vertices.Vertex.{Vertex}
 use Rattle.prune_filters.specs.Demands.{needs_demand}
-use Rattle.prune_filters.specs.Shorts.{IsShortOf, IsShortIn}
-use Rattle.prune_laws.proofs.Demanded.{too_little_fit}
+use Rattle.prune_filters.specs.Shorts.{IsShortIn}
 use Rattle.dfu_match.specs.Tables.{needs_all}
 use Rattle.dfu_match.proofs.DemandLaws.{below_from}
 use Rattle.dfu_match.proofs.MatchedLaws.{short_is}
