@@ -54,17 +54,26 @@ sum_suc f (y ∷ xs) (suc place) x e =
     omega (arith, sum_by-cons f y (take (suc place) xs), sum_by-cons f y (take place xs), sum_suc f xs place x e)
 
 -- the sum of the first items and one more
-pub sum_more : {X : Type 0} (f : X → ℕ) (xs : List X) (place : ℕ) (x : X) → slice_get xs place ≡ Some x →
+sum_more : {X : Type 0} (f : X → ℕ) (xs : List X) (place : ℕ) (x : X) → slice_get xs place ≡ Some x →
     sum_by f (take (place + 1) xs) ≡ sum_by f (take place xs) + f x
 sum_more f xs place x e =
     let n : place + 1 ≡ suc place = omega arith in ap (λ n. sum_by f (take n xs)) n ∙ sum_suc f xs place x e
 
-pub sum_rest : {X : Type 0} (f : X → ℕ) (xs : List X) (place : ℕ) → sum_by f (take place xs) ≤ sum_by f xs
+sum_rest : {X : Type 0} (f : X → ℕ) (xs : List X) (place : ℕ) → sum_by f (take place xs) ≤ sum_by f xs
 sum_rest f [] zero = omega arith
 sum_rest f [] (suc place) = omega arith
 sum_rest f (x ∷ xs) zero = omega arith
 sum_rest f (x ∷ xs) (suc place) =
     omega (arith, sum_by-cons f x xs, sum_by-cons f x (take place xs), sum_rest f xs place)
+
+-- what is done at one item after another takes no more than the sum
+module _ {X : Type 0} (f : X → ℕ) (xs : List X) (start before after place : ℕ) (x : X) (at : slice_get xs place ≡ Some x)
+    (so_far : before ≤ start + sum_by f (take place xs)) (one : after ≤ before + f x) where
+  pub work_next : after ≤ start + sum_by f (take (place + 1) xs)
+  work_next = omega (arith, sum_more f xs place x at, so_far, one)
+
+  pub work_stopped : after ≤ start + sum_by f xs
+  work_stopped = let next = work_next in omega (arith, sum_rest f xs (place + 1), next)
 
 get_some : {X : Type 0} (xs : List X) (place : ℕ) → place < length xs → (x : X) × (slice_get xs place ≡ Some x)
 get_some [] place l = absurd (omega arith)
