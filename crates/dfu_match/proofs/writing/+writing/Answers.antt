@@ -464,7 +464,8 @@ offer-returns-then-copies-eq0-clause-work g t c = λ jobs stands place past time
     rw c.in-Vert.is (λ here clear after look.
     let within = steps.in_vertex _ _ c.is_valid.ensures.valid _ _ _ (needs_all c.args.s.now.needs.now) place _ _ _ _ _
     (rw c.in-Vert.is at c.requires.valid) here clear in
-    steps.takes_times _ times _ _ _ _ _ _ _ (steps.looks_some times (Vert c.in-Vert.kind c.in-Vert.count c.in-Vert.hold c.in-Vert.needs) look)
+    steps.takes_times _ times _ _ _ _ _ _ _
+    (steps.looks_some times (Vert c.in-Vert.kind c.in-Vert.count c.in-Vert.hold c.in-Vert.needs) look)
     (steps.takes_later _ _ _ _ _ _ _ _ _ _ c.admits.ensures.work
     (steps.after_Vert place c.in-Vert.kind c.in-Vert.count c.in-Vert.hold c.in-Vert.needs)
     (c.copies.ensures.work jobs stands (place + 1) (c.args.vertex + 1) past within.0 within.1 (refl, after))))
@@ -474,7 +475,8 @@ offer-returns-in_err-write_claim-in-Vert-clause-work g t c = λ jobs stands plac
     rw c.in-Vert.is (λ here clear after look.
     let within = steps.in_vertex _ _ c.is_valid.ensures.valid _ _ _ (needs_all c.args.s.now.needs.now) place _ _ _ _ _
     (rw c.in-Vert.is at c.requires.valid) here clear in
-    steps.takes_times _ times _ _ _ _ _ _ _ (steps.looks_some times (Vert c.in-Vert.kind c.in-Vert.count c.in-Vert.hold c.in-Vert.needs) look)
+    steps.takes_times _ times _ _ _ _ _ _ _
+    (steps.looks_some times (Vert c.in-Vert.kind c.in-Vert.count c.in-Vert.hold c.in-Vert.needs) look)
     (steps.takes_later _ _ _ _ _ _ _ _ _ _ c.admits.ensures.work
     (steps.after_Vert place c.in-Vert.kind c.in-Vert.count c.in-Vert.hold c.in-Vert.needs)
     (c.copies.ensures.work jobs stands (place + 1) (c.args.vertex + 1) past within.0 within.1 (refl, after))))
@@ -484,7 +486,8 @@ offer-returns-then-hold-clause-work g t c = λ jobs stands place past times.
     rw c.in-Vert.is (λ here clear after look.
     let within = steps.in_vertex _ _ c.is_valid.ensures.valid _ _ _ (needs_all c.args.s.now.needs.now) place _ _ _ _ _
     (rw c.in-Vert.is at c.requires.valid) here clear in
-    steps.takes_times _ times _ _ _ _ _ _ _ (steps.looks_some times (Vert c.in-Vert.kind c.in-Vert.count c.in-Vert.hold c.in-Vert.needs) look)
+    steps.takes_times _ times _ _ _ _ _ _ _
+    (steps.looks_some times (Vert c.in-Vert.kind c.in-Vert.count c.in-Vert.hold c.in-Vert.needs) look)
     (steps.takes_later _ _ _ _ _ _ _ _ _ _ c.admits.ensures.work
     (steps.after_Vert place c.in-Vert.kind c.in-Vert.count c.in-Vert.hold c.in-Vert.needs)
     (c.copies.ensures.work jobs stands (place + 1) (c.args.vertex + 1) past within.0 within.1 (refl, after))))
@@ -543,7 +546,8 @@ pub offer-returns-in_err-fit-in-Spread-clause-work : goal.offer-returns-in_err-f
 offer-returns-in_err-fit-in-Spread-clause-work g t c = λ jobs stands place past times here clear after look.
     let within = steps.in_copy _ _ c.is_valid.ensures.valid _ _ _ (needs_all c.args.s.now.needs.now) place _ _ _
     (rw c.in-Spread.is at c.requires.valid) (rw c.in-Spread.is at here) (rw c.in-Spread.is at clear) in
-    steps.takes_twice _ times _ _ _ _ _ _ _ _ (steps.looks_Spread times c.in-Spread.count c.in-Spread.needs (rw c.in-Spread.is at look))
+    steps.takes_twice _ times _ _ _ _ _ _ _ _
+    (steps.looks_Spread times c.in-Spread.count c.in-Spread.needs (rw c.in-Spread.is at look))
     (c.serves-count.ensures.work jobs stands place past here clear after)
     (steps.takes_later _ _ c.serves-count.new.steps c.serves-count.new.steps _ _ _ _ _ _ (omega arith)
     (rw c.in-Spread.is (steps.after_Spread place c.in-Spread.count c.in-Spread.needs))
@@ -554,7 +558,8 @@ pub offer-returns-then-not-fit-2-clause-work : goal.offer-returns-then-not-fit-2
 offer-returns-then-not-fit-2-clause-work g t c = λ jobs stands place past times here clear after look.
     let within = steps.in_copy _ _ c.is_valid.ensures.valid _ _ _ (needs_all c.args.s.now.needs.now) place _ _ _
     (rw c.in-Spread.is at c.requires.valid) (rw c.in-Spread.is at here) (rw c.in-Spread.is at clear) in
-    steps.takes_twice _ times _ _ _ _ _ _ _ _ (steps.looks_Spread times c.in-Spread.count c.in-Spread.needs (rw c.in-Spread.is at look))
+    steps.takes_twice _ times _ _ _ _ _ _ _ _
+    (steps.looks_Spread times c.in-Spread.count c.in-Spread.needs (rw c.in-Spread.is at look))
     (c.serves-count.ensures.work jobs stands place past here clear after)
     (steps.takes_later _ _ c.serves-count.new.steps c.serves-count.new.steps _ _ _ _ _ _ (omega arith)
     (rw c.in-Spread.is (steps.after_Spread place c.in-Spread.count c.in-Spread.needs))
@@ -565,7 +570,8 @@ pub offer-returns-else-not-fit-2-clause-work : goal.offer-returns-else-not-fit-2
 offer-returns-else-not-fit-2-clause-work g t c = λ jobs stands place past times here clear after look.
     let within = steps.in_copy _ _ c.is_valid.ensures.valid _ _ _ (needs_all c.args.s.now.needs.now) place _ _ _
     (rw c.in-Spread.is at c.requires.valid) (rw c.in-Spread.is at here) (rw c.in-Spread.is at clear) in
-    steps.takes_twice _ times _ _ _ _ _ _ _ _ (steps.looks_Spread times c.in-Spread.count c.in-Spread.needs (rw c.in-Spread.is at look))
+    steps.takes_twice _ times _ _ _ _ _ _ _ _
+    (steps.looks_Spread times c.in-Spread.count c.in-Spread.needs (rw c.in-Spread.is at look))
     (c.serves-count.ensures.work jobs stands place past here clear after)
     (steps.takes_later _ _ c.serves-count.new.steps c.serves-count.new.steps _ _ _ _ _ _ (omega arith)
     (rw c.in-Spread.is (steps.after_Spread place c.in-Spread.count c.in-Spread.needs))

@@ -5,12 +5,14 @@ use Rattle.multi_planner.proofs.planners.MultiPlanner.without_spans.Goals as goa
 pub returns-in_err-planner-clause-work : goal.returns-in_err-planner-clause-work
 returns-in_err-planner-clause-work g c =
     let got = ap (λ l. slice_get l c.loop-place.place) (sym c.self.view_is) ∙ sym c.in-Some.ensures.value in
-    work_stopped g.P.Planner.change_cost c.args.self.now _ _ _ c.loop-place.place _ got c.loop-place.invariant.work c.without_span.ensures.work
+    work_stopped g.P.Planner.change_cost c.args.self.now _ _ _ c.loop-place.place _ got c.loop-place.invariant.work
+    c.without_span.ensures.work
 
 pub returns-in-Err-clause-work : goal.returns-in-Err-clause-work
 returns-in-Err-clause-work g c =
     let got = ap (λ l. slice_get l c.loop-place.place) (sym c.self.view_is) ∙ sym c.in-Some.ensures.value in
-    work_stopped g.P.Planner.change_cost c.args.self.now _ _ _ c.loop-place.place _ got c.loop-place.invariant.work c.without_span.ensures.work
+    work_stopped g.P.Planner.change_cost c.args.self.now _ _ _ c.loop-place.place _ got c.loop-place.invariant.work
+    c.without_span.ensures.work
 
 pub loop-place-preserved : goal.loop-place-preserved
 loop-place-preserved g c =
@@ -26,5 +28,6 @@ loop-place-preserved g c =
       total = each_more _ xs ys _ _ _ c.loop-place.invariant.total here c.in_ok-planner.ensures.total more;
       horizon = each_more _ xs ys _ _ _ c.loop-place.invariant.horizon here c.in_ok-planner.ensures.horizon more;
       spans = three_more _ xs _ ys _ _ _ _ c.loop-place.invariant.spans here much c.in_ok-planner.ensures.spans more;
-      work = work_next g.P.Planner.change_cost xs _ _ _ c.loop-place.place _ got c.loop-place.invariant.work c.without_span.ensures.work;
+      work = work_next g.P.Planner.change_cost xs _ _ _ c.loop-place.place _ got c.loop-place.invariant.work
+          c.without_span.ensures.work;
     }
