@@ -1,16 +1,20 @@
 -- Sums over claims, and along chains of parents.
-use Rattle.std.proofs.Common.{◌≡◌, ◌≢◌, ℕ, zero, suc, ◌+◌, ◌-◌, ◌<◌, ◌==◌, nat_eq, Bool, true, false, ◌||◌, cond, List, [], ◌∷◌, length, take, get_or, Option, Some, None, IfSome, inl, inr, refl, sym, ◌∙◌, ap, subst, arith}
+use Rattle.std.proofs.Common.{◌≡◌, ◌≢◌, ℕ, zero, suc, ◌+◌, ◌-◌, ◌<◌, ◌==◌, nat_eq, Bool, true, false, ◌||◌, ◌&&◌, nat_lt, cond, List, [], ◌∷◌, length, take, get_or, Option, Some, None, IfSome, inl, inr, refl, sym, ◌∙◌, ap, subst, arith}
 use Rattle.std.specs.List.{AllByRecursion, sum_by}
 use Rattle.std.proofs.lemmas.Bool.Decides.{eqb_tells}
 use Rattle.std.proofs.lemmas.List.Sums.{sum_by-cons, sum_by_more}
 use Rattle.std.proofs.lemmas.List.Elements.{All-from_recursion}
 use Rattle.flux_defs.specs.declared.vertices.Vertex.{Vertex}
 use Rattle.flux_defs.specs.declared.claims.Claim.{Claim}
+use Rattle.flux_defs.specs.declared.claims.Claim.TheVariants.{Hold}
 use Rattle.flux_defs.specs.Graph.{parent_of, chain, has_on_chain, is_at_or_below}
 use Rattle.flux_defs.specs.Jobs.{vertex_of, is_on_or_below}
 use Rattle.graph_laws.proofs.Containment.{ParentsFirst, at_or_below-opens}
 use Rattle.graph_laws.proofs.Preorder.{has_parent}
 use Rattle.vertex_planners.specs.Chains.{sum_on, ParentsIn}
+use Rattle.vertex_planners.specs.Counting.{counts_at}
+use Rattle.book_laws.specs.Amounts.{is_hold}
+use Rattle.std.proofs.lemmas.Bool.{cases_lt, lt-ltb}
 
 -- one claim more
 pub claim_step : (f : Claim → ℕ) (xs : List Claim) (i : ℕ) (d : Claim) (old new more : ℕ) → i < length xs → new ≡ old + more → old ≡ sum_by f (take i xs) → more ≡ f (get_or xs i d) →
@@ -24,19 +28,16 @@ on_step f v xs i d old new x n lt e was at is =
     claim_step (λ c. cond (vertex_of c == v) (f c) 0) xs i d old new (cond (x == v) n 0) lt e was
     (ap (λ y. cond (y == v) n 0) at ∙ ap (λ k. cond (vertex_of (get_or xs i d) == v) k 0) is)
 
-pub within_step : (vertices : List Vertex) (f : Claim → ℕ) (v : ℕ) (xs : List Claim) (i : ℕ) (d : Claim) (old new x n : ℕ) → i < length xs →
-    new ≡ old + cond (is_at_or_below vertices x v) n 0 → old ≡ sum_by (λ c. cond (is_on_or_below vertices v c) (f c) 0) (take i xs) → x ≡ vertex_of (get_or xs i d) → n ≡ f (get_or xs i d) →
-    new ≡ sum_by (λ c. cond (is_on_or_below vertices v c) (f c) 0) (take (i + 1) xs)
-within_step vertices f v xs i d old new x n lt e was at is =
-    claim_step (λ c. cond (is_on_or_below vertices v c) (f c) 0) xs i d old new (cond (is_at_or_below vertices x v) n 0) lt e was
-    (ap (λ y. cond (is_at_or_below vertices y v) n 0) at ∙ ap (λ k. cond (is_on_or_below vertices v (get_or xs i d)) k 0) is)
+pub counts_step : (vertices : List Vertex) (f : Claim → ℕ) (v : ℕ) (xs : List Claim) (i : ℕ) (d x : Claim) (old new n : ℕ) → i < length xs →
+    new ≡ old + cond (counts_at vertices v x) n 0 → old ≡ sum_by (λ c. cond (counts_at vertices v c) (f c) 0) (take i xs) → x ≡ get_or xs i d → n ≡ f (get_or xs i d) →
+    new ≡ sum_by (λ c. cond (counts_at vertices v c) (f c) 0) (take (i + 1) xs)
+counts_step vertices f v xs i d x old new n lt e was at is =
+    claim_step (λ c. cond (counts_at vertices v c) (f c) 0) xs i d old new (cond (counts_at vertices v x) n 0) lt e was
+    (ap (λ y. cond (counts_at vertices v y) n 0) at ∙ ap (λ k. cond (counts_at vertices v (get_or xs i d)) k 0) is)
 
-pub none_more : (vertices : List Vertex) (u v n more : ℕ) → more ≡ 0 → n ≡ n + cond (is_at_or_below vertices u v) more 0
-none_more vertices u v n more e = by_test (is_at_or_below vertices u v)
-  where
-    by_test : (b : Bool) → n ≡ n + cond b more 0
-    by_test true = omega arith
-    by_test false = omega arith
+pub none_more : (b : Bool) (n more : ℕ) → more ≡ 0 → n ≡ n + cond b more 0
+none_more true n more e = omega arith
+none_more false n more e = omega arith
 
 -- parents that stand first are vertices
 pub parents_in : (vertices : List Vertex) → ParentsFirst vertices → ParentsIn vertices
@@ -117,3 +118,53 @@ module _ (vertices : List Vertex) (first : ParentsFirst vertices) (v more : ℕ)
 
   pub once_above : (u : ℕ) → sum_on v more (chain vertices (length vertices) (Some u)) ≡ cond (is_at_or_below vertices u v) more 0
   once_above u = once (length vertices) (Some u) ∙ ap (λ b. cond b more 0) (sym (at_or_below-opens vertices u v))
+
+  -- what is above a vertex is what its chain has but for the vertex
+  pub above_once : (u : ℕ) (above : Option ℕ) → above ≡ parent_of vertices u →
+      sum_on v more (chain vertices (length vertices - 1) above) ≡ cond (u == v) 0 (cond (is_at_or_below vertices u v) more 0)
+  above_once u above up = elim (cases_lt 0 (length vertices)) [
+    | inl some ↦ parted (u == v) (is_at_or_below vertices u v) (sum_on v more (chain vertices (length vertices - 1) above)) (
+        let opens = ap (sum_on v more) (chain_opens vertices (length vertices) u (λ e. omega (arith, e, some))) in
+        let first = sum_by-cons (λ (w : ℕ). cond (w == v) more 0) u (chain vertices (length vertices - 1) (parent_of vertices u)) in
+        let same = ap (λ (o : Option ℕ). sum_on v more (chain vertices (length vertices - 1) o)) up in
+        let all = once_above u in
+        omega (arith, opens, first, same, all))
+    | inr none ↦ (let zero_is : length vertices ≡ 0 = omega (arith, none) in
+        let all = sym (once_above u) ∙ ap (λ (k : ℕ). sum_on v more (chain vertices k (Some u))) zero_is in
+        ap (λ (k : ℕ). sum_on v more (chain vertices (k - 1) above)) zero_is ∙ sym (both_none (u == v) (cond (is_at_or_below vertices u v) more 0) all))
+  ]
+    where
+      parted : (own there : Bool) (s : ℕ) → cond own more 0 + s ≡ cond there more 0 → s ≡ cond own 0 (cond there more 0)
+      parted true true s e = omega (arith, e)
+      parted true false s e = omega (arith, e)
+      parted false there s e = omega (arith, e)
+
+      both_none : (own : Bool) (n : ℕ) → n ≡ 0 → cond own 0 n ≡ 0
+      both_none true n e = refl
+      both_none false n e = e
+
+-- a claim that holds no vertex of its own
+not_own : (b there : Bool) (more : ℕ) → cond there more 0 ≡ cond (cond (b && false) false there) more 0
+not_own true there more = refl
+not_own false there more = refl
+
+-- a hold counts above the vertex that it holds, and where that is the root there too
+pub hold_counts : (vertices : List Vertex) (u v more : ℕ) → u ≢ 0 →
+    cond (u == v) 0 (cond (is_at_or_below vertices u v) more 0) ≡ cond (counts_at vertices v (Hold u)) more 0
+hold_counts vertices u v more some = elim (eqb_tells u v) [
+  | inl same ↦ (let lt : nat_lt 0 v ≡ true = lt-ltb 0 v (omega (arith, same.1, some)) in rw (same.0, lt) refl)
+  | inr differ ↦ rw differ.0 (not_own (nat_lt 0 v) (is_at_or_below vertices u v) more)
+]
+
+pub root_counts : (vertices : List Vertex) (u v more : ℕ) → u ≡ 0 →
+    cond (is_at_or_below vertices u v) more 0 ≡ cond (counts_at vertices v (Hold u)) more 0
+root_counts vertices u zero more is = refl
+root_counts vertices u (suc v) more is = elim (eqb_tells u (suc v)) [
+  | inl same ↦ absurd (omega (arith, same.1, is))
+  | inr differ ↦ rw differ.0 (not_own (nat_lt 0 (suc v)) (is_at_or_below vertices u (suc v)) more)
+]
+
+-- every other claim counts at its own vertex too
+pub soft_counts : (vertices : List Vertex) (v more : ℕ) (c : Claim) → is_hold v c ≡ false →
+    cond (is_on_or_below vertices v c) more 0 ≡ cond (counts_at vertices v c) more 0
+soft_counts vertices v more c soft = rw soft (not_own (nat_lt 0 v) (is_on_or_below vertices v c) more)

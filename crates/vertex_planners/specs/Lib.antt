@@ -3,3 +3,4 @@ pub mod Kept
 pub mod Lists
 pub mod Chains
 pub mod Work
+pub mod Counting

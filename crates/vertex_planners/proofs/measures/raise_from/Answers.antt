@@ -4,12 +4,9 @@ use Rattle.flux_defs.specs.Graph.{chain}
 use Rattle.graph_laws.proofs.Preorder.{parents_first}
 use Rattle.vertex_planners.specs.Numbers.{amount_at, HasKeysBelow}
 use Rattle.vertex_planners.specs.Chains.{sum_on, ParentsIn}
-use Rattle.vertex_planners.proofs.ClaimSums.{once_above, parents_in, none_more}
+use Rattle.vertex_planners.proofs.ClaimSums.{once_above, parents_in}
 use Rattle.vertex_planners.proofs.Counts.{item_at}
 use Rattle.vertex_planners.proofs.measures.raise_from.Goals as goal
-
-pub returns-then-more-eq0-clause-sums : goal.returns-then-more-eq0-clause-sums
-returns-then-more-eq0-clause-sums c = λ v. none_more c.args.graph.now.resources.vertices c.args.vertex v (amount_at c.args.amounts.now v) c.args.more c.if-more-eq0.true
 
 pub returns-clause-sums : goal.returns-clause-sums
 returns-clause-sums c = λ v.
