@@ -7,18 +7,18 @@ use Rattle.flux_defs.specs.declared.claims.Window.{Window}
 use Rattle.flux_defs.specs.Digits.{dig}
 use Rattle.flux_defs.specs.Graph.{parent_of, chain}
 use Rattle.flux_defs.specs.Jobs.{some_live_claim, SomeMoment, IsPoint, IsNextPoint}
-use Rattle.flux_defs.specs.Closed.{IsTouchedOver}
 use Rattle.planner_points.specs.declared.spans.Span.{Span}
 use Rattle.planner_points.specs.Spans.{IsLeastFree, IsEnd, IsNextEnd}
-use Rattle.book_laws.specs.Amounts.{is_hold, holds_along, capacity, part_within}
+use Rattle.book_laws.specs.Amounts.{is_hold, holds_along, capacity}
 use Rattle.book_laws.specs.Grouped.{grouped, times_of}
-use Rattle.book_laws.proofs.GroupedLaws.{ends_points, points_ends}
-use Rattle.book_laws.proofs.Views.{held_tells, touched_tells}
+use Rattle.book_laws.proofs.GroupedLaws.{ends_points, least_tells, points_ends}
+use Rattle.book_laws.proofs.Views.{held_tells, least_left}
 use Rattle.book_laws.proofs.Closing.{held_cons, held_nil}
 use Rattle.vertex_planners.proofs.ClaimSums.{chain_opens, chain_none}
 use Rattle.vertex_accounts.specs.declared.quantities.Quantity.{Quantity}
 use Rattle.vertex_accounts.specs.declared.quantities.Quantity.TheVariants.{Holds, Claims, Takes, Units}
-use Rattle.vertex_accounts.specs.Quantities.{amount_in, total_in, most_claims}
+use Rattle.vertex_planners.specs.Counting.{counts_at}
+use Rattle.vertex_accounts.specs.Quantities.{amount_in, total_in, claim_count, part_count, most_claims}
 use Rattle.vertex_accounts.specs.Books.{IsUnitsOf}
 use Rattle.vertex_accounts.specs.Costs.{look_most, closed_most}
 
@@ -32,11 +32,12 @@ held_is vertices jobs w v n q e least =
     less_tells n most_claims _ (held_tells jobs w v most_claims n (omega arith)
     (subst (λ (x : Quantity). IsLeastFree (total_in vertices x v) (grouped (amount_in vertices x v) jobs) w n) e least))
 
--- touched: less than all claims are left
-pub touched_is : (vertices : List Vertex) (jobs : List Job) (w : Window) (v n : ℕ) (q : Quantity) → q ≡ Claims → IsLeastFree (total_in vertices q v) (grouped (amount_in vertices q v) jobs) w n →
-    (IsTrue (nat_lt n most_claims) ↔ IsTouchedOver vertices jobs w v)
-touched_is vertices jobs w v n q e least =
-    less_tells n most_claims _ (touched_tells vertices jobs w v most_claims n (omega arith)
+-- some claim counts: less than all claims are left
+pub counted_is : (vertices : List Vertex) (jobs : List Job) (w : Window) (v n : ℕ) (q : Quantity) → q ≡ Claims → IsLeastFree (total_in vertices q v) (grouped (amount_in vertices q v) jobs) w n →
+    (n < most_claims ↔ SomeMoment w (λ m. IsTrue (some_live_claim jobs m (counts_at vertices v))))
+counted_is vertices jobs w v n q e least =
+    least_tells (counts_at vertices v) jobs w most_claims n (omega arith)
+    (least_left (claim_count vertices v) jobs w most_claims n
     (subst (λ (x : Quantity). IsLeastFree (total_in vertices x v) (grouped (amount_in vertices x v) jobs) w n) e least))
 
 -- along the chain
@@ -143,8 +144,8 @@ none_of (Some x) h = absurd (h x refl)
 
 -- an account of the units of a type
 pub units_least : (vertices : List Vertex) (jobs : List Job) (w : Window) (kind v n : ℕ) (q : Quantity) → IsUnitsOf kind q → IsLeastFree (total_in vertices q v) (grouped (amount_in vertices q v) jobs) w n →
-    IsLeastFree (capacity vertices kind v) (grouped (part_within vertices kind v) jobs) w n
+    IsLeastFree (capacity vertices kind v) (grouped (part_count vertices kind v) jobs) w n
 units_least vertices jobs w kind v n Holds is least = absurd is
 units_least vertices jobs w kind v n Claims is least = absurd is
 units_least vertices jobs w kind v n Takes is least = absurd is
-units_least vertices jobs w kind v n (Units capacities) is least = subst (λ (k : ℕ). IsLeastFree (capacity vertices k v) (grouped (part_within vertices k v) jobs) w n) is least
+units_least vertices jobs w kind v n (Units capacities) is least = subst (λ (k : ℕ). IsLeastFree (capacity vertices k v) (grouped (part_count vertices k v) jobs) w n) is least

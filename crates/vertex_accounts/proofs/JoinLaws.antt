@@ -12,7 +12,7 @@ use Rattle.flux_defs.specs.Jobs.{is_live, take_of}
 use Rattle.list_laws.proofs.Lists.{all_append}
 use Rattle.planner_points.specs.declared.spans.Span.{Span}
 use Rattle.planner_points.specs.Spans.{span_of, free_at}
-use Rattle.book_laws.specs.Amounts.{live_sum, is_hold, hold_of, claim_within, use_of}
+use Rattle.book_laws.specs.Amounts.{live_sum, is_hold, hold_of, part_within, use_of}
 use Rattle.book_laws.specs.Grouped.{time_of, grouped, times_of, count_claims}
 use Rattle.book_laws.specs.TotalLaws.{AreFair}
 use Rattle.book_laws.proofs.Sums.{job_sum, live_most, sum_most}
@@ -25,10 +25,11 @@ use Rattle.vertex_accounts.specs.declared.quantities.Quantity.{Quantity}
 use Rattle.vertex_accounts.specs.declared.quantities.Quantity.TheVariants.{Holds, Claims, Takes, Units}
 use Rattle.vertex_accounts.specs.declared.accounts.Account.{Account}
 use Rattle.vertex_accounts.specs.declared.books.Accounts.{Accounts}
-use Rattle.vertex_accounts.specs.Quantities.{amount_in, total_in, most_claims}
+use Rattle.vertex_accounts.specs.Quantities.{amount_in, total_in, claim_count, part_count, most_claims}
 use Rattle.vertex_accounts.specs.Stands.{IsAccount}
 use Rattle.vertex_accounts.specs.Books.{IsUnitsOf, IsOnGraph, AreAccounts, Becomes, Joins, Leaves, HasRoomFor}
 use Rattle.vertex_accounts.proofs.AccountLaws.{same_place}
+use Rattle.vertex_accounts.proofs.OwnLaws.{part_less}
 
 -- a number of at most 1 for each claim sums to at most the number of claims
 few_sum : (f : Claim → ℕ) → ((c : Claim) → f c ≤ 1) → (cs : List Claim) → sum_by f cs ≤ length cs
@@ -55,12 +56,16 @@ take_used vertices v (Pass u) = omega arith
 pub fits_all : (g : ResourceGraph) → StandsInPreorder g → (jobs : List Job) → AreFair g.vertices jobs → count_claims jobs ≤ most_claims → (q : Quantity) (v m : ℕ) →
     live_sum (amount_in g.vertices q v) jobs m ≤ total_in g.vertices q v
 fits_all g o jobs fair few Holds v m = let le = live_few (hold_of v) (λ c. small (is_hold v c)) jobs m in omega (arith, le, few)
-fits_all g o jobs fair few Claims v m = let le = live_few (claim_within g.vertices v) (λ c. small _) jobs m in omega (arith, le, few)
+fits_all g o jobs fair few Claims v m = let le = live_few (claim_count g.vertices v) (λ c. small _) jobs m in omega (arith, le, few)
 fits_all g o jobs fair few Takes v m =
     let le = live_most (take_of v) (use_of g.vertices v) jobs m (take_used g.vertices v) in
     let within = fair.within m v in
     omega (arith, le, within)
-fits_all g o jobs fair few (Units capacities) v m = part_room g o capacities.kind v jobs m fair.within fair.pools
+fits_all g o jobs fair few (Units capacities) v m =
+    let le = live_most (part_count g.vertices capacities.kind v) (part_within g.vertices capacities.kind v) jobs m
+    (part_less g.vertices capacities.kind v) in
+    let room = part_room g o capacities.kind v jobs m fair.within fair.pools in
+    omega (arith, le, room)
 
 -- the member of a list, and the counts of claims
 pub middle_of : {X : Type 0} (P : X → Type 0) (before : List X) (x : X) (after : List X) → AllByRecursion P (before ++ x ∷ after) → P x

@@ -1,5 +1,5 @@
 -- What jobs leave of a type, moment by moment: nothing at all, and at the root from when on so much.
-use Rattle.std.proofs.Common.{◌≡◌, ℕ, zero, suc, ◌+◌, ◌-◌, ◌<◌, ◌≤◌, true, false, cond, List, [], ◌∷◌, ◌++◌, length, Option, Some, None, slice_get, ◌⊎◌, inl, inr, refl, sym, ◌∙◌, ap, subst, arith, IsTrue, true≢false}
+use Rattle.std.proofs.Common.{◌≡◌, ℕ, zero, suc, ◌<◌, ◌≤◌, List, [], ◌∷◌, ◌++◌, length, Option, Some, None, slice_get, ◌⊎◌, inl, inr, refl, sym, ◌∙◌, subst, arith, IsTrue, true≢false}
 use Rattle.std.specs.Prelude.{MatchOption, sum_by}
 use Rattle.std.proofs.lemmas.Bool.{cases_lt}
 use Rattle.flux_defs.specs.declared.vertices.Vertex.{Vertex}
@@ -17,17 +17,18 @@ use Rattle.graph_laws.proofs.Preorder.{parents_first}
 use Rattle.planner_points.specs.declared.spans.Span.{Span}
 use Rattle.planner_points.specs.Spans.{free_at, IsEnd, IsFirstFree, IsLeastFree}
 use Rattle.prune_filters.specs.Amples.{IsNextAmpleOrNone}
-use Rattle.book_laws.specs.Amounts.{live_sum, capacity, part_within}
+use Rattle.book_laws.specs.Amounts.{capacity, part_within}
 use Rattle.book_laws.specs.Grouped.{AreKept, time_of, some_span, grouped}
 use Rattle.book_laws.specs.TotalLaws.{AreFair}
 use Rattle.book_laws.proofs.GroupedLaws.{used_grouped}
-use Rattle.book_laws.proofs.Sums.{bool_of, live_where}
+use Rattle.book_laws.proofs.Sums.{bool_of, live_most, live_where}
 use Rattle.book_laws.proofs.Totals.{total_open, total_closed}
 use Rattle.book_laws.proofs.Within.{closed_is}
 use Rattle.vertex_accounts.specs.declared.quantities.Quantity.{Quantity}
 use Rattle.vertex_accounts.specs.declared.quantities.Quantity.TheVariants.{Holds, Claims, Takes, Units}
-use Rattle.vertex_accounts.specs.Quantities.{amount_in, total_in}
+use Rattle.vertex_accounts.specs.Quantities.{amount_in, total_in, part_count}
 use Rattle.vertex_accounts.specs.Books.{IsUnitsOf}
+use Rattle.vertex_accounts.proofs.OwnLaws.{part_less}
 
 -- the first second of a planner of the account at which so much is left
 abbrev pub FirstOrNone : ℕ → List Span → ℕ → ℕ → Option ℕ → Type 0
@@ -118,14 +119,15 @@ module _ (g : ResourceGraph) (o : StandsInPreorder g) (jobs : List Job) (fair : 
 
 -- where jobs leave nothing of a vertex's capacity its total is 0, whether it is closed or not
 pub none_left : (g : ResourceGraph) → StandsInPreorder g → (jobs : List Job) → AreFair g.vertices jobs → (w : Window) (kind v : ℕ) →
-    IsLeastFree (capacity g.vertices kind v) (grouped (part_within g.vertices kind v) jobs) w 0 → IsTotalOver g.vertices jobs w kind v 0
+    IsLeastFree (capacity g.vertices kind v) (grouped (part_count g.vertices kind v) jobs) w 0 → IsTotalOver g.vertices jobs w kind v 0
 none_left g o jobs fair w kind v least =
     let m = least.reached.0 in
     let left = least.reached.3 in
-    let used = used_grouped (part_within g.vertices kind v) jobs m in
+    let used = used_grouped (part_count g.vertices kind v) jobs m in
+    let most = live_most (part_count g.vertices kind v) (part_within g.vertices kind v) jobs m (part_less g.vertices kind v) in
     let none : total_at g.vertices jobs kind m v ≡ 0 = elim (bool_of (is_closed (no_bars g.vertices jobs) m v)) [
       | inl closed ↦ total_closed g o kind v jobs m closed
-      | inr open_ ↦ (let all = total_open g o kind v jobs m fair.within fair.pools open_ in omega (arith, all, used, left))
+      | inr open_ ↦ (let all = total_open g o kind v jobs m fair.within fair.pools open_ in omega (arith, all, used, left, most))
     ] in
     record {
       each = λ k lo hi. omega arith;

@@ -1,20 +1,29 @@
 -- What an account counts, and of how much.
-use Rattle.std.specs.Prelude.{ℕ, List}
+use Rattle.std.specs.Prelude.{ℕ, if◌then◌else◌, List}
 use Rattle.flux_defs.specs.declared.vertices.Vertex.{Vertex}
 use Rattle.flux_defs.specs.declared.claims.Claim.{Claim}
 use Rattle.flux_defs.specs.Graph.{size_of}
 use Rattle.flux_defs.specs.Jobs.{take_of}
-use Rattle.book_laws.specs.Amounts.{hold_of, claim_within, capacity, part_within}
+use Rattle.book_laws.specs.Amounts.{hold_of, capacity, part_of}
+use Rattle.vertex_planners.specs.Counting.{counts_at}
 use Rattle.vertex_accounts.specs.declared.quantities.Quantity.{Quantity}
 use Rattle.vertex_accounts.specs.declared.quantities.Quantity.TheVariants.{Holds, Claims, Takes, Units}
 use Rattle.vertex_accounts.specs.Capacities.{AreOf}
 
+-- 1 for a claim that counts at v
+abbrev pub claim_count : List Vertex → ℕ → Claim → ℕ
+claim_count vertices v c = if counts_at vertices v c then 1 else 0
+
+-- what a claim that counts at v has of the kind
+abbrev pub part_count : List Vertex → ℕ → ℕ → Claim → ℕ
+part_count vertices kind v c = if counts_at vertices v c then part_of vertices kind c else 0
+
 -- what a claim amounts to at v
 abbrev pub amount_in : List Vertex → Quantity → ℕ → Claim → ℕ
 amount_in vertices Holds v c = hold_of v c
-amount_in vertices Claims v c = claim_within vertices v c
+amount_in vertices Claims v c = claim_count vertices v c
 amount_in vertices Takes v c = take_of v c
-amount_in vertices (Units capacities) v c = part_within vertices capacities.kind v c
+amount_in vertices (Units capacities) v c = part_count vertices capacities.kind v c
 
 -- the greatest number of holds and of claims
 abbrev pub most_claims : ℕ

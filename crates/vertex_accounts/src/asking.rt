@@ -111,10 +111,13 @@ impl<P: Planner + Drop> Accounts<P> {
             (IsTrue result ↔ IsTouchedOver graph.now.resources.vertices jobs window vertex) }
         ensures some_work { steps.old < steps.new }
         ensures work { (most_looks : ℕ) → AllLookWithin P.look_cost most_looks self.now →
-            steps.new ≤ steps.old + look_most (length graph.now.resources.vertices) most_looks }
+            steps.new ≤ steps.old + 2 * look_most (length graph.now.resources.vertices) most_looks }
     {
-        let _graph = graph;
-        self.claims.least(vertex, window, steps) < u64::MAX
+        let vertices = graph.vertices().items();
+        if self.claims.least(vertex, window, steps) < u64::MAX {
+            return true;
+        }
+        self.held_over(vertices, vertex, window, steps)
     }
 
     /// The least that is free of the vertex at a moment of the window.

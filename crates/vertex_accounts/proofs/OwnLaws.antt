@@ -1,0 +1,111 @@
+-- Holds that count above the vertex alone that they hold: that the vertex is held says it there.
+use Rattle.std.proofs.Common.{◌≡◌, ℕ, ◌-◌, ◌<◌, ◌≤◌, nat_lt, Bool, true, false, ◌&&◌, cond, List, length, ◌⊎◌, ◌↔◌, inl, inr, refl, sym, ◌∙◌, ap, subst, arith, IsTrue, true≢false}
+use Rattle.std.proofs.lemmas.Bool.{or_cases, or_left}
+use Rattle.std.proofs.lemmas.Bool.Decides.{eqb_tells}
+use Rattle.flux_defs.specs.declared.vertices.Vertex.{Vertex}
+use Rattle.flux_defs.specs.declared.claims.Claim.{Claim}
+use Rattle.flux_defs.specs.declared.claims.Claim.TheVariants.{Take, Hold, Pass}
+use Rattle.flux_defs.specs.declared.claims.Job.{Job}
+use Rattle.flux_defs.specs.declared.claims.Window.{Window}
+use Rattle.flux_defs.specs.Graph.{is_at_or_below}
+use Rattle.flux_defs.specs.Jobs.{some_live_claim, SomeMoment, is_on_or_below, holds_over}
+use Rattle.flux_defs.specs.Closed.{no_bars, is_closed, IsTouchedOver}
+use Rattle.graph_laws.proofs.Containment.{ParentsFirst, below_self}
+use Rattle.planner_points.specs.Spans.{free_at, IsLeastFree}
+use Rattle.book_laws.specs.Amounts.{is_hold, part_of, part_within}
+use Rattle.book_laws.specs.Grouped.{grouped}
+use Rattle.book_laws.proofs.GroupedLaws.{used_grouped}
+use Rattle.book_laws.proofs.Sums.{bool_of, live_along, live_either, live_unless}
+use Rattle.book_laws.proofs.Views.{NeverClosed}
+use Rattle.book_laws.proofs.Within.{closed_is}
+use Rattle.vertex_planners.specs.Counting.{counts_at}
+use Rattle.vertex_accounts.specs.Quantities.{part_count}
+
+-- what doesn't hold v counts as it stands
+counted : (b own there : Bool) → own ≡ false → cond (b && own) false there ≡ there
+counted true own there e = ap (λ o. cond o false there) e
+counted false own there e = refl
+
+counted_there : (own there : Bool) → IsTrue (cond own false there) → IsTrue there
+counted_there true there h = absurd (true≢false (sym h))
+counted_there false there h = h
+
+less : (own there : Bool) (n : ℕ) → cond (cond own false there) n 0 ≤ cond there n 0
+less true there n = omega arith
+less false there n = omega arith
+
+pub part_less : (vertices : List Vertex) (kind v : ℕ) (c : Claim) → part_count vertices kind v c ≤ part_within vertices kind v c
+part_less vertices kind v c = less _ (is_on_or_below vertices v c) (part_of vertices kind c)
+
+module _ (vertices : List Vertex) (first : ParentsFirst vertices) (v : ℕ) (inside : v < length vertices) where
+  hold_there : (c : Claim) → IsTrue (is_hold v c) → IsTrue (is_on_or_below vertices v c) × IsTrue
+  (holds_over vertices v c)
+  hold_there (Take u q) h = absurd (true≢false (sym h))
+  hold_there (Hold u) h = elim (eqb_tells u v) [
+    | inl same ↦ (
+        subst (λ (x : ℕ). IsTrue (is_at_or_below vertices x v)) (sym same.1) (below_self vertices first v inside),
+        subst (λ (x : ℕ). IsTrue (is_at_or_below vertices v x)) (sym same.1) (below_self vertices first v inside),
+      )
+    | inr differ ↦ absurd (true≢false (sym h ∙ differ.0))
+  ]
+  hold_there (Pass u) h = absurd (true≢false (sym h))
+
+  -- touched: a claim counts here, or holds the vertex itself
+  pub touched_either : (jobs : List Job) (w : Window) →
+      ((SomeMoment w (λ m. IsTrue (some_live_claim jobs m (counts_at vertices v))) ⊎ SomeMoment w
+      (λ m. IsTrue (some_live_claim jobs m (is_hold v))))
+      ↔ IsTouchedOver vertices jobs w v)
+  touched_either jobs w = (
+    λ either. elim either [
+      | inl (m, lo, hi, h) ↦
+      (m, lo, hi, or_left _ false
+      (live_along (counts_at vertices v) (is_on_or_below vertices v)
+      (λ c t. counted_there _ (is_on_or_below vertices v c) t) jobs m h))
+      | inr (m, lo, hi, h) ↦
+      (m, lo, hi, or_left _ false
+      (live_along (is_hold v) (is_on_or_below vertices v) (λ c t. (hold_there c t).0) jobs m h))
+    ],
+    λ (m, lo, hi, h). elim (or_cases _ false h) [
+      | inl there ↦ elim (live_either (is_on_or_below vertices v) (counts_at vertices v) (is_hold v) one_of jobs m
+      there) [
+        | inl a ↦ inl (m, lo, hi, a)
+        | inr b ↦ inr (m, lo, hi, b)
+      ]
+      | inr none ↦ absurd (true≢false (sym none))
+    ],
+  )
+    where
+      one_of : (c : Claim) → IsTrue (is_on_or_below vertices v c) → IsTrue (counts_at vertices v c) ⊎ IsTrue
+      (is_hold v c)
+      one_of c on = elim (bool_of (is_hold v c)) [
+        | inl own ↦ inr own
+        | inr other ↦ inl (counted (nat_lt 0 v) (is_hold v c) (is_on_or_below vertices v c) other ∙ on)
+      ]
+
+  -- where the vertex isn't closed no claim holds it
+  same_part : (kind : ℕ) (c : Claim) → holds_over vertices v c ≡ false → part_count vertices kind v c ≡ part_within
+  vertices kind v c
+  same_part kind c open_ = elim (bool_of (is_hold v c)) [
+    | inl own ↦ absurd (true≢false (sym (hold_there c own).1 ∙ open_))
+    | inr other ↦ ap (λ b. cond b (part_of vertices kind c) 0)
+    (counted (nat_lt 0 v) (is_hold v c) (is_on_or_below vertices v c) other)
+  ]
+
+  -- so there what counts is what the claims have
+  pub counts_all : (jobs : List Job) (w : Window) (kind total n : ℕ) → NeverClosed vertices jobs w v →
+      IsLeastFree total (grouped (part_count vertices kind v) jobs) w n → IsLeastFree total
+      (grouped (part_within vertices kind v) jobs) w n
+  counts_all jobs w kind total n never least = record {
+    each = λ m lo hi. (let e = same m lo hi in let le = least.each m lo hi in omega (arith, e, le));
+    reached = (let (m, lo, hi, e) = least.reached in (m, lo, hi, sym (same m lo hi) ∙ e));
+  }
+    where
+      same : (m : ℕ) → w.from ≤ m → m < w.to → free_at total (grouped (part_count vertices kind v) jobs) m ≡ free_at
+      total (grouped (part_within vertices kind v) jobs) m
+      same m lo hi = elim (bool_of (is_closed (no_bars vertices jobs) m v)) [
+        | inl closed ↦ absurd (never (m, lo, hi, closed))
+        | inr open_ ↦ ap (λ k. total - k) (used_grouped (part_count vertices kind v) jobs m
+            ∙ live_unless (holds_over vertices v) (part_count vertices kind v) (part_within vertices kind v)
+            (same_part kind) jobs m (sym (closed_is vertices jobs m v) ∙ open_)
+            ∙ sym (used_grouped (part_within vertices kind v) jobs m))
+      ]
