@@ -1,5 +1,5 @@
 -- Holds that count above the vertex alone that they hold: that the vertex is held says it there.
-use Rattle.std.proofs.Common.{◌≡◌, ℕ, ◌-◌, ◌<◌, ◌≤◌, nat_lt, Bool, true, false, ◌&&◌, cond, List, length, ◌⊎◌, ◌↔◌, inl, inr, refl, sym, ◌∙◌, ap, subst, arith, IsTrue, true≢false}
+use Rattle.std.proofs.Common.{◌≡◌, ℕ, ◌-◌, ◌<◌, ◌≤◌, nat_lt, Bool, true, false, ◌||◌, ◌&&◌, cond, List, length, ◌⊎◌, ◌↔◌, inl, inr, refl, sym, ◌∙◌, ap, subst, arith, IsTrue, true≢false}
 use Rattle.std.proofs.lemmas.Bool.{or_cases, or_left}
 use Rattle.std.proofs.lemmas.Bool.Decides.{eqb_tells}
 use Rattle.flux_defs.specs.declared.vertices.Vertex.{Vertex}
@@ -34,12 +34,13 @@ less : (own there : Bool) (n : ℕ) → cond (cond own false there) n 0 ≤ cond
 less true there n = omega arith
 less false there n = omega arith
 
-pub part_less : (vertices : List Vertex) (kind v : ℕ) (c : Claim) → part_count vertices kind v c ≤ part_within vertices kind v c
+pub part_less : (vertices : List Vertex) (kind v : ℕ) (c : Claim) →
+    part_count vertices kind v c ≤ part_within vertices kind v c
 part_less vertices kind v c = less _ (is_on_or_below vertices v c) (part_of vertices kind c)
 
 module _ (vertices : List Vertex) (first : ParentsFirst vertices) (v : ℕ) (inside : v < length vertices) where
-  hold_there : (c : Claim) → IsTrue (is_hold v c) → IsTrue (is_on_or_below vertices v c) × IsTrue
-  (holds_over vertices v c)
+  hold_there : (c : Claim) → IsTrue (is_hold v c) →
+      IsTrue (is_on_or_below vertices v c) × IsTrue (holds_over vertices v c)
   hold_there (Take u q) h = absurd (true≢false (sym h))
   hold_there (Hold u) h = elim (eqb_tells u v) [
     | inl same ↦ (
@@ -52,22 +53,17 @@ module _ (vertices : List Vertex) (first : ParentsFirst vertices) (v : ℕ) (ins
 
   -- touched: a claim counts here, or holds the vertex itself
   pub touched_either : (jobs : List Job) (w : Window) →
-      ((SomeMoment w (λ m. IsTrue (some_live_claim jobs m (counts_at vertices v))) ⊎ SomeMoment w
-      (λ m. IsTrue (some_live_claim jobs m (is_hold v))))
+      ((SomeMoment w (λ m. IsTrue (some_live_claim jobs m (counts_at vertices v)))
+      ⊎ SomeMoment w (λ m. IsTrue (some_live_claim jobs m (is_hold v))))
       ↔ IsTouchedOver vertices jobs w v)
   touched_either jobs w = (
     λ either. elim either [
-      | inl (m, lo, hi, h) ↦
-      (m, lo, hi, or_left _ false
-      (live_along (counts_at vertices v) (is_on_or_below vertices v)
-      (λ c t. counted_there _ (is_on_or_below vertices v c) t) jobs m h))
-      | inr (m, lo, hi, h) ↦
-      (m, lo, hi, or_left _ false
-      (live_along (is_hold v) (is_on_or_below vertices v) (λ c t. (hold_there c t).0) jobs m h))
+      | inl (m, lo, hi, h) ↦ (m, lo, hi, there m (counts_at vertices v)
+          (λ c t. counted_there _ (is_on_or_below vertices v c) t) h)
+      | inr (m, lo, hi, h) ↦ (m, lo, hi, there m (is_hold v) (λ c t. (hold_there c t).0) h)
     ],
     λ (m, lo, hi, h). elim (or_cases _ false h) [
-      | inl there ↦ elim (live_either (is_on_or_below vertices v) (counts_at vertices v) (is_hold v) one_of jobs m
-      there) [
+      | inl on ↦ elim (live_either (is_on_or_below vertices v) (counts_at vertices v) (is_hold v) one_of jobs m on) [
         | inl a ↦ inl (m, lo, hi, a)
         | inr b ↦ inr (m, lo, hi, b)
       ]
@@ -75,33 +71,37 @@ module _ (vertices : List Vertex) (first : ParentsFirst vertices) (v : ℕ) (ins
     ],
   )
     where
-      one_of : (c : Claim) → IsTrue (is_on_or_below vertices v c) → IsTrue (counts_at vertices v c) ⊎ IsTrue
-      (is_hold v c)
+      there : (m : ℕ) (test : Claim → Bool) → ((c : Claim) → IsTrue (test c) → IsTrue (is_on_or_below vertices v c)) →
+          IsTrue (some_live_claim jobs m test) → IsTrue (some_live_claim jobs m (is_on_or_below vertices v) || false)
+      there m test along h = or_left _ false (live_along test (is_on_or_below vertices v) along jobs m h)
+
+      one_of : (c : Claim) → IsTrue (is_on_or_below vertices v c) →
+          IsTrue (counts_at vertices v c) ⊎ IsTrue (is_hold v c)
       one_of c on = elim (bool_of (is_hold v c)) [
         | inl own ↦ inr own
         | inr other ↦ inl (counted (nat_lt 0 v) (is_hold v c) (is_on_or_below vertices v c) other ∙ on)
       ]
 
   -- where the vertex isn't closed no claim holds it
-  same_part : (kind : ℕ) (c : Claim) → holds_over vertices v c ≡ false → part_count vertices kind v c ≡ part_within
-  vertices kind v c
+  same_part : (kind : ℕ) (c : Claim) → holds_over vertices v c ≡ false →
+      part_count vertices kind v c ≡ part_within vertices kind v c
   same_part kind c open_ = elim (bool_of (is_hold v c)) [
     | inl own ↦ absurd (true≢false (sym (hold_there c own).1 ∙ open_))
     | inr other ↦ ap (λ b. cond b (part_of vertices kind c) 0)
-    (counted (nat_lt 0 v) (is_hold v c) (is_on_or_below vertices v c) other)
+        (counted (nat_lt 0 v) (is_hold v c) (is_on_or_below vertices v c) other)
   ]
 
   -- so there what counts is what the claims have
   pub counts_all : (jobs : List Job) (w : Window) (kind total n : ℕ) → NeverClosed vertices jobs w v →
-      IsLeastFree total (grouped (part_count vertices kind v) jobs) w n → IsLeastFree total
-      (grouped (part_within vertices kind v) jobs) w n
+      IsLeastFree total (grouped (part_count vertices kind v) jobs) w n →
+      IsLeastFree total (grouped (part_within vertices kind v) jobs) w n
   counts_all jobs w kind total n never least = record {
     each = λ m lo hi. (let e = same m lo hi in let le = least.each m lo hi in omega (arith, e, le));
     reached = (let (m, lo, hi, e) = least.reached in (m, lo, hi, sym (same m lo hi) ∙ e));
   }
     where
-      same : (m : ℕ) → w.from ≤ m → m < w.to → free_at total (grouped (part_count vertices kind v) jobs) m ≡ free_at
-      total (grouped (part_within vertices kind v) jobs) m
+      same : (m : ℕ) → w.from ≤ m → m < w.to → free_at total (grouped (part_count vertices kind v) jobs) m
+          ≡ free_at total (grouped (part_within vertices kind v) jobs) m
       same m lo hi = elim (bool_of (is_closed (no_bars vertices jobs) m v)) [
         | inl closed ↦ absurd (never (m, lo, hi, closed))
         | inr open_ ↦ ap (λ k. total - k) (used_grouped (part_count vertices kind v) jobs m
