@@ -1,5 +1,5 @@
 -- Which jobs a book stands for, and what two lists of jobs have in common for which it stands.
-use Rattle.std.proofs.Common.{◌≡◌, ℕ, zero, suc, ◌+◌, ◌<◌, ◌≤◌, cond, List, [], ◌∷◌, ◌++◌, length, length-append, get_or, slice_get, Option, Some, None, is_some, Contains, refl, sym, ◌∙◌, ap, subst, arith}
+use Rattle.std.proofs.Common.{◌≡◌, ℕ, zero, suc, ◌+◌, ◌<◌, ◌≤◌, nat_lt, cond, List, [], ◌∷◌, ◌++◌, length, length-append, get_or, slice_get, Option, Some, None, is_some, Contains, refl, sym, ◌∙◌, ap, subst, arith}
 use Rattle.std.specs.Arc.{arc_value}
 use Rattle.std.specs.List.{AllByRecursion}
 use Rattle.std.specs.Ordering.{nat_cmp}
@@ -28,6 +28,7 @@ use Rattle.vertex_accounts.specs.declared.accounts.Account.{Account}
 use Rattle.vertex_accounts.specs.declared.quantities.Quantity.{Quantity}
 use Rattle.vertex_accounts.specs.Quantities.{amount_in}
 use Rattle.vertex_accounts.specs.Stands.{IsAccount}
+use Rattle.vertex_accounts.proofs.OwnLaws.{within_is}
 use Rattle.job_table.specs.declared.tables.Row.{Row}
 use Rattle.book_state.specs.declared.held.Kept.{Kept}
 use Rattle.job_table.specs.Rows.{live_row, cancelled_row}
@@ -60,21 +61,31 @@ alike_in vertices a b account q e x y v m lt =
     let sums : live_sum f a m ≡ live_sum f b m = omega (arith, same, ra, rb, ua, ub) in
     subst (λ (k : Quantity). live_sum (amount_in vertices k v) a m ≡ live_sum (amount_in vertices k v) b m) e sums
 
-pub alike : (book : Kept) (a b : List Job) → StandsFor book a → StandsFor book b → AmountAlike (vertices_of book) a b
-alike book a b x y =
+pub alike : (book : Kept) → ParentsFirst (vertices_of book) → (a b : List Job) → StandsFor book a → StandsFor book b → AmountAlike (vertices_of book) a b
+alike book first a b x y =
     let vertices = vertices_of book in
     let accounts = arc_value book.accounts in
+    let held = λ (v m : ℕ) (lt : v < length vertices). alike_in vertices a b accounts.holds _ x.accounts_are.graph.holds.1
+    x.accounts_are.holds y.accounts_are.holds v m lt in
     record {
-      holds = λ v m lt. alike_in vertices a b accounts.holds _ x.accounts_are.graph.holds.1 x.accounts_are.holds y.accounts_are.holds v m lt;
-      claims = λ v m lt. alike_in vertices a b accounts.claims _ x.accounts_are.graph.claims.1 x.accounts_are.claims y.accounts_are.claims v m lt;
-      takes = λ v m lt. alike_in vertices a b accounts.takes _ x.accounts_are.graph.takes.1 x.accounts_are.takes y.accounts_are.takes v m lt;
+      holds = held;
+      claims = λ v m lt.
+          let in_a = within_is vertices first v lt a m in
+          let in_b = within_is vertices first v lt b m in
+          let count = alike_in vertices a b accounts.claims _ x.accounts_are.graph.claims.1 x.accounts_are.claims
+          y.accounts_are.claims v m lt in
+          let own = ap (λ n. cond (nat_lt 0 v) n 0) (held v m lt) in
+          omega (arith, in_a, in_b, count, own);
+      takes = λ v m lt. alike_in vertices a b accounts.takes _ x.accounts_are.graph.takes.1 x.accounts_are.takes
+          y.accounts_are.takes v m lt;
     }
 
 -- what is available beside the one list is available beside the other
 pub stood : (book : Kept) → ((g : ResourceGraph) × (g.vertices ≡ vertices_of book) × StandsInPreorder g) → (a b : List Job) → StandsFor book a → StandsFor book b → (w : Window) (cs : List Claim) →
     AllByRecursion (λ c. vertex_of c < length (vertices_of book)) cs → AllByRecursion (IsAvailable (no_bars (vertices_of book) a) w) cs → AllByRecursion (IsAvailable (no_bars (vertices_of book) b) w) cs
 stood book (g, same, o) a b x y w cs inside available =
-    available_alike (vertices_of book) (subst ParentsFirst same (parents_first g o)) a b (alike book a b x y) w cs inside available
+    let first = subst ParentsFirst same (parents_first g o) in
+    available_alike (vertices_of book) first a b (alike book first a b x y) w cs inside available
 
 -- available and from pools, claim by claim
 pub both_of : (P Q : Claim → Type 0) (cs : List Claim) → AllByRecursion P cs → AllByRecursion Q cs → AllByRecursion (λ c. P c × Q c) cs

@@ -1,6 +1,6 @@
 -- Holds that count above the vertex alone that they hold: that the vertex is held says it there.
-use Rattle.std.proofs.Common.{◌≡◌, ℕ, ◌-◌, ◌<◌, ◌≤◌, nat_lt, Bool, true, false, ◌||◌, ◌&&◌, cond, List, length, ◌⊎◌, ◌↔◌, inl, inr, refl, sym, ◌∙◌, ap, subst, arith, IsTrue, true≢false}
-use Rattle.std.proofs.lemmas.Bool.{or_cases, or_left}
+use Rattle.std.proofs.Common.{◌≡◌, ◌+◌, ℕ, ◌-◌, ◌<◌, ◌≤◌, nat_lt, Bool, true, false, ◌||◌, ◌&&◌, cond, List, length, ◌⊎◌, ◌↔◌, inl, inr, refl, sym, ◌∙◌, ap, subst, arith, IsTrue, true≢false}
+use Rattle.std.proofs.lemmas.Bool.{and_parts, or_cases, or_left}
 use Rattle.std.proofs.lemmas.Bool.Decides.{eqb_tells}
 use Rattle.flux_defs.specs.declared.vertices.Vertex.{Vertex}
 use Rattle.flux_defs.specs.declared.claims.Claim.{Claim}
@@ -12,14 +12,14 @@ use Rattle.flux_defs.specs.Jobs.{some_live_claim, SomeMoment, is_on_or_below, ho
 use Rattle.flux_defs.specs.Closed.{no_bars, is_closed, IsTouchedOver}
 use Rattle.graph_laws.proofs.Containment.{ParentsFirst, below_self}
 use Rattle.planner_points.specs.Spans.{free_at, IsLeastFree}
-use Rattle.book_laws.specs.Amounts.{is_hold, part_of, part_within}
+use Rattle.book_laws.specs.Amounts.{live_sum, is_hold, hold_of, claim_within, part_of, part_within}
 use Rattle.book_laws.specs.Grouped.{grouped}
 use Rattle.book_laws.proofs.GroupedLaws.{used_grouped}
-use Rattle.book_laws.proofs.Sums.{bool_of, live_along, live_either, live_unless}
+use Rattle.book_laws.proofs.Sums.{bool_of, live_add, live_along, live_either, live_most, live_none, live_unless}
 use Rattle.book_laws.proofs.Views.{NeverClosed}
 use Rattle.book_laws.proofs.Within.{closed_is}
 use Rattle.vertex_planners.specs.Counting.{counts_at}
-use Rattle.vertex_accounts.specs.Quantities.{part_count}
+use Rattle.vertex_accounts.specs.Quantities.{claim_count, part_count}
 
 -- what doesn't hold v counts as it stands
 counted : (b own there : Bool) → own ≡ false → cond (b && own) false there ≡ there
@@ -109,3 +109,32 @@ module _ (vertices : List Vertex) (first : ParentsFirst vertices) (v : ℕ) (ins
             (same_part kind) jobs m (sym (closed_is vertices jobs m v) ∙ open_)
             ∙ sym (used_grouped (part_within vertices kind v) jobs m))
       ]
+
+  -- the claims on the vertex and below it are those that count, and those that hold it
+  pub within_is : (jobs : List Job) (m : ℕ) → live_sum (claim_within vertices v) jobs m
+      ≡ live_sum (claim_count vertices v) jobs m + cond (nat_lt 0 v) (live_sum (hold_of v) jobs m) 0
+  within_is jobs m =
+      let both = live_add (claim_count vertices v) own jobs m in
+      let most = live_most (claim_within vertices v) (λ c. claim_count vertices v c + own c) jobs m (λ c. (parts c).0) in
+      let least = live_most (λ c. claim_count vertices v c + own c) (claim_within vertices v) jobs m (λ c. (parts c).1) in
+      let held = own_sum (nat_lt 0 v) in
+      omega (arith, both, most, least, held)
+    where
+      own : Claim → ℕ
+      own c = cond (nat_lt 0 v && is_hold v c) 1 0
+
+      parts : (c : Claim) → (claim_within vertices v c ≤ claim_count vertices v c + own c)
+          × (claim_count vertices v c + own c ≤ claim_within vertices v c)
+      parts c = by_test (nat_lt 0 v && is_hold v c) (is_on_or_below vertices v c)
+          (λ h. (hold_there c (and_parts (nat_lt 0 v) (is_hold v c) h).1).0)
+        where
+          by_test : (held there : Bool) → (IsTrue held → IsTrue there) →
+              (cond there 1 0 ≤ cond (cond held false there) 1 0 + cond held 1 0)
+              × (cond (cond held false there) 1 0 + cond held 1 0 ≤ cond there 1 0)
+          by_test true true h = (omega arith, omega arith)
+          by_test true false h = absurd (true≢false (sym (h refl)))
+          by_test false there h = (omega arith, omega arith)
+
+      own_sum : (b : Bool) → live_sum (λ c. cond (b && is_hold v c) 1 0) jobs m ≡ cond b (live_sum (hold_of v) jobs m) 0
+      own_sum true = refl
+      own_sum false = live_none jobs m
