@@ -21,11 +21,12 @@ use vertex_planners::{Amounts, amounts_on, amounts_within};
 pub enum Quantity {
     /// Holds of the vertex itself.
     Holds,
-    /// Claims on the vertex and below it.
+    /// Claims on the vertex and below it, but for holds of the vertex itself; of the root these too.
     Claims,
     /// Units that are taken of the vertex.
     Takes,
-    /// Units of one type that jobs have at the vertex and below it.
+    /// Units of one type that jobs have at the vertex and below it, but for holds of the vertex itself, which close it; of
+    /// the root these too.
     Units(Node<Capacities>),
 }
 
