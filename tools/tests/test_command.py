@@ -13,7 +13,7 @@ from helper import PROGRAM, TOOLS, ToolTest, data, example, shell, text_of
 
 class Shell(ToolTest):
     def test_from_another_folder(self):
-        for name in ("jobspec", "graph", "schedule", "follow", "definitions"):
+        for name in ("jobspec", "graph", "schedule", "follow", "definitions", "counted"):
             status, out, err = shell(name, "--help", cwd="/")
             self.assertEqual((status, err), (0, ""))
             self.assertTrue(out.startswith(f"usage: tools/{name} "), out)
