@@ -173,7 +173,9 @@ CASES = {
     "262,145 lines": lambda: Case(
         ["serve", "GRAPH"], data=lines(262_145), status=7, said=fault("limit: lines 262145"), wrote=lambda: b""
     ),
-    "64 clients with 63 requests in one another": lambda: Case(["serve", "GRAPH"], data=clients(64, request(63, "node"))),
+    "64 clients with 63 requests in one another": lambda: Case(
+        ["serve", "GRAPH"], data=clients(64, request(63, "node"))
+    ),
     "300 commands over 4,625 vertices": lambda: Case(["load", "300"]),
 }
 
