@@ -88,14 +88,14 @@ def main(words):
     known.add_argument("--beside", type=int, default=2)
     known.add_argument("--limit", type=float, default=10.0)
     known.add_argument("--same", action="store_true")
-    known.add_argument("words", nargs="*")
-    given = known.parse_args(words)
+    cut = words.index("--") if "--" in words else len(words)
+    given = known.parse_args(words[:cut])
     data = b""
     if given.input:
         with open(given.input, "rb") as file:
             data = file.read()
     with tempfile.TemporaryDirectory() as folder:
-        command = [os.path.abspath(given.program), *given.words]
+        command = [os.path.abspath(given.program), *words[cut + 1 :]]
         trial = Trial(command, data, given.limit, compiled(folder), folder)
         status, whole, said, count = trial.run(0)
         if status != 0 or said or not count:
