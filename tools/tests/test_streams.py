@@ -108,6 +108,51 @@ class Streams(unittest.TestCase):
         self.assertEqual(ran.wait(timeout=10), 0)
         self.assertTrue(wrote.endswith(b"\n"))
 
+    def test_an_input_that_does_not_wait(self):
+        reader, writer = os.pipe()
+        os.set_blocking(reader, False)
+        ran = subprocess.Popen([PROGRAM, "serve", TWO], stdin=reader, stdout=subprocess.PIPE, stderr=subprocess.PIPE)
+        os.close(reader)
+        for piece in text_of(LINES).encode().partition(b"reserve"):
+            time.sleep(0.1)
+            os.write(writer, piece)
+        time.sleep(0.1)
+        os.close(writer)
+        wrote, told = ran.communicate(timeout=10)
+        self.assertEqual((ran.returncode, told), (0, b""))
+        self.assertEqual(len(wrote.splitlines()), len(oracle(TWO, LINES).splitlines()))
+
+    def test_an_output_that_does_not_wait(self):
+        lines = b"a advance 0\n" * 8_000
+        reader, writer = os.pipe()
+        os.set_blocking(writer, False)
+        ran = subprocess.Popen([PROGRAM, "serve", TWO], stdin=subprocess.PIPE, stdout=writer, stderr=subprocess.PIPE)
+        os.close(writer)
+        ran.stdin.write(lines)
+        ran.stdin.close()
+        time.sleep(0.5)
+        self.assertIsNone(ran.poll())
+        with os.fdopen(reader, "rb") as all_of_it:
+            wrote = all_of_it.read()
+        self.assertEqual((ran.wait(timeout=10), ran.stderr.read()), (0, b""))
+        ran.stderr.close()
+        self.assertGreater(len(wrote), 65_536)
+        self.assertEqual(wrote, b"".join(b"%d %d a now 0\n" % (at, at + 1) for at in range(8_000)))
+
+    def test_a_standard_error_that_does_not_wait(self):
+        reader, writer = os.pipe()
+        os.set_blocking(writer, False)
+        with self.assertRaises(BlockingIOError):
+            while True:
+                os.write(writer, bytes(4096))
+        ran = subprocess.Popen([PROGRAM, "serve", self.path("none")], stderr=writer)
+        os.close(writer)
+        time.sleep(0.1)
+        self.assertIsNone(ran.poll())
+        with os.fdopen(reader, "rb") as all_of_it:
+            self.assertTrue(all_of_it.read().endswith(b"\0fluxion: no such file\n"))
+        self.assertEqual(ran.wait(timeout=10), 8)
+
 
 if __name__ == "__main__":
     unittest.main()

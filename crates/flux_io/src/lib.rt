@@ -12,6 +12,7 @@ mod std_sink;
 mod std_source;
 mod stores;
 mod streams;
+mod waiting;
 mod whole;
 
 pub use memory_files::{MemFiles, SureFiles};
@@ -22,4 +23,5 @@ pub use std_sink::StdSink;
 pub use std_source::StdSource;
 pub use stores::{FileFail, Files, Got};
 pub use streams::{Failed, Sink, Source};
+pub use waiting::Waiting;
 pub use whole::{ReadAllFail, read_all, write_all};

@@ -4,7 +4,7 @@
 mod words;
 
 use flux_defs::OpenGate;
-use flux_io::{StdFiles, StdSink, StdSource, write_all};
+use flux_io::{StdFiles, StdSink, StdSource, Waiting, write_all};
 use fluxion_shell::{Status, code, fault_line, run};
 use std::process::ExitCode;
 use std::sync::Wait;
@@ -18,8 +18,8 @@ fn run_with<R: Threads + Wait + Sync>(host: &HostRuntime, rt: &R) -> Status {
         return Status::Memory;
     };
     let mut files = StdFiles::new(host);
-    let mut input = StdSource::new(host.stdin());
-    let mut out = StdSink::new(host.stdout());
+    let mut input = StdSource::new(Waiting::new(host.stdin(), host));
+    let mut out = StdSink::new(Waiting::new(host.stdout(), host));
     run(
         rt, alloc, &words, &mut files, &mut input, &mut out, &OpenGate,
     )
@@ -28,7 +28,8 @@ fn run_with<R: Threads + Wait + Sync>(host: &HostRuntime, rt: &R) -> Status {
 fn main(rt: HostRuntime) -> ExitCode {
     let status = run_with(&rt, &rt);
     if let Ok(line) = fault_line(rt.alloc(), &status) {
-        let _ = write_all(&mut StdSink::new(rt.stderr()), &line);
+        let mut errors = StdSink::new(Waiting::new(rt.stderr(), &rt));
+        let _ = write_all(&mut errors, &line);
     }
     ExitCode::from(code(&status))
 }

@@ -5,13 +5,15 @@ ghost use Rattle.std.specs.Prelude.{◌≤◌, IfOk};
 use flux_defs::{List, Text};
 use flux_io::{
     Failed, FileFail, FileOpener, Files, Got, MemFiles, MemSink, MemSource, ReadAllFail, Sink,
-    Source, StdFiles, StdSink, StdSource, SureFiles, SureSink, SureSource, read_all, write_all,
+    Source, StdFiles, StdSink, StdSource, SureFiles, SureSink, SureSource, Waiting, read_all,
+    write_all,
 };
 use std::alloc::{AllocError, Global};
 use std::cell::Cell;
 use std::io::{ErrorKind, Read, Write, pipe};
 use std::process::Abort;
 use std::test::Fail;
+use std::time::{Clock, Duration};
 use std::{env, fs, io, process};
 
 /// The bytes 0, 1, 2 and so on, and after 250 again 0.
@@ -213,32 +215,51 @@ fn pipes_are_written(rt: HostRuntime) -> Result<(), Fail> {
     Ok(())
 }
 
-/// A stream whose first calls a signal interrupts. After them it gives and takes a byte at a call, or nothing.
+/// A stream whose first calls answer this fault. After them it gives and takes a byte at a call, or nothing.
 #[derive(Drop)]
-struct Interrupted {
+struct Late {
+    fault: ErrorKind,
     calls: u32,
     bytes: usize,
 }
 
-impl Interrupted {
+/// A stream whose first calls a signal interrupts.
+fn interrupted(calls: u32, bytes: usize) -> Late {
+    Late {
+        fault: ErrorKind::Interrupted,
+        calls,
+        bytes,
+    }
+}
+
+/// A stream whose first calls answer the fault.
+fn late_by(fault: ErrorKind, calls: u32) -> Late {
+    Late {
+        fault,
+        calls,
+        bytes: 1,
+    }
+}
+
+impl Late {
     fn next(&mut self) -> io::Result<usize>
         ensures { IfOk result (λ count. count ≤ 1) }
     {
         if self.calls > 0 {
             self.calls -= 1;
-            return Err(io::Error::from(ErrorKind::Interrupted));
+            return Err(io::Error::from(self.fault));
         }
         Ok(self.bytes.min(1))
     }
 }
 
-impl Read for Interrupted {
+impl Read for Late {
     fn read(&mut self, buf: &mut [u8]) -> io::Result<usize> {
         Ok(self.next()?.min(buf.len()))
     }
 }
 
-impl Write for Interrupted {
+impl Write for Late {
     fn write(&mut self, buf: &[u8]) -> io::Result<usize> {
         Ok(self.next()?.min(buf.len()))
     }
@@ -257,17 +278,17 @@ struct InterruptedOpener {
 impl FileOpener for InterruptedOpener {
     ghost use Rattle.std.specs.Prelude.{None};
 
-    type File = Interrupted;
+    type File = Late;
 
     ghost content = { λ _ _. None };
 
-    fn open(&self, _name: &str) -> io::Result<Interrupted> {
+    fn open(&self, _name: &str) -> io::Result<Late> {
         let calls = self.calls.get();
         if calls > 0 {
             self.calls.set(calls - 1);
             return Err(io::Error::from(ErrorKind::Interrupted));
         }
-        Ok(Interrupted { calls: 0, bytes: 1 })
+        Ok(interrupted(0, 1))
     }
 }
 
@@ -297,9 +318,53 @@ fn interrupted_calls_are_tried_again(rt: HostRuntime) {
         (1_001, 1, Err(Failed), Err(Failed)),
         (0, 0, Ok(0), Err(Failed)),
     ] {
-        let mut source = StdSource::new(Interrupted { calls, bytes });
+        let mut source = StdSource::new(interrupted(calls, bytes));
         assert_eq!(rt; source.pull(&mut [0; 9]), pulled, "{calls} calls");
-        let mut sink = StdSink::new(Interrupted { calls, bytes });
+        let mut sink = StdSink::new(interrupted(calls, bytes));
         assert_eq!(rt; sink.push(b"text"), pushed, "{calls} calls");
     }
+}
+
+/// A clock that counts how often it is rested by.
+#[derive(Drop)]
+struct Rests(Cell<u32>);
+
+impl Clock for Rests {
+    fn monotonic(&self) -> io::Result<Duration> {
+        Ok(Duration::from_millis(0))
+    }
+
+    fn since_1970(&self) -> io::Result<Duration> {
+        Ok(Duration::from_millis(0))
+    }
+
+    fn sleep(&self, _duration: Duration) {
+        self.0.set(self.0.get().wrapping_add(1));
+    }
+}
+
+#[test]
+fn calls_that_would_wait_are_waited_for(rt: HostRuntime) {
+    for (calls, fault, answer) in [
+        (0, ErrorKind::WouldBlock, Ok(1)),
+        (5_000, ErrorKind::WouldBlock, Ok(1)),
+        (5_000, ErrorKind::TimedOut, Err(Failed)),
+    ] {
+        let clock = Rests(Cell::new(0));
+        let waits = if answer == Ok(1) { calls } else { 0 };
+        let mut source = StdSource::new(Waiting::new(late_by(fault, calls), &clock));
+        assert_eq!(rt; source.pull(&mut [0; 9]), answer, "{calls} calls");
+        assert_eq!(rt; clock.0.get(), waits, "{calls} calls");
+        let mut sink = StdSink::new(Waiting::new(late_by(fault, calls), &clock));
+        assert_eq!(rt; sink.push(b"text"), answer, "{calls} calls");
+        assert_eq!(rt; clock.0.get(), waits + waits, "{calls} calls");
+    }
+}
+
+#[test]
+fn a_stream_that_does_not_wait_is_a_fault(rt: HostRuntime) {
+    let mut source = StdSource::new(late_by(ErrorKind::WouldBlock, 1));
+    assert_eq!(rt; source.pull(&mut [0; 9]), Err(Failed));
+    let mut sink = StdSink::new(late_by(ErrorKind::WouldBlock, 1));
+    assert_eq!(rt; sink.push(b"text"), Err(Failed));
 }

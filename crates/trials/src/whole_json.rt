@@ -1,4 +1,5 @@
 //! JSON with whole numbers: worked texts.
+use flux_defs::GREATEST_NUMBER;
 use json_whole::{FieldFault, ValueFault, need_text, need_u64, plain, read_value};
 use serde_json::Value;
 use std::alloc::{AllocError, Global};
@@ -127,7 +128,7 @@ fn levels(rt: HostRuntime) -> Result<(), Fail> {
 fn whole_numbers(rt: HostRuntime) -> Result<(), Fail> {
     let value: Value = read_value(
         rt.alloc(),
-        br#"{"a":1,"a":2,"zero":0.0,"half":0.5,"power":1e3,"minus":-1,"none":null,"text":"7"}"#,
+        br#"{"a":1,"a":2,"zero":0.0,"half":0.5,"power":1e3,"minus":-1,"none":null,"text":"7","last":70368744177664,"past":70368744177665}"#,
     )?;
     assert!(rt; value.is_object());
     let rows = [
@@ -143,6 +144,9 @@ fn whole_numbers(rt: HostRuntime) -> Result<(), Fail> {
         ("none", 0, 9, Err(FieldFault::Kind)),
         ("text", 0, 9, Err(FieldFault::Kind)),
         ("absent", 0, 9, Err(FieldFault::Missing)),
+        // The greatest number of any field, 2^46, and one more.
+        ("last", 0, GREATEST_NUMBER, Ok(GREATEST_NUMBER)),
+        ("past", 0, GREATEST_NUMBER, Err(FieldFault::Large)),
     ];
     for (key, least, most, want) in rows {
         assert_eq!(rt; need_u64(&value, key, least, most), want, "at {key}");
