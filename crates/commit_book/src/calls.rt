@@ -46,18 +46,17 @@ impl Book {
     /// has every share.
     ///
     /// # Errors
-    /// No memory is left. The core comes back.
-    pub fn new(alloc: Global, core: Core) -> Result<(Book, BookSeat), (Core, AllocError)>
+    /// No memory is left.
+    pub fn new(alloc: Global, core: Core) -> Result<(Book, BookSeat), AllocError>
         ensures own { IfOk result (λ made. IsSeatOf made.0 made.1) }
         ensures setting { IfOk result (λ made. book_setting made.0 ≡ core.setting) }
         ensures seen { IfOk result (λ made. seen made.1 ≡ core.journal) }
         ensures mine { IfOk result (λ made. mine made.1 ≡ range_with_len 0 (length core.journal)) }
         ensures share { IfOk result (λ made. share made.1 ≡ ALL_SHARES) }
-        ensures err { IfErr result (λ e. e.0 ≡ core) }
     {
         match Turn::new(alloc, Held { core }) {
             Ok((turn, seat)) => Ok((Book { turn }, seat)),
-            Err((Held { core }, fault)) => Err((core, fault)),
+            Err((_, fault)) => Err(fault),
         }
     }
 

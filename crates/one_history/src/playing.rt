@@ -94,10 +94,7 @@ pub fn play_script<R: Threads + Wait + Sync, G: Gate + Sync>(
     ensures together { IfOk result (λ played. IsPlayedTogether core played.core script) }
 {
     let Script { clients, lines } = script;
-    let (book, mut seat) = match Book::new(alloc, core) {
-        Ok(made) => made,
-        Err((_, fault)) => return Err(fault),
-    };
+    let (book, mut seat) = Book::new(alloc, core)?;
     let mut sessions = deal(alloc, &book, &mut seat, lines)?;
     serve_all(rt, alloc, &mut sessions, &book, gate);
     if any_stopped(sessions.items()) {

@@ -289,14 +289,8 @@ fn opened(alloc: Global, graph: &Arc<Graph, Global>) -> Result<(Book, BookSeat),
     ensures graph { IfOk result (λ made. (book_setting made.0).graph ≡ (arc_value graph.now).resources) }
     ensures share { IfOk result (λ made. share made.1 ≡ ALL_SHARES) }
 {
-    match Book::new(alloc, core_over(alloc, graph)?) {
-        Ok(made) => Ok(made),
-        Err((core, _)) if core.len() == 0 => match Book::new(alloc, core) {
-            Ok(made) => Ok(made),
-            Err((_, fault)) => Err(fault),
-        },
-        Err((_, fault)) => Err(fault),
-    }
+    let core = core_over(alloc, graph)?;
+    Book::new(alloc, core)
 }
 
 /// Plays the jobs; none where no memory is left twice.
