@@ -25,9 +25,9 @@ use Rattle.graph_build.proofs.OneGraph.{one_graph}
 use Rattle.load_script.specs.Counts.{counts_text}
 use Rattle.load_script.specs.Lines.{load_text}
 use Rattle.load_script.specs.Vertices.{load_kinds, load_vertices}
-use Rattle.fluxion_shell.specs.Calls.{Served, Call, serve, print, load, only_name}
+use Rattle.asked_calls.specs.Calls.{Served, Call, serve, print, load, only_name}
 use Rattle.fluxion_shell.specs.Outputs.{served_setting, IsOutput, Answers, IsSummary, IsAnswerTo}
-use Rattle.fluxion_shell.proofs.CallLaws.{serving_once}
+use Rattle.asked_calls.proofs.CallLaws.{serving_once}
 use Rattle.fluxion_shell.specs.PlayedText.{lines_answered, IsPlayed}
 
 -- what clients played together answers their lines

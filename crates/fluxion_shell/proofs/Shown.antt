@@ -13,7 +13,7 @@ use Rattle.fluxion_lines.proofs.InputLaws.{size_told}
 use Rattle.flux_defs.specs.declared.limits.TheConstants.{SHIPPED, MOST_FILE_BYTES}
 use Rattle.fluxion_shell.specs.declared.status.Status.{Status}
 use Rattle.fluxion_shell.specs.declared.status.Status.TheVariants as status
-use Rattle.fluxion_shell.specs.Calls.{Served, Call, serve, print, load}
+use Rattle.asked_calls.specs.Calls.{Served, Call, serve, print, load}
 use Rattle.fluxion_shell.specs.Causes.{past_graph, long_input, told_file, IsOfFile, OfServing, OfNaming, AppendsFrontOfSome, IsPastLimit, limit_of, HasCause, OrEarlier, IsWritten, ShowsLines, ShowsInput, ShowsFile, ShowsStore, IsFirstShown, HasGraphFile, IsInOrder, Known, FailsWith}
 
 pub known : (told : Option Stored) (name old new : List ℕ) → old ≡ [] →

@@ -25,7 +25,7 @@ use Rattle.load_script.specs.Vertices.{IsLoadGraph}
 use Rattle.load_script.specs.declared.lines.TheConstants.{LOAD_LIMITS}
 use Rattle.load_script.proofs.Read as read
 use Rattle.load_script.proofs.Tallies.{legal_claims}
-use Rattle.fluxion_shell.specs.Calls.{Served, IsServing, only_name}
+use Rattle.asked_calls.specs.Calls.{Served, IsServing, only_name}
 use Rattle.fluxion_shell.specs.Outputs.{served_setting, IsSummary}
 use Rattle.fluxion_shell.specs.PlayedText.{lines_answered}
 use Rattle.fluxion_shell.proofs.Output.{played_together}

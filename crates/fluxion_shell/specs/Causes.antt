@@ -16,7 +16,7 @@ use Rattle.fluxion_shell.specs.declared.status.Status.{Status}
 use Rattle.fluxion_shell.specs.declared.status.Status.TheVariants as status
 use Rattle.fluxion_shell.specs.declared.status.Limited.{Limited}
 use Rattle.fluxion_shell.specs.declared.status.Which.TheVariants.{GraphBytes, InputBytes, Lines, LineBytes, Clients, Barred}
-use Rattle.fluxion_shell.specs.Calls.{Served, Call, serve, print, load}
+use Rattle.asked_calls.specs.Calls.{Served, Call, serve, print, load}
 
 -- ---- what was written
 

@@ -1,20 +1,15 @@
--- Laws of calls and their answers.
+-- Laws of answers to calls.
 use Rattle.std.specs.Prelude.{◌≡◌, ◌⊎◌, ◌≤◌, ℕ, List, length, Option}
 use Rattle.flux_io.specs.Counts.{Rose}
 use Rattle.flux_io.specs.Stores.{Stored}
-use Rattle.command_words.specs.Givens.{Word}
 use Rattle.fluxion_lines.specs.Columns.{line_column}
 use Rattle.fluxion_lines.specs.Inputs.{clients_of}
 use Rattle.fluxion_lines.specs.Scripts.{input_order}
 use Rattle.fluxion_shell.specs.declared.status.Status.{Status}
 use Rattle.fluxion_shell.specs.declared.status.Status.TheVariants as status
-use Rattle.fluxion_shell.specs.Calls.{Served, Call, IsCallOf}
+use Rattle.asked_calls.specs.Calls.{Served, Call}
 use Rattle.fluxion_shell.specs.Causes.{OfServing, OfNaming, HasCause, IsFirstShown, IsInOrder}
 use Rattle.fluxion_shell.specs.Outputs.{Answers, IsSummary, IsAnswerTo}
-
--- words are at most one call
-abbrev pub WordsAreOneCall : Type 0
-WordsAreOneCall = (words : List Word) (a b : Call) → IsCallOf words a → IsCallOf words b → a ≡ b
 
 -- Completeness: where all that a call reads is told and in order and no count of failures rose, all was answered, or
 -- memory was wanting. The counts are those of files, of names that they refused, of the input and of the output.

@@ -1,4 +1,3 @@
-pub mod Calls
 pub mod Outputs
 pub mod PlayedText
 pub mod Causes

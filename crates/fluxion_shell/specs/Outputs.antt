@@ -17,7 +17,7 @@ use Rattle.fluxion_lines.specs.Texts.{history_text}
 use Rattle.load_script.specs.Counts.{counts_text}
 use Rattle.load_script.specs.Lines.{load_text}
 use Rattle.load_script.specs.Vertices.{IsLoadGraph}
-use Rattle.fluxion_shell.specs.Calls.{Served, Call, serve, print, load, IsServing, only_name}
+use Rattle.asked_calls.specs.Calls.{Served, Call, serve, print, load, IsServing, only_name}
 
 -- the setting of a graph that is served
 abbrev pub served_setting : NamedGraph → Served → Setting

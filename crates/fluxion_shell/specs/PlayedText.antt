@@ -5,7 +5,7 @@ use Rattle.flux_defs.specs.Sound.{IsSoundThroughout}
 use Rattle.flux_defs.specs.Scripts.{Interleaves, Plays}
 use Rattle.resource_graph.specs.NamedGraph.{NamedGraph}
 use Rattle.fluxion_lines.specs.Scripts.{script_of}
-use Rattle.fluxion_shell.specs.Calls.{Served}
+use Rattle.asked_calls.specs.Calls.{Served}
 use Rattle.fluxion_shell.specs.Outputs.{served_setting}
 
 -- the numbers of the lines that entries answer

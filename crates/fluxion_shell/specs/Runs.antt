@@ -5,7 +5,7 @@ use Rattle.flux_io.specs.Stores.{Stored}
 use Rattle.command_words.specs.Givens.{Word}
 use Rattle.fluxion_shell.specs.declared.status.Status.{Status}
 use Rattle.fluxion_shell.specs.declared.status.Status.TheVariants as status
-use Rattle.fluxion_shell.specs.Calls.{Call, IsCallOf}
+use Rattle.asked_calls.specs.Calls.{Call, IsCallOf}
 use Rattle.fluxion_shell.specs.Causes.{WhereTold, AppendsSome, AppendsFrontOfSome}
 use Rattle.fluxion_shell.specs.Outputs.{IsAnswerTo}
 

@@ -11,10 +11,10 @@ ghost use Rattle.sched_core.specs.Courses.{empty_course};
 ghost use Rattle.turn_table.specs.declared.view.TheConstants.{ALL_SHARES};
 ghost use Rattle.one_history.specs.Together.{NumbersApart, IsPlayedTogether};
 ghost use Rattle.flux_defs.specs.declared.limits.TheConstants.{SHIPPED};
-ghost use Rattle.fluxion_shell.specs.Calls.{served_held};
+ghost use Rattle.asked_calls.specs.Calls.{served_held};
 ghost use Rattle.fluxion_shell.specs.Outputs.{IsOutput};
 
-use crate::calls::Serving;
+use asked_calls::calls::Serving;
 use flux_defs::{Entry, Gate, Limits, List, Script, Text};
 use fluxion_lines::{InputFault, history_text, line_feeds, read_input};
 use one_history::{Played, play_script};

@@ -1,10 +1,5 @@
-//! Laws of calls and their answers, each the contract of a function that does nothing.
-ghost use Rattle.fluxion_shell.specs.Laws.{WordsAreOneCall, InOrderIsAnswered, OneClientKeepsInputOrder, OneLoadHasOneSummary, OneOrderHasOneOutput, OneClientHasOneOutput};
-
-/// Words are at most one call.
-pub fn words_are_one_call()
-    ensures { WordsAreOneCall }
-{}
+//! Laws of answers to calls, each the contract of a function that does nothing.
+ghost use Rattle.fluxion_shell.specs.Laws.{InOrderIsAnswered, OneClientKeepsInputOrder, OneLoadHasOneSummary, OneOrderHasOneOutput, OneClientHasOneOutput};
 
 /// Where all that a call reads is told and in order and nothing failed, all was answered, or memory was wanting.
 pub fn in_order_is_answered()

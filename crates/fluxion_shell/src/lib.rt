@@ -2,7 +2,6 @@
 #![tactic(auto)]
 
 mod answering;
-pub mod calls;
 mod fault_texts;
 pub mod laws;
 mod loading;

@@ -4,15 +4,15 @@ ghost use Rattle.flux_io.specs.Counts.{Rose};
 ghost use Rattle.graph_json.specs.WrittenGraph.{graph_text};
 ghost use Rattle.fluxion_lines.specs.declared.input.Over.{Over};
 ghost use Rattle.load_script.specs.declared.lines.TheConstants.{MOST_COMMANDS};
-ghost use Rattle.fluxion_shell.specs.Calls.{Call, serve, print, load, IsCallOf, served_held};
+ghost use Rattle.asked_calls.specs.Calls.{Call, serve, print, load, IsCallOf, served_held};
 ghost use Rattle.fluxion_shell.specs.Causes.{limit_of, LeavesInput, LeavesFiles, HasCause, IsFirstShown};
 ghost use Rattle.fluxion_shell.specs.Runs.{TellsUsage, IsAnswered, IsAnsweredInPart, WritesNothing, FitsRoom};
 
 use crate::answering::answer;
-use crate::calls::{Asked, Serving, read_call};
 use crate::loading::{load, too_long};
 use crate::status::{Limited, Status, Which};
 use crate::summing::summary;
+use asked_calls::calls::{Asked, Serving, read_call};
 use flux_defs::{Gate, List, MOST_FILE_BYTES, Text};
 use flux_io::{Files, ReadAllFail, Sink, Source, read_all, write_all};
 use fluxion_lines::{InputFault, Over};
@@ -70,12 +70,12 @@ fn serve<R: Threads + Wait + Sync, F: Files, S: Source, O: Sink, G: Gate + Sync>
         Err(ReadAllFail::Long) => return too_long(Which::InputBytes),
         Err(ReadAllFail::Memory) => return Status::Memory,
     };
-    let text = match answer(rt, alloc, graph, serving, lines.bytes(), gate) {
+    let answers = match answer(rt, alloc, graph, serving, lines.bytes(), gate) {
         Ok(text) => text,
         Err(InputFault::Over(over)) => return limit_of(over),
         Err(InputFault::Memory) => return Status::Memory,
     };
-    match write_all(out, &text) {
+    match write_all(out, &answers) {
         Ok(()) => Status::Ok,
         Err(_) => Status::Write,
     }

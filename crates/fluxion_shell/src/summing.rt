@@ -5,7 +5,7 @@ ghost use Rattle.fluxion_lines.specs.declared.input.InputFault.TheVariants.{Memo
 ghost use Rattle.fluxion_shell.specs.Outputs.{IsSummary};
 
 use crate::answering::played;
-use crate::calls::{Serving, plain_serving};
+use asked_calls::calls::{Serving, plain_serving};
 use flux_defs::{Gate, Text};
 use fluxion_lines::{InputFault, read_input};
 use load_script::{LOAD_LIMITS, counts_text, load_graph, load_text};

@@ -8,7 +8,7 @@ use Rattle.resource_graph.specs.NamedGraph.{NamedGraph}
 use Rattle.fluxion_lines.specs.Inputs.{over_in}
 use Rattle.fluxion_lines.proofs.ClientLaws.{numbers_apart, few_clients_within}
 use Rattle.one_history.specs.Together.{NumbersApart}
-use Rattle.fluxion_shell.specs.Calls.{served_held}
+use Rattle.asked_calls.specs.Calls.{served_held}
 use Rattle.fluxion_shell.proofs.Output.{held_output}
 use Rattle.fluxion_shell.proofs.answering.answer.Goals as goal
 

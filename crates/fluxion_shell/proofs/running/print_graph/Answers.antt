@@ -3,7 +3,7 @@ use Rattle.flux_io.specs.Counts.{Rose}
 use Rattle.flux_io.specs.Stores.{Stored}
 use Rattle.fluxion_shell.specs.declared.status.Status.{Status}
 use Rattle.fluxion_shell.specs.declared.status.Status.TheVariants as status
-use Rattle.fluxion_shell.specs.Calls.{print}
+use Rattle.asked_calls.specs.Calls.{print}
 use Rattle.fluxion_shell.specs.Causes.{AppendsSome, AppendsFrontOfSome, FailsWith, OrEarlier, IsWritten}
 use Rattle.fluxion_shell.specs.Outputs.{Prints}
 use Rattle.fluxion_shell.proofs.Shown.{fails_cause, fails_first, shows_then, where_file, front_of, no_fault}

@@ -1,10 +1,10 @@
 use Rattle.std.proofs.Common.{◌≡◌, Some, None, refl, ◌∙◌, ap, subst}
 use Rattle.flux_io.specs.Counts.{Rose}
-use Rattle.fluxion_shell.specs.declared.calls.Asked.TheVariants as asked
-use Rattle.fluxion_shell.specs.Calls.{Call, serve, print, load, served_held}
+use Rattle.asked_calls.specs.declared.calls.Asked.TheVariants as asked
+use Rattle.asked_calls.specs.Calls.{Call, serve, print, load, served_held}
 use Rattle.fluxion_shell.specs.Causes.{HasCause, IsFirstShown, LeavesInput, LeavesFiles}
 use Rattle.fluxion_shell.specs.Runs.{IsAnswered, IsAnsweredInPart, FitsRoom}
-use Rattle.fluxion_shell.proofs.CallLaws.{one_call, read_as}
+use Rattle.asked_calls.proofs.CallLaws.{one_call, read_as}
 use Rattle.fluxion_shell.proofs.Shown.{reads_none, rests_on_output}
 use Rattle.fluxion_shell.proofs.running.run.Goals as goal
 

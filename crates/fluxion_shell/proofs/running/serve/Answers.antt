@@ -5,7 +5,7 @@ use Rattle.flux_defs.specs.declared.limits.TheConstants.{SHIPPED}
 use Rattle.fluxion_lines.specs.Inputs.{over_in}
 use Rattle.fluxion_shell.specs.declared.status.Status.{Status}
 use Rattle.fluxion_shell.specs.declared.status.Status.TheVariants as status
-use Rattle.fluxion_shell.specs.Calls.{serve, served_held}
+use Rattle.asked_calls.specs.Calls.{serve, served_held}
 use Rattle.fluxion_shell.specs.Causes.{AppendsSome, AppendsFrontOfSome, IsLoaded, FailsWith, ShowsInput, IsPastLimit, HasCause, IsFirstShown, limit_of, long_input}
 use Rattle.fluxion_shell.specs.Outputs.{IsOutput, Answers}
 use Rattle.fluxion_shell.proofs.Shown.{fails_cause, fails_first, shows_then, earlier_input, long_shown, written_shown, over_shown, over_cause, size_shown, where_both, front_of, no_fault}

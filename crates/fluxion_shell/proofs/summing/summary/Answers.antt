@@ -6,7 +6,7 @@ use Rattle.flux_defs.specs.Scheduler.{IsProper}
 use Rattle.resource_graph.specs.NamedGraph.{NamedGraph}
 use Rattle.fluxion_lines.proofs.ClientLaws.{numbers_apart}
 use Rattle.one_history.specs.Together.{NumbersApart}
-use Rattle.fluxion_shell.specs.Calls.{served_held}
+use Rattle.asked_calls.specs.Calls.{served_held}
 use Rattle.fluxion_shell.proofs.Summaries.{only_memory, few_clients, counts_fit, summed}
 use Rattle.fluxion_shell.proofs.summing.summary.Goals as goal
 

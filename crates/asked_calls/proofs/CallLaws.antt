@@ -5,8 +5,8 @@ use Rattle.command_words.specs.Givens.{Word}
 use Rattle.command_words.specs.Values.{Values, values_in}
 use Rattle.fluxion_lines.specs.declared.commands.Form.{Form}
 use Rattle.fluxion_lines.specs.declared.commands.Form.TheVariants.{V1, Rfc14}
-use Rattle.fluxion_shell.specs.Calls.{Served, Call, serve, print, load, IsHorizonOf, form_word, IsFormOf, IsServing, AreWordsOf, only_name, IsInForm, IsCallOf, call_held}
-use Rattle.fluxion_shell.specs.declared.calls.Asked.{Asked}
+use Rattle.asked_calls.specs.Calls.{Served, Call, serve, print, load, IsHorizonOf, form_word, IsFormOf, IsServing, AreWordsOf, only_name, IsInForm, IsCallOf, call_held}
+use Rattle.asked_calls.specs.declared.calls.Asked.{Asked}
 use Rattle.prune_filters.proofs.RuleLaws.{one_list}
 
 some_is : {X : Type 0} (x y : X) → Some x ≡ Some y → x ≡ y

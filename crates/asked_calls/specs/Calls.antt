@@ -9,9 +9,9 @@ use Rattle.command_words.specs.Values.{Values, values_in}
 use Rattle.load_script.specs.declared.lines.TheConstants.{MOST_COMMANDS}
 use Rattle.fluxion_lines.specs.declared.commands.Form.{Form}
 use Rattle.fluxion_lines.specs.declared.commands.Form.TheVariants.{V1, Rfc14}
-use Rattle.fluxion_shell.specs.declared.calls.Serving.{Serving}
-use Rattle.fluxion_shell.specs.declared.calls.Asked.{Asked}
-use Rattle.fluxion_shell.specs.declared.calls.Asked.TheVariants as asked
+use Rattle.asked_calls.specs.declared.calls.Serving.{Serving}
+use Rattle.asked_calls.specs.declared.calls.Asked.{Asked}
+use Rattle.asked_calls.specs.declared.calls.Asked.TheVariants as asked
 
 -- A graph file, the second at which time ends, filter rules, and how the jobspecs are written.
 pub record Served : Type 0 where

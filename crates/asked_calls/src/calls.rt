@@ -4,7 +4,7 @@ ghost use Rattle.prune_filters.specs.declared.rules.Rule.{Rule};
 ghost use Rattle.prune_filters.specs.Filters.{AreRulesOf};
 ghost use Rattle.fluxion_lines.specs.declared.commands.Form.{Form};
 ghost use Rattle.command_words.specs.Values.{values_held};
-ghost use Rattle.fluxion_shell.specs.Calls.{Served, Call, IsHorizon, IsHorizonOf, AreFiltersOf, form_word, IsFormOf, IsServing, IsCommandCount, IsInForm, IsCallOf, only_name, served_held, call_held};
+ghost use Rattle.asked_calls.specs.Calls.{Served, Call, IsHorizon, IsHorizonOf, AreFiltersOf, form_word, IsFormOf, IsServing, IsCommandCount, IsInForm, IsCallOf, only_name, served_held, call_held};
 
 use command_words::{WordValues, as_texts, read_words};
 use flux_defs::{LATEST_HORIZON, List, Text};
@@ -187,7 +187,10 @@ fn asked_by(alloc: Global, words: &[String]) -> Result<Option<Asked>, AllocError
 }
 
 /// How `serve` without an option answers lines; its graph has no name.
-pub(crate) fn plain_serving(alloc: Global) -> Result<Serving, AllocError>
+///
+/// # Errors
+/// No memory is left.
+pub fn plain_serving(alloc: Global) -> Result<Serving, AllocError>
     ensures { IfOk result (λ serving. IsServing (only_name []) (served_held serving)) }
 {
     let Some(rules) = rules_of(alloc, None)? else {
@@ -202,6 +205,9 @@ pub(crate) fn plain_serving(alloc: Global) -> Result<Serving, AllocError>
 }
 
 /// What the words ask for; nothing, where they are none of the forms.
+///
+/// # Errors
+/// No memory is left.
 pub fn read_call(alloc: Global, words: &List<Text>) -> Result<Option<Asked>, AllocError>
     ensures { IfOk result (λ read. MatchOption read ((call : Call) → IsCallOf words.now call → ⊥)
         (λ asked. IsCallOf words.now (call_held asked))) }

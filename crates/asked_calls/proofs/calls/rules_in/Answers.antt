@@ -1,7 +1,7 @@
 use Rattle.std.proofs.Common.{ℕ, List, subst}
 use Rattle.prune_filters.specs.Filters.{IsFaultOf, IsFirstFault}
 use Rattle.prune_filters.proofs.RuleLaws.{no_list}
-use Rattle.fluxion_shell.proofs.calls.rules_in.Goals as goal
+use Rattle.asked_calls.proofs.calls.rules_in.Goals as goal
 
 pub returns-in-Err-Form : goal.returns-in-Err-Form
 returns-in-Err-Form c = λ rules are.

@@ -1,6 +1,6 @@
 use Rattle.std.proofs.Common.{◌∷◌, []}
-use Rattle.fluxion_shell.proofs.RuleTexts.{all_cores, core_rules}
-use Rattle.fluxion_shell.proofs.calls.plain_serving.Goals as goal
+use Rattle.asked_calls.proofs.RuleTexts.{all_cores, core_rules}
+use Rattle.asked_calls.proofs.calls.plain_serving.Goals as goal
 
 pub unreachable-requires : goal.unreachable-requires
 unreachable-requires c =
