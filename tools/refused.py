@@ -51,8 +51,8 @@ class Trial:
             return None, b"", b"", 0
         count = 0
         if os.path.exists(told):
-            with open(told) as file:
-                count = int(file.read())
+            with open(told, "rb") as file:
+                count = int.from_bytes(file.read(), sys.byteorder)
             os.remove(told)
         return ran.returncode, ran.stdout, ran.stderr, count
 

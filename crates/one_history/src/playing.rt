@@ -1,12 +1,12 @@
 //! All clients at one book.
 ghost use Rattle.std.specs.Prelude.{◌≡◌, ℕ, ◌+◌, ◌<◌, [], All, length, IfOk};
-ghost use Rattle.std.specs.List.{AllByRecursion, list_any, sum_by};
+ghost use Rattle.std.specs.List.{AllByRecursion, list_any, range_with_len, sum_by};
 ghost use mathlib.Core.List.{IsPrefix};
 ghost use Rattle.flux_defs.specs.Scheduler.{IsProper};
 ghost use Rattle.turn_table.specs.declared.view.TheConstants.{ALL_SHARES};
 ghost use Rattle.turn_table.specs.Positions.{times};
 ghost use Rattle.turn_table.specs.Seats.{seen, mine, share};
-ghost use Rattle.commit_book.specs.Books.{IsSeatOf};
+ghost use Rattle.commit_book.specs.Books.{book_setting, IsSeatOf};
 ghost use Rattle.one_history.specs.Dealt.{AreDealt, HasOneShare};
 ghost use Rattle.one_history.specs.Together.{NumbersApart, IsPlayedTogether};
 
@@ -17,6 +17,20 @@ use sched_core::Core;
 use std::alloc::{AllocError, Global};
 use std::sync::Wait;
 use std::thread::Threads;
+
+// A book of the core, which is given up where no memory is left.
+fn open(alloc: Global, core: Core) -> Result<(Book, BookSeat), AllocError>
+    ensures own { IfOk result (λ made. IsSeatOf made.0 made.1) }
+    ensures setting { IfOk result (λ made. book_setting made.0 ≡ core.setting) }
+    ensures seen { IfOk result (λ made. seen made.1 ≡ core.journal) }
+    ensures mine { IfOk result (λ made. mine made.1 ≡ range_with_len 0 (length core.journal)) }
+    ensures share { IfOk result (λ made. share made.1 ≡ ALL_SHARES) }
+{
+    match Book::new(alloc, core) {
+        Ok(made) => Ok(made),
+        Err((_, fault)) => Err(fault),
+    }
+}
 
 // A session for each client, with its lines and a seat of its own.
 fn deal(
@@ -94,10 +108,7 @@ pub fn play_script<R: Threads + Wait + Sync, G: Gate + Sync>(
     ensures together { IfOk result (λ played. IsPlayedTogether core played.core script) }
 {
     let Script { clients, lines } = script;
-    let (book, mut seat) = match Book::new(alloc, core) {
-        Ok(made) => made,
-        Err((_, fault)) => return Err(fault),
-    };
+    let (book, mut seat) = open(alloc, core)?;
     let mut sessions = deal(alloc, &book, &mut seat, lines)?;
     serve_all(rt, alloc, &mut sessions, &book, gate);
     if any_stopped(sessions.items()) {

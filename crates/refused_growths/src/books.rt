@@ -44,6 +44,15 @@ const FOURTH: &str = asked!("a reserve 4", "2", "5");
 
 const CANCEL: &str = "a cancel 1";
 
+/// A job that is asked for: the client and the number of its line, its text, and whether the first job is cancelled before
+/// what was found is committed.
+#[derive(Clone, Copy)]
+struct Asked {
+    place: (u32, u32),
+    text: &'static str,
+    cancels: bool,
+}
+
 /// What came of a job: where its entry stands, and by what it was overtaken before.
 #[derive(Debug, Drop)]
 pub struct Placed {
@@ -204,30 +213,29 @@ fn command_of(alloc: Global, graph: &Graph, text: &str) -> Option<Command>
     Some(line.command)
 }
 
-/// Searches for the job of a line, and commits what was found; before that, where this is asked for, the first job is
-/// cancelled. What is overtaken is searched for once more.
+/// Searches for the job of a line, and commits what was found. What is overtaken is searched for once more.
 fn place_job<R: Wait, L: Ledger>(
     rt: &R,
-    table: (Global, &Graph, &Book),
+    alloc: Global,
+    graph: &Graph,
+    book: &Book,
     seat: &mut BookSeat,
-    place: (u32, u32),
-    text: &str,
-    cancels: bool,
+    asked: Asked,
     steps: &mut Steps<L>,
     well: &mut bool,
 ) -> Option<Placed>
-    requires own { IsSeatOf table.2.now seat.old }
-    requires graph { (book_setting table.2.now).graph ≡ table.1.now.resources }
-    ensures own { IsSeatOf table.2.now seat.new }
+    requires own { IsSeatOf book.now seat.old }
+    requires graph { (book_setting book.now).graph ≡ graph.now.resources }
+    ensures own { IsSeatOf book.now seat.new }
     ensures share { share seat.new ≡ share seat.old }
 {
-    let (alloc, graph, book) = table;
-    let command = command_of(alloc, graph, text)?;
+    let place = asked.place;
+    let command = command_of(alloc, graph, asked.text)?;
     if !is_searched_for(&command) {
         return None;
     }
     let candidate = searched(rt, book, seat, command, steps, well)?;
-    if cancels {
+    if asked.cancels {
         decided(
             rt,
             book,
@@ -244,7 +252,7 @@ fn place_job<R: Wait, L: Ledger>(
         }),
         Commit::Stale { cause, .. } => cause,
     };
-    let command = command_of(alloc, graph, text)?;
+    let command = command_of(alloc, graph, asked.text)?;
     if !is_searched_for(&command) {
         return None;
     }
@@ -258,29 +266,55 @@ fn place_job<R: Wait, L: Ledger>(
     }
 }
 
+/// The jobs, in their order.
+const ASKED: [Asked; 4] = [
+    Asked {
+        place: (0, 1),
+        text: FIRST,
+        cancels: false,
+    },
+    Asked {
+        place: (0, 2),
+        text: SECOND,
+        cancels: false,
+    },
+    Asked {
+        place: (1, 3),
+        text: THIRD,
+        cancels: true,
+    },
+    Asked {
+        place: (0, 4),
+        text: FOURTH,
+        cancels: false,
+    },
+];
+
 /// The jobs, at a book of one seat.
 fn play_at<R: Wait, L: Ledger>(
     rt: &R,
-    table: (Global, &Graph, &Book),
+    alloc: Global,
+    graph: &Graph,
+    book: &Book,
     seat: &mut BookSeat,
     blank: Blank,
     well: &mut bool,
 ) -> Option<[Placed; 4]>
-    requires own { IsSeatOf table.2.now seat.old }
-    requires graph { (book_setting table.2.now).graph ≡ table.1.now.resources }
+    requires own { IsSeatOf book.now seat.old }
+    requires graph { (book_setting book.now).graph ≡ graph.now.resources }
     requires name { blank.name ≡ L.name }
     requires parts { blank.parts ≡ L.parts }
     requires some { 1 ≤ blank.parts }
-    ensures own { IsSeatOf table.2.now seat.new }
+    ensures own { IsSeatOf book.now seat.new }
     ensures share { share seat.new ≡ share seat.old }
 {
     let mut steps: Steps<L> = Steps::new(blank);
-    Some([
-        place_job(rt, table, seat, (0, 1), FIRST, false, &mut steps, well)?,
-        place_job(rt, table, seat, (0, 2), SECOND, false, &mut steps, well)?,
-        place_job(rt, table, seat, (1, 3), THIRD, true, &mut steps, well)?,
-        place_job(rt, table, seat, (0, 4), FOURTH, false, &mut steps, well)?,
-    ])
+    let [first, second, third, fourth] = ASKED;
+    let first = place_job(rt, alloc, graph, book, seat, first, &mut steps, well)?;
+    let second = place_job(rt, alloc, graph, book, seat, second, &mut steps, well)?;
+    let third = place_job(rt, alloc, graph, book, seat, third, &mut steps, well)?;
+    let fourth = place_job(rt, alloc, graph, book, seat, fourth, &mut steps, well)?;
+    Some([first, second, third, fourth])
 }
 
 /// A book of a new scheduler, and its seat.
@@ -310,8 +344,15 @@ pub fn play_jobs<R: Wait>(rt: &R, alloc: Global) -> Option<Played> {
         Err(_) => opened(alloc, &graph).ok()?,
     };
     let mut refused_well = true;
-    let table = (alloc, &*graph, &book);
-    let jobs = play_at::<R, Brand>(rt, table, &mut seat, Blank::new(1), &mut refused_well)?;
+    let jobs = play_at::<R, Brand>(
+        rt,
+        alloc,
+        &graph,
+        &book,
+        &mut seat,
+        Blank::new(1),
+        &mut refused_well,
+    )?;
     let core = book.close(seat);
     Some(Played {
         jobs,
