@@ -1,43 +1,43 @@
 /* Counts the requests for memory and for threads that a program makes, and refuses one of them. tools/refused.py
    compiles it and loads it before the C library (LD_PRELOAD). REFUSE is the number of the request that is refused, from
-   1; with 0 none is. At a normal end the count is written to the file REFUSE_COUNT, as decimal digits. */
+   1; with 0 none is. The count stands in the file REFUSE_COUNT, as a number of 64 bits, however the program ends. */
 #define _GNU_SOURCE
 #include <dlfcn.h>
 #include <errno.h>
+#include <fcntl.h>
 #include <pthread.h>
 #include <stdatomic.h>
-#include <stdio.h>
 #include <stdlib.h>
+#include <sys/mman.h>
+#include <unistd.h>
 
 extern void *__libc_malloc(size_t);
 extern void *__libc_calloc(size_t, size_t);
 extern void *__libc_realloc(void *, size_t);
 extern void *__libc_memalign(size_t, size_t);
 
-static atomic_long made;
+static atomic_long own;
+static atomic_long *made = &own;
 static long refused;
 static int counting;
 
 /* Requests before main are the C library's own. */
 __attribute__((constructor)) static void begin(void) {
-    const char *number = getenv("REFUSE");
+    const char *number = getenv("REFUSE"), *name = getenv("REFUSE_COUNT");
+    int file = name ? open(name, O_RDWR | O_CREAT | O_TRUNC, 0600) : -1;
     refused = number ? atol(number) : 0;
+    if (file >= 0 && ftruncate(file, sizeof own) == 0) {
+        void *shared = mmap(NULL, sizeof own, PROT_READ | PROT_WRITE, MAP_SHARED, file, 0);
+        made = shared == MAP_FAILED ? &own : shared;
+    }
+    if (file >= 0) {
+        close(file);
+    }
     counting = 1;
 }
 
-__attribute__((destructor)) static void end(void) {
-    const char *name = getenv("REFUSE_COUNT");
-    long count = atomic_load(&made);
-    counting = 0;
-    FILE *file = name ? fopen(name, "w") : NULL;
-    if (file) {
-        fprintf(file, "%ld\n", count);
-        fclose(file);
-    }
-}
-
 static int refuses(void) {
-    return counting && atomic_fetch_add(&made, 1) + 1 == refused;
+    return counting && atomic_fetch_add(made, 1) + 1 == refused;
 }
 
 static void *none(void) {

@@ -6,7 +6,7 @@ refused.py PROGRAM [OPTION ..] -- [WORD ..]    the words are the program's; stan
 --first N, --last N, --step N    which requests are refused, counted from 1; all without them
 --beside N                       how many runs there are at once, 2 without it
 --limit SECONDS                  how long a run may take, 10 without it
---same                           each run has to end as without a refusal; so has the program refused_growths
+--same                           each run has to end as without a refusal
 
 A request is a call of malloc, calloc, realloc or their kin, or of a thread. tools/refuse.c counts and refuses them; it
 is compiled with cc into a folder that is gone at the end. A run has to end by no signal, with status 0 and the whole
@@ -51,8 +51,8 @@ class Trial:
             return None, b"", b"", 0
         count = 0
         if os.path.exists(told):
-            with open(told) as file:
-                count = int(file.read())
+            with open(told, "rb") as file:
+                count = int.from_bytes(file.read(), sys.byteorder)
             os.remove(told)
         return ran.returncode, ran.stdout, ran.stderr, count
 
