@@ -44,9 +44,9 @@ module _ (vertices : List Vertex) (first : ParentsFirst vertices) (v : ℕ) (ins
   hold_there (Take u q) h = absurd (true≢false (sym h))
   hold_there (Hold u) h = elim (eqb_tells u v) [
     | inl same ↦ (
-        subst (λ (x : ℕ). IsTrue (is_at_or_below vertices x v)) (sym same.1) (below_self vertices first v inside),
-        subst (λ (x : ℕ). IsTrue (is_at_or_below vertices v x)) (sym same.1) (below_self vertices first v inside),
-      )
+      subst (λ (x : ℕ). IsTrue (is_at_or_below vertices x v)) (sym same.1) (below_self vertices first v inside),
+      subst (λ (x : ℕ). IsTrue (is_at_or_below vertices v x)) (sym same.1) (below_self vertices first v inside),
+    )
     | inr differ ↦ absurd (true≢false (sym h ∙ differ.0))
   ]
   hold_there (Pass u) h = absurd (true≢false (sym h))
@@ -58,8 +58,13 @@ module _ (vertices : List Vertex) (first : ParentsFirst vertices) (v : ℕ) (ins
       ↔ IsTouchedOver vertices jobs w v)
   touched_either jobs w = (
     λ either. elim either [
-      | inl (m, lo, hi, h) ↦ (m, lo, hi, there m (counts_at vertices v)
-          (λ c t. counted_there _ (is_on_or_below vertices v c) t) h)
+      | inl (m, lo, hi, h) ↦ (
+        m,
+        lo,
+        hi,
+        there m (counts_at vertices v)
+            (λ c t. counted_there _ (is_on_or_below vertices v c) t) h,
+      )
       | inr (m, lo, hi, h) ↦ (m, lo, hi, there m (is_hold v) (λ c t. (hold_there c t).0) h)
     ],
     λ (m, lo, hi, h). elim (or_cases _ false h) [

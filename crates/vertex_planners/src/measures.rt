@@ -160,6 +160,12 @@ fn raise_above(
 {
     let vertices = graph.vertices().items();
     let above = parent_in(vertices, vertex);
-    raise(amounts, vertices, vertices.len().saturating_sub(1), above, more)?;
+    raise(
+        amounts,
+        vertices,
+        vertices.len().saturating_sub(1),
+        above,
+        more,
+    )?;
     Ok(())
 }

@@ -23,8 +23,11 @@ loop-place-preserved g c =
     let much = ap (slice_get c.args.amounts.now) c.loop-place.invariant.places ∙ sym c.in-Some-get.ensures.value in
     let more : c.push.new.self ≡ ys ++ c.in_ok-planner.planner ∷ [] = c.in-Ok.ensures.ok in
     record {
-      places = ap length more ∙ omega (arith, length-append ys (c.in_ok-planner.planner ∷ []),
-          c.loop-place.invariant.places);
+      places = ap length more ∙ omega (
+        arith,
+        length-append ys (c.in_ok-planner.planner ∷ []),
+        c.loop-place.invariant.places,
+      );
       total = each_more _ xs ys _ _ _ c.loop-place.invariant.total here c.in_ok-planner.ensures.total more;
       horizon = each_more _ xs ys _ _ _ c.loop-place.invariant.horizon here c.in_ok-planner.ensures.horizon more;
       spans = three_more _ xs _ ys _ _ _ _ c.loop-place.invariant.spans here much c.in_ok-planner.ensures.spans more;
