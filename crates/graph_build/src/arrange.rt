@@ -1,5 +1,6 @@
 //! A list of vertices, arranged in preorder.
 ghost use Rattle.std.specs.Prelude.{◌≡◌, ℕ, ◌<◌, ◌≤◌, [], cond, length, map, slice_get, slice_index, Some, IfOk, OnOk};
+ghost use Rattle.flux_defs.specs.declared.limits.TheConstants.{MOST_VERTICES};
 ghost use Rattle.std.specs.Option.{option_map};
 ghost use Rattle.resource_graph.specs.Lines.{KnowsParents};
 ghost use Rattle.graph_build.specs.Orders.{IsOrderOf};
@@ -31,7 +32,7 @@ pub(crate) fn shapes_of(alloc: Global, raw: &[RawVertex]) -> Result<Vec<Vertex>,
 
 /// By index in the list, the number in the order.
 pub(crate) fn numbers_of(alloc: Global, order: &[u32]) -> Result<Vec<u32>, AllocError>
-    requires few { length order.now ≤ 65536 }
+    requires few { length order.now ≤ MOST_VERTICES }
     requires indices { IsOrderOf (length order.now) order.now }
     ensures { IfOk result (λ numbers. HasNumbers order.now (length order.now) numbers.items) }
 {
@@ -167,7 +168,7 @@ pub(crate) fn vertices_of(
     numbers: &[u32],
     kind_numbers: &[Option<u32>],
 ) -> Result<Vec<Vertex>, AllocError>
-    requires few { length vertices.now ≤ 65536 }
+    requires few { length vertices.now ≤ MOST_VERTICES }
     requires indices { IsOrderOf (length vertices.now) order.now }
     requires parents { KnowsParents vertices.now }
     requires whole { length numbers.now ≡ length vertices.now }

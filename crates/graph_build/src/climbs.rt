@@ -1,5 +1,6 @@
 //! Climbs of many steps from all vertices at once.
 ghost use Rattle.std.specs.Prelude.{◌≡◌, ℕ, ◌+◌, ◌<◌, ◌≤◌, List, cond, length, slice_index_or, option_and_then, IfOk, Some, None};
+ghost use Rattle.flux_defs.specs.declared.limits.TheConstants.{MOST_VERTICES};
 ghost use Rattle.flux_defs.specs.declared.vertices.Vertex.{Vertex};
 ghost use Rattle.resource_graph.specs.Lines.{KnowsParents};
 ghost use Rattle.graph_build.specs.Checks.{HasClimbs, LeadsWithin};
@@ -13,7 +14,7 @@ pub(crate) fn climbs(
     vertices: &[Vertex],
     steps: usize,
 ) -> Result<Vec<Option<u32>>, AllocError>
-    requires few { length vertices.now ≤ 65536 }
+    requires few { length vertices.now ≤ MOST_VERTICES }
     requires known { KnowsParents vertices.now }
     ensures { IfOk result (λ climbs. HasClimbs vertices.now steps climbs.items) }
 {
@@ -30,7 +31,7 @@ pub(crate) fn climbs(
 
 /// Each vertex itself.
 fn starts(alloc: Global, vertices: &[Vertex]) -> Result<Vec<Option<u32>>, AllocError>
-    requires few { length vertices.now ≤ 65536 }
+    requires few { length vertices.now ≤ MOST_VERTICES }
     ensures { IfOk result (λ climbs. HasClimbs vertices.now 0 climbs.items) }
 {
     let mut climbs = Vec::with_capacity(alloc, vertices.len())?;

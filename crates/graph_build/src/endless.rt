@@ -1,5 +1,6 @@
 //! The first vertex whose chain of parents never ends, or ends too late.
 ghost use Rattle.std.specs.Prelude.{◌≡◌, ◌<◌, ◌≤◌, ℕ, suc, IfOk, IfSome, Some, is_some, length, position};
+ghost use Rattle.flux_defs.specs.declared.limits.TheConstants.{MOST_VERTICES};
 ghost use Rattle.flux_defs.specs.Graph.{chain};
 ghost use Rattle.graph_build.specs.Faults.{NeverEnds, IsDeep};
 ghost use Rattle.resource_graph.specs.Lines.{KnowsParents};
@@ -12,7 +13,7 @@ use std::alloc::{AllocError, Global};
 
 /// The first vertex whose chain of parents is longer than the graph.
 pub(crate) fn first_endless(alloc: Global, vertices: &[Vertex]) -> Result<Option<usize>, AllocError>
-    requires few { length vertices.now ≤ 65536 }
+    requires few { length vertices.now ≤ MOST_VERTICES }
     requires known { KnowsParents vertices.now }
     ensures first { IfOk result (IsFirstOf (NeverEnds (plain vertices.now))) }
     ensures within { IfOk result (λ found. IfSome found (λ v. v < length vertices.now)) }
@@ -24,7 +25,7 @@ pub(crate) fn first_endless(alloc: Global, vertices: &[Vertex]) -> Result<Option
 
 /// The first vertex with more than 16 vertices from the root to it.
 pub(crate) fn first_deep(alloc: Global, vertices: &[Vertex]) -> Result<Option<usize>, AllocError>
-    requires few { length vertices.now ≤ 65536 }
+    requires few { length vertices.now ≤ MOST_VERTICES }
     requires known { KnowsParents vertices.now }
     requires ends { (v : ℕ) → NeverEnds (plain vertices.now) v → ⊥ }
     ensures first { IfOk result (IsFirstOf (IsDeep (plain vertices.now))) }

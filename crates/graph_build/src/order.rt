@@ -1,5 +1,6 @@
 //! Preorder.
 ghost use Rattle.std.specs.Prelude.{◌≡◌, ℕ, ◌<◌, ◌≤◌, length, slice_get, Some, IfOk};
+ghost use Rattle.flux_defs.specs.declared.limits.TheConstants.{MOST_VERTICES};
 ghost use Rattle.graph_build.specs.Orders.{IsRooted, IsPreorderOf, HasPaths, HasEnds, NoneIsEmpty};
 
 use flux_defs::Vertex;
@@ -8,7 +9,7 @@ use std::alloc::{AllocError, Global};
 
 /// The indices of the vertices in preorder, siblings by their indices in the list.
 pub(crate) fn preorder_of(alloc: Global, vertices: &[Vertex]) -> Result<Vec<u32>, AllocError>
-    requires few { length vertices.now ≤ 65536 }
+    requires few { length vertices.now ≤ MOST_VERTICES }
     requires rooted { IsRooted vertices.now }
     ensures { IfOk result (λ order. IsPreorderOf vertices.now order.items) }
 {
@@ -19,7 +20,7 @@ pub(crate) fn preorder_of(alloc: Global, vertices: &[Vertex]) -> Result<Vec<u32>
 
 /// Each vertex's line from the root down.
 fn path_table(alloc: Global, vertices: &[Vertex]) -> Result<Vec<Vec<u32>>, AllocError>
-    requires few { length vertices.now ≤ 65536 }
+    requires few { length vertices.now ≤ MOST_VERTICES }
     requires rooted { IsRooted vertices.now }
     ensures { IfOk result (λ paths. HasPaths vertices.now (length vertices.now) paths.items) }
 {

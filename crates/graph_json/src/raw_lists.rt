@@ -1,5 +1,6 @@
 //! The raw vertices that the nodes and edges of a graph file are.
 ghost use Rattle.std.specs.Prelude.{◌≡◌, ◌<◌, ◌≤◌, ℕ, Some, slice_get, unwrap_or, length, map, IfOk, IfSome, OnOk};
+ghost use Rattle.flux_defs.specs.declared.limits.TheConstants.{MOST_VERTICES};
 ghost use Rattle.std.specs.Ordering.{nat_cmp};
 ghost use Rattle.std.specs.Cmp.Lexicographic.{slice_cmp};
 ghost use Rattle.std.specs.BTreeSet.{insert_key};
@@ -97,8 +98,8 @@ fn vertex_of(
     node: &NodeFields,
     parent: Option<usize>,
 ) -> Result<RawVertex, AllocError>
-    requires few { length kinds.now ≤ 65536 }
-    requires within { IfSome parent (λ p. p < 65536) }
+    requires few { length kinds.now ≤ MOST_VERTICES }
+    requires within { IfSome parent (λ p. p < MOST_VERTICES) }
     ensures { IfOk result (λ vertex. vertex ≡ vertex_of kinds.now (node_held node.now) parent) }
 {
     let kind = kind_number(kinds, node.kind);
@@ -121,7 +122,7 @@ fn vertex_of(
 
 /// The number of a type.
 fn kind_number(kinds: &TextTable, kind: &str) -> u32
-    requires { length kinds.now ≤ 65536 }
+    requires { length kinds.now ≤ MOST_VERTICES }
     ensures { result ≡ unwrap_or (number_of kinds.now kind.now) 0 }
 {
     match kinds.number_of(kind.as_bytes()) {
@@ -132,7 +133,7 @@ fn kind_number(kinds: &TextTable, kind: &str) -> u32
 
 /// An index that fits 32 bits.
 fn small_index(index: Option<usize>) -> Option<u32>
-    requires { IfSome index (λ p. p < 65536) }
+    requires { IfSome index (λ p. p < MOST_VERTICES) }
     ensures { result ≡ index }
 {
     match index {
@@ -162,9 +163,9 @@ pub(crate) fn vertices_of(
     nodes: &[NodeFields],
     parents: &[Option<usize>],
 ) -> Result<List<RawVertex>, AllocError>
-    requires few { length kinds.now ≤ 65536 }
+    requires few { length kinds.now ≤ MOST_VERTICES }
     requires as_many { length parents.now ≡ length nodes.now }
-    requires within { (i p : ℕ) → slice_get parents.now i ≡ Some (Some p) → p < 65536 }
+    requires within { (i p : ℕ) → slice_get parents.now i ≡ Some (Some p) → p < MOST_VERTICES }
     ensures { IfOk result (λ list. list ≡ zip_with (vertex_of kinds.now) (map node_held nodes.now) parents.now) }
 {
     let mut list = Vec::with_capacity(alloc, nodes.len())?;

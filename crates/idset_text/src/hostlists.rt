@@ -1,5 +1,6 @@
 //! Hostlists: texts of host names (RFC 29).
 ghost use Rattle.std.specs.Prelude.{◌≡◌, ℕ, Ok, MatchOption, ◌+◌, ◌≤◌, ◌↔◌, ◌∷◌, ◌++◌, ◌==◌, ◌||◌, not, nat_le, nat_lt, ◌&&◌, ◌<◌, false, length, decimal, position, All, Contains, IsTrue, IfOk, IfSome, OnOk};
+ghost use Rattle.flux_defs.specs.declared.limits.TheConstants.{MOST_NAME_BYTES};
 ghost use Rattle.std.specs.List.{list_all, suffix_len};
 ghost use Rattle.std.specs.Char.{is_ascii_digit};
 ghost use Rattle.idset_text.specs.Faults.{IsResultOf};
@@ -80,7 +81,7 @@ fn width(digits: &[u8]) -> usize
 
 /// Whether the name of a prefix of so many bytes and a padded number is short enough.
 fn is_short(prefix_len: usize, width: usize, number: u32) -> bool
-    ensures { result ≡ nat_le (prefix_len + length (padded width number)) 255 }
+    ensures { result ≡ nat_le (prefix_len + length (padded width number)) MOST_NAME_BYTES }
 {
     prefix_len.saturating_add(width.max(digit_count(number))) <= MOST_NAME_BYTES
 }
