@@ -1,5 +1,6 @@
 //! The tables of a graph, each made in one pass over its vertices.
 ghost use Rattle.std.specs.Prelude.{◌≡◌, ◌<◌, ◌≤◌, ◌+◌, ◌*◌, length, IfOk};
+ghost use Rattle.flux_defs.specs.declared.limits.TheConstants.{MOST_VERTICES};
 ghost use Rattle.resource_graph.specs.Preorder.{InPreorder, KnowsKinds, RanksApart};
 ghost use Rattle.resource_graph.specs.Holds.{HasPasts, HasNodes, HasLists, HasRanked, HasPools, HasNested, AddsNested, CountsUp, AreEmpty, HasNodesTo};
 ghost use Rattle.resource_graph.specs.Tables.{IsNodeOf};
@@ -11,7 +12,7 @@ use std::collections::BTreeMap;
 /// By vertex, the number after the last vertex at or below it.
 pub(crate) fn past_table(alloc: Global, vertices: &[Vertex]) -> Result<Vec<u32>, AllocError>
     requires order { InPreorder vertices.now }
-    requires few { length vertices.now ≤ 65536 }
+    requires few { length vertices.now ≤ MOST_VERTICES }
     ensures { IfOk result (λ past. HasPasts vertices.now past.items) }
 {
     let mut past = numbers_after(alloc, vertices.len())?;
@@ -27,7 +28,7 @@ pub(crate) fn past_table(alloc: Global, vertices: &[Vertex]) -> Result<Vec<u32>,
 
 /// The numbers from 1 on.
 fn numbers_after(alloc: Global, count: usize) -> Result<Vec<u32>, AllocError>
-    requires { count ≤ 65536 }
+    requires { count ≤ MOST_VERTICES }
     ensures { IfOk result (λ numbers. CountsUp numbers.items count) }
 {
     let mut numbers = Vec::with_capacity(alloc, count)?;
@@ -40,7 +41,7 @@ fn numbers_after(alloc: Global, count: usize) -> Result<Vec<u32>, AllocError>
 /// By vertex, the node that it is or lies below.
 pub(crate) fn node_table(alloc: Global, vertices: &[Vertex]) -> Result<Vec<Option<u32>>, AllocError>
     requires order { InPreorder vertices.now }
-    requires few { length vertices.now ≤ 65536 }
+    requires few { length vertices.now ≤ MOST_VERTICES }
     ensures { IfOk result (λ nodes. HasNodes vertices.now nodes.items) }
 {
     let mut nodes = Vec::with_capacity(alloc, vertices.len())?;
@@ -54,7 +55,7 @@ pub(crate) fn node_table(alloc: Global, vertices: &[Vertex]) -> Result<Vec<Optio
 /// The node that the vertex is or lies below, from those of the vertices before it.
 fn node_at(vertices: &[Vertex], nodes: &[Option<u32>], v: usize) -> Option<u32>
     requires order { InPreorder vertices.now }
-    requires few { length vertices.now ≤ 65536 }
+    requires few { length vertices.now ≤ MOST_VERTICES }
     requires within { v < length vertices.now }
     requires before { HasNodesTo vertices.now v nodes.now }
     ensures { IsNodeOf vertices.now v result }
@@ -74,7 +75,7 @@ pub(crate) fn list_table(
     vertices: &[Vertex],
     kinds: usize,
 ) -> Result<Vec<Vec<u32>>, AllocError>
-    requires few { length vertices.now ≤ 65536 }
+    requires few { length vertices.now ≤ MOST_VERTICES }
     requires known { KnowsKinds vertices.now kinds }
     ensures { IfOk result (λ lists. HasLists vertices.now kinds lists.items) }
 {
@@ -102,7 +103,7 @@ pub(crate) fn rank_table(
     alloc: Global,
     vertices: &[Vertex],
 ) -> Result<BTreeMap<u32, u32>, AllocError>
-    requires few { length vertices.now ≤ 65536 }
+    requires few { length vertices.now ≤ MOST_VERTICES }
     requires apart { RanksApart vertices.now }
     ensures { IfOk result (λ ranked. HasRanked vertices.now ranked) }
 {
