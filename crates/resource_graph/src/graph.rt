@@ -1,8 +1,8 @@
 //! The graph and its queries.
-ghost use Rattle.std.specs.Prelude.{◌≡◌, ℕ, ◌<◌, ◌≤◌, IfOk, length, reverse, slice_get, MatchOption};
+ghost use Rattle.std.specs.Prelude.{◌≡◌, ℕ, ◌<◌, ◌≤◌, ◌↔◌, IsTrue, IfOk, length, reverse, slice_get, MatchOption};
 ghost use Rattle.std.specs.Option.{option_copied};
 ghost use Rattle.std.specs.List.{flat_map};
-ghost use Rattle.flux_defs.specs.Graph.{is_below, is_pool_kind};
+ghost use Rattle.flux_defs.specs.Graph.{HasKind, is_below, is_pool_kind};
 ghost use Rattle.resource_graph.specs.Lines.{AllBelow};
 ghost use Rattle.resource_graph.specs.NamedGraph.{IsWhole, name_step, path_text};
 ghost use Rattle.resource_graph.specs.Made.{named_graph};
@@ -170,6 +170,26 @@ impl Graph {
 
     /// The least vertex of the type from `from` on and before `to`.
     pub fn next_of_kind(&self, kind: u32, from: u32, to: u32) -> Option<u32>
+        ensures { MatchOption result (HasNoneOfKind self.now.resources.vertices kind from to) (λ v. IsNextOfKind self.now.resources.vertices kind from to v) }
+    {
+        if from < to && self.has_kind(kind, from) {
+            return Some(from);
+        }
+        self.next_listed(kind, from, to)
+    }
+
+    /// Whether the vertex is of the type. No vertex past the last one is.
+    fn has_kind(&self, kind: u32, vertex: u32) -> bool
+        ensures { IsTrue result ↔ HasKind self.now.resources.vertices kind vertex }
+    {
+        match self.vertices.get(vertex as usize) {
+            Some(found) => found.kind == kind,
+            None => false,
+        }
+    }
+
+    /// The least vertex in the type's list from `from` on and before `to`.
+    fn next_listed(&self, kind: u32, from: u32, to: u32) -> Option<u32>
         ensures { MatchOption result (HasNoneOfKind self.now.resources.vertices kind from to) (λ v. IsNextOfKind self.now.resources.vertices kind from to v) }
     {
         if kind as usize >= self.lists.len() {

@@ -4,7 +4,7 @@ use Rattle.flux_defs.specs.declared.vertices.Vertex.{Vertex}
 use Rattle.resource_graph.specs.Tables.{ListsKind}
 use Rattle.resource_graph.specs.Holds.{HasLists}
 use Rattle.resource_graph.proofs.Queries.{next_of_list}
-use Rattle.resource_graph.proofs.graph.Graph.next_of_kind.Goals as goal
+use Rattle.resource_graph.proofs.graph.Graph.next_listed.Goals as goal
 
 -- a list that was read is that of its kind
 read_list : (vertices : List Vertex) (kinds kind : ℕ) (lists : List (Vec ℕ Global)) (list : Vec ℕ Global) (items : List ℕ) → HasLists vertices kinds lists → kind < length lists →
