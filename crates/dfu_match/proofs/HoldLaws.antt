@@ -71,13 +71,18 @@ module _ (vertices : List Vertex) (first : ParentsFirst vertices) (v : ℕ) (ins
     holds_down (Pass u) h = h
 
     pub closed_down : (w : Window) → IsClosedIn (meets vertices jobs barred) w p → IsClosedIn (meets vertices jobs barred) w v
-    closed_down w (m, lo, hi, h) = (m, lo, hi, elim (or_cases (some_live_claim jobs m (holds_over vertices p)) (list_any (is_at_or_below vertices p) barred) h) [
-      | inl held ↦ or_left (some_live_claim jobs m (holds_over vertices v)) (list_any (is_at_or_below vertices v) barred)
-          (same_one (live_either (holds_over vertices p) (holds_over vertices v) (holds_over vertices v) (λ c t. inl (holds_down c t)) jobs m held))
-      | inr bars ↦ or_right (some_live_claim jobs m (holds_over vertices v)) (list_any (is_at_or_below vertices v) barred)
-          (same_one (any_either (is_at_or_below vertices p) (is_at_or_below vertices v) (is_at_or_below vertices v)
-          (λ u t. inl (below_trans vertices first v p u inside (below_parent vertices first v p inside at) t)) barred bars))
-    ])
+    closed_down w (m, lo, hi, h) = (
+      m,
+      lo,
+      hi,
+      elim (or_cases (some_live_claim jobs m (holds_over vertices p)) (list_any (is_at_or_below vertices p) barred) h) [
+        | inl held ↦ or_left (some_live_claim jobs m (holds_over vertices v)) (list_any (is_at_or_below vertices v) barred)
+            (same_one (live_either (holds_over vertices p) (holds_over vertices v) (holds_over vertices v) (λ c t. inl (holds_down c t)) jobs m held))
+        | inr bars ↦ or_right (some_live_claim jobs m (holds_over vertices v)) (list_any (is_at_or_below vertices v) barred)
+            (same_one (any_either (is_at_or_below vertices p) (is_at_or_below vertices v) (is_at_or_below vertices v)
+            (λ u t. inl (below_trans vertices first v p u inside (below_parent vertices first v p inside at) t)) barred bars))
+      ],
+    )
 
     -- what closes v closes the vertex above, or touches v
     own_bar : (u : ℕ) → IsTrue (is_at_or_below vertices v u) → IsTrue (is_at_or_below vertices p u) ⊎ IsTrue (is_at_or_below vertices u v)
@@ -117,12 +122,17 @@ module _ (vertices : List Vertex) (first : ParentsFirst vertices) (v : ℕ) (ins
     root_hold (Pass u) h = absurd (true≢false (sym h))
 
     pub closed_root : (w : Window) → IsClosedIn (meets vertices jobs barred) w v → IsTouchedIn (meets vertices jobs barred) w v
-    closed_root w (m, lo, hi, h) = (m, lo, hi, elim (or_cases (some_live_claim jobs m (holds_over vertices v)) (list_any (is_at_or_below vertices v) barred) h) [
-      | inl held ↦ or_left (some_live_claim jobs m (is_on_or_below vertices v)) (list_any (λ u. is_at_or_below vertices u v) barred)
-          (same_one (live_either (holds_over vertices v) (is_on_or_below vertices v) (is_on_or_below vertices v) (λ c t. inl (root_hold c t)) jobs m held))
-      | inr bars ↦ or_right (some_live_claim jobs m (is_on_or_below vertices v)) (list_any (λ u. is_at_or_below vertices u v) barred)
-          (same_one (any_either (is_at_or_below vertices v) (λ u. is_at_or_below vertices u v) (λ u. is_at_or_below vertices u v) (λ u t. inl (root_bar u t)) barred bars))
-    ])
+    closed_root w (m, lo, hi, h) = (
+      m,
+      lo,
+      hi,
+      elim (or_cases (some_live_claim jobs m (holds_over vertices v)) (list_any (is_at_or_below vertices v) barred) h) [
+        | inl held ↦ or_left (some_live_claim jobs m (is_on_or_below vertices v)) (list_any (λ u. is_at_or_below vertices u v) barred)
+            (same_one (live_either (holds_over vertices v) (is_on_or_below vertices v) (is_on_or_below vertices v) (λ c t. inl (root_hold c t)) jobs m held))
+        | inr bars ↦ or_right (some_live_claim jobs m (is_on_or_below vertices v)) (list_any (λ u. is_at_or_below vertices u v) barred)
+            (same_one (any_either (is_at_or_below vertices v) (λ u. is_at_or_below vertices u v) (λ u. is_at_or_below vertices u v) (λ u t. inl (root_bar u t)) barred bars))
+      ],
+    )
 
   module _ (w : Window) (hold : Bool) (holds : hold ≡ true) (above : Bool) (tells : IsTrue above ↔ IsSomeAnd (parent_of vertices v) (IsClosedIn (meets vertices jobs barred) w)) where
     -- a vertex below a closed one is not held

@@ -64,7 +64,7 @@ module _ (old now next : List Amounts) (v i : ℕ) (row more : List ℕ) (amount
             ap (slice_get next) same.1 ∙ ap (λ xs. slice_get xs i) stored ∙ set_there now i rest lt,
             ap (slice_get more) (same.1 ∙ sym so_far.places) ∙ ap (λ xs. slice_get xs (length row)) pushed ∙ new_there row n,
             (let is : amounts ≡ a = (let both : Some amounts ≡ Some a = sym same_old ∙ sym (ap (slice_get old) same.1) ∙ was in cc) in
-            subst (λ (x : Amounts). IsTaken x rest v n) is taken),
+                subst (λ (x : Amounts). IsTaken x rest v n) is taken),
           )
           | inr differ ↦ (let (r, m, there, number, is) = so_far.done k a (let ne = differ.1 in omega (arith, lk, ne)) was in (
             r,

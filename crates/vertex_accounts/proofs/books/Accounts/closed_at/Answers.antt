@@ -23,9 +23,11 @@ returns-then-least_in-lt18446744073709551615-clause-answer g c = λ jobs is.
     let vertices = c.args.graph.now.resources.vertices in
     let held = held_is vertices jobs c.args.window c.args.vertex c.least_in.result (c.least_in.ensures.least vertices jobs Holds is is.graph.counts.holds) in
     let closed = held_closed vertices jobs c.args.window c.args.vertex in
-    let inside = c.requires.inside in
-    (λ b. closed.0 (held_here jobs c.args.window vertices (length vertices) c.args.vertex (Some c.args.vertex) (λ e. omega (arith, e, inside)) refl
-    (held.0 c.if-least_in-lt18446744073709551615.true)), λ h. refl)
+    let inside = c.requires.inside in (
+      λ b. closed.0 (held_here jobs c.args.window vertices (length vertices) c.args.vertex (Some c.args.vertex) (λ e. omega (arith, e, inside)) refl
+          (held.0 c.if-least_in-lt18446744073709551615.true)),
+      λ h. refl,
+    )
 
 pub held_up-requires-clause-parents : goal.held_up-requires-clause-parents
 held_up-requires-clause-parents g c =
