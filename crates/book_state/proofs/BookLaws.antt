@@ -23,11 +23,11 @@ use Rattle.book_laws.specs.Amounts.{live_sum}
 use Rattle.book_laws.specs.Grouped.{grouped}
 use Rattle.book_laws.proofs.GroupedLaws.{used_grouped}
 use Rattle.book_laws.proofs.Alike.{AmountAlike, available_alike}
-use Rattle.vertex_planners.specs.Lists.{list_of}
-use Rattle.vertex_accounts.specs.declared.accounts.Account.{Account}
+use Rattle.vertex_planners.specs.Lists.{items_of, at_place}
+use Rattle.vertex_planners.proofs.PlaceLaws.{item_at, within_list, place_len}
 use Rattle.vertex_accounts.specs.declared.quantities.Quantity.{Quantity}
+use Rattle.vertex_accounts.specs.declared.quantities.Quantity.TheVariants.{Holds, Claims, Takes}
 use Rattle.vertex_accounts.specs.Quantities.{amount_in}
-use Rattle.vertex_accounts.specs.Stands.{IsAccount}
 use Rattle.vertex_accounts.proofs.OwnLaws.{within_is}
 use Rattle.job_table.specs.declared.tables.Row.{Row}
 use Rattle.book_state.specs.declared.held.Kept.{Kept}
@@ -36,48 +36,44 @@ use Rattle.prune_filters.specs.declared.rules.Rule.{Rule}
 use Rattle.prune_filters.specs.Filters.{IsCounted}
 use Rattle.resource_graph.specs.NamedGraph.{NamedGraph}
 use Rattle.vertex_accounts.specs.declared.books.Accounts.{Accounts}
-use Rattle.vertex_accounts.specs.Books.{AreAccounts, KeepsKind, kept_count}
+use Rattle.vertex_accounts.specs.Books.{AreAccounts, KeepsKind, types_of}
 use Rattle.book_state.specs.Books.{vertices_of, StandsIn, StandsFor}
 use Rattle.book_state.proofs.TieLaws.{agree_none, agree_more, agree_less, agree_along, without_middle}
 
-there : {P : Type 0} (xs : List P) (i : ℕ) → i < length xs → (x : P) × (slice_get xs i ≡ Some x)
-there [] i h = absurd (omega (arith, h))
-there (x ∷ xs) zero h = (x, refl)
-there (x ∷ xs) (suc i) h = there xs i (omega (arith, h))
-
--- what two lists of jobs amount to for which an account stands
-alike_in : (vertices : List Vertex) (a b : List Job) (account : Account Plan) (q : Quantity) → account.quantity ≡ q → IsAccount (λ (p : Plan). p.total) Plans.StandsFor vertices a account →
-    IsAccount (λ (p : Plan). p.total) Plans.StandsFor vertices b account → (v m : ℕ) → v < length vertices → live_sum (amount_in vertices q v) a m ≡ live_sum (amount_in vertices q v) b m
-alike_in vertices a b account q e x y v m lt =
-    let (p, at) = there (list_of account.planners) v (let n = x.graph.len in omega (arith, n, lt)) in
-    let f = amount_in vertices account.quantity v in
-    let sx = x.kept.spans v p at in
-    let sy = y.kept.spans v p at in
+-- what two lists of jobs amount to at one place for which the accounts stand
+alike_in : (vertices : List Vertex) (a b : List Job) (accounts : Accounts Plan) (k : ℕ) (q : Quantity) → slice_get (arc_value accounts.counted).quantities k ≡ Some q →
+    AreAccounts (λ (p : Plan). p.total) Plans.StandsFor vertices a accounts → AreAccounts (λ (p : Plan). p.total) Plans.StandsFor vertices b accounts →
+    (v m : ℕ) → v < length vertices → live_sum (amount_in vertices q v) a m ≡ live_sum (amount_in vertices q v) b m
+alike_in vertices a b accounts k q of x y v m lt =
+    let quantities = (arc_value accounts.counted).quantities in
+    let items = items_of accounts.planners in
+    let len = place_len (length quantities) k (within_list quantities k q of) items x.graph.places in
+    let (p, at) = item_at (at_place k items) v (let n = x.graph.len in omega (arith, len, n, lt)) in
+    let f = amount_in vertices q v in
+    let sx = (x.kept k q of).spans v p at in
+    let sy = (y.kept k q of).spans v p at in
     let same : free_at p.total (grouped f a) m ≡ free_at p.total (grouped f b) m = sym (sx.free m) ∙ sy.free m in
     let ra = sx.tallies.room m in
     let rb = sy.tallies.room m in
     let ua = used_grouped f a m in
     let ub = used_grouped f b m in
-    let sums : live_sum f a m ≡ live_sum f b m = omega (arith, same, ra, rb, ua, ub) in
-    subst (λ (k : Quantity). live_sum (amount_in vertices k v) a m ≡ live_sum (amount_in vertices k v) b m) e sums
+    omega (arith, same, ra, rb, ua, ub)
 
 pub alike : (book : Kept) → ParentsFirst (vertices_of book) → (a b : List Job) → StandsFor book a → StandsFor book b → AmountAlike (vertices_of book) a b
 alike book first a b x y =
     let vertices = vertices_of book in
     let accounts = arc_value book.accounts in
-    let held = λ (v m : ℕ) (lt : v < length vertices). alike_in vertices a b accounts.holds _ x.accounts_are.graph.holds.1
-    x.accounts_are.holds y.accounts_are.holds v m lt in
+    let places = x.accounts_are.graph.counts in
+    let held = λ (v m : ℕ) (lt : v < length vertices). alike_in vertices a b accounts 0 Holds places.holds x.accounts_are y.accounts_are v m lt in
     record {
       holds = held;
       claims = λ v m lt.
           let in_a = within_is vertices first v lt a m in
           let in_b = within_is vertices first v lt b m in
-          let count = alike_in vertices a b accounts.claims _ x.accounts_are.graph.claims.1 x.accounts_are.claims
-          y.accounts_are.claims v m lt in
+          let count = alike_in vertices a b accounts 1 Claims places.claims x.accounts_are y.accounts_are v m lt in
           let own = ap (λ n. cond (nat_lt 0 v) n 0) (held v m lt) in
           omega (arith, in_a, in_b, count, own);
-      takes = λ v m lt. alike_in vertices a b accounts.takes _ x.accounts_are.graph.takes.1 x.accounts_are.takes
-          y.accounts_are.takes v m lt;
+      takes = λ v m lt. alike_in vertices a b accounts 2 Takes places.takes x.accounts_are y.accounts_are v m lt;
     }
 
 -- what is available beside the one list is available beside the other
@@ -124,7 +120,7 @@ moved g h r s a b t u jobs eg er ea et x =
 
 -- a job more, and a job less
 pub added : (g : NamedGraph) (r : List Rule) (a b : Accounts Plan) (t : FinMap nat_cmp Row) (jobs : List Job) (job : Job) (at : ℕ) → get t job.id ≡ None →
-    AreAccounts (λ (p : Plan). p.total) Plans.StandsFor g.resources.vertices (jobs ++ job ∷ []) b → ((kind : ℕ) → KeepsKind a kind → KeepsKind b kind) → kept_count b.totals ≡ kept_count a.totals →
+    AreAccounts (λ (p : Plan). p.total) Plans.StandsFor g.resources.vertices (jobs ++ job ∷ []) b → ((kind : ℕ) → KeepsKind a kind → KeepsKind b kind) → types_of b ≡ types_of a →
     StandsIn g r a t jobs → StandsIn g r b (insert t job.id (live_row at)) (jobs ++ job ∷ [])
 added g r a b t jobs job at fresh accounts kinds same x = record {
   accounts_are = accounts;
@@ -135,7 +131,7 @@ added g r a b t jobs job at fresh accounts kinds same x = record {
 }
 
 pub removed : (g : NamedGraph) (r : List Rule) (a b : Accounts Plan) (t : FinMap nat_cmp Row) (before : List Job) (job : Job) (after : List Job) (at : ℕ) → get t job.id ≡ Some (live_row at) →
-    AreAccounts (λ (p : Plan). p.total) Plans.StandsFor g.resources.vertices (before ++ after) b → ((kind : ℕ) → KeepsKind a kind → KeepsKind b kind) → kept_count b.totals ≡ kept_count a.totals →
+    AreAccounts (λ (p : Plan). p.total) Plans.StandsFor g.resources.vertices (before ++ after) b → ((kind : ℕ) → KeepsKind a kind → KeepsKind b kind) → types_of b ≡ types_of a →
     StandsIn g r a t (before ++ job ∷ after) → StandsIn g r b (insert t job.id (cancelled_row at)) (before ++ after)
 removed g r a b t before job after at live accounts kinds same x = record {
   accounts_are = accounts;
@@ -147,7 +143,7 @@ removed g r a b t before job after at live accounts kinds same x = record {
 
 -- no jobs
 pub none_stands : (g : NamedGraph) (r : List Rule) (a : Accounts Plan) → AreAccounts (λ (p : Plan). p.total) Plans.StandsFor g.resources.vertices [] a →
-    ((kind : ℕ) (name : List ℕ) → slice_get g.resources.kinds kind ≡ Some name → IsCounted r name → KeepsKind a kind) → kept_count a.totals ≤ length r → StandsIn g r a empty []
+    ((kind : ℕ) (name : List ℕ) → slice_get g.resources.kinds kind ≡ Some name → IsCounted r name → KeepsKind a kind) → types_of a ≤ length r → StandsIn g r a empty []
 none_stands g r a accounts kinds types = record { accounts_are = accounts; ties = agree_none; few = omega arith; kinds = kinds; types = types }
 
 -- equal parts stand for an equal list

@@ -2,6 +2,7 @@
 use Rattle.std.proofs.Common.{◌≡◌, ℕ, zero, suc, ◌+◌, ◌*◌, ◌/◌, ◌^◌, ◌<◌, ◌≤◌, cond, List, length, Some, slice_get, inl, inr, refl, sym, ap, subst, arith}
 use Rattle.std.proofs.Math.Nat.{pow-suc, mul-le-mul_right}
 use Rattle.std.proofs.lemmas.Bool.Decides.{leb_tells}
+use Rattle.std.specs.Arc.{arc_value}
 use Rattle.flux_defs.specs.declared.vertices.Vertex.{Vertex}
 use Rattle.flux_defs.specs.declared.claims.Job.{Job}
 use Rattle.flux_defs.specs.Digits.{digits_within, dig}
@@ -12,14 +13,13 @@ use Rattle.planner_min_tree.specs.Plans.{Plan}
 use Rattle.planner_min_tree.proofs.PlanFacts.{few_points}
 use Rattle.book_laws.specs.Grouped.{grouped, times_of}
 use Rattle.book_laws.proofs.GroupedLaws.{grouped_few, times_many}
-use Rattle.vertex_planners.specs.Lists.{list_of}
-use Rattle.vertex_accounts.specs.declared.accounts.Account.{Account}
+use Rattle.vertex_planners.specs.Lists.{items_of, at_place}
+use Rattle.vertex_planners.proofs.PlaceLaws.{within_list, item_at, in_place}
 use Rattle.vertex_accounts.specs.declared.books.Accounts.{Accounts}
 use Rattle.vertex_accounts.specs.Quantities.{amount_in}
-use Rattle.vertex_planners.specs.Work.{change_most, ChangesWithin}
+use Rattle.vertex_planners.specs.Work.{change_most, CostWithin}
 use Rattle.vertex_accounts.specs.Costs.{look_most, closed_most, accounts_most}
-use Rattle.vertex_accounts.specs.Stands.{IsAccount}
-use Rattle.vertex_accounts.specs.Books.{AreAccounts, LooksWithin, AllLookWithin, AllChangeWithin}
+use Rattle.vertex_accounts.specs.Books.{AreAccounts}
 
 -- a number below 2 ^ (k + 1) has at most k + 1 digits
 few_digits : (most k n : ℕ) → n < 2 ^ suc k → digits_within most n ≤ suc k
@@ -41,7 +41,7 @@ unfolding dig
 dig_few k n lt = few_digits n k n lt
 
 -- the looks of one answer, over at most 65,536 vertices
-pub looks_cost : (vertices b looks : ℕ) → vertices ≤ 65536 → 3 ≤ b → looks ≤ 16 * b → closed_most vertices looks + look_most vertices looks ≤ 512 * b
+pub looks_cost : (vertices b looks : ℕ) → vertices ≤ 65536 → 3 ≤ b → looks ≤ 16 * b → closed_most vertices looks + looks ≤ 512 * b
 looks_cost vertices b looks few some le =
     let d = dig_few 16 (vertices + 1) (let p : 2 ^ 17 ≡ 131072 = refl in omega (arith, few, p)) in
     omega (arith, d, some, le)
@@ -58,33 +58,21 @@ module _ (book : Accounts Plan) (vertices : List Vertex) (jobs : List Job) (is :
       let points = few_points plan.total plan.points spans stands in
       dig_mono (length plan.points + 2) (2 * n + 2) (omega (arith, points, few))
 
-  planner_cost : (account : Account Plan) → IsAccount (λ (p : Plan). p.total) Plans.StandsFor vertices jobs account → (v : ℕ) (plan : Plan) → slice_get (list_of account.planners) v ≡ Some plan →
+  planner_cost : (v k : ℕ) (item : List Plan) (plan : Plan) → slice_get (items_of book.planners) v ≡ Some item → slice_get item k ≡ Some plan →
       dig (length plan.points + 2) ≤ dig (2 * book.count + 2)
-  planner_cost account at v plan there =
-      points_cost plan (grouped (amount_in vertices account.quantity v) jobs) book.count (at.kept.spans v plan there)
-      (let few = grouped_few (amount_in vertices account.quantity v) jobs in let count = is.count in omega (arith, few, count))
+  planner_cost v k item plan there at =
+      let quantities = (arc_value book.counted).quantities in
+      let lt : k < length quantities = (let wide = is.graph.places v item there in let within = within_list item k plan at in omega (arith, wide, within)) in
+      let (q, of) = item_at quantities k lt in
+      let among = in_place (length quantities) k lt (items_of book.planners) is.graph.places v item plan there at in
+      points_cost plan (grouped (amount_in vertices q v) jobs) book.count ((is.kept k q of).spans v plan among)
+      (let few = grouped_few (amount_in vertices q v) jobs in let count = is.count in omega (arith, few, count))
 
-  account_cost : (account : Account Plan) → IsAccount (λ (p : Plan). p.total) Plans.StandsFor vertices jobs account → LooksWithin look_cost (16 * dig (2 * book.count + 2)) account
-  account_cost account at v plan there = let d = planner_cost account at v plan there in omega (arith, d)
+  pub all_cost : CostWithin look_cost (16 * dig (2 * book.count + 2)) (items_of book.planners)
+  all_cost v k item plan there at = let d = planner_cost v k item plan there at in omega (arith, d)
 
-  account_change : (account : Account Plan) → IsAccount (λ (p : Plan). p.total) Plans.StandsFor vertices jobs account → ChangesWithin change_cost (256 * dig (2 * book.count + 2)) (list_of account.planners)
-  account_change account at v plan there = let d = planner_cost account at v plan there in omega (arith, d)
-
-  pub all_cost : AllLookWithin look_cost (16 * dig (2 * book.count + 2)) book
-  all_cost = record {
-    holds = account_cost book.holds is.holds;
-    claims = account_cost book.claims is.claims;
-    takes = account_cost book.takes is.takes;
-    totals = λ kind account at. account_cost account (is.totals kind account at);
-  }
-
-  pub all_change : AllChangeWithin change_cost (256 * dig (2 * book.count + 2)) book
-  all_change = record {
-    holds = account_change book.holds is.holds;
-    claims = account_change book.claims is.claims;
-    takes = account_change book.takes is.takes;
-    totals = λ kind account at. account_change account (is.totals kind account at);
-  }
+  pub all_change : CostWithin change_cost (256 * dig (2 * book.count + 2)) (items_of book.planners)
+  all_change v k item plan there at = let d = planner_cost v k item plan there at in omega (arith, d)
 
   times_points : (g : ℕ) → length jobs ≤ g → dig (length book.times.points + 2) ≤ dig (2 * g + 2)
   times_points g few = points_cost book.times (times_of jobs) g is.times (let many = times_many jobs in omega (arith, many, few))
@@ -105,7 +93,7 @@ four_digits = refl
 
 -- an answer about a vertex, and the next point, within the cost of the book
 pub answer_covered : (vertices count g : ℕ) → vertices ≤ 65536 →
-    closed_most vertices (16 * dig (2 * count + 2)) + look_most vertices (16 * dig (2 * count + 2)) ≤ 512 * dig (2 * count + g + 4)
+    closed_most vertices (16 * dig (2 * count + 2)) + 16 * dig (2 * count + 2) ≤ 512 * dig (2 * count + g + 4)
 answer_covered vertices count g few =
     let four = four_digits in
     let some = dig_mono 4 (2 * count + g + 4) (omega arith) in
@@ -143,17 +131,16 @@ planner_change vertices b changes few some le =
 
 -- what all accounts take, in products of claims, rules and digits
 products : (claims types rules b each : ℕ) → types ≤ rules → each ≤ 279 * b →
-    2 * (1 * claims * each + 1) + (16 * claims * each + 1) + types * (16 * claims * each + 1) ≤ 5022 * (claims * b) + 4464 * (rules * (claims * b)) + rules + 3
+    (18 + 16 * types) * claims * each ≤ 5022 * (claims * b) + 4464 * (rules * (claims * b))
 products claims types rules b each few le =
     let one : each * claims ≤ 279 * b * claims = mul-le-mul_right claims le in
-    let a : 1 * claims * each ≡ each * claims = grind arith in
-    let b16 : 16 * claims * each ≡ 16 * (each * claims) = grind arith in
     let c : 279 * b * claims ≡ 279 * (claims * b) = grind arith in
-    let more : types * (16 * claims * each + 1) ≤ rules * (16 * claims * each + 1) = mul-le-mul_right (16 * claims * each + 1) few in
-    let up : (16 * claims * each + 1) * rules ≤ (4464 * (claims * b) + 1) * rules = mul-le-mul_right rules (omega (arith, one, b16, c)) in
-    let d : rules * (16 * claims * each + 1) ≡ (16 * claims * each + 1) * rules = grind arith in
-    let e : (4464 * (claims * b) + 1) * rules ≡ 4464 * (rules * (claims * b)) + rules = grind arith in
-    omega (arith, one, a, b16, c, more, up, d, e)
+    let parts : (18 + 16 * types) * claims * each ≡ 18 * (each * claims) + 16 * (types * (each * claims)) = grind arith in
+    let more : types * (each * claims) ≤ rules * (each * claims) = mul-le-mul_right (each * claims) few in
+    let up : (each * claims) * rules ≤ (279 * (claims * b)) * rules = mul-le-mul_right rules (omega (arith, one, c)) in
+    let d : rules * (each * claims) ≡ (each * claims) * rules = grind arith in
+    let e : (279 * (claims * b)) * rules ≡ 279 * (rules * (claims * b)) = grind arith in
+    omega (arith, one, c, parts, more, up, d, e)
 
 expanded : (claims rules b : ℕ) → 8192 * (claims + 1) * (1 + rules) * b ≡ 8192 * (claims * b) + 8192 * (rules * (claims * b)) + 8192 * b + 8192 * (rules * b)
 expanded claims rules b = grind arith
@@ -174,7 +161,5 @@ change_covered vertices count g types rules claims times old mid new few kept sp
     let alike = ap dig same in
     let ids : dig (g + 1) ≤ b = dig_mono (g + 1) (2 * count + g + 4) (omega arith) in
     let rows : dig (g + 2) ≤ b = dig_mono (g + 2) (2 * count + g + 4) (omega arith) in
-    let by_rules : 1 * rules ≤ b * rules = mul-le-mul_right rules (omega (arith, four, some)) in
-    let turned : b * rules ≡ rules * b = grind arith in
     let sum = expanded claims rules b in
-    omega (arith, accounts, row, span, all, alike, doubled, ids, rows, by_rules, turned, sum, four, some)
+    omega (arith, accounts, row, span, all, alike, doubled, ids, rows, sum, four, some)

@@ -8,9 +8,11 @@ use Rattle.resource_graph.specs.NamedGraph.{NamedGraph, IsWhole}
 use Rattle.prune_filters.specs.Amples.{IsNextAmpleOrNone}
 use Rattle.planner_min_tree.specs.Plans as Plans
 use Rattle.planner_min_tree.specs.Plans.{Plan}
+use Rattle.vertex_planners.specs.Lists.{items_of}
+use Rattle.vertex_planners.specs.Work.{CostWithin}
 use Rattle.vertex_accounts.specs.declared.books.Accounts.{Accounts}
 use Rattle.vertex_accounts.specs.Costs.{look_most, closed_most, accounts_most}
-use Rattle.vertex_accounts.specs.Books.{AreAccountsOf, AreAccounts, AllLookWithin, AllChangeWithin, kept_count}
+use Rattle.vertex_accounts.specs.Books.{AreAccountsOf, AreAccounts, types_of}
 use Rattle.book_state.specs.declared.held.Kept.{Kept}
 use Rattle.book_state.specs.Books.{graph_of, vertices_of, rules_of, accounts_of, rows_of, StandsFor, IsBook, MayAdd, cost_of, change_cost_of}
 use Rattle.flux_defs.specs.Closed.{no_bars}
@@ -38,7 +40,7 @@ module _ (g : NamedGraph) (a : Accounts Plan) (book : Kept) (eg : g ≡ graph_of
   inside_at v lt = subst (λ (h : NamedGraph). v < length h.resources.vertices) (sym eg) lt
 
   pub work_at : IsBook book → IsWhole g → (old new : ℕ) →
-      ((n : ℕ) → AllLookWithin (λ (p : Plan). 16 * dig (length p.points + 2)) n a → new ≤ old + (closed_most (length g.resources.vertices) n + look_most (length g.resources.vertices) n)) → new ≤ old + cost_of book
+      ((n : ℕ) → CostWithin (λ (p : Plan). 16 * dig (length p.points + 2)) n (items_of a.planners) → new ≤ old + (closed_most (length g.resources.vertices) n + n)) → new ≤ old + cost_of book
   work_at is whole old new work =
       let at = accounts_at is.0 is.1 in
       let w = work (16 * dig (2 * a.count + 2)) (all_cost a g.resources.vertices is.0 at) in
@@ -47,7 +49,7 @@ module _ (g : NamedGraph) (a : Accounts Plan) (book : Kept) (eg : g ≡ graph_of
       omega (arith, w, c, same)
 
   pub ample_at : IsBook book → IsWhole g → (old new : ℕ) →
-      ((n : ℕ) → AllLookWithin (λ (p : Plan). 16 * dig (length p.points + 2)) n a → new ≤ old + (16 * dig (length a.times.points + 2) + 1 + look_most (length g.resources.vertices) n)) → new ≤ old + cost_of book
+      ((n : ℕ) → CostWithin (λ (p : Plan). 16 * dig (length p.points + 2)) n (items_of a.planners) → new ≤ old + (16 * dig (length a.times.points + 2) + 1 + look_most (length g.resources.vertices) n)) → new ≤ old + cost_of book
   ample_at is whole old new work =
       let at = accounts_at is.0 is.1 in
       let w = work (16 * dig (2 * a.count + 2)) (all_cost a g.resources.vertices is.0 at) in
@@ -67,14 +69,14 @@ module _ (g : NamedGraph) (a : Accounts Plan) (book : Kept) (eg : g ≡ graph_of
 
   -- a job of so many claims more or less
   pub change_at : IsBook book → IsWhole g → (claims old mid new : ℕ) →
-      ((most : ℕ) → AllChangeWithin (λ (p : Plan). 256 * dig (length p.points + 2)) most a →
-      mid ≤ old + (accounts_most (length g.resources.vertices) most (kept_count a.totals) claims + 256 * dig (length a.times.points + 2))) →
+      ((most : ℕ) → CostWithin (λ (p : Plan). 256 * dig (length p.points + 2)) most (items_of a.planners) →
+      mid ≤ old + (accounts_most (length g.resources.vertices) most (types_of a) claims + 256 * dig (length a.times.points + 2))) →
       new ≤ mid + 256 * dig (len (rows_of book) + 2) → new ≤ old + change_cost_of book claims
   change_at is whole claims old mid new work row =
       let at = accounts_at is.0 is.1 in
       let rules = length (rules_of book) in
-      let types : kept_count a.totals ≤ rules = subst (λ (x : Accounts Plan). kept_count x.totals ≤ rules) (sym ea) is.1.types in
-      let covered = change_covered (length g.resources.vertices) a.count (len (rows_of book)) (kept_count a.totals) rules claims (256 * dig (length a.times.points + 2)) old mid new
+      let types : types_of a ≤ rules = subst (λ (x : Accounts Plan). types_of x ≤ rules) (sym ea) is.1.types in
+      let covered = change_covered (length g.resources.vertices) a.count (len (rows_of book)) (types_of a) rules claims (256 * dig (length a.times.points + 2)) old mid new
       whole.valid.few types (times_change a g.resources.vertices is.0 at (len (rows_of book)) is.1.few) (work (256 * dig (2 * a.count + 2)) (all_change a g.resources.vertices is.0 at)) row in
       subst (λ (x : Accounts Plan). new ≤ old + 8192 * (claims + 1) * (1 + rules) * dig (2 * x.count + len (rows_of book) + 4)) ea covered
 

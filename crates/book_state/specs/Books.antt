@@ -20,7 +20,7 @@ use Rattle.book_laws.specs.Amounts.{TakesFromPool}
 use Rattle.planner_min_tree.specs.Plans as Plans
 use Rattle.planner_min_tree.specs.Plans.{Plan}
 use Rattle.vertex_accounts.specs.declared.books.Accounts.{Accounts}
-use Rattle.vertex_accounts.specs.Books.{AreAccounts, KeepsKind, kept_count}
+use Rattle.vertex_accounts.specs.Books.{AreAccounts, KeepsKind, types_of}
 use Rattle.book_state.specs.Ties.{Agree}
 use Rattle.book_state.specs.declared.held.Kept.{Kept}
 
@@ -61,14 +61,14 @@ abbrev pub accounts_of : Kept → Accounts Plan
 accounts_of book = arc_value book.accounts
 
 -- Over this graph, with these rules, accounts and rows stand for these jobs: the accounts do, exactly the jobs' ids have live
--- rows, of which there are no more than rows, and there is an account of the units of each type that a rule names, and of no
--- more types than there are rules.
+-- rows, of which there are no more than rows, and totals are kept of each type that a rule names, and of no more types than
+-- there are rules.
 pub record StandsIn (graph : NamedGraph) (rules : List Rule) (accounts : Accounts Plan) (rows : FinMap nat_cmp Row) (jobs : List Job) : Type 0 where
   pub accounts_are : AreAccounts (λ (p : Plan). p.total) Plans.StandsFor graph.resources.vertices jobs accounts
   pub ties : Agree rows jobs
   pub few : length jobs ≤ len rows
   pub kinds : (kind : ℕ) (name : List ℕ) → slice_get graph.resources.kinds kind ≡ Some name → IsCounted rules name → KeepsKind accounts kind
-  pub types : kept_count accounts.totals ≤ length rules
+  pub types : types_of accounts ≤ length rules
 
 -- the book stands for these jobs
 abbrev pub StandsFor : Kept → List Job → Type 0

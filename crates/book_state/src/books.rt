@@ -9,7 +9,7 @@ ghost use Rattle.job_table.specs.Rows.{live_row, cancelled_row, HasLiveRow};
 ghost use Rattle.prune_filters.specs.Filters.{IsCounted};
 ghost use Rattle.planner_min_tree.specs.Plans as Plans;
 ghost use Rattle.planner_min_tree.specs.Plans.{Plan};
-ghost use Rattle.vertex_accounts.specs.Books.{AreAccounts, KeepsKind, kept_count};
+ghost use Rattle.vertex_accounts.specs.Books.{AreAccounts, KeepsKind, types_of};
 ghost use Rattle.book_state.specs.Ties.{has_job};
 ghost use Rattle.book_state.specs.Books.{graph_of, rules_of, horizon_of, moment_of, rows_of, StandsFor, KeepsSetting, MayAdd, change_cost_of};
 
@@ -172,7 +172,7 @@ fn first_accounts(
 ) -> Result<Accounts<MinTree>, AllocError>
     ensures accounts { IfOk result (λ book. AreAccounts (λ (p : Plan). p.total) Plans.StandsFor graph.now.resources.vertices [] book) }
     ensures kinds { IfOk result (λ book. (kind : ℕ) (name : List ℕ) → slice_get graph.now.resources.kinds kind ≡ Some name → IsCounted rules.now name → KeepsKind book kind) }
-    ensures types { IfOk result (λ book. kept_count book.totals ≤ length rules.now) }
+    ensures types { IfOk result (λ book. types_of book ≤ length rules.now) }
 {
     counted_accounts::<Brand>(alloc, graph, rules, horizon, Blank::new(1))
 }
@@ -189,7 +189,7 @@ fn counted_accounts<L: Ledger>(
     requires some { 0 < blank.parts }
     ensures accounts { IfOk result (λ book. AreAccounts (λ (p : Plan). p.total) Plans.StandsFor graph.now.resources.vertices [] book) }
     ensures kinds { IfOk result (λ book. (kind : ℕ) (name : List ℕ) → slice_get graph.now.resources.kinds kind ≡ Some name → IsCounted rules.now name → KeepsKind book kind) }
-    ensures types { IfOk result (λ book. kept_count book.totals ≤ length rules.now) }
+    ensures types { IfOk result (λ book. types_of book ≤ length rules.now) }
 {
     let mut steps: Steps<L> = Steps::new(blank);
     Accounts::new(alloc, graph, rules, horizon, &mut steps)

@@ -9,3 +9,4 @@ pub mod PairLaws
 pub mod OpenLaws
 pub mod StepLaws
 pub mod MatchedLaws
+pub mod HoldLaws

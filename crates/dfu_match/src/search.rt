@@ -3,7 +3,8 @@ ghost use Rattle.std.specs.Prelude.{◌≡◌, ◌≢◌, ◌+◌, ◌*◌, ◌^
 ghost use Rattle.std.specs.List.{list_any};
 ghost use Rattle.flux_defs.specs.declared.claims.Job.{Job};
 ghost use Rattle.flux_defs.specs.declared.claims.Claim.{Claim};
-ghost use Rattle.flux_defs.specs.Graph.{is_at_or_below};
+ghost use Rattle.std.specs.Option.{IsSomeAnd};
+ghost use Rattle.flux_defs.specs.Graph.{is_at_or_below, parent_of};
 ghost use Rattle.flux_defs.specs.Closed.{IsClosedIn, IsTouchedIn};
 ghost use Rattle.flux_defs.specs.Free.{IsFreeIn};
 ghost use Rattle.dfu_match.specs.Searches.{meets, open_to, claim_on};
@@ -101,7 +102,8 @@ pub(crate) fn free<F: FreeView, L: Ledger>(s: &Search<F>, vertex: u32, steps: &m
     s.view.free_over(vertex, s.window, steps)
 }
 
-/// Whether the vertex may be held, or passed.
+/// Whether the vertex may be held, or passed. A vertex that is held is touched too, so one may be held where the vertex above
+/// it isn't closed and it isn't touched: its own claims are looked at once.
 pub(crate) fn admits<F: FreeView, L: Ledger>(
     s: &Search<F>,
     hold: bool,
@@ -114,11 +116,37 @@ pub(crate) fn admits<F: FreeView, L: Ledger>(
         (IsTrue result ↔ open_to s.now.graph.now.resources.vertices jobs s.now.barred.now s.now.window
         (claim_on hold vertex)) }
 {
-    if closed(s, vertex, steps) {
+    if !hold {
+        return !closed(s, vertex, steps);
+    }
+    s.graph.is_valid();
+    if closed_above(s, vertex, steps) {
         return false;
     }
-    if !hold {
-        return true;
-    }
     !touched(s, vertex, steps)
+}
+
+/// Whether the vertex above this one, if there is one, is closed at some moment of the window.
+fn closed_above<F: FreeView, L: Ledger>(s: &Search<F>, vertex: u32, steps: &mut Steps<L>) -> bool
+    requires { vertex < length s.now.graph.now.resources.vertices }
+    ensures work { steps.new ≤ steps.old + F.cost s.now.view.now }
+    ensures answer { (jobs : List Job) → F.stands_for s.now.view.now jobs →
+        (IsTrue result ↔ IsSomeAnd (parent_of s.now.graph.now.resources.vertices vertex)
+        (IsClosedIn (meets s.now.graph.now.resources.vertices jobs s.now.barred.now) s.now.window)) }
+{
+    s.graph.is_valid();
+    match above(s.graph, vertex) {
+        Some(upper) => return closed(s, upper, steps),
+        None => return false,
+    }
+}
+
+/// The vertex above this one, if there is one.
+fn above(graph: &Graph, vertex: u32) -> Option<u32>
+    ensures { result ≡ parent_of graph.now.resources.vertices vertex }
+{
+    match graph.vertices().get(vertex as usize) {
+        Some(found) => return found.parent,
+        None => return None,
+    }
 }

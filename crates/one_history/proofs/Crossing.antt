@@ -4,7 +4,7 @@ use denote.RattleType.{RattleType}
 use denote.Param.Send.{IsSend, IsSync, sendable, view_send}
 use denote.Param.SendFields.{as_row_send, as_row_sync, declared_send, declared_sync}
 use denote.Struct.Field.{row_field}
-use Rattle.std.proofs.Crossing.{crosses, Arc-send}
+use Rattle.std.proofs.Crossing.{crosses, Arc-send, Arc-sync}
 use Rattle.std.proofs.MapsCrossing.{crosses as maps}
 use Rattle.balanced_tree.proofs.trees.Tree.TheLaws.TheKnot as tree
 use Rattle.job_table.proofs.parts.Part.TheLaws.TheKnot as part
@@ -15,8 +15,11 @@ use Rattle.job_table.specs.contracts.tables.JobTable as table
 use Rattle.resource_graph.specs.contracts.graph.Graph as graph
 use Rattle.prune_filters.specs.contracts.rules.Rules as rule
 use Rattle.flux_defs.specs.contracts.journal.Entry as entry
+use Rattle.planner_points.specs.declared.planners.Planner.{Ghosts}
 use Rattle.vertex_accounts.specs.contracts.books.Accounts as accounts
-use Rattle.vertex_accounts.specs.contracts.accounts.Account as account
+use Rattle.vertex_accounts.specs.contracts.counted.Counted as counted
+use Rattle.vertex_planners.specs.contracts.items.Item as item
+use Rattle.vertex_planners.specs.contracts.planners.VertexPlanners as planners
 use Rattle.snapshot_store.specs.contracts.pages.Pages as pages
 use Rattle.book_state.specs.contracts.held.BookState as book
 use Rattle.book_state.specs.contracts.held.BookState.TheInside as book_inside
@@ -26,8 +29,6 @@ use Rattle.sched_core.specs.contracts.scheduler.Core.TheInside as core_inside
 use Rattle.sched_core.specs.contracts.held.Kept as grown
 use Rattle.commit_book.specs.contracts.held.Held as held
 use Rattle.sched_core.specs.contracts.held.Site as site
-use Rattle.flux_defs.specs.contracts.lists.List as list
-use Rattle.std.specs.contracts.option.Option as option
 
 min_tree_send : IsSend min_tree.the_row
 min_tree_send = search (crosses, tree.crosses, sendable) depth 60 fits 20000
@@ -65,43 +66,69 @@ pages_send P s y = search (crosses, page.crosses, sendable) depth 60 fits 20000
 pages_sync : (P : RattleType) → IsSend P → IsSync P → IsSync (pages.the_row P)
 pages_sync P s y = search (crosses, page.crosses, sendable) depth 60 fits 20000
 
-account_send : (P : RattleType) → IsSend P → IsSync P → IsSend (account.the_row P)
-account_send P s y = let p = pages_send P s y in search (crosses, sendable) depth 60 fits 20000
+item_send : (P : RattleType) (d : Ghosts P.Denot) → IsSend P → IsSend (item.the_row P d)
+item_send P d s = search (crosses, sendable) depth 60 fits 20000
 
-account_sync : (P : RattleType) → IsSend P → IsSync P → IsSync (account.the_row P)
-account_sync P s y = let p = pages_sync P s y in search (crosses, sendable) depth 60 fits 20000
+item_sync : (P : RattleType) (d : Ghosts P.Denot) → IsSync P → IsSync (item.the_row P d)
+item_sync P d y = search (crosses, sendable) depth 60 fits 20000
 
-list_send : (T : RattleType) → IsSend T → IsSend (list.the_row T)
-list_send T s = search (crosses, sendable) depth 60 fits 20000
+planners_send : (P : RattleType) (d : Ghosts P.Denot) → IsSend P → IsSync P → IsSend (planners.the_row P d)
+planners_send P d s y =
+    let p = pages_send (item.the_row P d) (item_send P d s) (item_sync P d y) in
+    search (crosses, sendable) depth 60 fits 20000
 
-list_sync : (T : RattleType) → IsSync T → IsSync (list.the_row T)
-list_sync T y = search (crosses, sendable) depth 60 fits 20000
+planners_sync : (P : RattleType) (d : Ghosts P.Denot) → IsSend P → IsSync P → IsSync (planners.the_row P d)
+planners_sync P d s y =
+    let p = pages_sync (item.the_row P d) (item_send P d s) (item_sync P d y) in
+    search (crosses, sendable) depth 60 fits 20000
 
-option_send : (T : RattleType) → IsSend T → IsSend (option.the_row T)
-option_send T s = search (crosses, sendable) depth 60 fits 20000
+counted_send : IsSend counted.the_row
+counted_send = search (crosses, sendable) depth 60 fits 20000
 
-option_sync : (T : RattleType) → IsSync T → IsSync (option.the_row T)
-option_sync T y = search (crosses, sendable) depth 60 fits 20000
+counted_sync : IsSync counted.the_row
+counted_sync = search (crosses, sendable) depth 60 fits 20000
 
-accounts_send : (P : RattleType) → IsSend P → IsSync P → IsSend (accounts.the_row P)
-accounts_send P s y =
-    let a = account_send P s y in
-    let l = list_send (option.the_row (account.the_row P)) (option_send (account.the_row P) a) in
-    declared_send (accounts.the_type P) (a, (a, (a, (l, (as_row_send (row_field P) s, (search sendable, tt))))))
+accounts_send : (P : RattleType) (d : Ghosts P.Denot) → IsSend P → IsSync P → IsSend (accounts.the_row P d)
+accounts_send P d s y =
+    declared_send (accounts.the_type P d)
+    (Arc-send counted.the_row counted_send counted_sync, (planners_send P d s y, (as_row_send (row_field P) s, (search sendable, tt))))
 
-accounts_sync : (P : RattleType) → IsSend P → IsSync P → IsSync (accounts.the_row P)
-accounts_sync P s y =
-    let a = account_sync P s y in
-    let l = list_sync (option.the_row (account.the_row P)) (option_sync (account.the_row P) a) in
-    declared_sync (accounts.the_type P) (a, (a, (a, (l, (as_row_sync (row_field P) y, (search sendable, tt))))))
+accounts_sync : (P : RattleType) (d : Ghosts P.Denot) → IsSend P → IsSync P → IsSync (accounts.the_row P d)
+accounts_sync P d s y =
+    declared_sync (accounts.the_type P d)
+    (Arc-sync counted.the_row counted_send counted_sync, (planners_sync P d s y, (as_row_sync (row_field P) y, (search sendable, tt))))
+
+-- what a planner says of itself plays no part in where it may go
+any_ghosts : (T : Type 0) → Ghosts T
+any_ghosts T = record {
+  total_of = λ p. 0;
+  horizon_of = λ p. 0;
+  stands_for = λ p spans. Unit {0};
+  look_cost = λ p. 0;
+  change_cost = λ p. 0;
+}
 
 kept_send : IsSend kept.the_row
 kept_send =
     let g = Arc-send graph.the_row graph_send graph_sync in
     let r = Arc-send rule.the_row rules_send rules_sync in
-    let a = Arc-send (accounts.the_row min_tree.the_row) (accounts_send min_tree.the_row min_tree_send min_tree_sync)
-    (accounts_sync min_tree.the_row min_tree_send min_tree_sync) in
-    declared_send kept.the_type (g, (r, (search sendable, (search sendable, (a, (table_send, tt))))))
+    declared_send kept.the_type (
+      g,
+      (
+        r,
+        (
+          search sendable,
+          (
+            search sendable,
+            (
+              Arc-send _ (accounts_send min_tree.the_row (any_ghosts _) min_tree_send min_tree_sync)
+                  (accounts_sync min_tree.the_row (any_ghosts _) min_tree_send min_tree_sync),
+              (table_send, tt),
+            ),
+          ),
+        ),
+      ),
+    )
 
 book_send : IsSend book.the_row
 book_send = view_send book_inside.the_row _ _ _ _ (declared_send book_inside.the_type (kept_send, tt))

@@ -1,21 +1,13 @@
--- How the planners of an account change with the jobs.
-use Rattle.std.proofs.Common.{◌≡◌, ℕ, zero, suc, ◌<◌, List, [], ◌∷◌, ◌++◌, length, Some, slice_get, refl, sym, ◌∙◌, ap, subst, arith}
+-- How the planners of one place change with the jobs.
+use Rattle.std.proofs.Common.{◌≡◌, ℕ, ◌<◌, List, ◌∷◌, ◌++◌, length, Some, slice_get, sym, ◌∙◌, ap, subst}
 use Rattle.std.specs.List.{sum_by}
 use Rattle.flux_defs.specs.declared.claims.Claim.{Claim}
 use Rattle.flux_defs.specs.declared.claims.Job.{Job}
-use Rattle.flux_defs.specs.declared.claims.Window.{Window}
 use Rattle.planner_points.specs.declared.spans.Span.{Span}
-use Rattle.planner_points.specs.Spans.{IsLeastFree}
 use Rattle.book_laws.specs.Grouped.{time_of, some_span, grouped, AreKept}
 use Rattle.book_laws.proofs.GroupedLaws.{grouped_append, grouped_middle}
 use Rattle.vertex_planners.specs.Kept.{Gains, Loses, AtEach}
-
--- a list of the same length has an item at the same place
-pub same_place : {P : Type 0} (new old : List P) (v : ℕ) (r : P) → length new ≡ length old → slice_get new v ≡ Some r → (p : P) × (slice_get old v ≡ Some p)
-same_place [] old v r e h = absurd (cc)
-same_place (x ∷ xs) [] v r e h = absurd (omega (arith, e))
-same_place (x ∷ xs) (y ∷ ys) zero r e h = (y, refl)
-same_place (x ∷ xs) (y ∷ ys) (suc v) r e h = same_place xs ys v r (omega (arith, e)) h
+use Rattle.vertex_planners.proofs.PlaceLaws.{same_place}
 
 module _ {P : Type 0} (total_of : P → ℕ) (stands_for : P → List Span → Type 0) (total : ℕ → ℕ) (f : ℕ → Claim → ℕ) (job : Job) (amount : ℕ → ℕ) where
   pub gained_kept : (before after : List Job) (old new : List P) → length new ≡ length old → ((v : ℕ) → amount v ≡ sum_by (f v) job.claims) →
@@ -48,16 +40,3 @@ module _ {P : Type 0} (total_of : P → ℕ) (stands_for : P → List Span → T
     grouped (f v) after,
     subst (stands_for p) (grouped_middle (f v) before job after ∙ ap (λ n. grouped (f v) before ++ (some_span (time_of job) n ++ grouped (f v) after)) (sym (is v))) (kept.spans v p at),
   )
-
--- the least of a planner of the account
-pub least_at : {P : Type 0} (total_of : P → ℕ) (stands_for : P → List Span → Type 0) (total : ℕ → ℕ) (f : ℕ → Claim → ℕ) (jobs : List Job) (planners : List P) (w : Window) (v n : ℕ) → v < length planners →
-    ((p : P) → slice_get planners v ≡ Some p → (spans : List Span) → stands_for p spans → IsLeastFree (total_of p) spans w n) →
-    AreKept total_of stands_for total f jobs planners → IsLeastFree (total v) (grouped (f v) jobs) w n
-least_at {P = P} total_of stands_for total f jobs planners w v n lt least kept =
-    let (p, at) = there planners v lt in
-    subst (λ (t : ℕ). IsLeastFree t (grouped (f v) jobs) w n) (kept.totals v p at) (least p at (grouped (f v) jobs) (kept.spans v p at))
-  where
-    there : (xs : List P) (i : ℕ) → i < length xs → (x : P) × (slice_get xs i ≡ Some x)
-    there [] i h = absurd (omega (arith, h))
-    there (x ∷ xs) zero h = (x, refl)
-    there (x ∷ xs) (suc i) h = there xs i (omega (arith, h))

@@ -8,7 +8,7 @@ use Rattle.flux_defs.specs.Digits.{dig}
 use Rattle.flux_defs.specs.Graph.{parent_of, chain}
 use Rattle.flux_defs.specs.Jobs.{some_live_claim, SomeMoment, IsPoint, IsNextPoint}
 use Rattle.planner_points.specs.declared.spans.Span.{Span}
-use Rattle.planner_points.specs.Spans.{IsLeastFree, IsEnd, IsNextEnd}
+use Rattle.planner_points.specs.Spans.{free_at, IsLeastFree, IsFirstFree, IsEnd, IsNextEnd}
 use Rattle.book_laws.specs.Amounts.{is_hold, holds_along, capacity}
 use Rattle.book_laws.specs.Grouped.{grouped, times_of}
 use Rattle.book_laws.proofs.GroupedLaws.{ends_points, least_tells, points_ends}
@@ -18,27 +18,26 @@ use Rattle.vertex_planners.proofs.ClaimSums.{chain_opens, chain_none}
 use Rattle.vertex_accounts.specs.declared.quantities.Quantity.{Quantity}
 use Rattle.vertex_accounts.specs.declared.quantities.Quantity.TheVariants.{Holds, Claims, Takes, Units}
 use Rattle.vertex_planners.specs.Counting.{counts_at}
-use Rattle.vertex_accounts.specs.Quantities.{amount_in, total_in, claim_count, part_count, most_claims}
-use Rattle.vertex_accounts.specs.Books.{IsUnitsOf}
-use Rattle.vertex_accounts.specs.Costs.{look_most, closed_most}
+use Rattle.vertex_planners.specs.Lists.{AreWide, at_place}
+use Rattle.vertex_planners.proofs.PlaceLaws.{item_at, within_list, in_place}
+use Rattle.vertex_accounts.specs.declared.counted.Counted.{Counted}
+use Rattle.vertex_accounts.specs.Books.{ArePlanned, AreAllKept}
+use Rattle.vertex_accounts.specs.Quantities.{amount_in, total_in, claim_count, part_count, most_claims, IsUnitsOf}
+use Rattle.vertex_accounts.specs.Costs.{look_most, rest_most}
 
 pub less_tells : (n total : ℕ) (A : Type 0) → (n < total ↔ A) → (IsTrue (nat_lt n total) ↔ A)
 less_tells n total A t = let d = Decides-ltb n total in (λ h. t.0 (d.0 h), λ a. d.1 (t.1 a))
 
 -- held: less than all holds are left
-pub held_is : (vertices : List Vertex) (jobs : List Job) (w : Window) (v n : ℕ) (q : Quantity) → q ≡ Holds → IsLeastFree (total_in vertices q v) (grouped (amount_in vertices q v) jobs) w n →
-    (IsTrue (nat_lt n most_claims) ↔ SomeMoment w (λ m. IsTrue (some_live_claim jobs m (is_hold v))))
-held_is vertices jobs w v n q e least =
-    less_tells n most_claims _ (held_tells jobs w v most_claims n (omega arith)
-    (subst (λ (x : Quantity). IsLeastFree (total_in vertices x v) (grouped (amount_in vertices x v) jobs) w n) e least))
+pub held_is : (vertices : List Vertex) (jobs : List Job) (w : Window) (v n : ℕ) → IsLeastFree (total_in vertices Holds v) (grouped (amount_in vertices Holds v) jobs) w n →
+    (n < most_claims ↔ SomeMoment w (λ m. IsTrue (some_live_claim jobs m (is_hold v))))
+held_is vertices jobs w v n least = held_tells jobs w v most_claims n (omega arith) least
 
 -- some claim counts: less than all claims are left
-pub counted_is : (vertices : List Vertex) (jobs : List Job) (w : Window) (v n : ℕ) (q : Quantity) → q ≡ Claims → IsLeastFree (total_in vertices q v) (grouped (amount_in vertices q v) jobs) w n →
+pub counted_is : (vertices : List Vertex) (jobs : List Job) (w : Window) (v n : ℕ) → IsLeastFree (total_in vertices Claims v) (grouped (amount_in vertices Claims v) jobs) w n →
     (n < most_claims ↔ SomeMoment w (λ m. IsTrue (some_live_claim jobs m (counts_at vertices v))))
-counted_is vertices jobs w v n q e least =
-    least_tells (counts_at vertices v) jobs w most_claims n (omega arith)
-    (least_left (claim_count vertices v) jobs w most_claims n
-    (subst (λ (x : Quantity). IsLeastFree (total_in vertices x v) (grouped (amount_in vertices x v) jobs) w n) e least))
+counted_is vertices jobs w v n least =
+    least_tells (counts_at vertices v) jobs w most_claims n (omega arith) (least_left (claim_count vertices v) jobs w most_claims n least)
 
 -- along the chain
 abbrev pub HeldAlong : List Job → Window → List Vertex → ℕ → Option ℕ → Type 0
@@ -96,21 +95,14 @@ pub next_later : (spans : List Span) (after : ℕ) (found : Option ℕ) → Matc
 next_later spans after None h = tt
 next_later spans after (Some t) h = h.later
 
--- the steps of a look at one planner of an account
-pub account_work : {P : Type 0} (look_cost : P → ℕ) (planners : List P) (v count n old new : ℕ) → v < count → length planners ≡ count →
-    ((p : P) → slice_get planners v ≡ Some p → new ≤ old + (2 * dig (length planners + 1) + look_cost p + 1)) →
-    ((u : ℕ) (p : P) → slice_get planners u ≡ Some p → look_cost p ≤ n) → new ≤ old + look_most count n
-account_work {P = P} look_cost planners v count n old new lt len work looks =
-    let (p, at) = there planners v (omega (arith, lt, len)) in
-    let w = work p at in
-    let l = looks v p at in
-    let same = ap (λ (k : ℕ). 2 * dig (k + 1)) len in
-    omega (arith, w, l, same)
-  where
-    there : (xs : List P) (i : ℕ) → i < length xs → (x : P) × (slice_get xs i ≡ Some x)
-    there [] i h = absurd (omega (arith, h))
-    there (x ∷ xs) zero h = (x, refl)
-    there (x ∷ xs) (suc i) h = there xs i (omega (arith, h))
+-- the first second at which so much is left
+abbrev pub FirstOrNone : ℕ → List Span → ℕ → ℕ → Option ℕ → Type 0
+FirstOrNone total spans from quantity found =
+    MatchOption found ((t : ℕ) → from ≤ t → free_at total spans t < quantity) (IsFirstFree total spans from quantity)
+
+-- the steps of a look at one planner of a vertex, whose item was looked up first
+pub look_work : (items vertices looks old mid new : ℕ) → items ≡ vertices → mid ≤ old + (2 * dig (items + 1) + 1) → new ≤ mid + looks → new ≤ old + look_most vertices looks
+look_work items vertices looks old mid new len up look = let same = ap (λ (k : ℕ). 2 * dig (k + 1)) len in omega (arith, up, look, same)
 
 pub one_work : (old new look rest all : ℕ) → new ≤ old + look → all ≡ look + rest → new ≤ old + all
 one_work old new look rest all a e = omega (arith, a, e)
@@ -127,25 +119,51 @@ mul_most (suc a) (suc b) c le =
     let y : suc b * c ≡ c + b * c = omega arith in
     omega (arith, rest, x, y)
 
-pub closed_work : (vertices : List Vertex) (v n old mid new : ℕ) → length (chain vertices (length vertices) (Some v)) ≤ 16 → mid ≡ old + 1 →
-    new ≤ mid + length (chain vertices (length vertices) (Some v)) * look_most (length vertices) n → new ≤ old + closed_most (length vertices) n
-closed_work vertices v n old mid new few tick work =
-    let most = mul_most (length (chain vertices (length vertices) (Some v))) 16 (look_most (length vertices) n) few in
-    omega (arith, tick, work, most)
-
-pub vertex_there : (vertices : List Vertex) (v : ℕ) → v < length vertices → (x : Vertex) × (slice_get vertices v ≡ Some x)
-vertex_there [] i h = absurd (omega (arith, h))
-vertex_there (x ∷ xs) zero h = (x, refl)
-vertex_there (x ∷ xs) (suc i) h = vertex_there xs i (omega (arith, h))
+-- the steps along the chain above a vertex
+pub closed_work : (vertices : List Vertex) (v n old mid new : ℕ) → v < length vertices → length (chain vertices (length vertices) (Some v)) ≤ 16 → mid ≤ old + n →
+    new ≤ mid + length (chain vertices (length vertices - 1) (parent_of vertices v)) * look_most (length vertices) n → new ≤ old + rest_most (length vertices) n
+closed_work vertices v n old mid new lt few first work =
+    let opens = ap (λ (vs : List ℕ). length vs) (chain_opens vertices (length vertices) v (λ e. omega (arith, e, lt))) in
+    let most = mul_most (length (chain vertices (length vertices - 1) (parent_of vertices v))) 15 (look_most (length vertices) n) (omega (arith, few, opens)) in
+    omega (arith, first, work, most)
 
 pub none_of : (o : Option ℕ) → ((x : ℕ) → o ≡ Some x → ⊥) → o ≡ None
 none_of None h = refl
 none_of (Some x) h = absurd (h x refl)
 
--- an account of the units of a type
+-- of the units of a type
 pub units_least : (vertices : List Vertex) (jobs : List Job) (w : Window) (kind v n : ℕ) (q : Quantity) → IsUnitsOf kind q → IsLeastFree (total_in vertices q v) (grouped (amount_in vertices q v) jobs) w n →
     IsLeastFree (capacity vertices kind v) (grouped (part_count vertices kind v) jobs) w n
 units_least vertices jobs w kind v n Holds is least = absurd is
 units_least vertices jobs w kind v n Claims is least = absurd is
 units_least vertices jobs w kind v n Takes is least = absurd is
 units_least vertices jobs w kind v n (Units capacities) is least = subst (λ (k : ℕ). IsLeastFree (capacity vertices k v) (grouped (part_count vertices k v) jobs) w n) is least
+
+-- the planner at a place of a vertex's item is that of the vertex among those of the place
+pub planner_there : {P : Type 0} (places place : ℕ) (items : List (List P)) → AreWide places items → place < places → (v : ℕ) (item : List P) → slice_get items v ≡ Some item →
+    (p : P) × (slice_get item place ≡ Some p) × (slice_get (at_place place items) v ≡ Some p)
+planner_there places place items wide lt v item there =
+    let (p, at) = item_at item place (let w = wide v item there in omega (arith, w, lt)) in
+    (p, at, in_place places place lt items wide v item p there at)
+
+module _ {P : Type 0} (vertices : List Vertex) (counted : Counted) (items : List (List P)) (is : ArePlanned vertices counted items) (v : ℕ) (item : List P)
+    (there : slice_get items v ≡ Some item) (place : ℕ) (q : Quantity) (of : slice_get counted.quantities place ≡ Some q) where
+  -- a vertex's item has each place
+  pub place_in : place < length item
+  place_in = let w = is.places v item there in let lt = within_list counted.quantities place q of in omega (arith, w, lt)
+
+  -- the least of the planner at a place of a vertex's item
+  pub least_here : (total_of : P → ℕ) (stands_for : P → List Span → Type 0) (jobs : List Job) (w : Window) (n : ℕ) → AreAllKept total_of stands_for vertices jobs counted items →
+      ((p : P) → slice_get item place ≡ Some p → (spans : List Span) → stands_for p spans → IsLeastFree (total_of p) spans w n) →
+      IsLeastFree (total_in vertices q v) (grouped (amount_in vertices q v) jobs) w n
+  least_here total_of stands_for jobs w n kept least =
+      let (p, at, among) = planner_there (length counted.quantities) place items is.places (within_list counted.quantities place q of) v item there in
+      subst (λ (t : ℕ). IsLeastFree t (grouped (amount_in vertices q v) jobs) w n) ((kept place q of).totals v p among) (least p at (grouped (amount_in vertices q v) jobs) ((kept place q of).spans v p among))
+
+  -- the first second of the planner at a place of a vertex's item at which so much is left
+  pub first_here : (total_of : P → ℕ) (stands_for : P → List Span → Type 0) (jobs : List Job) (from quantity : ℕ) (found : Option ℕ) → AreAllKept total_of stands_for vertices jobs counted items →
+      ((p : P) → slice_get item place ≡ Some p → (spans : List Span) → stands_for p spans → FirstOrNone (total_of p) spans from quantity found) →
+      FirstOrNone (total_in vertices q v) (grouped (amount_in vertices q v) jobs) from quantity found
+  first_here total_of stands_for jobs from quantity found kept first =
+      let (p, at, among) = planner_there (length counted.quantities) place items is.places (within_list counted.quantities place q of) v item there in
+      subst (λ (t : ℕ). FirstOrNone t (grouped (amount_in vertices q v) jobs) from quantity found) ((kept place q of).totals v p among) (first p at (grouped (amount_in vertices q v) jobs) ((kept place q of).spans v p among))

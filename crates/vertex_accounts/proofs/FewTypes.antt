@@ -8,8 +8,7 @@ use Rattle.std.proofs.lemmas.Map.Steps.{length-le_from_distinct_below}
 use Rattle.std.proofs.lemmas.Option.{slice_get-get_or}
 use Rattle.prune_filters.specs.declared.rules.Rule.{Rule}
 use Rattle.prune_filters.specs.Filters.{IsCounted}
-use Rattle.vertex_accounts.specs.declared.accounts.Account.{Account}
-use Rattle.vertex_accounts.specs.Books.{kept_one, kept_count}
+use Rattle.vertex_accounts.specs.Counts.{kept_one, kept_count}
 
 -- numbers below n, as many as so much, no two the same, each of which goes with some k
 record Placed (n count : ℕ) (Q : ℕ → ℕ → Type 0) : Type 0 where
@@ -47,14 +46,14 @@ below_each n Q (r ∷ rs) h q has = elim (or_cases (nat_eq q r) (list_any (nat_e
 abbrev NamesKind : List (List ℕ) → List Rule → ℕ → ℕ → Type 0
 NamesKind kinds rules k r = (name : List ℕ) × (rule : Rule) × (slice_get kinds k ≡ Some name) × (slice_get rules r ≡ Some rule) × (rule.low ≡ name)
 
-module _ {P : Type 0} where
-  placed : (n : ℕ) (Q : ℕ → ℕ → Type 0) (totals : List (Option (Account P))) → ((k : ℕ) (a : Account P) → slice_get totals k ≡ Some (Some a) → (r : ℕ) × (r < n) × Q k r) →
+module _ {A : Type 0} where
+  placed : (n : ℕ) (Q : ℕ → ℕ → Type 0) (totals : List (Option A)) → ((k : ℕ) (a : A) → slice_get totals k ≡ Some (Some a) → (r : ℕ) × (r < n) × Q k r) →
       ((j k r : ℕ) → Q j r → Q k r → j ≡ k) → Placed n (kept_count totals) Q
   unfolding IsDistinct
   placed n Q [] has apart = record { places = []; many = refl; apart = tt; each = tt }
   placed n Q (None ∷ totals) has apart =
       let rest = placed n (λ k. Q (suc k)) totals (λ k a at. has (suc k) a at) (λ j k r x y. (let e = apart (suc j) (suc k) r x y in omega (arith, e))) in
-      let none : Option (Account P) = None in
+      let none : Option A = None in
       let more = sum_by-cons kept_one none totals in
       let many = rest.many in
       record { places = rest.places; many = omega (arith, many, more); apart = rest.apart; each = further n Q rest.places rest.each }
@@ -70,15 +69,15 @@ module _ {P : Type 0} where
         each = ((lt, (0, q)), further n Q rest.places rest.each);
       }
 
-  pub few_kept : (totals : List (Option (Account P))) (kinds : List (List ℕ)) (rules : List Rule) → ((j k : ℕ) → IsSome (slice_get kinds j) → slice_get kinds j ≡ slice_get kinds k → j ≡ k) →
-      ((k : ℕ) (a : Account P) → slice_get totals k ≡ Some (Some a) → (name : List ℕ) × (slice_get kinds k ≡ Some name) × IsCounted rules name) → kept_count totals ≤ length rules
+  pub few_kept : (totals : List (Option A)) (kinds : List (List ℕ)) (rules : List Rule) → ((j k : ℕ) → IsSome (slice_get kinds j) → slice_get kinds j ≡ slice_get kinds k → j ≡ k) →
+      ((k : ℕ) (a : A) → slice_get totals k ≡ Some (Some a) → (name : List ℕ) × (slice_get kinds k ≡ Some name) × IsCounted rules name) → kept_count totals ≤ length rules
   few_kept totals kinds rules apart only =
       let p = placed (length rules) (NamesKind kinds rules) totals at_rule one_kind in
       let le = length-le_from_distinct_below p.places (length rules) p.apart (below_each (length rules) (NamesKind kinds rules) p.places p.each) in
       let many = p.many in
       omega (arith, le, many)
     where
-      at_rule : (k : ℕ) (a : Account P) → slice_get totals k ≡ Some (Some a) → (r : ℕ) × (r < length rules) × NamesKind kinds rules k r
+      at_rule : (k : ℕ) (a : A) → slice_get totals k ≡ Some (Some a) → (r : ℕ) × (r < length rules) × NamesKind kinds rules k r
       at_rule k a at =
           let (name, named, counted) = only k a at in
           let (r, rule, lt, is, low) = counted in

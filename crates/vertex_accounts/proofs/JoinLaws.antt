@@ -1,6 +1,7 @@
 -- The accounts of a job more and of a job less.
-use Rattle.std.proofs.Common.{◌≡◌, ℕ, ◌+◌, ◌-◌, ◌≤◌, cond, Bool, true, false, List, [], ◌∷◌, ◌++◌, length, Option, Some, None, slice_get, append-nil, sym, ◌∙◌, ap, subst, arith}
+use Rattle.std.proofs.Common.{◌≡◌, ℕ, ◌+◌, ◌-◌, ◌<◌, ◌≤◌, cond, Bool, true, false, List, [], ◌∷◌, ◌++◌, length, Option, Some, slice_get, append-nil, sym, ◌∙◌, ap, subst, arith}
 use Rattle.std.specs.List.{AllByRecursion, sum_by}
+use Rattle.std.specs.Arc.{arc_value}
 use Rattle.std.proofs.lemmas.List.Sums.{sum_by-cons, sum_by-append}
 use Rattle.flux_defs.specs.declared.vertices.Vertex.{Vertex}
 use Rattle.flux_defs.specs.declared.claims.Claim.{Claim}
@@ -20,15 +21,19 @@ use Rattle.book_laws.proofs.Totals.{part_room}
 use Rattle.book_laws.proofs.Adding.{all_removed, fair_removed}
 use Rattle.book_laws.proofs.GroupedLaws.{times_append}
 use Rattle.book_laws.proofs.Views.{room_for}
-use Rattle.vertex_planners.specs.Kept.{AtEach}
+use Rattle.vertex_planners.specs.declared.amounts.Amounts.{Amounts}
+use Rattle.vertex_planners.specs.Numbers.{amount_at}
+use Rattle.vertex_planners.specs.Lists.{items_of, AreWide, at_place}
+use Rattle.vertex_planners.specs.Kept.{Gains, Loses, RoomAt, SpansAt, AtPlaces}
+use Rattle.vertex_planners.proofs.PlaceLaws.{within_list, same_place, place_len}
 use Rattle.vertex_accounts.specs.declared.quantities.Quantity.{Quantity}
 use Rattle.vertex_accounts.specs.declared.quantities.Quantity.TheVariants.{Holds, Claims, Takes, Units}
-use Rattle.vertex_accounts.specs.declared.accounts.Account.{Account}
+use Rattle.vertex_accounts.specs.declared.counted.Counted.{Counted}
 use Rattle.vertex_accounts.specs.declared.books.Accounts.{Accounts}
 use Rattle.vertex_accounts.specs.Quantities.{amount_in, total_in, claim_count, part_count, most_claims}
-use Rattle.vertex_accounts.specs.Stands.{IsAccount}
-use Rattle.vertex_accounts.specs.Books.{IsUnitsOf, IsOnGraph, AreAccounts, Becomes, Joins, Leaves, HasRoomFor}
-use Rattle.vertex_accounts.proofs.AccountLaws.{same_place}
+use Rattle.vertex_accounts.specs.Counts.{AreNumbers}
+use Rattle.vertex_accounts.specs.Books.{ArePlanned, AreAllKept, IsOnGraph, AreAccounts}
+use Rattle.vertex_accounts.proofs.AccountLaws.{gained_kept, lost_kept, spans_there}
 use Rattle.vertex_accounts.proofs.OwnLaws.{part_less}
 
 -- a number of at most 1 for each claim sums to at most the number of claims
@@ -84,86 +89,82 @@ pub count_push : (jobs : List Job) (job : Job) → count_claims (jobs ++ job ∷
 count_push jobs job = let a = count_middle jobs job [] in let b = ap count_claims (append-nil jobs) in omega (arith, a, b)
 
 module _ {P : Type 0} (total_of : P → ℕ) (stands_for : P → List Span → Type 0) where
-  -- every planner of an account has room for a job that fits beside the others
+  -- every planner has room for what the claims of a job amount to that fits beside the others
   pub room_in : ((p : P) (some others : List Span) → stands_for p some → stands_for p others → (m : ℕ) → free_at (total_of p) some m ≡ free_at (total_of p) others m) →
       (g : ResourceGraph) → StandsInPreorder g → (jobs : List Job) (job : Job) → AreFair g.vertices (jobs ++ job ∷ []) → count_claims (jobs ++ job ∷ []) ≤ most_claims →
-      (account : Account P) → IsAccount total_of stands_for g.vertices jobs account → HasRoomFor total_of stands_for g.vertices job account
-  room_in same_free g o jobs job fair few account is v p at spans stands m lo hi =
-      let f = amount_in g.vertices account.quantity v in
-      let same = same_free p spans (grouped f jobs) stands (is.kept.spans v p at) m in
-      let total = is.kept.totals v p at in
-      let fits = room_for f jobs job (total_in g.vertices account.quantity v) (λ k. fits_all g o (jobs ++ job ∷ []) fair few account.quantity v k) m lo hi in
-      subst (λ (n : ℕ). sum_by f job.claims ≤ n) (sym (same ∙ ap (λ (t : ℕ). free_at t (grouped f jobs) m) total)) fits
+      (counted : Counted) (items : List (List P)) (places : List Amounts) → AreNumbers g.vertices counted.quantities job.claims places →
+      AreAllKept total_of stands_for g.vertices jobs counted items → RoomAt total_of stands_for (time_of job) places items
+  room_in same_free g o jobs job fair few counted items places numbers kept k amounts at v p there spans stands m lo hi =
+      let (q, of) = same_place places counted.quantities k amounts numbers.len at in
+      let f = amount_in g.vertices q v in
+      let is = kept k q of in
+      let same = same_free p spans (grouped f jobs) stands (is.spans v p there) m in
+      let total = is.totals v p there in
+      let fits = room_for f jobs job (total_in g.vertices q v) (λ j. fits_all g o (jobs ++ job ∷ []) fair few q v j) m lo hi in
+      let sum = numbers.sums k q amounts of at v in
+      subst (λ (n : ℕ). amount_at amounts v ≤ n) (sym (same ∙ ap (λ (t : ℕ). free_at t (grouped f jobs) m) total))
+      (subst (λ (n : ℕ). n ≤ free_at (total_in g.vertices q v) (grouped f jobs) m) (sym sum) fits)
 
-  -- accounts of totals, changed
-  pub changed_total : (Q : Account P → Account P → Type 0) (A B : Account P → Type 0) → ((t u : Account P) → Q t u → A t → B u) → (old new : List (Option (Account P))) → length new ≡ length old →
-      AtEach (λ k. Becomes Q) old new → ((k : ℕ) (a : Account P) → slice_get old k ≡ Some (Some a) → A a × IsUnitsOf k a.quantity) →
-      (k : ℕ) (u : Account P) → slice_get new k ≡ Some (Some u) → B u × IsUnitsOf k u.quantity
-  changed_total Q A B step old new len each had k u at = (let (o, was) = same_place new old k (Some u) len at in go o was (each k o (Some u) was at))
-    where
-      go : (o : Option (Account P)) → slice_get old k ≡ Some o → Becomes Q o (Some u) → B u × IsUnitsOf k u.quantity
-      go None was h = absurd h
-      go (Some t) was h = (let had_t = had k t was in (step t u h.1 had_t.0, subst (IsUnitsOf k) (sym h.0) had_t.1))
+  module _ (vertices : List Vertex) (before : List Job) (job : Job) (after : List Job) (counted : Counted) (places : List Amounts)
+      (numbers : AreNumbers vertices counted.quantities job.claims places) where
+    -- every planner has the job's span
+    pub spans_in : (items : List (List P)) → AreAllKept total_of stands_for vertices (before ++ job ∷ after) counted items → SpansAt stands_for (time_of job) places items
+    spans_in items kept k amounts at =
+        let (q, of) = same_place places counted.quantities k amounts numbers.len at in
+        spans_there total_of stands_for (total_in vertices q) (amount_in vertices q) job (amount_at amounts) before after (at_place k items) (numbers.sums k q amounts of at) (kept k q of)
 
-  pub kinds_stay : (Q : Account P → Account P → Type 0) (old new : List (Option (Account P))) → length new ≡ length old → AtEach (λ k. Becomes Q) old new →
-      (k : ℕ) → (a : Account P) × (slice_get old k ≡ Some (Some a)) → (u : Account P) × (slice_get new k ≡ Some (Some u))
-  kinds_stay Q old new len each k (a, at) = (let (n, is) = same_place old new k (Some a) (sym len) at in go n is (each k (Some a) n at is))
-    where
-      go : (n : Option (Account P)) → slice_get new k ≡ Some n → Becomes Q (Some a) n → (u : Account P) × (slice_get new k ≡ Some (Some u))
-      go None is h = absurd h
-      go (Some u) is h = (u, is)
+    module _ (old new : List (List P)) (len : length new ≡ length old) (was : AreWide (length counted.quantities) old) (wide : AreWide (length counted.quantities) new) where
+      lens : (k : ℕ) → k < length counted.quantities → length (at_place k new) ≡ length (at_place k old)
+      lens k lt = place_len (length counted.quantities) k lt new wide ∙ len ∙ sym (place_len (length counted.quantities) k lt old was)
 
-  module _ (vertices : List Vertex) (job : Job) (old new : Accounts P) where
-    -- what a change of all accounts by one step is
-    pub record Changes (Q : Account P → Account P → Type 0) : Type 0 where
-      pub holds : (new.holds.quantity ≡ old.holds.quantity) × Q old.holds new.holds
-      pub claims : (new.claims.quantity ≡ old.claims.quantity) × Q old.claims new.claims
-      pub takes : (new.takes.quantity ≡ old.takes.quantity) × Q old.takes new.takes
-      pub len : length new.totals ≡ length old.totals
-      pub totals : AtEach (λ k. Becomes Q) old.totals new.totals
+      pub joined_kept : AtPlaces (Gains total_of stands_for (time_of job)) places old new → AreAllKept total_of stands_for vertices (before ++ after) counted old →
+          AreAllKept total_of stands_for vertices (before ++ job ∷ after) counted new
+      joined_kept gains kept k q of =
+          let (amounts, at) = same_place counted.quantities places k q (sym numbers.len) of in
+          gained_kept total_of stands_for (total_in vertices q) (amount_in vertices q) job (amount_at amounts) before after (at_place k old) (at_place k new)
+          (lens k (within_list counted.quantities k q of)) (numbers.sums k q amounts of at) (gains k amounts at) (kept k q of)
 
-    changed : (Q : Account P → Account P → Type 0) (js ks : List Job) → ((t u : Account P) → Q t u → IsAccount total_of stands_for vertices js t → IsAccount total_of stands_for vertices ks u) →
-        Changes Q → AreAccounts total_of stands_for vertices js old → stands_for new.times (times_of ks) → new.count ≡ count_claims ks → AreFair vertices ks → AllByRecursion (IsOnGraph vertices) ks →
-        AreAccounts total_of stands_for vertices ks new
-    changed Q js ks step c is times count fair on_graph =
-        let h = step old.holds new.holds c.holds.1 is.holds in
-        let l = step old.claims new.claims c.claims.1 is.claims in
-        let t = step old.takes new.takes c.takes.1 is.takes in
-        let all = changed_total Q (IsAccount total_of stands_for vertices js) (IsAccount total_of stands_for vertices ks) step old.totals new.totals c.len c.totals
-        (λ k a at. (is.totals k a at, (is.graph.totals k a at).1)) in
-        record {
-          graph = record {
-            holds = (h.graph, c.holds.0 ∙ is.graph.holds.1);
-            claims = (l.graph, c.claims.0 ∙ is.graph.claims.1);
-            takes = (t.graph, c.takes.0 ∙ is.graph.takes.1);
-            totals = λ k u at. (let x = all k u at in (x.0.graph, x.1));
-          };
-          holds = h;
-          claims = l;
-          takes = t;
-          totals = λ k u at. (all k u at).0;
-          times = times;
-          count = count;
-          fair = fair;
-          on_graph = on_graph;
-        }
+      pub left_kept : AtPlaces (Loses total_of stands_for (time_of job)) places old new → AreAllKept total_of stands_for vertices (before ++ job ∷ after) counted old →
+          AreAllKept total_of stands_for vertices (before ++ after) counted new
+      left_kept loses kept k q of =
+          let (amounts, at) = same_place counted.quantities places k q (sym numbers.len) of in
+          lost_kept total_of stands_for (total_in vertices q) (amount_in vertices q) job (amount_at amounts) before after (at_place k old) (at_place k new)
+          (lens k (within_list counted.quantities k q of)) (numbers.sums k q amounts of at) (loses k amounts at) (kept k q of)
 
-    pub joined : (jobs : List Job) → IsOnGraph vertices job → AreFair vertices (jobs ++ job ∷ []) → Changes (Joins total_of stands_for vertices job) →
+  module _ (vertices : List Vertex) (job : Job) (old new : Accounts P) (counted : arc_value new.counted ≡ arc_value old.counted)
+      (len : length (items_of new.planners) ≡ length (items_of old.planners)) (wide : AreWide (length (arc_value old.counted).quantities) (items_of new.planners)) where
+    changed : (js ks : List Job) → AreAccounts total_of stands_for vertices js old → AreAllKept total_of stands_for vertices ks (arc_value old.counted) (items_of new.planners) →
+        stands_for new.times (times_of ks) → new.count ≡ count_claims ks → AreFair vertices ks → AllByRecursion (IsOnGraph vertices) ks → AreAccounts total_of stands_for vertices ks new
+    changed js ks is kept times count fair on_graph = record {
+      graph = subst (λ (c : Counted). ArePlanned vertices c (items_of new.planners)) (sym counted)
+          (record { counts = is.graph.counts; len = len ∙ is.graph.len; places = wide });
+      kept = subst (λ (c : Counted). AreAllKept total_of stands_for vertices ks c (items_of new.planners)) (sym counted) kept;
+      times = times;
+      count = count;
+      fair = fair;
+      on_graph = on_graph;
+    }
+
+    pub joined : (jobs : List Job) → IsOnGraph vertices job → AreFair vertices (jobs ++ job ∷ []) →
+        (AreAllKept total_of stands_for vertices (jobs ++ []) (arc_value old.counted) (items_of old.planners) →
+        AreAllKept total_of stands_for vertices (jobs ++ job ∷ []) (arc_value old.counted) (items_of new.planners)) →
         ((before after : List Span) → stands_for old.times (before ++ after) → stands_for new.times (before ++ span_of (time_of job) 0 ∷ after)) → new.count ≡ old.count + length job.claims →
         AreAccounts total_of stands_for vertices jobs old → AreAccounts total_of stands_for vertices (jobs ++ job ∷ []) new
-    joined jobs on_graph fair c times count is =
-        changed (Joins total_of stands_for vertices job) jobs (jobs ++ job ∷ [])
-        (λ t u q had. q jobs [] (subst (λ (js : List Job). IsAccount total_of stands_for vertices js t) (sym (append-nil jobs)) had)) c is
+    joined jobs on_graph fair step times count is =
+        changed jobs (jobs ++ job ∷ []) is
+        (step (subst (λ (js : List Job). AreAllKept total_of stands_for vertices js (arc_value old.counted) (items_of old.planners)) (sym (append-nil jobs)) is.kept))
         (subst (stands_for new.times) (sym (times_append jobs (job ∷ []))) (times (times_of jobs) [] (subst (stands_for old.times) (sym (append-nil (times_of jobs))) is.times)))
         (count ∙ ap (λ n. n + length job.claims) is.count ∙ sym (count_push jobs job)) fair
         (all_append (IsOnGraph vertices) jobs (job ∷ []) is.on_graph (on_graph, tt))
 
-    pub left : (before after : List Job) → Changes (Leaves total_of stands_for vertices job) →
+    pub left : (before after : List Job) →
+        (AreAllKept total_of stands_for vertices (before ++ job ∷ after) (arc_value old.counted) (items_of old.planners) →
+        AreAllKept total_of stands_for vertices (before ++ after) (arc_value old.counted) (items_of new.planners)) →
         ((xs ys : List Span) → stands_for old.times (xs ++ span_of (time_of job) 0 ∷ ys) → stands_for new.times (xs ++ ys)) → new.count ≡ old.count - length job.claims →
         AreAccounts total_of stands_for vertices (before ++ job ∷ after) old → AreAccounts total_of stands_for vertices (before ++ after) new
-    left before after c times count is =
+    left before after step times count is =
         let middle = count_middle before job after in
         let was = is.count in
-        changed (Leaves total_of stands_for vertices job) (before ++ job ∷ after) (before ++ after) (λ t u q had. q before after had) c is
+        changed (before ++ job ∷ after) (before ++ after) is (step is.kept)
         (subst (stands_for new.times) (sym (times_append before after)) (times (times_of before) (times_of after) (subst (stands_for old.times) (times_append before (job ∷ after)) is.times)))
         (omega (arith, count, middle, was)) (fair_removed vertices before job after is.fair) (all_removed (IsOnGraph vertices) before job after is.on_graph)

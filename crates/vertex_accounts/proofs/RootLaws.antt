@@ -26,28 +26,11 @@ use Rattle.book_laws.proofs.Totals.{total_open, total_closed}
 use Rattle.book_laws.proofs.Within.{closed_is}
 use Rattle.vertex_accounts.specs.declared.quantities.Quantity.{Quantity}
 use Rattle.vertex_accounts.specs.declared.quantities.Quantity.TheVariants.{Holds, Claims, Takes, Units}
-use Rattle.vertex_accounts.specs.Quantities.{amount_in, total_in, part_count}
-use Rattle.vertex_accounts.specs.Books.{IsUnitsOf}
+use Rattle.vertex_accounts.specs.Quantities.{amount_in, total_in, part_count, IsUnitsOf}
+use Rattle.vertex_accounts.proofs.AskingLaws.{FirstOrNone}
 use Rattle.vertex_accounts.proofs.OwnLaws.{part_less}
 
--- the first second of a planner of the account at which so much is left
-abbrev pub FirstOrNone : ℕ → List Span → ℕ → ℕ → Option ℕ → Type 0
-FirstOrNone total spans from quantity found =
-    MatchOption found ((t : ℕ) → from ≤ t → free_at total spans t < quantity) (IsFirstFree total spans from quantity)
-
-pub first_at : {P : Type 0} (total_of : P → ℕ) (stands_for : P → List Span → Type 0) (total : ℕ → ℕ) (f : ℕ → Claim → ℕ) (jobs : List Job) (planners : List P) (v from quantity : ℕ) (found : Option ℕ) → v < length planners →
-    ((p : P) → slice_get planners v ≡ Some p → (spans : List Span) → stands_for p spans → FirstOrNone (total_of p) spans from quantity found) →
-    AreKept total_of stands_for total f jobs planners → FirstOrNone (total v) (grouped (f v) jobs) from quantity found
-first_at {P = P} total_of stands_for total f jobs planners v from quantity found lt first kept =
-    let (p, at) = there planners v lt in
-    subst (λ (t : ℕ). FirstOrNone t (grouped (f v) jobs) from quantity found) (kept.totals v p at) (first p at (grouped (f v) jobs) (kept.spans v p at))
-  where
-    there : (xs : List P) (i : ℕ) → i < length xs → (x : P) × (slice_get xs i ≡ Some x)
-    there [] i h = absurd (omega (arith, h))
-    there (x ∷ xs) zero h = (x, refl)
-    there (x ∷ xs) (suc i) h = there xs i (omega (arith, h))
-
--- an account of the units of a type
+-- of the units of a type
 pub units_first : (vertices : List Vertex) (jobs : List Job) (kind from quantity : ℕ) (found : Option ℕ) (q : Quantity) → IsUnitsOf kind q →
     FirstOrNone (total_in vertices q 0) (grouped (amount_in vertices q 0) jobs) from quantity found →
     FirstOrNone (capacity vertices kind 0) (grouped (part_within vertices kind 0) jobs) from quantity found

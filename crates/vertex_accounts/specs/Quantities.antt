@@ -1,5 +1,5 @@
--- What an account counts, and of how much.
-use Rattle.std.specs.Prelude.{ℕ, if◌then◌else◌, List}
+-- What is counted at a place, and of how much.
+use Rattle.std.specs.Prelude.{◌≡◌, ℕ, if◌then◌else◌, List, Some, slice_get}
 use Rattle.flux_defs.specs.declared.vertices.Vertex.{Vertex}
 use Rattle.flux_defs.specs.declared.claims.Claim.{Claim}
 use Rattle.flux_defs.specs.Graph.{size_of}
@@ -42,3 +42,14 @@ KnowsCapacities vertices Holds = Unit {0}
 KnowsCapacities vertices Claims = Unit {0}
 KnowsCapacities vertices Takes = Unit {0}
 KnowsCapacities vertices (Units capacities) = AreOf vertices capacities.kind capacities
+
+-- the capacities of each quantity are those of the graph of these vertices
+abbrev pub KnowCapacities : List Vertex → List Quantity → Type 0
+KnowCapacities vertices quantities = (k : ℕ) (q : Quantity) → slice_get quantities k ≡ Some q → KnowsCapacities vertices q
+
+-- the quantity is the units of this type
+abbrev pub IsUnitsOf : ℕ → Quantity → Type 0
+IsUnitsOf kind Holds = ⊥
+IsUnitsOf kind Claims = ⊥
+IsUnitsOf kind Takes = ⊥
+IsUnitsOf kind (Units capacities) = capacities.kind ≡ kind

@@ -1,5 +1,5 @@
 //! What the accounts say of a vertex over a window.
-ghost use Rattle.std.specs.Prelude.{◌≡◌, ℕ, ◌+◌, ◌*◌, ◌<◌, ◌≤◌, ◌↔◌, IsTrue, List, length, Option, Some, IfSome, IsSome, MatchOption};
+ghost use Rattle.std.specs.Prelude.{◌≡◌, ℕ, ◌+◌, ◌*◌, ◌<◌, ◌≤◌, ◌↔◌, IsTrue, List, length, Option, Some, slice_get, IfSome, IsSome, MatchOption};
 ghost use Rattle.flux_defs.specs.declared.vertices.Vertex.{Vertex};
 ghost use Rattle.flux_defs.specs.declared.claims.Job.{Job};
 ghost use Rattle.flux_defs.specs.Digits.{dig};
@@ -7,20 +7,27 @@ ghost use Rattle.flux_defs.specs.Graph.{chain, is_pool};
 ghost use Rattle.flux_defs.specs.Jobs.{some_live_claim, SomeMoment, IsPoint, IsNextPoint};
 ghost use Rattle.flux_defs.specs.Closed.{IsClosedOver, IsTouchedOver};
 ghost use Rattle.flux_defs.specs.Free.{IsFreeOver, IsTotalOver};
+ghost use Rattle.planner_points.specs.Spans.{IsLeastFree};
 ghost use Rattle.book_laws.specs.Amounts.{is_hold, holds_along};
+ghost use Rattle.book_laws.specs.Grouped.{grouped};
 ghost use Rattle.vertex_planners.specs.Chains.{ParentsIn};
 ghost use Rattle.prune_filters.specs.Amples.{IsNextAmpleOrNone};
-ghost use Rattle.vertex_accounts.specs.Costs.{look_most, closed_most};
+ghost use Rattle.vertex_planners.specs.Lists.{items_of};
+ghost use Rattle.vertex_planners.specs.Work.{CostWithin};
+ghost use Rattle.vertex_accounts.specs.declared.quantities.Quantity.{Quantity};
+ghost use Rattle.vertex_accounts.specs.Quantities.{amount_in, total_in};
+ghost use Rattle.vertex_accounts.specs.Costs.{look_most, rest_most, closed_most};
 
 use crate::books::Accounts;
+use crate::counted::{CLAIMS, HOLDS, TAKES};
 use flux_defs::{Steps, Vertex, Window};
 use planner_points::Planner;
 use resource_graph::Graph;
 use std::sync::ledger::Ledger;
-use vertex_planners::parent_in;
+use vertex_planners::{Item, parent_in};
 
 impl<P: Planner + Drop> Accounts<P> {
-    ghost use Rattle.vertex_accounts.specs.Books.{AreAccountsOf, AreAccounts, AllLookWithin, KeepsKind};
+    ghost use Rattle.vertex_accounts.specs.Books.{AreAccountsOf, AreAccounts, KeepsKind, counted_of};
 
     /// Whether a job holds one of the first so many vertices on the way up from this one, at some moment of the window.
     fn held_up<L: Ledger>(
@@ -38,7 +45,7 @@ impl<P: Planner + Drop> Accounts<P> {
         ensures answer { (jobs : List Job) → AreAccounts P.total_of P.stands_for vertices.now jobs self.now →
             (IsTrue result ↔ SomeMoment window (λ m. IsTrue (some_live_claim jobs m (holds_along (chain vertices.now most from))))) }
         ensures counted { steps.old ≤ steps.new }
-        ensures work { (most_looks : ℕ) → AllLookWithin P.look_cost most_looks self.now →
+        ensures work { (most_looks : ℕ) → CostWithin P.look_cost most_looks (items_of self.now.planners) →
             steps.new ≤ steps.old + length (chain vertices.now most from) * look_most (length vertices.now) most_looks }
     {
         let Some(vertex) = from else {
@@ -68,10 +75,65 @@ impl<P: Planner + Drop> Accounts<P> {
         ensures answer { (jobs : List Job) → AreAccounts P.total_of P.stands_for vertices.now jobs self.now →
             (IsTrue result ↔ SomeMoment window (λ m. IsTrue (some_live_claim jobs m (is_hold vertex)))) }
         ensures counted { steps.old ≤ steps.new }
-        ensures work { (most_looks : ℕ) → AllLookWithin P.look_cost most_looks self.now →
+        ensures work { (most_looks : ℕ) → CostWithin P.look_cost most_looks (items_of self.now.planners) →
             steps.new ≤ steps.old + look_most (length vertices.now) most_looks }
     {
-        self.holds.least(vertex, window, steps) < u64::MAX
+        let item = self.planners.at(vertex, steps);
+        self.least_in(item, vertex, HOLDS, window, steps) < u64::MAX
+    }
+
+    /// The least that jobs leave over the window of a quantity at the vertex, whose item this is.
+    fn least_in<L: Ledger>(
+        &self,
+        item: &Item<P>,
+        vertex: u32,
+        place: usize,
+        window: Window,
+        steps: &mut Steps<L>,
+    ) -> u64
+        requires item { slice_get (items_of self.now.planners) vertex ≡ Some item.now }
+        requires place { place < length item.now }
+        requires window { window.from < window.to }
+        ensures least { (vertices : List Vertex) (jobs : List Job) (q : Quantity) → AreAccounts P.total_of P.stands_for vertices jobs self.now →
+            slice_get (counted_of self.now).quantities place ≡ Some q →
+            IsLeastFree (total_in vertices q vertex) (grouped (amount_in vertices q vertex) jobs) window result }
+        ensures counted { steps.old ≤ steps.new }
+        ensures work { (most_looks : ℕ) → CostWithin P.look_cost most_looks (items_of self.now.planners) → steps.new ≤ steps.old + most_looks }
+    {
+        item.least(place, window, steps)
+    }
+
+    /// Whether a job holds the vertex, whose item this is, or one above it at some moment of the window.
+    fn closed_at<L: Ledger>(
+        &self,
+        graph: &Graph,
+        item: &Item<P>,
+        vertex: u32,
+        window: Window,
+        steps: &mut Steps<L>,
+    ) -> bool
+        requires graph { AreAccountsOf graph.now.resources.vertices self.now }
+        requires item { slice_get (items_of self.now.planners) vertex ≡ Some item.now }
+        requires window { window.from < window.to }
+        requires inside { vertex < length graph.now.resources.vertices }
+        ensures answer { (jobs : List Job) → AreAccounts P.total_of P.stands_for graph.now.resources.vertices jobs self.now →
+            (IsTrue result ↔ IsClosedOver graph.now.resources.vertices jobs window vertex) }
+        ensures counted { steps.old ≤ steps.new }
+        ensures work { (most_looks : ℕ) → CostWithin P.look_cost most_looks (items_of self.now.planners) →
+            steps.new ≤ steps.old + rest_most (length graph.now.resources.vertices) most_looks }
+    {
+        if self.least_in(item, vertex, HOLDS, window, steps) < u64::MAX {
+            return true;
+        }
+        let vertices = graph.vertices().items();
+        let above = parent_in(vertices, vertex);
+        self.held_up(
+            vertices,
+            vertices.len().saturating_sub(1),
+            above,
+            window,
+            steps,
+        )
     }
 
     /// Whether a job holds the vertex or one above it at some moment of the window.
@@ -88,12 +150,11 @@ impl<P: Planner + Drop> Accounts<P> {
         ensures answer { (jobs : List Job) → AreAccounts P.total_of P.stands_for graph.now.resources.vertices jobs self.now →
             (IsTrue result ↔ IsClosedOver graph.now.resources.vertices jobs window vertex) }
         ensures some_work { steps.old < steps.new }
-        ensures work { (most_looks : ℕ) → AllLookWithin P.look_cost most_looks self.now →
+        ensures work { (most_looks : ℕ) → CostWithin P.look_cost most_looks (items_of self.now.planners) →
             steps.new ≤ steps.old + closed_most (length graph.now.resources.vertices) most_looks }
     {
-        steps.tick();
-        let vertices = graph.vertices().items();
-        self.held_up(vertices, vertices.len(), Some(vertex), window, steps)
+        let item = self.planners.at(vertex, steps);
+        self.closed_at(graph, item, vertex, window, steps)
     }
 
     /// Whether a job has a claim on the vertex or below it at some moment of the window.
@@ -110,14 +171,15 @@ impl<P: Planner + Drop> Accounts<P> {
         ensures answer { (jobs : List Job) → AreAccounts P.total_of P.stands_for graph.now.resources.vertices jobs self.now →
             (IsTrue result ↔ IsTouchedOver graph.now.resources.vertices jobs window vertex) }
         ensures some_work { steps.old < steps.new }
-        ensures work { (most_looks : ℕ) → AllLookWithin P.look_cost most_looks self.now →
-            steps.new ≤ steps.old + 2 * look_most (length graph.now.resources.vertices) most_looks }
+        ensures work { (most_looks : ℕ) → CostWithin P.look_cost most_looks (items_of self.now.planners) →
+            steps.new ≤ steps.old + (look_most (length graph.now.resources.vertices) most_looks + most_looks) }
     {
-        let vertices = graph.vertices().items();
-        if self.claims.least(vertex, window, steps) < u64::MAX {
+        graph.is_valid();
+        let item = self.planners.at(vertex, steps);
+        if self.least_in(item, vertex, CLAIMS, window, steps) < u64::MAX {
             return true;
         }
-        self.held_over(vertices, vertex, window, steps)
+        self.least_in(item, vertex, HOLDS, window, steps) < u64::MAX
     }
 
     /// The least that is free of the vertex at a moment of the window.
@@ -134,14 +196,15 @@ impl<P: Planner + Drop> Accounts<P> {
         ensures answer { (jobs : List Job) → AreAccounts P.total_of P.stands_for graph.now.resources.vertices jobs self.now →
             IsFreeOver graph.now.resources.vertices jobs window vertex result }
         ensures some_work { steps.old < steps.new }
-        ensures work { (most_looks : ℕ) → AllLookWithin P.look_cost most_looks self.now →
-            steps.new ≤ steps.old + (closed_most (length graph.now.resources.vertices) most_looks + look_most (length graph.now.resources.vertices) most_looks) }
+        ensures work { (most_looks : ℕ) → CostWithin P.look_cost most_looks (items_of self.now.planners) →
+            steps.new ≤ steps.old + (closed_most (length graph.now.resources.vertices) most_looks + most_looks) }
     {
-        if self.closed_over(graph, vertex, window, steps) {
+        let item = self.planners.at(vertex, steps);
+        if self.closed_at(graph, item, vertex, window, steps) {
             return 0;
         }
         if is_pool_vertex(graph, vertex) {
-            return self.takes.least(vertex, window, steps);
+            return self.least_in(item, vertex, TAKES, window, steps);
         }
         1
     }
@@ -163,30 +226,23 @@ impl<P: Planner + Drop> Accounts<P> {
             IfSome result (IsTotalOver graph.now.resources.vertices jobs window kind vertex) }
         ensures kept { KeepsKind self.now kind → IsSome result }
         ensures some_work { steps.old < steps.new }
-        ensures work { (most_looks : ℕ) → AllLookWithin P.look_cost most_looks self.now →
-            steps.new ≤ steps.old + (closed_most (length graph.now.resources.vertices) most_looks + look_most (length graph.now.resources.vertices) most_looks) }
+        ensures work { (most_looks : ℕ) → CostWithin P.look_cost most_looks (items_of self.now.planners) →
+            steps.new ≤ steps.old + (closed_most (length graph.now.resources.vertices) most_looks + most_looks) }
     {
-        match self.totals.get(kind as usize) {
-            None => {
-                steps.tick();
-                return None;
-            }
-            Some(None) => {
-                steps.tick();
-                return None;
-            }
-            Some(Some(account)) => {
-                graph.is_valid();
-                let least = account.least(vertex, window, steps);
-                if least == 0 {
-                    return Some(0);
-                }
-                if self.closed_over(graph, vertex, window, steps) {
-                    return Some(0);
-                }
-                return Some(least);
-            }
+        let Some(place) = self.counted().place_of(kind) else {
+            steps.tick();
+            return None;
+        };
+        graph.is_valid();
+        let item = self.planners.at(vertex, steps);
+        let least = self.least_in(item, vertex, place, window, steps);
+        if least == 0 {
+            return Some(0);
         }
+        if self.closed_at(graph, item, vertex, window, steps) {
+            return Some(0);
+        }
+        Some(least)
     }
 
     /// The least start or end of a job that is later than the moment; `None` exactly where there is none.
@@ -216,20 +272,18 @@ impl<P: Planner + Drop> Accounts<P> {
         ensures answer { (jobs : List Job) → AreAccounts P.total_of P.stands_for graph.now.resources.vertices jobs self.now →
             IsNextAmpleOrNone graph.now.resources.vertices jobs kind amount after result }
         ensures some_work { steps.old < steps.new }
-        ensures work { (most_looks : ℕ) → AllLookWithin P.look_cost most_looks self.now →
+        ensures work { (most_looks : ℕ) → CostWithin P.look_cost most_looks (items_of self.now.planners) →
             steps.new ≤ steps.old + (P.look_cost self.now.times + 1 + look_most (length graph.now.resources.vertices) most_looks) }
     {
         let Some(next) = self.next_point(after, steps) else {
             return None;
         };
-        match self.totals.get(kind as usize) {
-            None => unreachable!(),
-            Some(None) => unreachable!(),
-            Some(Some(account)) => {
-                graph.is_valid();
-                return account.first_free(0, next, amount, steps);
-            }
-        }
+        let Some(place) = self.counted().place_of(kind) else {
+            unreachable!()
+        };
+        graph.is_valid();
+        let item = self.planners.at(0, steps);
+        item.first_free(place, next, amount, steps)
     }
 }
 

@@ -1,17 +1,29 @@
 //! The accounts of a graph.
-use crate::accounts::Account;
-use flux_defs::List;
+use crate::counted::Counted;
 use planner_points::Planner;
+use std::alloc::Global;
+use std::sync::Arc;
+use vertex_planners::VertexPlanners;
 
-/// What jobs have of a graph over time: an account each of holds, of claims and of takes, by type the account of its units
-/// where totals of it are kept, the times of the jobs, and how many claims they have. No accounts change: a call that
-/// changes something gives new ones, which share what stays.
+/// What jobs have of a graph over time: at each vertex a planner of holds, of claims and of takes side by side, and of the
+/// units of each type of which totals are kept; the times of the jobs, and how many claims they have. No accounts change: a
+/// call that changes something gives new ones, which share what stays.
 #[derive(Drop)]
 pub struct Accounts<P: Planner + Drop> {
-    pub(crate) holds: Account<P>,
-    pub(crate) claims: Account<P>,
-    pub(crate) takes: Account<P>,
-    pub(crate) totals: List<Option<Account<P>>>,
+    pub(crate) counted: Arc<Counted, Global>,
+    pub(crate) planners: VertexPlanners<P>,
     pub(crate) times: P,
     pub(crate) count: u64,
+}
+
+impl<P: Planner + Drop> Accounts<P> {
+    ghost use Rattle.std.specs.Prelude.{◌≡◌};
+    ghost use Rattle.vertex_accounts.specs.Books.{counted_of};
+
+    /// What is counted at each place.
+    pub(crate) fn counted(&self) -> &Counted
+        ensures { result.now ≡ counted_of self.now }
+    {
+        &self.counted
+    }
 }

@@ -2,16 +2,16 @@
 //! and how much of a type is left at it and below it.
 #![tactic(auto)]
 
-mod accounts;
 mod asking;
 mod books;
 mod capacities;
 mod changing;
+mod counted;
 mod making;
 mod measures;
 mod quantities;
 
-pub use accounts::Account;
 pub use books::Accounts;
 pub use capacities::Capacities;
+pub use counted::Counted;
 pub use quantities::Quantity;

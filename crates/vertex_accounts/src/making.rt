@@ -1,76 +1,44 @@
 //! The accounts of no jobs.
-ghost use Rattle.std.specs.Prelude.{◌≡◌, ℕ, ◌+◌, ◌<◌, ◌≤◌, List, [], length, Option, Some, slice_get, IfOk, IsSome};
-ghost use Rattle.flux_defs.specs.declared.vertices.Vertex.{Vertex};
+ghost use Rattle.std.specs.Prelude.{◌≡◌, ℕ, ◌<◌, ◌≤◌, List, [], length, Some, slice_get, IfOk};
+ghost use Rattle.planner_points.specs.declared.spans.Span.{Span};
 ghost use Rattle.prune_filters.specs.Filters.{IsCounted};
-ghost use Rattle.vertex_accounts.specs.declared.accounts.Account.{Account};
-ghost use Rattle.vertex_accounts.specs.Stands.{IsAccount};
-ghost use Rattle.vertex_accounts.specs.Books.{IsUnitsOf, AreAccounts, KeepsKind, IsFirst, kept_count};
+ghost use Rattle.vertex_planners.specs.Lists.{items_of, AreWide};
+ghost use Rattle.vertex_accounts.specs.Quantities.{KnowCapacities};
+ghost use Rattle.vertex_accounts.specs.Counts.{AreNew};
+ghost use Rattle.vertex_accounts.specs.Books.{AreAccounts, KeepsKind, types_of};
 
-use crate::accounts::Account;
 use crate::books::Accounts;
-use crate::capacities::Capacities;
+use crate::counted::{Counted, totals_at};
 use crate::quantities::Quantity;
-use flux_defs::{List, Steps};
-use node_store::Node;
+use flux_defs::Steps;
 use planner_points::Planner;
 use prune_filters::Rules;
 use resource_graph::Graph;
 use std::alloc::{AllocError, Global};
+use std::sync::Arc;
 use std::sync::ledger::Ledger;
+use vertex_planners::{Item, VertexPlanners};
 
-/// The account of a type's units without jobs, where the rules keep totals of the type.
-fn total_new<P: Planner + Drop, L: Ledger>(
+/// At each vertex a planner without spans for each quantity.
+fn planners_new<P: Planner + Drop, L: Ledger>(
     alloc: Global,
     graph: &Graph,
-    rules: &Rules,
-    kind: u32,
-    name: &[u8],
+    quantities: &[Quantity],
     horizon: u64,
     steps: &mut Steps<L>,
-) -> Result<Option<Account<P>>, AllocError>
-    ensures account { IfOk result (λ new. IsFirst P.total_of P.stands_for graph.now.resources.vertices kind new) }
-    ensures counted { IfOk result (λ new. IsCounted rules.now name.now → IsSome new) }
-    ensures only { IfOk result (λ new. IsSome new → IsCounted rules.now name.now) }
+) -> Result<VertexPlanners<P>, AllocError>
+    requires { KnowCapacities graph.now.resources.vertices quantities.now }
+    ensures len { IfOk result (λ all. length (items_of all) ≡ length graph.now.resources.vertices) }
+    ensures places { IfOk result (λ all. AreWide (length quantities.now) (items_of all)) }
+    ensures planners { IfOk result (λ all. AreNew P.total_of P.stands_for graph.now.resources.vertices quantities.now (items_of all)) }
 {
-    if !rules.counts(name) {
-        return Ok(None);
+    let mut planners = VertexPlanners::empty();
+    for vertex in 0..graph.len() {
+        let totals = totals_at(alloc, graph, quantities, vertex)?;
+        let item = Item::of_totals(alloc, totals.as_slice(), horizon)?;
+        planners.push(alloc, item, steps)?;
     }
-    let capacities = Capacities::of(alloc, graph, kind)?;
-    match Node::new(alloc, capacities) {
-        Ok(node) => {
-            let account = Account::new(alloc, graph, Quantity::Units(node), horizon, steps)?;
-            return Ok(Some(account));
-        }
-        Err(_) => return Err(AllocError),
-    }
-}
-
-/// By type, the accounts of units without jobs of those of which the rules keep totals.
-fn totals_new<P: Planner + Drop, L: Ledger>(
-    alloc: Global,
-    graph: &Graph,
-    rules: &Rules,
-    horizon: u64,
-    steps: &mut Steps<L>,
-) -> Result<List<Option<Account<P>>>, AllocError>
-    ensures accounts { IfOk result (λ totals. (kind : ℕ) (entry : Option (Account P)) → slice_get totals kind ≡ Some entry →
-        IsFirst P.total_of P.stands_for graph.now.resources.vertices kind entry) }
-    ensures counted { IfOk result (λ totals. (kind : ℕ) (name : List ℕ) → slice_get graph.now.resources.kinds kind ≡ Some name → IsCounted rules.now name →
-        (account : Account P) × (slice_get totals kind ≡ Some (Some account))) }
-    ensures few { IfOk result (λ totals. kept_count totals ≤ length rules.now) }
-{
-    graph.is_valid();
-    let mut totals = Vec::new(alloc);
-    let mut kind = 0;
-    while let Some(name) = graph.kind_name(kind) {
-        let entry = total_new(alloc, graph, rules, kind, name.bytes(), horizon, steps)?;
-        match totals.push(entry) {
-            Ok(()) => (),
-            Err(_) => return Err(AllocError),
-        }
-        kind += 1;
-    }
-    Ok(List::of_vec(totals))
+    Ok(planners)
 }
 
 impl<P: Planner + Drop> Accounts<P> {
@@ -84,18 +52,14 @@ impl<P: Planner + Drop> Accounts<P> {
     ) -> Result<Accounts<P>, AllocError>
         ensures accounts { IfOk result (λ book. AreAccounts P.total_of P.stands_for graph.now.resources.vertices [] book) }
         ensures kinds { IfOk result (λ book. (kind : ℕ) (name : List ℕ) → slice_get graph.now.resources.kinds kind ≡ Some name → IsCounted rules.now name → KeepsKind book kind) }
-        ensures types { IfOk result (λ book. kept_count book.totals ≤ length rules.now) }
+        ensures types { IfOk result (λ book. types_of book ≤ length rules.now) }
     {
-        let holds = Account::new(alloc, graph, Quantity::Holds, horizon, steps)?;
-        let claims = Account::new(alloc, graph, Quantity::Claims, horizon, steps)?;
-        let takes = Account::new(alloc, graph, Quantity::Takes, horizon, steps)?;
-        let totals = totals_new(alloc, graph, rules, horizon, steps)?;
+        let counted = Counted::new(alloc, graph, rules)?;
+        let planners = planners_new(alloc, graph, counted.quantities.items(), horizon, steps)?;
         let times = P::empty(alloc, 0, horizon)?;
         Ok(Accounts {
-            holds,
-            claims,
-            takes,
-            totals,
+            counted: Arc::new(alloc, counted)?,
+            planners,
             times,
             count: 0,
         })

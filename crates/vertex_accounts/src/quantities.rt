@@ -1,4 +1,4 @@
-//! What an account counts.
+//! What is counted at a place.
 ghost use Rattle.std.specs.Prelude.{◌≡◌, ℕ, ◌+◌, ◌*◌, ◌<◌, ◌≤◌, List, length, sum_by, IfOk};
 ghost use Rattle.std.specs.List.{AllByRecursion};
 ghost use Rattle.flux_defs.specs.Graph.{size_of};
@@ -9,14 +9,12 @@ ghost use Rattle.vertex_accounts.specs.Costs.{reach_of};
 
 use crate::capacities::Capacities;
 use crate::measures::{Each, Holds, Parts, Takes};
-use flux_defs::{Claim, Steps};
-use node_store::{Node, Share};
+use flux_defs::Claim;
 use resource_graph::Graph;
 use std::alloc::{AllocError, Global};
-use std::sync::ledger::Ledger;
 use vertex_planners::{Amounts, amounts_on, amounts_within};
 
-/// What an account counts at each vertex.
+/// What is counted of each vertex.
 #[derive(Drop)]
 pub enum Quantity {
     /// Holds of the vertex itself.
@@ -27,29 +25,16 @@ pub enum Quantity {
     Takes,
     /// Units of one type that jobs have at the vertex and below it, but for holds of the vertex itself, which close it; of
     /// the root these too.
-    Units(Node<Capacities>),
+    Units(Capacities),
 }
 
 impl Quantity {
-    /// The same quantity.
-    pub(crate) fn share(&self) -> Result<Quantity, AllocError>
-        ensures { IfOk result (λ same. same ≡ self.now) }
-    {
-        match self {
-            Quantity::Holds => return Ok(Quantity::Holds),
-            Quantity::Claims => return Ok(Quantity::Claims),
-            Quantity::Takes => return Ok(Quantity::Takes),
-            Quantity::Units(capacities) => return Ok(Quantity::Units(capacities.share()?)),
-        }
-    }
-
     /// What claims amount to, by vertices. A sum past the greatest number is answered as want of memory.
-    pub(crate) fn amounts<L: Ledger>(
+    pub(crate) fn amounts(
         &self,
         alloc: Global,
         graph: &Graph,
         claims: &[Claim],
-        steps: &mut Steps<L>,
     ) -> Result<Amounts, AllocError>
         requires { KnowsCapacities graph.now.resources.vertices self.now }
         ensures sums { IfOk result (λ amounts. (v : ℕ) → amount_at amounts v ≡ sum_by (amount_in graph.now.resources.vertices self.now v) claims.now) }
@@ -57,24 +42,20 @@ impl Quantity {
             HasKeysBelow (length graph.now.resources.vertices) amounts) }
         ensures few { IfOk result (λ amounts. AllByRecursion (λ c. vertex_of c < length graph.now.resources.vertices) claims.now →
             count_of amounts ≤ reach_of self.now * length claims.now) }
-        ensures work { steps.new ≤ steps.old + 1 }
     {
         match self {
             Quantity::Holds => return Ok(amounts_on(alloc, &Holds, claims)?),
             Quantity::Takes => return Ok(amounts_on(alloc, &Takes, claims)?),
             Quantity::Claims => return amounts_within(alloc, graph, &Each, claims),
             Quantity::Units(capacities) => {
-                let parts = Parts {
-                    graph,
-                    capacities: capacities.look(steps),
-                };
+                let parts = Parts { graph, capacities };
                 return amounts_within(alloc, graph, &parts, claims);
             }
         }
     }
 
     /// All that there is of it at a vertex: the greatest number of holds and of claims, and else the units.
-    pub(crate) fn total<L: Ledger>(&self, graph: &Graph, vertex: u32, steps: &mut Steps<L>) -> u64
+    pub(crate) fn total(&self, graph: &Graph, vertex: u32) -> u64
         requires { KnowsCapacities graph.now.resources.vertices self.now }
         ensures { result ≡ total_in graph.now.resources.vertices self.now vertex }
     {
@@ -82,7 +63,7 @@ impl Quantity {
             Quantity::Holds => return u64::MAX,
             Quantity::Claims => return u64::MAX,
             Quantity::Takes => return size_in(graph, vertex),
-            Quantity::Units(capacities) => return capacities.look(steps).at(graph, vertex),
+            Quantity::Units(capacities) => return capacities.at(graph, vertex),
         }
     }
 }

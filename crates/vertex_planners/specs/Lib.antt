@@ -1,6 +1,7 @@
 pub mod Numbers
-pub mod Kept
+pub mod Rows
 pub mod Lists
+pub mod Kept
 pub mod Chains
 pub mod Work
 pub mod Counting

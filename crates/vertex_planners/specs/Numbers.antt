@@ -1,5 +1,5 @@
 -- Numbers by vertices.
-use Rattle.std.specs.Prelude.{◌≡◌, ◌≢◌, ℕ, ◌+◌, ◌<◌, Option, Some, None, unwrap_or, IsSome, length}
+use Rattle.std.specs.Prelude.{◌≡◌, ◌≢◌, ℕ, ◌+◌, ◌<◌, if◌then◌else◌, Option, None, is_some, unwrap_or, IsSome, length}
 use Rattle.std.specs.Ordering.{nat_cmp}
 use Rattle.std.specs.BTreeMap.{get}
 use Rattle.vertex_planners.specs.declared.amounts.Amounts.{Amounts}
@@ -20,9 +20,9 @@ count_of amounts = length amounts.map.entries
 abbrev pub HasKeysBelow : ℕ → Amounts → Type 0
 HasKeysBelow most amounts = (v : ℕ) → IsSome (kept_at amounts v) → v < most
 
--- one vertex less: the number that was kept for v is taken off
-pub record IsTakenOff (old new : Amounts) (v n : ℕ) : Type 0 where
-  pub was : kept_at old v ≡ Some n
+-- the number of v is taken off, if one was kept
+pub record IsTaken (old new : Amounts) (v n : ℕ) : Type 0 where
+  pub was : amount_at old v ≡ n
   pub gone : kept_at new v ≡ None
   pub others : (u : ℕ) → u ≢ v → kept_at new u ≡ kept_at old u
-  pub fewer : count_of new + 1 ≡ count_of old
+  pub fewer : count_of new + (if is_some (kept_at old v) then 1 else 0) ≡ count_of old

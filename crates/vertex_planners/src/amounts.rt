@@ -2,7 +2,7 @@
 ghost use Rattle.std.specs.Prelude.{◌≡◌, ℕ, ◌+◌, ◌<◌, ◌≤◌, ◌==◌, if◌then◌else◌, length, List, Option, Some, None, IfSome, IfNone, OnErr, OnOk, IsSome};
 ghost use Rattle.flux_defs.specs.Graph.{chain, has_on_chain, is_at_or_below, parent_of};
 ghost use Rattle.graph_laws.proofs.Containment.{ParentsFirst};
-ghost use Rattle.vertex_planners.specs.Numbers.{kept_at, amount_at, count_of, HasKeysBelow, IsTakenOff};
+ghost use Rattle.vertex_planners.specs.Numbers.{kept_at, amount_at, count_of, HasKeysBelow, IsTaken};
 
 use flux_defs::Vertex;
 use std::alloc::{AllocError, Global};
@@ -44,11 +44,21 @@ impl Amounts {
         }
     }
 
-    /// Takes one vertex off that has a number, with the number; `None` exactly where no vertex is left.
-    pub fn pop(&mut self) -> Option<(u32, u64)>
-        ensures taken { IfSome result (λ first. IsTakenOff self.old self.new first.0 first.1) }
-        ensures none { IfNone result ((v : ℕ) → kept_at self.old v ≡ None) }
+    /// A vertex for which a number is kept; `None` exactly where there is none.
+    pub(crate) fn first(&self) -> Option<u32>
+        ensures some { IfSome result (λ v. IsSome (kept_at self.now v)) }
+        ensures none { IfNone result ((v : ℕ) → kept_at self.now v ≡ None) }
     {
-        self.map.pop_first()
+        match self.map.first_key_value() {
+            Some((vertex, _)) => return Some(*vertex),
+            None => return None,
+        }
+    }
+
+    /// Takes the vertex's number off, which is 0 from then on.
+    pub(crate) fn take(&mut self, vertex: u32) -> u64
+        ensures { IsTaken self.old self.new vertex result }
+    {
+        self.map.remove(&vertex).unwrap_or(0)
     }
 }

@@ -1,10 +1,14 @@
-//! One planner a vertex of a graph, and what a job's claims amount to at each vertex.
+//! One item a vertex of a graph, with a planner for each place, and what a job's claims amount to at each vertex.
 #![tactic(auto)]
 
 mod amounts;
+mod items;
 mod measures;
 mod planners;
+mod rows;
 
 pub use amounts::Amounts;
+pub use items::Item;
 pub use measures::{Measure, amounts_on, amounts_within, parent_in};
 pub use planners::VertexPlanners;
+pub use rows::Rows;

@@ -5,7 +5,7 @@ use Rattle.graph_laws.proofs.Preorder.{parents_first}
 use Rattle.vertex_planners.specs.Numbers.{amount_at, HasKeysBelow}
 use Rattle.vertex_planners.specs.Chains.{sum_on, ParentsIn}
 use Rattle.vertex_planners.proofs.ClaimSums.{once_above, parents_in}
-use Rattle.vertex_planners.proofs.Counts.{item_at}
+use Rattle.vertex_planners.proofs.PlaceLaws.{item_at}
 use Rattle.vertex_planners.proofs.measures.raise_from.Goals as goal
 
 pub returns-clause-sums : goal.returns-clause-sums

@@ -1,24 +1,27 @@
-use Rattle.std.proofs.Common.{◌-◌, ◌∷◌, List, Option, length, slice_get, sym, ◌∙◌, ap, subst, arith, ◌*◌}
+use Rattle.std.proofs.Common.{◌≡◌, ◌+◌, ◌-◌, ◌*◌, ◌≤◌, ◌∷◌, ◌++◌, [], ℕ, List, length, sym, ◌∙◌, ap, subst, arith}
+use Rattle.std.specs.List.{sum_by}
+use Rattle.flux_defs.specs.declared.claims.Claim.{Claim}
 use Rattle.book_laws.specs.Grouped.{times_of}
 use Rattle.book_laws.proofs.GroupedLaws.{times_append}
-use Rattle.vertex_planners.specs.Kept.{AtEach}
-use Rattle.vertex_accounts.specs.declared.accounts.Account.{Account}
-use Rattle.vertex_accounts.specs.Books.{Leaves, Becomes, kept_count}
-use Rattle.vertex_accounts.proofs.JoinLaws.{left, kinds_stay}
-use Rattle.vertex_accounts.specs.declared.quantities.Quantity.TheVariants.{Holds, Claims, Takes}
-use Rattle.vertex_accounts.specs.Costs.{account_most}
-use Rattle.vertex_accounts.proofs.WorkLaws.{of_quantity, same_count}
+use Rattle.vertex_planners.specs.Lists.{items_of, AreWide}
+use Rattle.vertex_planners.specs.Rows.{places_of, count_all}
+use Rattle.vertex_accounts.specs.declared.quantities.Quantity.{Quantity}
+use Rattle.vertex_accounts.specs.declared.counted.Counted.{Counted}
+use Rattle.vertex_accounts.specs.Counts.{AreNumbers}
+use Rattle.vertex_accounts.specs.Costs.{reach_of}
+use Rattle.vertex_accounts.specs.Books.{counted_of, types_of}
+use Rattle.vertex_accounts.proofs.JoinLaws.{spans_in, left_kept, left}
+use Rattle.vertex_accounts.proofs.WorkLaws.{numbers_cost}
 use Rattle.vertex_accounts.proofs.books.Accounts.without_job.Goals as goal
 
-pub totals_without-requires-clause-graph : goal.totals_without-requires-clause-graph
-totals_without-requires-clause-graph g c = λ k a at.
+pub lost-requires-clause-span : goal.lost-requires-clause-span
+lost-requires-clause-span g c =
+    let vertices = c.args.graph.now.resources.vertices in
     let (before, after, is) = c.requires.there in
-    (is.graph.totals k a (sym (ap (λ (xs : List (Option (Account g.row.P.Denot))). slice_get xs k) c.items.ensures) ∙ at)).0
-
-pub totals_without-requires-clause-there : goal.totals_without-requires-clause-there
-totals_without-requires-clause-there g c = λ k a at.
-    let (before, after, is) = c.requires.there in
-    (before, after, is.totals k a (sym (ap (λ (xs : List (Option (Account g.row.P.Denot))). slice_get xs k) c.items.ensures) ∙ at))
+    let quantities = c.items-quantities.ensures ∙ ap (λ (k : Counted). k.quantities) c.counted.ensures in
+    let numbers = subst (λ (cs : List Claim). AreNumbers vertices (counted_of c.args.self.now).quantities cs (places_of c.in_ok-rows.rows)) c.items-claims.ensures
+    (subst (λ (qs : List Quantity). AreNumbers vertices qs c.items-claims.result.now (places_of c.in_ok-rows.rows)) quantities c.in_ok-rows.ensures.numbers) in
+    spans_in g.P.Planner.total_of g.P.Planner.stands_for vertices before c.args.job.now after (counted_of c.args.self.now) (places_of c.in_ok-rows.rows) numbers (items_of c.args.self.now.planners) is.kept
 
 pub without_span-requires-clause-span : goal.without_span-requires-clause-span
 without_span-requires-clause-span g c =
@@ -28,90 +31,58 @@ without_span-requires-clause-span g c =
 pub returns-clause-accounts : goal.returns-clause-accounts
 returns-clause-accounts g c = λ before after is.
     let vertices = c.args.graph.now.resources.vertices in
-    left g.P.Planner.total_of g.P.Planner.stands_for vertices c.args.job.now c.args.self.now
-    (record { holds = c.in_ok-holds.holds; claims = c.in_ok-claims.claims; takes = c.in_ok-takes.takes; totals = c.in_ok-totals.totals; times = c.in_ok-times.times; count = c.args.self.now.count - c.len.result })
-    before after
-    (record {
-      holds = (c.in_ok-holds.ensures.quantity, c.in_ok-holds.ensures.account);
-      claims = (c.in_ok-claims.ensures.quantity, c.in_ok-claims.ensures.account);
-      takes = (c.in_ok-takes.ensures.quantity, c.in_ok-takes.ensures.account);
-      len = c.in_ok-totals.ensures.len ∙ ap (λ (xs : List (Option (Account g.row.P.Denot))). length xs) c.items.ensures;
-      totals = subst (λ (xs : List (Option (Account g.row.P.Denot))). AtEach (λ k. Becomes (Leaves g.P.Planner.total_of g.P.Planner.stands_for vertices c.args.job.now)) xs c.in_ok-totals.totals) c.items.ensures c.in_ok-totals.ensures.each;
-    })
+    let job = c.args.job.now in
+    let quantities = c.items-quantities.ensures ∙ ap (λ (k : Counted). k.quantities) c.counted.ensures in
+    let numbers = subst (λ (cs : List Claim). AreNumbers vertices (counted_of c.args.self.now).quantities cs (places_of c.in_ok-rows.rows)) c.items-claims.ensures
+    (subst (λ (qs : List Quantity). AreNumbers vertices qs c.items-claims.result.now (places_of c.in_ok-rows.rows)) quantities c.in_ok-rows.ensures.numbers) in
+    let new = items_of c.in_ok-planners.planners in
+    let wide = subst (λ (n : ℕ). AreWide n new) numbers.len c.in_ok-planners.ensures.places in
+    left g.P.Planner.total_of g.P.Planner.stands_for vertices job c.args.self.now
+    (record { counted = c.in_ok-try_clone.field-0; planners = c.in_ok-planners.planners; times = c.in_ok-times.times; count = c.args.self.now.count - c.len.result })
+    c.in_ok-try_clone.ensures c.in_ok-planners.ensures.len wide before after
+    (left_kept g.P.Planner.total_of g.P.Planner.stands_for vertices before job after (counted_of c.args.self.now) (places_of c.in_ok-rows.rows) numbers (items_of c.args.self.now.planners) new
+    c.in_ok-planners.ensures.len is.graph.places wide c.in_ok-planners.ensures.loses)
     c.in_ok-times.ensures.spans (ap (λ n. c.args.self.now.count - n) c.len.ensures) is
 
-pub returns-clause-kinds : goal.returns-clause-kinds
-returns-clause-kinds g c = λ kind has.
-    let vertices = c.args.graph.now.resources.vertices in
-    kinds_stay g.P.Planner.total_of g.P.Planner.stands_for (Leaves g.P.Planner.total_of g.P.Planner.stands_for vertices c.args.job.now) c.items.result.now c.in_ok-totals.totals c.in_ok-totals.ensures.len c.in_ok-totals.ensures.each kind
-    (has.0, ap (λ (xs : List (Option (Account g.row.P.Denot))). slice_get xs kind) c.items.ensures ∙ has.1)
-
-pub returns-in_err-holds-clause-work : goal.returns-in_err-holds-clause-work
-returns-in_err-holds-clause-work g c = λ most within.
+pub returns-in_err-planners-clause-work : goal.returns-in_err-planners-clause-work
+returns-in_err-planners-clause-work g c = λ most within.
     let (before, after, is) = c.requires.there in
-    let n = length c.args.graph.now.resources.vertices in
-    let so_many = length c.args.job.now.claims in
-    let holds = of_quantity n most so_many _ _ c.args.self.now.holds.quantity Holds is.graph.holds.1 (c.in_err-holds.ensures.work most within.holds) in
-    omega (arith, holds)
-
-pub returns-in_err-claims-clause-work : goal.returns-in_err-claims-clause-work
-returns-in_err-claims-clause-work g c = λ most within.
-    let (before, after, is) = c.requires.there in
-    let n = length c.args.graph.now.resources.vertices in
-    let so_many = length c.args.job.now.claims in
-    let holds = of_quantity n most so_many _ _ c.args.self.now.holds.quantity Holds is.graph.holds.1 (c.in_ok-holds.ensures.work most within.holds) in
-    let claims = of_quantity n most so_many _ _ c.args.self.now.claims.quantity Claims is.graph.claims.1 (c.in_err-claims.ensures.work most within.claims) in
-    omega (arith, holds, claims)
-
-pub returns-in_err-takes-clause-work : goal.returns-in_err-takes-clause-work
-returns-in_err-takes-clause-work g c = λ most within.
-    let (before, after, is) = c.requires.there in
-    let n = length c.args.graph.now.resources.vertices in
-    let so_many = length c.args.job.now.claims in
-    let holds = of_quantity n most so_many _ _ c.args.self.now.holds.quantity Holds is.graph.holds.1 (c.in_ok-holds.ensures.work most within.holds) in
-    let claims = of_quantity n most so_many _ _ c.args.self.now.claims.quantity Claims is.graph.claims.1 (c.in_ok-claims.ensures.work most within.claims) in
-    let takes = of_quantity n most so_many _ _ c.args.self.now.takes.quantity Takes is.graph.takes.1 (c.in_err-takes.ensures.work most within.takes) in
-    omega (arith, holds, claims, takes)
-
-pub returns-in_err-totals-clause-work : goal.returns-in_err-totals-clause-work
-returns-in_err-totals-clause-work g c = λ most within.
-    let (before, after, is) = c.requires.there in
-    let n = length c.args.graph.now.resources.vertices in
-    let so_many = length c.args.job.now.claims in
-    let holds = of_quantity n most so_many _ _ c.args.self.now.holds.quantity Holds is.graph.holds.1 (c.in_ok-holds.ensures.work most within.holds) in
-    let claims = of_quantity n most so_many _ _ c.args.self.now.claims.quantity Claims is.graph.claims.1 (c.in_ok-claims.ensures.work most within.claims) in
-    let takes = of_quantity n most so_many _ _ c.args.self.now.takes.quantity Takes is.graph.takes.1 (c.in_ok-takes.ensures.work most within.takes) in
-    let same = ap (λ (xs : List (Option (Account g.row.P.Denot))). kept_count xs * account_most n most 16 so_many) c.items.ensures in
-    let counted = c.in_err-totals.ensures.work most (λ k a at. within.totals k a (sym (ap (λ (xs : List (Option (Account g.row.P.Denot))). slice_get xs k) c.items.ensures) ∙ at)) in
-    omega (arith, holds, claims, takes, counted, same)
+    let quantities = c.items-quantities.ensures ∙ ap (λ (k : Counted). k.quantities) c.counted.ensures in
+    let few = subst (λ (cs : List Claim). count_all (places_of c.in_ok-rows.rows) ≤ sum_by reach_of (counted_of c.args.self.now).quantities * length cs) c.items-claims.ensures
+    (subst (λ (qs : List Quantity). count_all (places_of c.in_ok-rows.rows) ≤ sum_by reach_of qs * length c.items-claims.result.now) quantities c.in_ok-rows.ensures.few) in
+    let all = numbers_cost (length (items_of c.args.self.now.planners)) (length c.args.graph.now.resources.vertices) most (types_of c.args.self.now) (sum_by reach_of (counted_of c.args.self.now).quantities)
+    (length c.args.job.now.claims) (count_all (places_of c.in_ok-rows.rows)) c.args.steps.now c.lost.new.steps is.graph.len is.graph.counts.reach few (c.lost.ensures.work most within) in
+    omega (arith, all)
 
 pub returns-in_err-times-clause-work : goal.returns-in_err-times-clause-work
 returns-in_err-times-clause-work g c = λ most within.
     let (before, after, is) = c.requires.there in
-    let n = length c.args.graph.now.resources.vertices in
-    let so_many = length c.args.job.now.claims in
-    let holds = of_quantity n most so_many _ _ c.args.self.now.holds.quantity Holds is.graph.holds.1 (c.in_ok-holds.ensures.work most within.holds) in
-    let claims = of_quantity n most so_many _ _ c.args.self.now.claims.quantity Claims is.graph.claims.1 (c.in_ok-claims.ensures.work most within.claims) in
-    let takes = of_quantity n most so_many _ _ c.args.self.now.takes.quantity Takes is.graph.takes.1 (c.in_ok-takes.ensures.work most within.takes) in
-    let same = ap (λ (xs : List (Option (Account g.row.P.Denot))). kept_count xs * account_most n most 16 so_many) c.items.ensures in
-    let counted = c.in_ok-totals.ensures.work most (λ k a at. within.totals k a (sym (ap (λ (xs : List (Option (Account g.row.P.Denot))). slice_get xs k) c.items.ensures) ∙ at)) in
-    let times = c.in_err-times.ensures.work in
-    omega (arith, holds, claims, takes, counted, same, times)
+    let quantities = c.items-quantities.ensures ∙ ap (λ (k : Counted). k.quantities) c.counted.ensures in
+    let few = subst (λ (cs : List Claim). count_all (places_of c.in_ok-rows.rows) ≤ sum_by reach_of (counted_of c.args.self.now).quantities * length cs) c.items-claims.ensures
+    (subst (λ (qs : List Quantity). count_all (places_of c.in_ok-rows.rows) ≤ sum_by reach_of qs * length c.items-claims.result.now) quantities c.in_ok-rows.ensures.few) in
+    let all = numbers_cost (length (items_of c.args.self.now.planners)) (length c.args.graph.now.resources.vertices) most (types_of c.args.self.now) (sum_by reach_of (counted_of c.args.self.now).quantities)
+    (length c.args.job.now.claims) (count_all (places_of c.in_ok-rows.rows)) c.args.steps.now c.lost.new.steps is.graph.len is.graph.counts.reach few (c.lost.ensures.work most within) in
+    let times = c.without_span.ensures.work in
+    omega (arith, all, times)
+
+pub returns-in_err-try_clone-clause-work : goal.returns-in_err-try_clone-clause-work
+returns-in_err-try_clone-clause-work g c = λ most within.
+    let (before, after, is) = c.requires.there in
+    let quantities = c.items-quantities.ensures ∙ ap (λ (k : Counted). k.quantities) c.counted.ensures in
+    let few = subst (λ (cs : List Claim). count_all (places_of c.in_ok-rows.rows) ≤ sum_by reach_of (counted_of c.args.self.now).quantities * length cs) c.items-claims.ensures
+    (subst (λ (qs : List Quantity). count_all (places_of c.in_ok-rows.rows) ≤ sum_by reach_of qs * length c.items-claims.result.now) quantities c.in_ok-rows.ensures.few) in
+    let all = numbers_cost (length (items_of c.args.self.now.planners)) (length c.args.graph.now.resources.vertices) most (types_of c.args.self.now) (sum_by reach_of (counted_of c.args.self.now).quantities)
+    (length c.args.job.now.claims) (count_all (places_of c.in_ok-rows.rows)) c.args.steps.now c.lost.new.steps is.graph.len is.graph.counts.reach few (c.lost.ensures.work most within) in
+    let times = c.without_span.ensures.work in
+    omega (arith, all, times)
 
 pub returns-clause-work : goal.returns-clause-work
 returns-clause-work g c = λ most within.
     let (before, after, is) = c.requires.there in
-    let n = length c.args.graph.now.resources.vertices in
-    let so_many = length c.args.job.now.claims in
-    let holds = of_quantity n most so_many _ _ c.args.self.now.holds.quantity Holds is.graph.holds.1 (c.in_ok-holds.ensures.work most within.holds) in
-    let claims = of_quantity n most so_many _ _ c.args.self.now.claims.quantity Claims is.graph.claims.1 (c.in_ok-claims.ensures.work most within.claims) in
-    let takes = of_quantity n most so_many _ _ c.args.self.now.takes.quantity Takes is.graph.takes.1 (c.in_ok-takes.ensures.work most within.takes) in
-    let same = ap (λ (xs : List (Option (Account g.row.P.Denot))). kept_count xs * account_most n most 16 so_many) c.items.ensures in
-    let counted = c.in_ok-totals.ensures.work most (λ k a at. within.totals k a (sym (ap (λ (xs : List (Option (Account g.row.P.Denot))). slice_get xs k) c.items.ensures) ∙ at)) in
-    let times = c.in_ok-times.ensures.work in
-    omega (arith, holds, claims, takes, counted, same, times)
-
-pub returns-clause-types : goal.returns-clause-types
-returns-clause-types g c =
-    same_count (Leaves g.P.Planner.total_of g.P.Planner.stands_for c.args.graph.now.resources.vertices c.args.job.now) c.items.result.now c.in_ok-totals.totals c.in_ok-totals.ensures.len c.in_ok-totals.ensures.each
-    ∙ ap (λ (xs : List (Option (Account g.row.P.Denot))). kept_count xs) c.items.ensures
+    let quantities = c.items-quantities.ensures ∙ ap (λ (k : Counted). k.quantities) c.counted.ensures in
+    let few = subst (λ (cs : List Claim). count_all (places_of c.in_ok-rows.rows) ≤ sum_by reach_of (counted_of c.args.self.now).quantities * length cs) c.items-claims.ensures
+    (subst (λ (qs : List Quantity). count_all (places_of c.in_ok-rows.rows) ≤ sum_by reach_of qs * length c.items-claims.result.now) quantities c.in_ok-rows.ensures.few) in
+    let all = numbers_cost (length (items_of c.args.self.now.planners)) (length c.args.graph.now.resources.vertices) most (types_of c.args.self.now) (sum_by reach_of (counted_of c.args.self.now).quantities)
+    (length c.args.job.now.claims) (count_all (places_of c.in_ok-rows.rows)) c.args.steps.now c.lost.new.steps is.graph.len is.graph.counts.reach few (c.lost.ensures.work most within) in
+    let times = c.without_span.ensures.work in
+    omega (arith, all, times)

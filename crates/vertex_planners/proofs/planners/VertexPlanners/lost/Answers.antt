@@ -1,39 +1,65 @@
-use Rattle.std.proofs.Common.{ℕ, ◌+◌, ◌*◌, length, sym, subst, arith}
-use Rattle.vertex_planners.specs.Numbers.{amount_at, count_of}
-use Rattle.vertex_planners.specs.Kept.{Loses}
-use Rattle.vertex_planners.specs.Lists.{list_of}
+use Rattle.std.proofs.Common.{◌+◌, ◌*◌, length, arith}
+use Rattle.vertex_planners.specs.Rows.{places_of, count_all}
+use Rattle.vertex_planners.specs.Kept.{Loses, HasSpanOf}
+use Rattle.vertex_planners.specs.Lists.{items_of}
 use Rattle.vertex_planners.specs.Work.{change_most}
-use Rattle.vertex_planners.proofs.Walks.{walk_steps, walk_ends}
-use Rattle.vertex_planners.proofs.Counts.{walk_counts}
+use Rattle.vertex_planners.proofs.Walks.{row_of, none_of, vertex_there, row_places, row_before, walk_steps, walk_counts, still_wide, walk_ends}
 use Rattle.vertex_planners.proofs.planners.VertexPlanners.lost.Goals as goal
 
-pub loop-vertex-preserved : goal.loop-vertex-preserved
-loop-vertex-preserved g c =
-    let walked = c.loop-vertex.invariant.walked in
-    let rest = walked.rest c.in-Some.vertex c.in-Some.quantity c.in-Some.ensures.taken.was in
-    let Q = λ (v : ℕ). Loses g.P.Planner.total_of g.P.Planner.stands_for c.args.window (amount_at c.args.amounts v) in
-    let old = list_of c.args.self.now in
+pub lose_at-requires-clause-vertex : goal.lose_at-requires-clause-vertex
+lose_at-requires-clause-vertex g c =
+    vertex_there (Loses g.P.Planner.total_of g.P.Planner.stands_for c.args.window) (items_of c.args.self.now) (places_of c.args.rows)
+    c.loop-left.items (places_of c.loop-left.left) (places_of c.pop.new.self) c.in-Some.vertex c.in-Some.row c.loop-left.invariant.walked
+    (row_of (Loses g.P.Planner.total_of g.P.Planner.stands_for c.args.window) (items_of c.args.self.now) (places_of c.args.rows) (places_of c.loop-left.left) (places_of c.pop.new.self) c.in_ok-vertex.field-0 c.in-Some.vertex c.in-Some.row c.in-Some.is c.in_ok-vertex.ensures.taken)
+
+pub lose_at-requires-clause-places : goal.lose_at-requires-clause-places
+lose_at-requires-clause-places g c =
+    row_places (Loses g.P.Planner.total_of g.P.Planner.stands_for c.args.window) (items_of c.args.self.now) (places_of c.args.rows)
+    c.loop-left.items (places_of c.loop-left.left) (places_of c.pop.new.self) c.in-Some.vertex c.in-Some.row c.loop-left.invariant.walked
+    (row_of (Loses g.P.Planner.total_of g.P.Planner.stands_for c.args.window) (items_of c.args.self.now) (places_of c.args.rows) (places_of c.loop-left.left) (places_of c.pop.new.self) c.in_ok-vertex.field-0 c.in-Some.vertex c.in-Some.row c.in-Some.is c.in_ok-vertex.ensures.taken) c.requires.places
+
+pub lose_at-requires-clause-span : goal.lose_at-requires-clause-span
+lose_at-requires-clause-span g c =
+    row_before (Loses g.P.Planner.total_of g.P.Planner.stands_for c.args.window) (items_of c.args.self.now) (places_of c.args.rows)
+    c.loop-left.items (places_of c.loop-left.left) (places_of c.pop.new.self) c.in-Some.vertex c.in-Some.row c.loop-left.invariant.walked
+    (row_of (Loses g.P.Planner.total_of g.P.Planner.stands_for c.args.window) (items_of c.args.self.now) (places_of c.args.rows) (places_of c.loop-left.left) (places_of c.pop.new.self) c.in_ok-vertex.field-0 c.in-Some.vertex c.in-Some.row c.in-Some.is c.in_ok-vertex.ensures.taken) (HasSpanOf g.P.Planner.stands_for c.args.window) c.requires.places c.requires.span
+
+pub loop-left-preserved : goal.loop-left-preserved
+loop-left-preserved g c =
+    let off = row_of (Loses g.P.Planner.total_of g.P.Planner.stands_for c.args.window) (items_of c.args.self.now) (places_of c.args.rows) (places_of c.loop-left.left) (places_of c.pop.new.self) c.in_ok-vertex.field-0 c.in-Some.vertex c.in-Some.row c.in-Some.is c.in_ok-vertex.ensures.taken in
     record {
-      walked = walk_steps Q old c.args.amounts c.loop-vertex.planners c.lose.new.planners c.loop-vertex.left c.pop.new.self c.in-Some.vertex c.in-Some.quantity
-          walked c.in-Some.ensures.taken c.in_ok-lose.ensures.len
-          (λ p r a b. subst (λ (k : ℕ). Loses g.P.Planner.total_of g.P.Planner.stands_for c.args.window k p r) (sym rest.0) (c.in_ok-lose.ensures.here p r a b))
-          c.in_ok-lose.ensures.others;
+      walked = walk_steps (Loses g.P.Planner.total_of g.P.Planner.stands_for c.args.window) (items_of c.args.self.now) (places_of c.args.rows)
+          c.loop-left.items (places_of c.loop-left.left) (places_of c.pop.new.self) c.in-Some.vertex c.in-Some.row c.loop-left.invariant.walked off
+          c.lose_at.new.items c.in_ok-lose_at.ensures.len c.in_ok-lose_at.ensures.here c.in_ok-lose_at.ensures.others;
       work = λ most within.
-          walk_counts g.P.Planner.change_cost Q old c.loop-vertex.planners c.args.amounts c.loop-vertex.left c.pop.new.self c.in-Some.vertex c.in-Some.quantity most
-          c.loop-vertex.steps c.lose.new.steps (c.args.steps.now + count_of c.args.amounts * change_most (length old) most)
-          walked c.in-Some.ensures.taken within c.lose.ensures.work (c.loop-vertex.invariant.work most within);
+          walk_counts (Loses g.P.Planner.total_of g.P.Planner.stands_for c.args.window) (items_of c.args.self.now) (places_of c.args.rows)
+          c.loop-left.items (places_of c.loop-left.left) (places_of c.pop.new.self) c.in-Some.vertex c.in-Some.row c.loop-left.invariant.walked off
+          g.P.Planner.change_cost most c.loop-left.steps c.lose_at.new.steps (c.args.steps.now + count_all (places_of c.args.rows) * change_most (length (items_of c.args.self.now)) most)
+          within (c.lose_at.ensures.work most) (c.loop-left.invariant.work most within);
     }
+
+pub loop-left-smaller : goal.loop-left-smaller
+loop-left-smaller g c =
+    let off = row_of (Loses g.P.Planner.total_of g.P.Planner.stands_for c.args.window) (items_of c.args.self.now) (places_of c.args.rows) (places_of c.loop-left.left) (places_of c.pop.new.self) c.in_ok-vertex.field-0 c.in-Some.vertex c.in-Some.row c.in-Some.is c.in_ok-vertex.ensures.taken in
+    off.row_is.less off.was
+
+pub returns-in_err-lose_at-clause-work : goal.returns-in_err-lose_at-clause-work
+returns-in_err-lose_at-clause-work g c = λ most within.
+    let counts = walk_counts (Loses g.P.Planner.total_of g.P.Planner.stands_for c.args.window) (items_of c.args.self.now) (places_of c.args.rows)
+    c.loop-left.items (places_of c.loop-left.left) (places_of c.pop.new.self) c.in-Some.vertex c.in-Some.row c.loop-left.invariant.walked
+    (row_of (Loses g.P.Planner.total_of g.P.Planner.stands_for c.args.window) (items_of c.args.self.now) (places_of c.args.rows) (places_of c.loop-left.left) (places_of c.pop.new.self) c.in_ok-vertex.field-0 c.in-Some.vertex c.in-Some.row c.in-Some.is c.in_ok-vertex.ensures.taken)
+    g.P.Planner.change_cost most c.loop-left.steps c.lose_at.new.steps (c.args.steps.now + count_all (places_of c.args.rows) * change_most (length (items_of c.args.self.now)) most)
+    within (c.lose_at.ensures.work most) (c.loop-left.invariant.work most within) in
+    omega (arith, counts)
+
+pub returns-clause-places : goal.returns-clause-places
+returns-clause-places g c =
+    still_wide (Loses g.P.Planner.total_of g.P.Planner.stands_for c.args.window) (items_of c.args.self.now) (places_of c.args.rows)
+    c.loop-left.items (places_of c.loop-left.left) c.loop-left.invariant.walked
+    (none_of (Loses g.P.Planner.total_of g.P.Planner.stands_for c.args.window) (items_of c.args.self.now) (places_of c.args.rows) (places_of c.loop-left.left) c.in_ok-vertex.field-0 c.in_default.is c.in_ok-vertex.ensures.none) c.requires.places
 
 pub returns-clause-loses : goal.returns-clause-loses
 returns-clause-loses g c =
-    walk_ends (λ v. Loses g.P.Planner.total_of g.P.Planner.stands_for c.args.window (amount_at c.args.amounts v)) (list_of c.args.self.now) c.args.amounts
-    c.loop-vertex.planners c.loop-vertex.left c.loop-vertex.invariant.walked c.in_default.ensures.none
-
-pub returns-in_err-lose-clause-work : goal.returns-in_err-lose-clause-work
-returns-in_err-lose-clause-work g c = λ most within.
-    let Q = λ (v : ℕ). Loses g.P.Planner.total_of g.P.Planner.stands_for c.args.window (amount_at c.args.amounts v) in
-    let old = list_of c.args.self.now in
-    let counts = walk_counts g.P.Planner.change_cost Q old c.loop-vertex.planners c.args.amounts c.loop-vertex.left c.pop.new.self c.in-Some.vertex c.in-Some.quantity most
-    c.loop-vertex.steps c.lose.new.steps (c.args.steps.now + count_of c.args.amounts * change_most (length old) most)
-    c.loop-vertex.invariant.walked c.in-Some.ensures.taken within c.lose.ensures.work (c.loop-vertex.invariant.work most within) in
-    omega (arith, counts)
+    walk_ends (Loses g.P.Planner.total_of g.P.Planner.stands_for c.args.window) (items_of c.args.self.now) (places_of c.args.rows)
+    c.loop-left.items (places_of c.loop-left.left) c.loop-left.invariant.walked
+    (none_of (Loses g.P.Planner.total_of g.P.Planner.stands_for c.args.window) (items_of c.args.self.now) (places_of c.args.rows) (places_of c.loop-left.left) c.in_ok-vertex.field-0 c.in_default.is c.in_ok-vertex.ensures.none) c.requires.places

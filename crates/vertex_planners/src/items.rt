@@ -1,0 +1,187 @@
+//! The planners of one vertex.
+ghost use Rattle.std.specs.Prelude.{◌≡◌, ℕ, ◌+◌, ◌*◌, ◌<◌, ◌≤◌, List, [], ◌∷◌, ◌++◌, length, slice_get, slice_index_or, Some, IfOk, MatchOption};
+ghost use Rattle.planner_points.specs.declared.spans.Span.{Span};
+ghost use Rattle.planner_points.specs.Spans.{free_at, HasRoom, IsLeastFree, IsFirstFree};
+ghost use Rattle.book_laws.specs.Grouped.{some_span};
+ghost use Rattle.vertex_planners.specs.Kept.{Gains, Loses, HaveRoom, HaveSpans, AtRow};
+ghost use Rattle.vertex_planners.specs.Rows.{count_some};
+
+use flux_defs::{List, Steps, Window};
+use planner_points::Planner;
+use std::alloc::{AllocError, Global};
+use std::marker::Model;
+use std::sync::ledger::Ledger;
+
+/// The planners of one vertex side by side, by place. Contracts see the list of the planners. No item changes: a call
+/// that adds or removes spans gives a new one, which shares the planners that stay.
+#[derive(Drop)]
+pub struct Item<P: Planner + Drop> {
+    planners: List<P>,
+}
+
+impl<P: Planner + Drop> Model for Item<P> {
+    ghost use Rattle.std.specs.Prelude.{List};
+
+    ghost Value = { List P };
+
+    ghost view = { λ item. item.planners };
+}
+
+impl<P: Planner + Drop> Item<P> {
+    /// A planner without spans for each of these totals.
+    pub fn of_totals(alloc: Global, totals: &[u64], horizon: u64) -> Result<Item<P>, AllocError>
+        ensures len { IfOk result (λ item. length item ≡ length totals.now) }
+        ensures totals { IfOk result (λ item. (k : ℕ) (p : P) → slice_get item k ≡ Some p → P.total_of p ≡ slice_index_or totals.now k 0) }
+        ensures spans { IfOk result (λ item. (k : ℕ) (p : P) → slice_get item k ≡ Some p → P.stands_for p []) }
+    {
+        let mut planners = List::new(alloc);
+        for total in totals {
+            let planner = P::empty(alloc, *total, horizon)?;
+            match planners.push(planner) {
+                Ok(()) => {}
+                Err((_, refused)) => return Err(refused),
+            }
+        }
+        Ok(Item { planners })
+    }
+
+    /// The least that is free at the place over the window. It takes no memory.
+    pub fn least<L: Ledger>(&self, place: usize, window: Window, steps: &mut Steps<L>) -> u64
+        requires place { place < length self.now }
+        requires window { window.from < window.to }
+        ensures least { (p : P) → slice_get self.now place ≡ Some p → (spans : List Span) → P.stands_for p spans →
+            IsLeastFree (P.total_of p) spans window result }
+        ensures counted { steps.old ≤ steps.new }
+        ensures work { (p : P) → slice_get self.now place ≡ Some p → steps.new ≤ steps.old + P.look_cost p }
+    {
+        let Some(planner) = self.planners.get(place) else {
+            unreachable!()
+        };
+        planner.min_over(window, steps)
+    }
+
+    /// The least second from `from` on at which so much is free at the place; `None` exactly where at each of them less
+    /// is. It takes no memory.
+    pub fn first_free<L: Ledger>(
+        &self,
+        place: usize,
+        from: u64,
+        quantity: u64,
+        steps: &mut Steps<L>,
+    ) -> Option<u64>
+        requires place { place < length self.now }
+        ensures first { (p : P) → slice_get self.now place ≡ Some p → (spans : List Span) → P.stands_for p spans →
+            MatchOption result ((t : ℕ) → from ≤ t → free_at (P.total_of p) spans t < quantity) (IsFirstFree (P.total_of p) spans from quantity) }
+        ensures counted { steps.old ≤ steps.new }
+        ensures work { (p : P) → slice_get self.now place ≡ Some p → steps.new ≤ steps.old + P.look_cost p }
+    {
+        let Some(planner) = self.planners.get(place) else {
+            unreachable!()
+        };
+        planner.first_free(from, quantity, steps)
+    }
+
+    /// The item, of which each planner gains a span over the window of its place's number, if that isn't 0.
+    pub(crate) fn gained<L: Ledger>(
+        &self,
+        alloc: Global,
+        window: Window,
+        row: &List<u64>,
+        steps: &mut Steps<L>,
+    ) -> Result<Item<P>, AllocError>
+        requires places { length row.now ≡ length self.now }
+        requires window { window.from < window.to }
+        requires room { HaveRoom P.total_of P.stands_for window row.now self.now }
+        ensures gains { IfOk result (AtRow (Gains P.total_of P.stands_for window) row.now self.now) }
+        ensures work { (most : ℕ) → ((k : ℕ) (p : P) → slice_get self.now k ≡ Some p → P.change_cost p ≤ most) →
+            steps.new ≤ steps.old + count_some row.now * most }
+    {
+        let mut planners = List::new(alloc);
+        for place in 0..self.planners.len() {
+            let Some(old) = self.planners.get(place) else {
+                unreachable!()
+            };
+            let Some(number) = row.get(place) else {
+                unreachable!()
+            };
+            let planner = gain(alloc, old, window, *number, steps)?;
+            match planners.push(planner) {
+                Ok(()) => {}
+                Err((_, refused)) => return Err(refused),
+            }
+        }
+        Ok(Item { planners })
+    }
+
+    /// The item, of which each planner loses a span over the window of its place's number, if that isn't 0.
+    pub(crate) fn lost<L: Ledger>(
+        &self,
+        alloc: Global,
+        window: Window,
+        row: &List<u64>,
+        steps: &mut Steps<L>,
+    ) -> Result<Item<P>, AllocError>
+        requires places { length row.now ≡ length self.now }
+        requires window { window.from < window.to }
+        requires span { HaveSpans P.stands_for window row.now self.now }
+        ensures loses { IfOk result (AtRow (Loses P.total_of P.stands_for window) row.now self.now) }
+        ensures work { (most : ℕ) → ((k : ℕ) (p : P) → slice_get self.now k ≡ Some p → P.change_cost p ≤ most) →
+            steps.new ≤ steps.old + count_some row.now * most }
+    {
+        let mut planners = List::new(alloc);
+        for place in 0..self.planners.len() {
+            let Some(old) = self.planners.get(place) else {
+                unreachable!()
+            };
+            let Some(number) = row.get(place) else {
+                unreachable!()
+            };
+            let planner = lose(alloc, old, window, *number, steps)?;
+            match planners.push(planner) {
+                Ok(()) => {}
+                Err((_, refused)) => return Err(refused),
+            }
+        }
+        Ok(Item { planners })
+    }
+}
+
+/// The planner with a span more; the same one where the quantity is 0.
+fn gain<P: Planner + Drop, L: Ledger>(
+    alloc: Global,
+    planner: &P,
+    window: Window,
+    quantity: u64,
+    steps: &mut Steps<L>,
+) -> Result<P, AllocError>
+    requires window { window.from < window.to }
+    requires room { (spans : List Span) → P.stands_for planner.now spans → HasRoom (P.total_of planner.now) spans window quantity }
+    ensures gains { IfOk result (Gains P.total_of P.stands_for window quantity planner.now) }
+    ensures none { quantity ≡ 0 → steps.new ≤ steps.old }
+    ensures work { steps.new ≤ steps.old + P.change_cost planner.now }
+{
+    if quantity == 0 {
+        return Ok(planner.share()?);
+    }
+    Ok(planner.with_span(alloc, window, quantity, steps)?)
+}
+
+/// The planner with a span less; the same one where the quantity is 0.
+fn lose<P: Planner + Drop, L: Ledger>(
+    alloc: Global,
+    planner: &P,
+    window: Window,
+    quantity: u64,
+    steps: &mut Steps<L>,
+) -> Result<P, AllocError>
+    requires window { window.from < window.to }
+    requires span { (before : List Span) × (after : List Span) × P.stands_for planner.now (before ++ (some_span window quantity ++ after)) }
+    ensures loses { IfOk result (Loses P.total_of P.stands_for window quantity planner.now) }
+    ensures none { quantity ≡ 0 → steps.new ≤ steps.old }
+    ensures work { steps.new ≤ steps.old + P.change_cost planner.now }
+{
+    if quantity == 0 {
+        return Ok(planner.share()?);
+    }
+    Ok(planner.without_span(alloc, window, quantity, steps)?)
+}

@@ -1,0 +1,77 @@
+//! Numbers by places and vertices.
+ghost use Rattle.std.specs.Prelude.{◌≡◌, ℕ, ◌+◌, ◌<◌, ◌≤◌, List, [], ◌∷◌, ◌++◌, length, Option, Some, None, IfSome, IfNone, IfOk, OnOk, IsSome, slice_get};
+ghost use Rattle.vertex_planners.specs.Rows.{places_of, count_all, IsLeft, HasNoneLeft, IsRow, IsRowTaken};
+
+use crate::amounts::Amounts;
+use flux_defs::List;
+use std::alloc::{AllocError, Global};
+
+/// A number for each vertex at each of some places.
+#[derive(Drop)]
+pub struct Rows {
+    pub(crate) places: Vec<Amounts>,
+}
+
+impl Rows {
+    /// No places. It takes no memory.
+    pub fn new(alloc: Global) -> Rows
+        ensures { places_of result ≡ [] }
+    {
+        Rows {
+            places: Vec::new(alloc),
+        }
+    }
+
+    /// One place more, behind the others.
+    pub fn push(&mut self, amounts: Amounts) -> Result<(), AllocError>
+        ensures { OnOk result (places_of self.new ≡ places_of self.old ++ amounts ∷ []) }
+    {
+        match self.places.push(amounts) {
+            Ok(()) => Ok(()),
+            Err(_) => Err(AllocError),
+        }
+    }
+
+    /// Takes the numbers of one vertex off that has some, with the numbers by place; `None` exactly where no vertex is
+    /// left.
+    pub(crate) fn pop(&mut self, alloc: Global) -> Result<Option<(u32, List<u64>)>, AllocError>
+        ensures taken { IfOk result (λ found. IfSome found (λ first. IsRowTaken (places_of self.old) (places_of self.new) first.0 first.1)) }
+        ensures none { IfOk result (λ found. IfNone found (HasNoneLeft (places_of self.old))) }
+    {
+        match first_of(self.places.as_slice()) {
+            Some(vertex) => {
+                let row = self.take(alloc, vertex)?;
+                return Ok(Some((vertex, row)));
+            }
+            None => return Ok(None),
+        }
+    }
+
+    /// Takes the vertex's numbers off.
+    fn take(&mut self, alloc: Global, vertex: u32) -> Result<List<u64>, AllocError>
+        ensures { IfOk result (IsRow (places_of self.old) (places_of self.new) vertex) }
+    {
+        let mut row = List::new(alloc);
+        for place in 0..self.places.len() {
+            let number = self.places[place].take(vertex);
+            match row.push(number) {
+                Ok(()) => {}
+                Err((_, refused)) => return Err(refused),
+            }
+        }
+        Ok(row)
+    }
+}
+
+/// A vertex for which a number is kept at some place; `None` exactly where there is none.
+fn first_of(places: &[Amounts]) -> Option<u32>
+    ensures some { IfSome result (IsLeft places.now) }
+    ensures none { IfNone result (HasNoneLeft places.now) }
+{
+    for amounts in places {
+        if let Some(vertex) = amounts.first() {
+            return Some(vertex);
+        }
+    }
+    None
+}
