@@ -2,3 +2,4 @@ pub mod TieLaws
 pub mod CostLaws
 pub mod BookLaws
 pub mod ViewLaws
+pub mod RowLaws

@@ -26,15 +26,15 @@ use Rattle.book_state.specs.declared.held.Kept.{Kept}
 
 -- the graph
 abbrev pub graph_of : Kept → NamedGraph
-graph_of book = arc_value book.graph
+graph_of book = (arc_value book.filtered).graph
 
 -- its vertices
 abbrev pub vertices_of : Kept → List Vertex
-vertices_of book = (arc_value book.graph).resources.vertices
+vertices_of book = (arc_value book.filtered).graph.resources.vertices
 
 -- the filter rules
 abbrev pub rules_of : Kept → List Rule
-rules_of book = arc_value book.rules
+rules_of book = (arc_value book.filtered).rules
 
 -- the horizon, in seconds
 abbrev pub horizon_of : Kept → ℕ

@@ -13,6 +13,7 @@ ghost use Rattle.vertex_accounts.specs.Books.{AreAccounts, KeepsKind, types_of};
 ghost use Rattle.book_state.specs.Ties.{has_job};
 ghost use Rattle.book_state.specs.Books.{graph_of, rules_of, horizon_of, moment_of, rows_of, StandsFor, KeepsSetting, MayAdd, change_cost_of};
 
+use crate::filtered::FilteredGraph;
 use crate::held::{BookState, Kept};
 use flux_defs::{Job, Steps};
 use job_table::{JobTable, Row};
@@ -41,10 +42,10 @@ impl BookState {
         ensures jobs { IfOk result (λ book. StandsFor book []) }
     {
         let accounts = first_accounts(alloc, &graph, &rules, horizon)?;
+        let filtered = FilteredGraph::of(alloc, graph, rules)?;
         Ok(BookState {
             kept: Kept {
-                graph,
-                rules: Arc::new(alloc, rules)?,
+                filtered: Arc::new(alloc, filtered)?,
                 horizon,
                 moment: 0,
                 accounts: Arc::new(alloc, accounts)?,
@@ -89,8 +90,7 @@ impl BookState {
     {
         Ok(BookState {
             kept: Kept {
-                graph: Arc::try_clone(&self.kept.graph)?,
-                rules: Arc::try_clone(&self.kept.rules)?,
+                filtered: Arc::try_clone(&self.kept.filtered)?,
                 horizon: self.kept.horizon,
                 moment: to,
                 accounts: Arc::try_clone(&self.kept.accounts)?,
@@ -120,8 +120,7 @@ impl BookState {
         let accounts = old.with_job(alloc, graph, job, steps)?;
         Ok(BookState {
             kept: Kept {
-                graph: Arc::try_clone(&self.kept.graph)?,
-                rules: Arc::try_clone(&self.kept.rules)?,
+                filtered: Arc::try_clone(&self.kept.filtered)?,
                 horizon: self.kept.horizon,
                 moment: self.kept.moment,
                 accounts: Arc::new(alloc, accounts)?,
@@ -152,8 +151,7 @@ impl BookState {
         let accounts = old.without_job(alloc, graph, job, steps)?;
         Ok(BookState {
             kept: Kept {
-                graph: Arc::try_clone(&self.kept.graph)?,
-                rules: Arc::try_clone(&self.kept.rules)?,
+                filtered: Arc::try_clone(&self.kept.filtered)?,
                 horizon: self.kept.horizon,
                 moment: self.kept.moment,
                 accounts: Arc::new(alloc, accounts)?,

@@ -1,8 +1,7 @@
 //! What a book holds.
+use crate::filtered::FilteredGraph;
 use job_table::JobTable;
 use planner_min_tree::MinTree;
-use prune_filters::Rules;
-use resource_graph::Graph;
 use std::alloc::Global;
 use std::marker::Model;
 use std::sync::Arc;
@@ -11,8 +10,7 @@ use vertex_accounts::Accounts;
 /// The fields of a book.
 #[derive(Drop)]
 pub struct Kept {
-    pub(crate) graph: Arc<Graph, Global>,
-    pub(crate) rules: Arc<Rules, Global>,
+    pub(crate) filtered: Arc<FilteredGraph, Global>,
     pub(crate) horizon: u64,
     pub(crate) moment: u64,
     pub(crate) accounts: Arc<Accounts<MinTree>, Global>,

@@ -3,6 +3,7 @@
 #![tactic(auto)]
 
 mod books;
+mod filtered;
 mod held;
 mod view;
 

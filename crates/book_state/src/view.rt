@@ -87,8 +87,7 @@ impl BookState {
         ensures value { result.now ≡ graph_of self.now }
         ensures valid { IsWhole result.now }
     {
-        self.kept.graph.is_valid();
-        &self.kept.graph
+        self.kept.filtered.graph()
     }
 
     /// The accounts. Some jobs are there for which the book stands.
@@ -103,15 +102,9 @@ impl BookState {
     fn keeps_total(&self, vertex: u32, kind: u32) -> bool
         ensures { IsTrue result ↔ KeepsTotal self.now vertex kind }
     {
-        let Some(found) = self.kept.graph.vertices().get(vertex as usize) else {
+        let Some(found) = self.graph().vertices().get(vertex as usize) else {
             return false;
         };
-        let Some(high) = self.kept.graph.kind_name(found.kind) else {
-            return false;
-        };
-        let Some(low) = self.kept.graph.kind_name(kind) else {
-            return false;
-        };
-        self.kept.rules.keeps(high.bytes(), low.bytes())
+        self.kept.filtered.keeps(found.kind, kind)
     }
 }

@@ -1,23 +1,20 @@
 -- How many steps a commit takes.
-use Rattle.std.proofs.Common.{◌≡◌, ℕ, ◌+◌, ◌-◌, ◌*◌, ◌≤◌, ◌==◌, not, cond, if◌then◌else◌, Bool, true, false, List, [], ◌∷◌, length, inl, inr, sym, ap, subst, arith}
+use Rattle.std.proofs.Common.{◌≡◌, ℕ, ◌+◌, ◌-◌, ◌*◌, ◌≤◌, ◌==◌, not, cond, Bool, true, false, List, [], ◌∷◌, length, ap, arith}
 use Rattle.std.specs.FinMap.{len}
 use Rattle.std.proofs.Math.Nat.{mul-le-mul_left, mul-le-mul_right}
 use Rattle.std.proofs.lemmas.List.{length-map}
 use Rattle.std.proofs.lemmas.List.Sums.{sum_by-cons}
 use Rattle.flux_defs.specs.declared.claims.Job.{Job}
-use Rattle.flux_defs.specs.declared.requests.Ask.{Ask}
 use Rattle.flux_defs.specs.declared.journal.Command.{Command}
 use Rattle.flux_defs.specs.declared.journal.Command.TheVariants as command
 use Rattle.flux_defs.specs.declared.journal.Reply.{Reply}
 use Rattle.flux_defs.specs.declared.journal.Reply.TheVariants as reply
 use Rattle.flux_defs.specs.declared.journal.Entry.{Entry}
 use Rattle.flux_defs.specs.declared.verdicts.Verdict.{Verdict}
-use Rattle.flux_defs.specs.declared.verdicts.Verdict.TheVariants.{Found, NoFit, Unsat, Sat, Long, Known}
 use Rattle.flux_defs.specs.Digits.{dig}
 use Rattle.flux_defs.proofs.DigitLaws.{dig_mono}
-use Rattle.flux_defs.specs.Scheduler.{Setting, State, first_state, without_job, after, accepted_reply}
+use Rattle.flux_defs.specs.Scheduler.{State, first_state, without_job, after}
 use Rattle.flux_defs.specs.Histories.{state_after}
-use Rattle.flux_defs.specs.Verdicts.{job_of, Yields, YieldsJob}
 use Rattle.book_laws.specs.Grouped.{count_claims}
 use Rattle.vertex_accounts.proofs.JoinLaws.{count_push}
 use Rattle.book_state.specs.declared.held.BookState.{BookState}
@@ -27,7 +24,7 @@ use Rattle.sched_core.specs.declared.held.Site.{Site}
 use Rattle.sched_core.specs.declared.held.Kept.{Kept}
 use Rattle.sched_core.specs.Courses.{Course, left_by, pair_of, journal_in, setting_in, IsCore}
 use Rattle.sched_core.specs.Searched.{Searched}
-use Rattle.sched_core.specs.Costs.{AddsAtMost, digits_of, judge_most, append_most, commit_most}
+use Rattle.sched_core.specs.Costs.{digits_of, judge_most, append_most, commit_most}
 
 -- the jobs of a state have no more claims than were ever accepted
 count_without : (id : ℕ) (jobs : List Job) → count_claims (without_job id jobs) ≤ count_claims jobs
@@ -55,43 +52,6 @@ few_after s c r few = few
 few_left : (s : State) (journal : List Entry) → HasFew s → HasFew (state_after s journal)
 few_left s [] few = few
 few_left s (e ∷ journal) few = few_left (after s e.command e.reply) journal (few_after s e.command e.reply few)
-
--- the reply that a verdict yields adds no more claims than were found
-few_as : (n : ℕ) (r q : Reply) → r ≡ q → AddsAtMost n q → AddsAtMost n r
-few_as n r q e h = subst (AddsAtMost n) (sym e) h
-
-accepted_few : (moment : ℕ) (job : Job) → AddsAtMost (length job.claims) (accepted_reply moment job)
-accepted_few moment job = go (job.start == moment)
-  where
-    go : (b : Bool) → AddsAtMost (length job.claims) (if b then reply.Allocated job else reply.Reserved job)
-    go true = omega arith
-    go false = omega arith
-
-job_few : (g : Setting) (s : State) (id : ℕ) (ask : Ask) (none : Reply) (v : Verdict) (r : Reply) → ((n : ℕ) → AddsAtMost n none) → YieldsJob g s id ask none v r → AddsAtMost (length (claims_found v)) r
-job_few g s id ask none (Found start claims) r h (inl (over, e)) = few_as (length claims) r reply.Full e tt
-job_few g s id ask none (Found start claims) r h (inr (within, e)) =
-    few_as (length claims) r (accepted_reply s.moment (job_of g id ask start claims)) e (accepted_few s.moment (job_of g id ask start claims))
-job_few g s id ask none NoFit r h y = few_as 0 r none y (h 0)
-job_few g s id ask none Unsat r h y = few_as 0 r reply.Unsatisfiable y tt
-job_few g s id ask none Long r h y = few_as 0 r reply.TooLong y tt
-job_few g s id ask none Sat r h y = elim y [ ]
-job_few g s id ask none Known r h y = elim y [ ]
-
-pub yields_few : (g : Setting) (s : State) (c : Command) (v : Verdict) (r : Reply) → Yields g s c v r → AddsAtMost (length (claims_found v)) r
-yields_few g s (command.Allocate id ask) v r (inl (used, e)) = few_as (length (claims_found v)) r reply.Exists e tt
-yields_few g s (command.Allocate id ask) v r (inr (new, y)) = job_few g s id ask reply.Busy v r (λ n. tt) y
-yields_few g s (command.Reserve id ask) v r (inl (used, e)) = few_as (length (claims_found v)) r reply.Exists e tt
-yields_few g s (command.Reserve id ask) v r (inr (new, y)) = job_few g s id ask reply.NoStart v r (λ n. tt) y
-yields_few g s (command.Satisfy ask) Sat r y = few_as 0 r reply.Satisfiable y tt
-yields_few g s (command.Satisfy ask) Unsat r y = few_as 0 r reply.Unsatisfiable y tt
-yields_few g s (command.Satisfy ask) (Found start claims) r y = elim y [ ]
-yields_few g s (command.Satisfy ask) NoFit r y = elim y [ ]
-yields_few g s (command.Satisfy ask) Long r y = elim y [ ]
-yields_few g s (command.Satisfy ask) Known r y = elim y [ ]
-yields_few g s (command.Cancel id) v r y = elim y [ ]
-yields_few g s (command.Info id) v r y = elim y [ ]
-yields_few g s (command.Advance to) v r y = elim y [ ]
-yields_few g s (command.Invalid why) v r y = elim y [ ]
 
 -- a change by fewer claims costs no more
 pub change_grows : (book : BookState) (claims most old new : ℕ) → claims ≤ most → new ≤ old + change_cost_of book claims → new ≤ old + change_cost_of book most

@@ -10,6 +10,9 @@ use Rattle.flux_defs.specs.Scheduler.{Setting, State, Where, Replies, AcceptedOr
 use Rattle.flux_defs.specs.declared.verdicts.Verdict.{Verdict}
 use Rattle.flux_defs.specs.declared.verdicts.Verdict.TheVariants.{Found}
 use Rattle.flux_defs.specs.Verdicts.{FindsNow, FindsEarliest, FindsJob, YieldsJob, job_of}
+use Rattle.flux_defs.specs.Graph.{ResourceGraph}
+use Rattle.prune_filters.specs.declared.rules.Rule.{Rule}
+use Rattle.sched_core.specs.Courses.{setting_of}
 use Rattle.sched_core.specs.declared.finding.Starts.{Starts}
 use Rattle.sched_core.specs.declared.finding.Starts.TheVariants as starts
 use Rattle.sched_core.specs.Answered.{FindsAt, command_of, none_at, IsOfJob, Answers}
@@ -23,6 +26,15 @@ given_found g s id ask start claims none r m k em ek h =
     (λ y. y ≡ accepted_reply x (job_of g id ask start claims)) r) (sym em)
     (subst (λ (x : ℕ). Where (g.claim_limit < x + length claims) reply.Full
     (λ y. y ≡ accepted_reply m (job_of g id ask start claims)) r) (sym ek) h)
+
+-- what is given by how far a scheduler has come is given by its setting
+pub as_given : (graph : ResourceGraph) (rules : List Rule) (s : State) (id : ℕ) (ask : Ask) (v : Verdict) (r : Reply)
+    (h horizon l limit : ℕ) (n none : Reply) → h ≡ horizon → l ≡ limit → n ≡ none →
+    Answers (setting_of graph rules h l) s id ask n v r → Answers (setting_of graph rules horizon limit) s id ask none v r
+as_given graph rules s id ask v r h horizon l limit n none eh el en given =
+    subst (λ (x : ℕ). Answers (setting_of graph rules x limit) s id ask none v r) eh
+    (subst (λ (x : ℕ). Answers (setting_of graph rules h x) s id ask none v r) el
+    (subst (λ (x : Reply). Answers (setting_of graph rules h l) s id ask x v r) en given))
 
 module _ (g : Setting) (s : State) (id : ℕ) (ask : Ask) where
   accepts : (start : ℕ) (claims : List Claim) (none r : Reply) →

@@ -14,7 +14,7 @@ ghost use Rattle.overtaken_check.specs.Costs.{scan_most, claims_found};
 ghost use Rattle.sched_core.specs.Courses.{left_by, journal_in, setting_in, IsCore};
 ghost use Rattle.sched_core.specs.Answered.{FindsAt, none_at};
 ghost use Rattle.sched_core.specs.Judged.{IsJudgedOf};
-ghost use Rattle.sched_core.specs.Costs.{TellsAtMost};
+ghost use Rattle.sched_core.specs.Costs.{AddsAtMost, TellsAtMost};
 
 use crate::candidates::copy_verdict;
 use crate::finding::{Starts, is_used};
@@ -70,10 +70,11 @@ pub(crate) fn cause<L: Ledger>(
     )
 }
 
-/// The reply that a verdict on an ask for a job yields now.
+/// The reply that a verdict on an ask for a job yields now; `present` is the present moment.
 fn yield_job<L: Ledger>(
     site: &Site,
     kept: &Kept,
+    present: u64,
     id: u64,
     ask: &Ask,
     starts: Starts,
@@ -84,21 +85,31 @@ fn yield_job<L: Ledger>(
     requires core { IsCore site.now kept.now }
     requires found { FindsJob (setting_in site.now kept.now) (state_at (journal_in kept.now) place) id ask.now
         (FindsAt starts (setting_in site.now kept.now) (state_at (journal_in kept.now) place) ask.now) verdict }
-    ensures answer { Where (Contains (left_by (journal_in kept.now)).used id) reply.Exists
+    ensures answer { present ≡ (left_by (journal_in kept.now)).moment →
+        Where (Contains (left_by (journal_in kept.now)).used id) reply.Exists
         (YieldsJob (setting_in site.now kept.now) (left_by (journal_in kept.now)) id ask.now (none_at starts) verdict)
         result }
+    ensures few { AddsAtMost (length (claims_found verdict)) result }
     ensures work { steps.new ≤ steps.old + 16 * dig (len (rows_of kept.now.book) + 2) }
 {
     if is_used(&kept.book, id, steps) {
         return Reply::Exists;
     }
-    give(reached(site, kept), id, ask, none_at(starts), verdict)
+    give(
+        reached(site, kept, present),
+        id,
+        ask,
+        none_at(starts),
+        verdict,
+    )
 }
 
-/// The reply that a verdict yields now, of a search where the journal had so many entries.
-pub(crate) fn yielded<L: Ledger>(
+/// The reply that a verdict yields now, of a search where the journal had so many entries; `present` is the present
+/// moment.
+fn yielded<L: Ledger>(
     site: &Site,
     kept: &Kept,
+    present: u64,
     command: &Command,
     place: u64,
     verdict: Verdict,
@@ -106,25 +117,34 @@ pub(crate) fn yielded<L: Ledger>(
 ) -> Reply
     requires core { IsCore site.now kept.now }
     requires found { Finds (setting_in site.now kept.now) (state_at (journal_in kept.now) place) command.now verdict }
-    ensures answer { Yields (setting_in site.now kept.now) (left_by (journal_in kept.now)) command.now verdict result }
+    ensures answer { present ≡ (left_by (journal_in kept.now)).moment →
+        Yields (setting_in site.now kept.now) (left_by (journal_in kept.now)) command.now verdict result }
+    ensures few { AddsAtMost (length (claims_found verdict)) result }
     ensures work { steps.new ≤ steps.old + 16 * dig (len (rows_of kept.now.book) + 2) }
 {
     match command {
-        Command::Allocate { job, ask } => {
-            yield_job(site, kept, *job, ask, Starts::Now, place, verdict, steps)
-        }
-        Command::Reserve { job, ask } => {
-            yield_job(
-                site,
-                kept,
-                *job,
-                ask,
-                Starts::Earliest,
-                place,
-                verdict,
-                steps,
-            )
-        }
+        Command::Allocate { job, ask } => yield_job(
+            site,
+            kept,
+            present,
+            *job,
+            ask,
+            Starts::Now,
+            place,
+            verdict,
+            steps,
+        ),
+        Command::Reserve { job, ask } => yield_job(
+            site,
+            kept,
+            present,
+            *job,
+            ask,
+            Starts::Earliest,
+            place,
+            verdict,
+            steps,
+        ),
         Command::Satisfy { .. } => match verdict {
             Verdict::Sat => Reply::Satisfiable,
             Verdict::Unsat => Reply::Unsatisfiable,
@@ -132,6 +152,30 @@ pub(crate) fn yielded<L: Ledger>(
         },
         _ => unreachable!(),
     }
+}
+
+/// What is told of a candidate that nothing overtook: the reply of a fresh decision; `present` is the present moment.
+/// The only error is want of memory.
+fn fresh<L: Ledger>(
+    site: &Site,
+    kept: &Kept,
+    present: u64,
+    command: &Command,
+    place: u64,
+    verdict: &Verdict,
+    steps: &mut Steps<L>,
+) -> Result<Judged, AllocError>
+    requires core { IsCore site.now kept.now }
+    requires found { Finds (setting_in site.now kept.now) (state_at (journal_in kept.now) place) command.now
+        verdict.now }
+    ensures answer { present ≡ (left_by (journal_in kept.now)).moment →
+        StillStands (setting_in site.now kept.now) (journal_in kept.now) (candidate_of command.now place verdict.now) →
+        IfOk result (IsJudgedOf (setting_in site.now kept.now) (journal_in kept.now) command.now place verdict.now) }
+    ensures few { IfOk result (TellsAtMost (length (claims_found verdict.now))) }
+    ensures work { steps.new ≤ steps.old + 16 * dig (len (rows_of kept.now.book) + 2) }
+{
+    let copied = copy_verdict(site.alloc, verdict)?;
+    Ok(Judged::Fresh(yielded(site, kept, present, command, place, copied, steps)))
 }
 
 /// The reply of a fresh decision, or by what the candidate is overtaken. The only error is want of memory.
@@ -155,9 +199,8 @@ pub(crate) fn judge<L: Ledger>(
         + (2 * cost_of kept.now.book * length (claims_found verdict.now) + 3 * scan_most (journal_in kept.now) place
         + 16 * dig (len (rows_of kept.now.book) + 2)) }
 {
-    if let Some(cause) = cause(site, kept, command, place, moment, verdict, steps) {
-        return Ok(Judged::Overtaken(cause));
+    match cause(site, kept, command, place, moment, verdict, steps) {
+        Some(cause) => Ok(Judged::Overtaken(cause)),
+        None => fresh(site, kept, kept.book.now(), command, place, verdict, steps),
     }
-    let copied = copy_verdict(site.alloc, verdict)?;
-    Ok(Judged::Fresh(yielded(site, kept, command, place, copied, steps)))
 }

@@ -6,6 +6,7 @@ ghost use Rattle.flux_defs.specs.Scheduler.{State, IsProper, Replies};
 ghost use Rattle.sched_core.specs.declared.held.Kept.{Kept};
 ghost use Rattle.sched_core.specs.Courses.{left_by, journal_in, vertices_at, setting_in, IsCore};
 ghost use Rattle.sched_core.specs.Answered.{command_of, none_at};
+ghost use Rattle.sched_core.specs.Costs.{AddsAtMost};
 
 use crate::finding::{Starts, find_job, is_satisfiable};
 use crate::giving::{Reached, give};
@@ -15,15 +16,16 @@ use flux_defs::{Ask, Command, Reply, Steps};
 use std::alloc::AllocError;
 use std::sync::ledger::Ledger;
 
-pub(crate) fn reached(site: &Site, kept: &Kept) -> Reached
+/// How far the scheduler has come at a moment.
+pub(crate) fn reached(site: &Site, kept: &Kept, moment: u64) -> Reached
     requires { IsCore site.now kept.now }
-    ensures moment { result.moment ≡ (left_by (journal_in kept.now)).moment }
+    ensures moment { result.moment ≡ moment }
     ensures claim_count { result.claim_count ≡ (left_by (journal_in kept.now)).claim_count }
     ensures horizon { result.horizon ≡ site.now.horizon }
     ensures claim_limit { result.claim_limit ≡ site.now.claim_limit }
 {
     Reached {
-        moment: kept.book.now(),
+        moment,
         horizon: site.horizon,
         claim_count: kept.claim_count,
         claim_limit: site.claim_limit,
@@ -32,7 +34,8 @@ pub(crate) fn reached(site: &Site, kept: &Kept) -> Reached
 
 /// The reply where nothing fits at the starts.
 pub(crate) fn none_at(starts: Starts) -> Reply
-    ensures { result ≡ none_at starts }
+    ensures answer { result ≡ none_at starts }
+    ensures few { AddsAtMost 0 result }
 {
     match starts {
         Starts::Now => Reply::Busy,
@@ -64,7 +67,13 @@ fn job_reply<L: Ledger>(
         starts,
         steps,
     )?;
-    Ok(give(reached(site, kept), id, ask, none_at(starts), verdict))
+    Ok(give(
+        reached(site, kept, kept.book.now()),
+        id,
+        ask,
+        none_at(starts),
+        verdict,
+    ))
 }
 
 /// The reply to a satisfy.

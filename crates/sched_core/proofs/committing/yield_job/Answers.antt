@@ -1,11 +1,10 @@
 use Rattle.std.proofs.Common.{ℕ, inl, inr, refl, sym, ◌∙◌, subst, true≢false, Contains}
 use Rattle.std.specs.Arc.{arc_value}
-use Rattle.flux_defs.specs.declared.journal.Reply.{Reply}
 use Rattle.flux_defs.specs.Histories.{state_at}
 use Rattle.book_state.specs.Books.{rules_of}
-use Rattle.sched_core.specs.Courses.{left_by, journal_in, setting_in, setting_of}
-use Rattle.sched_core.specs.Answered.{none_at, IsOfJob, Answers}
-use Rattle.sched_core.proofs.Decided.{of_job}
+use Rattle.sched_core.specs.Courses.{left_by, journal_in, setting_in}
+use Rattle.sched_core.specs.Answered.{none_at, IsOfJob}
+use Rattle.sched_core.proofs.Decided.{of_job, as_given}
 use Rattle.sched_core.proofs.Committed.{used_now, known_used, answers_yield}
 use Rattle.sched_core.proofs.committing.yield_job.Goals as goal
 
@@ -18,11 +17,11 @@ give-requires g c =
     c.args.verdict c.requires.found)
 
 pub returns-then-is_used-clause-answer : goal.returns-then-is_used-clause-answer
-returns-then-is_used-clause-answer g c =
+returns-then-is_used-clause-answer g c = λ at.
     inl ((c.is_used.ensures.answer (journal_in c.args.kept.now) c.requires.core.book-of).0 c.if-is_used.true, refl)
 
 pub returns-clause-answer : goal.returns-clause-answer
-returns-clause-answer g c =
+returns-clause-answer g c = λ at.
     let site = c.args.site.now in
     let kept = c.args.kept.now in
     let core = c.requires.core in
@@ -37,14 +36,11 @@ returns-clause-answer g c =
     let none = none_at c.args.starts in
     let tells = c.is_used.ensures.answer j core.book-of in
     let unused : Contains s.used id → ⊥ = λ h. true≢false (sym (tells.1 h) ∙ c.if-is_used.false) in
-    let given = c.give.ensures graph rules s (sym c.reached.ensures.moment) (sym c.reached.ensures.claim_count) in
-    let by_none = subst (λ (r : Reply). Answers
-    (setting_of graph rules c.reached.result.horizon c.reached.result.claim_limit) s id ask r v c.give.result)
-    c.none_at.ensures given in
-    let answers = subst (λ (n : ℕ). Answers (setting_of graph rules site.horizon n) s id ask none v c.give.result)
-    c.reached.ensures.claim_limit
-    (subst (λ (h : ℕ). Answers (setting_of graph rules h c.reached.result.claim_limit) s id ask none v c.give.result)
-    c.reached.ensures.horizon by_none) in
+    let given = c.give.ensures.answer graph rules s (sym (c.reached.ensures.moment ∙ at))
+    (sym c.reached.ensures.claim_count) in
+    let answers = as_given graph rules s id ask v c.give.result c.reached.result.horizon site.horizon
+    c.reached.result.claim_limit site.claim_limit c.none_at.result none c.reached.ensures.horizon
+    c.reached.ensures.claim_limit c.none_at.ensures.answer given in
     inr (
       unused,
       answers_yield set s id ask none v c.give.result

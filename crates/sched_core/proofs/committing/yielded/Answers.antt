@@ -28,15 +28,15 @@ yield_job-requires-in-Reserve g c =
     }
 
 pub returns-in-Allocate-clause-answer : goal.returns-in-Allocate-clause-answer
-returns-in-Allocate-clause-answer g c =
+returns-in-Allocate-clause-answer g c = λ at.
     let site = c.args.site.now in
     let kept = c.args.kept.now in
     subst (λ (k : Command). Yields (setting_in site kept) (left_by (journal_in kept)) k c.args.verdict
-    c.yield_job.result) (sym c.in-Allocate.is) c.yield_job.ensures.answer
+    c.yield_job.result) (sym c.in-Allocate.is) (c.yield_job.ensures.answer at)
 
 pub returns-in-Reserve-clause-answer : goal.returns-in-Reserve-clause-answer
-returns-in-Reserve-clause-answer g c =
+returns-in-Reserve-clause-answer g c = λ at.
     let site = c.args.site.now in
     let kept = c.args.kept.now in
     subst (λ (k : Command). Yields (setting_in site kept) (left_by (journal_in kept)) k c.args.verdict
-    c.yield_job-in-Reserve.result) (sym c.in-Reserve.is) c.yield_job-in-Reserve.ensures.answer
+    c.yield_job-in-Reserve.result) (sym c.in-Reserve.is) (c.yield_job-in-Reserve.ensures.answer at)

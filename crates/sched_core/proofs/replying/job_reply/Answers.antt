@@ -1,13 +1,12 @@
-use Rattle.std.proofs.Common.{ℕ, sym, subst}
+use Rattle.std.proofs.Common.{ℕ, sym, ◌∙◌, subst}
 use Rattle.std.specs.Arc.{arc_value}
-use Rattle.flux_defs.specs.declared.journal.Reply.{Reply}
 use Rattle.flux_defs.specs.Scheduler.{Setting}
 use Rattle.flux_defs.specs.Verdicts.{FindsJob}
 use Rattle.resource_graph.specs.NamedGraph.{NamedGraph}
 use Rattle.book_state.specs.Books.{rules_of}
 use Rattle.sched_core.specs.Courses.{left_by, journal_in, setting_in, setting_of}
-use Rattle.sched_core.specs.Answered.{FindsAt, none_at, IsOfJob, Answers}
-use Rattle.sched_core.proofs.Decided.{decided, of_job}
+use Rattle.sched_core.specs.Answered.{FindsAt, none_at, IsOfJob}
+use Rattle.sched_core.proofs.Decided.{decided, of_job, as_given}
 use Rattle.sched_core.proofs.replying.job_reply.Goals as goal
 
 pub give-requires : goal.give-requires
@@ -41,12 +40,9 @@ returns g c =
     let set : NamedGraph → Setting = λ n. setting_of n.resources rules site.horizon site.claim_limit in
     let finds = subst (λ (n : NamedGraph). FindsJob (set n) s id ask (FindsAt c.args.starts (set n) s ask) v)
     c.deref.ensures (c.in_ok-verdict.ensures.found rules site.claim_limit (journal_in kept) core.book-of) in
-    let given = c.give.ensures graph rules s (sym c.reached.ensures.moment) (sym c.reached.ensures.claim_count) in
-    let by_none = subst (λ (r : Reply). Answers
-    (setting_of graph rules c.reached.result.horizon c.reached.result.claim_limit) s id ask r v c.give.result)
-    c.none_at.ensures given in
-    let answers = subst (λ (n : ℕ). Answers (setting_of graph rules site.horizon n) s id ask none v c.give.result)
-    c.reached.ensures.claim_limit
-    (subst (λ (h : ℕ). Answers (setting_of graph rules h c.reached.result.claim_limit) s id ask none v c.give.result)
-    c.reached.ensures.horizon by_none) in
+    let moment = c.reached.ensures.moment ∙ c.now.ensures ∙ core.book-of.moment in
+    let given = c.give.ensures.answer graph rules s (sym moment) (sym c.reached.ensures.claim_count) in
+    let answers = as_given graph rules s id ask v c.give.result c.reached.result.horizon site.horizon
+    c.reached.result.claim_limit site.claim_limit c.none_at.result none c.reached.ensures.horizon
+    c.reached.ensures.claim_limit c.none_at.ensures.answer given in
     decided (setting_in site kept) s id ask c.args.starts v c.give.result finds answers

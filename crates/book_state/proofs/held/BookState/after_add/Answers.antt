@@ -10,6 +10,7 @@ use Rattle.planner_min_tree.specs.Plans.{Plan}
 use Rattle.vertex_accounts.specs.declared.books.Accounts.{Accounts}
 use Rattle.vertex_accounts.specs.Books.{AreAccounts, KeepsKind, types_of}
 use Rattle.book_state.specs.declared.held.Kept.{Kept}
+use Rattle.book_state.specs.Filtered.{Filtered}
 use Rattle.book_state.specs.Books.{graph_of, rules_of, rows_of, accounts_of}
 use Rattle.book_state.proofs.BookLaws.{moved, added}
 use Rattle.book_state.proofs.ViewLaws.{accounts_at, fair_with, change_at}
@@ -41,7 +42,9 @@ returns-clause-jobs g c = λ jobs x.
     let acc = subst (λ (h : NamedGraph). AreAccounts (λ (p : Plan). p.total) Plans.StandsFor h.resources.vertices (jobs ++ job ∷ []) new) eg
     (c.in_ok-accounts.ensures.accounts jobs (accounts_at G c.accounts-old.result.now k eg ea jobs x) (fair_with G k eg c.graph-graph.ensures.valid job c.requires jobs x)) in
     moved (graph_of k) _ (rules_of k) _ new _ (insert (rows_of k) job.id (live_row c.args.at)) _ (jobs ++ job ∷ [])
-    (c.in_ok-try_clone.ensures ∙ ap graph_of c.self.view_is) (c.in_ok-try_clone-2.ensures ∙ ap rules_of c.self.view_is) c.in_ok-new.ensures.ok
+    (ap (λ (x : Filtered). x.graph) c.in_ok-try_clone.ensures ∙ ap graph_of c.self.view_is)
+    (ap (λ (x : Filtered). x.rules) c.in_ok-try_clone.ensures ∙ ap rules_of c.self.view_is)
+    c.in_ok-new.ensures.ok
     (c.in_ok-with_new.ensures.added ∙ ap (λ (b : Kept). insert (rows_of b) job.id (live_row c.args.at)) c.self.view_is)
     (added (graph_of k) (rules_of k) (accounts_of k) new (rows_of k) jobs job c.args.at c.requires.fresh acc
     (λ kind h. c.in_ok-accounts.ensures.kinds kind (subst (λ (a : Accounts Plan). KeepsKind a kind) (sym ea) h))
@@ -60,7 +63,9 @@ invariant_of-result g c =
     (c.in_ok-accounts.ensures.accounts jobs (accounts_at G c.accounts-old.result.now k eg ea jobs x) (fair_with G k eg c.graph-graph.ensures.valid job c.requires jobs x)) in (
       jobs ++ job ∷ [],
       moved (graph_of k) _ (rules_of k) _ new _ (insert (rows_of k) job.id (live_row c.args.at)) _ (jobs ++ job ∷ [])
-          (c.in_ok-try_clone.ensures ∙ ap graph_of c.self.view_is) (c.in_ok-try_clone-2.ensures ∙ ap rules_of c.self.view_is) c.in_ok-new.ensures.ok
+          (ap (λ (x : Filtered). x.graph) c.in_ok-try_clone.ensures ∙ ap graph_of c.self.view_is)
+          (ap (λ (x : Filtered). x.rules) c.in_ok-try_clone.ensures ∙ ap rules_of c.self.view_is)
+          c.in_ok-new.ensures.ok
           (c.in_ok-with_new.ensures.added ∙ ap (λ (b : Kept). insert (rows_of b) job.id (live_row c.args.at)) c.self.view_is)
           (added (graph_of k) (rules_of k) (accounts_of k) new (rows_of k) jobs job c.args.at c.requires.fresh acc
           (λ kind h. c.in_ok-accounts.ensures.kinds kind (subst (λ (a : Accounts Plan). KeepsKind a kind) (sym ea) h))
@@ -74,11 +79,6 @@ returns-in_err-accounts-clause-work g c =
 
 pub returns-in_err-try_clone-clause-work : goal.returns-in_err-try_clone-clause-work
 returns-in_err-try_clone-clause-work g c =
-    change_at c.graph-graph.result.now c.accounts-old.result.now c.args.self.now c.graph-graph.ensures.value c.accounts-old.ensures.value c.accounts-old.ensures.book c.graph-graph.ensures.valid
-    (length c.args.job.now.claims) c.args.steps.now c.with_job.new.steps c.with_job.new.steps c.with_job.ensures.work (omega arith)
-
-pub returns-in_err-try_clone-2-clause-work : goal.returns-in_err-try_clone-2-clause-work
-returns-in_err-try_clone-2-clause-work g c =
     change_at c.graph-graph.result.now c.accounts-old.result.now c.args.self.now c.graph-graph.ensures.value c.accounts-old.ensures.value c.accounts-old.ensures.book c.graph-graph.ensures.valid
     (length c.args.job.now.claims) c.args.steps.now c.with_job.new.steps c.with_job.new.steps c.with_job.ensures.work (omega arith)
 

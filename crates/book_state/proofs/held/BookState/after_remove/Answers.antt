@@ -10,6 +10,7 @@ use Rattle.vertex_accounts.specs.declared.books.Accounts.{Accounts}
 use Rattle.vertex_accounts.specs.Books.{AreAccounts, KeepsKind, IsOnGraph, types_of}
 use Rattle.vertex_accounts.proofs.JoinLaws.{middle_of}
 use Rattle.book_state.specs.declared.held.Kept.{Kept}
+use Rattle.book_state.specs.Filtered.{Filtered}
 use Rattle.book_state.specs.Books.{graph_of, vertices_of, rules_of, rows_of, accounts_of, StandsFor}
 use Rattle.book_state.proofs.BookLaws.{moved, moved_to, removed, split_at}
 use Rattle.book_state.proofs.TieLaws.{without_middle}
@@ -46,7 +47,9 @@ returns-clause-once g c = λ before after x.
     let acc = subst (λ (h : NamedGraph). AreAccounts (λ (p : Plan). p.total) Plans.StandsFor h.resources.vertices (before ++ after) new) eg
     (c.in_ok-accounts.ensures.accounts before after (accounts_at c.graph-graph.result.now c.accounts-old.result.now k eg ea (before ++ job ∷ after) x)) in
     moved (graph_of k) _ (rules_of k) _ new _ (insert (rows_of k) job.id (cancelled_row at)) _ (before ++ after)
-    (c.in_ok-try_clone.ensures ∙ ap graph_of c.self.view_is) (c.in_ok-try_clone-2.ensures ∙ ap rules_of c.self.view_is) c.in_ok-new.ensures.ok
+    (ap (λ (x : Filtered). x.graph) c.in_ok-try_clone.ensures ∙ ap graph_of c.self.view_is)
+    (ap (λ (x : Filtered). x.rules) c.in_ok-try_clone.ensures ∙ ap rules_of c.self.view_is)
+    c.in_ok-new.ensures.ok
     (c.in_ok-with_cancelled.ensures.cancelled at (subst (λ (b : Kept). get (rows_of b) job.id ≡ Some (live_row at)) (sym c.self.view_is) live)
     ∙ ap (λ (b : Kept). insert (rows_of b) job.id (cancelled_row at)) c.self.view_is)
     (removed (graph_of k) (rules_of k) (accounts_of k) new (rows_of k) before job after at live acc
@@ -67,7 +70,9 @@ returns-clause-jobs g c = λ jobs y has.
     let acc = subst (λ (h : NamedGraph). AreAccounts (λ (p : Plan). p.total) Plans.StandsFor h.resources.vertices (before ++ after) new) eg
     (c.in_ok-accounts.ensures.accounts before after (accounts_at c.graph-graph.result.now c.accounts-old.result.now k eg ea (before ++ job ∷ after) x)) in
     moved_to (graph_of k) _ (rules_of k) _ new _ (insert (rows_of k) job.id (cancelled_row at)) _ (before ++ after) (without_job job.id jobs) same
-    (c.in_ok-try_clone.ensures ∙ ap graph_of c.self.view_is) (c.in_ok-try_clone-2.ensures ∙ ap rules_of c.self.view_is) c.in_ok-new.ensures.ok
+    (ap (λ (x : Filtered). x.graph) c.in_ok-try_clone.ensures ∙ ap graph_of c.self.view_is)
+    (ap (λ (x : Filtered). x.rules) c.in_ok-try_clone.ensures ∙ ap rules_of c.self.view_is)
+    c.in_ok-new.ensures.ok
     (c.in_ok-with_cancelled.ensures.cancelled at (subst (λ (b : Kept). get (rows_of b) job.id ≡ Some (live_row at)) (sym c.self.view_is) live)
     ∙ ap (λ (b : Kept). insert (rows_of b) job.id (cancelled_row at)) c.self.view_is)
     (removed (graph_of k) (rules_of k) (accounts_of k) new (rows_of k) before job after at live acc
@@ -89,7 +94,9 @@ invariant_of-result g c =
     (c.in_ok-accounts.ensures.accounts before after (accounts_at c.graph-graph.result.now c.accounts-old.result.now k eg ea (before ++ job ∷ after) x)) in (
       before ++ after,
       moved (graph_of k) _ (rules_of k) _ new _ (insert (rows_of k) job.id (cancelled_row at)) _ (before ++ after)
-          (c.in_ok-try_clone.ensures ∙ ap graph_of c.self.view_is) (c.in_ok-try_clone-2.ensures ∙ ap rules_of c.self.view_is) c.in_ok-new.ensures.ok
+          (ap (λ (x : Filtered). x.graph) c.in_ok-try_clone.ensures ∙ ap graph_of c.self.view_is)
+          (ap (λ (x : Filtered). x.rules) c.in_ok-try_clone.ensures ∙ ap rules_of c.self.view_is)
+          c.in_ok-new.ensures.ok
           (c.in_ok-with_cancelled.ensures.cancelled at (subst (λ (b : Kept). get (rows_of b) job.id ≡ Some (live_row at)) (sym c.self.view_is) live)
           ∙ ap (λ (b : Kept). insert (rows_of b) job.id (cancelled_row at)) c.self.view_is)
           (removed (graph_of k) (rules_of k) (accounts_of k) new (rows_of k) before job after at live acc
@@ -104,11 +111,6 @@ returns-in_err-accounts-clause-work g c =
 
 pub returns-in_err-try_clone-clause-work : goal.returns-in_err-try_clone-clause-work
 returns-in_err-try_clone-clause-work g c =
-    change_at c.graph-graph.result.now c.accounts-old.result.now c.args.self.now c.graph-graph.ensures.value c.accounts-old.ensures.value c.accounts-old.ensures.book c.graph-graph.ensures.valid
-    (length c.args.job.now.claims) c.args.steps.now c.without_job.new.steps c.without_job.new.steps c.without_job.ensures.work (omega arith)
-
-pub returns-in_err-try_clone-2-clause-work : goal.returns-in_err-try_clone-2-clause-work
-returns-in_err-try_clone-2-clause-work g c =
     change_at c.graph-graph.result.now c.accounts-old.result.now c.args.self.now c.graph-graph.ensures.value c.accounts-old.ensures.value c.accounts-old.ensures.book c.graph-graph.ensures.valid
     (length c.args.job.now.claims) c.args.steps.now c.without_job.new.steps c.without_job.new.steps c.without_job.ensures.work (omega arith)
 
