@@ -13,7 +13,7 @@ use Rattle.planner_min_tree.specs.Plans.{Plan}
 use Rattle.planner_min_tree.proofs.PlanFacts.{few_points}
 use Rattle.book_laws.specs.Grouped.{grouped, times_of}
 use Rattle.book_laws.proofs.GroupedLaws.{grouped_few, times_many}
-use Rattle.vertex_planners.specs.Lists.{items_of, at_place}
+use Rattle.vertex_planners.specs.Lists.{items_of}
 use Rattle.vertex_planners.proofs.PlaceLaws.{within_list, item_at, in_place}
 use Rattle.vertex_accounts.specs.declared.books.Accounts.{Accounts}
 use Rattle.vertex_accounts.specs.Quantities.{amount_in}

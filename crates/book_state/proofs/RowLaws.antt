@@ -7,7 +7,7 @@ use Rattle.std.proofs.lemmas.Option.{slice_get_within, get_or_from_slice_get}
 use Rattle.std.proofs.lemmas.Slice.Zip.{all_zipped_more}
 use Rattle.prune_filters.specs.declared.rules.Rule.{Rule}
 use Rattle.prune_filters.specs.Filters.{IsKept}
-use Rattle.vertex_accounts.proofs.PushLaws.{past_list}
+use Rattle.vertex_accounts.proofs.CountLaws.{past_list}
 use Rattle.book_state.specs.Filtered.{IsKeptRow, AreKeptRows}
 
 -- one type more

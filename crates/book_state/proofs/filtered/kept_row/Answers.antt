@@ -1,7 +1,7 @@
 use Rattle.std.proofs.Common.{◌≡◌, ◌+◌, ◌↔◌, IsTrue, ℕ, List, Bool, Some, None, take, slice_get, option_copied, sym, ◌∙◌, ap, subst, arith}
 use Rattle.std.specs.List.{AllZip}
 use Rattle.prune_filters.specs.Filters.{IsKept}
-use Rattle.vertex_accounts.proofs.PushLaws.{within_list}
+use Rattle.std.proofs.lemmas.Option.{slice_get_within}
 use Rattle.book_state.proofs.RowLaws.{zipped_next, zipped_all}
 use Rattle.book_state.proofs.filtered.kept_row.Goals as goal
 
@@ -9,7 +9,7 @@ pub loop-low-preserved : goal.loop-low-preserved
 loop-low-preserved c =
     let kinds = c.args.graph.now.resources.kinds in
     let at : slice_get kinds c.loop-low.kind ≡ Some c.in-Some.low.now = sym c.kind_name.ensures ∙ ap option_copied c.in-Some.is in
-    let inside = within_list kinds c.loop-low.kind c.in-Some.low.now at in
+    let inside = slice_get_within kinds c.loop-low.kind c.in-Some.low.now at in
     record {
       within = omega (arith, inside);
       so_far = subst

@@ -1,6 +1,6 @@
 use Rattle.std.proofs.Common.{◌≡◌, ◌+◌, ℕ, List, Bool, Some, None, take, slice_get, option_copied, sym, ◌∙◌, ap, subst, arith}
 use Rattle.std.specs.List.{AllZip}
-use Rattle.vertex_accounts.proofs.PushLaws.{within_list}
+use Rattle.std.proofs.lemmas.Option.{slice_get_within}
 use Rattle.book_state.specs.Filtered.{IsKeptRow}
 use Rattle.book_state.proofs.RowLaws.{zipped_next, zipped_all}
 use Rattle.book_state.proofs.filtered.kept_rows.Goals as goal
@@ -10,7 +10,7 @@ loop-high-preserved c =
     let kinds = c.args.graph.now.resources.kinds in
     let rules = c.args.rules.now in
     let at : slice_get kinds c.loop-high.kind ≡ Some c.in-Some.high.now = sym c.kind_name.ensures ∙ ap option_copied c.in-Some.is in
-    let inside = within_list kinds c.loop-high.kind c.in-Some.high.now at in
+    let inside = slice_get_within kinds c.loop-high.kind c.in-Some.high.now at in
     record {
       within = omega (arith, inside);
       so_far = subst (λ (rows : List (List Bool)). AllZip (IsKeptRow kinds rules) (take (c.loop-high.kind + 1) kinds) rows) (sym c.in-Ok.ensures.items)
