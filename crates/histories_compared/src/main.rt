@@ -68,7 +68,7 @@ fn main(rt: HostRuntime) -> io::Result<()> {
         .min(places.taken)
         > 40;
     println!(rt;
-        "{} pairs of places: {} replies and {} causes differ; more than 300 of each outcome: {enough}",
+        "{} pairs of places: {} replies and {} causes differ; more than 40 of each outcome: {enough}",
         places.pairs, places.replies, places.causes
     )?;
     let (answers, history) = told.two;
