@@ -36,7 +36,8 @@ fn read_alike(alloc: Global, before: &Snap, after: &Snap) -> Result<bool, AllocE
     Ok(true)
 }
 
-/// Whether the book is as it was when the snapshot was taken: its version is the same, and so is what another snapshot shows.
+/// Whether the book is as it was when the snapshot was taken: its version is the same, and so is what another snapshot
+/// shows.
 fn is_as_before<R: Wait>(
     rt: &R,
     alloc: Global,
