@@ -3,8 +3,6 @@
 //! writes is the same whichever request is refused, once the book is made. `tools/refused.py` refuses each in turn.
 #![tactic(auto)]
 
-ghost use Rattle.std.specs.Prelude.{◌≡◌, ◌<◌};
-
 mod calls;
 mod plays;
 mod scenes;
