@@ -117,7 +117,8 @@ pub fn searched<R: Wait>(
     ensures share { share seat.new ≡ share seat.old }
 {
     let snap = snapped(rt, book, seat, well)?;
-    found::<Brand>(&snap, command, well, Blank::new(1))
+    let blank = Blank::new(1);
+    found::<Brand>(&snap, command, well, blank)
 }
 
 /// The answer to a candidate.
