@@ -7,9 +7,11 @@ import subprocess
 import tempfile
 import unittest
 
-from helper import PROGRAM, example
+from helper import PROGRAM, TOP, example
 
 import refused
+
+BOOK_CALLS = os.path.join(TOP, "crates/refused_growths/out/refused_growths")
 
 # It asks twice, and prints a line. Where the first answer is none it ends as the word says: well, or by a signal.
 SMALL = r"""
@@ -66,6 +68,14 @@ class Refused(unittest.TestCase):
             status, lines = told(PROGRAM, "--step", "9", "--input", example("first.txt"), "--", *words)
             self.assertEqual(status, 0, lines)
             self.assertTrue(lines[0].endswith(", 0 wrong"), lines)
+
+    @unittest.skipUnless(os.path.exists(BOOK_CALLS), "no program of book calls is built")
+    def test_calls_of_a_book(self):
+        status, lines = told(BOOK_CALLS)
+        self.assertEqual(status, 0, lines)
+        self.assertTrue(lines[0].endswith(", 0 wrong"), lines)
+        ends = [line.split(" ", 1)[1] for line in lines[1:]]
+        self.assertEqual(ends, ["status 0, the whole answer", "status 6, nothing written"])
 
 
 if __name__ == "__main__":
