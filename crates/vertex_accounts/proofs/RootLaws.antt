@@ -1,6 +1,6 @@
 -- What jobs leave of a type, moment by moment: nothing at all, and at the root from when on so much.
-use Rattle.std.proofs.Common.{◌≡◌, ℕ, zero, suc, ◌<◌, ◌≤◌, List, [], ◌∷◌, ◌++◌, length, Option, Some, None, slice_get, ◌⊎◌, inl, inr, refl, sym, ◌∙◌, subst, arith, IsTrue, true≢false}
-use Rattle.std.specs.Prelude.{MatchOption, sum_by}
+use Rattle.std.proofs.Common.{◌≡◌, ℕ, zero, suc, ◌≤◌, List, [], ◌∷◌, ◌++◌, Option, Some, None, ◌⊎◌, inl, inr, sym, ◌∙◌, subst, arith, IsTrue, true≢false}
+use Rattle.std.specs.Prelude.{sum_by}
 use Rattle.std.proofs.lemmas.Bool.{cases_lt}
 use Rattle.flux_defs.specs.declared.vertices.Vertex.{Vertex}
 use Rattle.flux_defs.specs.declared.claims.Claim.{Claim}
@@ -15,10 +15,10 @@ use Rattle.flux_defs.specs.Free.{total_at, IsTotalOver}
 use Rattle.graph_laws.proofs.Containment.{below_le}
 use Rattle.graph_laws.proofs.Preorder.{parents_first}
 use Rattle.planner_points.specs.declared.spans.Span.{Span}
-use Rattle.planner_points.specs.Spans.{free_at, IsEnd, IsFirstFree, IsLeastFree}
+use Rattle.planner_points.specs.Spans.{free_at, IsEnd, IsLeastFree}
 use Rattle.prune_filters.specs.Amples.{IsNextAmpleOrNone}
 use Rattle.book_laws.specs.Amounts.{capacity, part_within}
-use Rattle.book_laws.specs.Grouped.{AreKept, time_of, some_span, grouped}
+use Rattle.book_laws.specs.Grouped.{time_of, some_span, grouped}
 use Rattle.book_laws.specs.TotalLaws.{AreFair}
 use Rattle.book_laws.proofs.GroupedLaws.{used_grouped}
 use Rattle.book_laws.proofs.Sums.{bool_of, live_most, live_where}

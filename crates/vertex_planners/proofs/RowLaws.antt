@@ -1,13 +1,12 @@
 -- The numbers of one vertex, taken off place by place.
-use Rattle.std.proofs.Common.{◌≡◌, ◌≢◌, ℕ, zero, suc, ◌+◌, ◌*◌, ◌<◌, ◌≤◌, cond, Bool, true, false, is_some, List, [], ◌∷◌, ◌++◌, length, length-append, get_or, take, unwrap_or, Option, Some, None, IsSome, true≢false, slice_get, inl, inr, refl, sym, ◌∙◌, ap, subst, arith}
-use Rattle.std.specs.Prelude.{slice_set, sum_by}
-use Rattle.std.proofs.lemmas.Bool.{cases_lt}
+use Rattle.std.proofs.Common.{◌≡◌, ℕ, zero, suc, ◌+◌, ◌<◌, ◌≤◌, cond, is_some, List, [], ◌∷◌, ◌++◌, length, length-append, unwrap_or, Option, Some, None, IsSome, true≢false, slice_get, inl, inr, refl, sym, ◌∙◌, ap, subst, arith}
+use Rattle.std.specs.Prelude.{slice_set}
 use Rattle.std.proofs.lemmas.Bool.Decides.{eqb_tells}
 use Rattle.std.proofs.lemmas.List.Sums.{sum_by-cons, sum_by-append, sum_by-set}
 use Rattle.std.proofs.lemmas.Option.{get_or_from_slice_get}
 use Rattle.vertex_planners.specs.declared.amounts.Amounts.{Amounts}
-use Rattle.vertex_planners.specs.Numbers.{kept_at, amount_at, count_of, IsTaken}
-use Rattle.vertex_planners.specs.Rows.{count_all, some_one, count_some, IsLeft, IsRow}
+use Rattle.vertex_planners.specs.Numbers.{kept_at, count_of, IsTaken}
+use Rattle.vertex_planners.specs.Rows.{count_all, some_one, count_some, IsRow}
 use Rattle.vertex_planners.proofs.PlaceLaws.{within_list, old_there, new_there, set_there, set_others, set_len}
 
 -- the numbers of the first i places are taken off

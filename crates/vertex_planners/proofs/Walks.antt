@@ -1,14 +1,14 @@
 -- A walk over the vertices that have numbers, which changes their items one by one.
-use Rattle.std.proofs.Common.{◌≡◌, ◌≢◌, ℕ, ◌+◌, ◌*◌, ◌<◌, ◌≤◌, List, ◌++◌, length, Option, Some, None, is_some, true≢false, unwrap_or, slice_get, IsSome, IfSome, IfNone, inl, inr, refl, sym, ◌∙◌, ap, subst, arith}
+use Rattle.std.proofs.Common.{◌≡◌, ◌≢◌, ℕ, ◌+◌, ◌*◌, ◌<◌, ◌≤◌, List, length, Option, Some, None, is_some, true≢false, unwrap_or, slice_get, IsSome, IfSome, IfNone, inl, inr, refl, sym, ◌∙◌, ap, subst, arith}
 use Rattle.std.proofs.Math.Nat.{mul-le-mul_right}
 use Rattle.std.proofs.lemmas.Bool.Decides.{eqb_tells}
 use Rattle.flux_defs.specs.declared.claims.Window.{Window}
 use Rattle.planner_points.specs.declared.spans.Span.{Span}
 use Rattle.flux_defs.specs.Digits.{dig}
 use Rattle.vertex_planners.specs.declared.amounts.Amounts.{Amounts}
-use Rattle.vertex_planners.specs.Numbers.{kept_at, amount_at, IsTaken}
-use Rattle.vertex_planners.specs.Rows.{count_all, count_some, HaveKeysBelow, IsLeft, IsGone, HasNoneLeft, IsRow, IsRowTaken}
-use Rattle.vertex_planners.specs.Lists.{AreWide, at_place}
+use Rattle.vertex_planners.specs.Numbers.{kept_at, amount_at}
+use Rattle.vertex_planners.specs.Rows.{count_all, count_some, HaveKeysBelow, IsLeft, IsGone, HasNoneLeft, IsRowTaken}
+use Rattle.vertex_planners.specs.Lists.{AreWide}
 use Rattle.vertex_planners.specs.Kept.{Gains, Loses, AtNumbers, AtRow, AtAmounts, AtPlaces}
 use Rattle.vertex_planners.specs.Work.{change_most, CostWithin}
 use Rattle.vertex_planners.proofs.PlaceLaws.{item_at, within_list, same_place, of_place, in_place}

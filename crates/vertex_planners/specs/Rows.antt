@@ -1,5 +1,5 @@
 -- Numbers by places and vertices.
-use Rattle.std.specs.Prelude.{◌≡◌, ℕ, zero, suc, ◌<◌, ◌+◌, ◌≤◌, List, length, Option, Some, None, IsSome, sum_by, slice_get}
+use Rattle.std.specs.Prelude.{◌≡◌, ℕ, zero, suc, ◌<◌, ◌+◌, ◌≤◌, List, length, Some, None, IsSome, sum_by, slice_get}
 use Rattle.vertex_planners.specs.declared.amounts.Amounts.{Amounts}
 use Rattle.vertex_planners.specs.declared.rows.Rows.{Rows}
 use Rattle.vertex_planners.specs.Numbers.{kept_at, count_of, HasKeysBelow, IsTaken}

@@ -1,5 +1,5 @@
 //! Planners by vertices.
-ghost use Rattle.std.specs.Prelude.{◌≡◌, ◌≢◌, ℕ, ◌+◌, ◌*◌, ◌<◌, ◌≤◌, List, [], ◌∷◌, ◌++◌, length, slice_get, Some, IfOk, OnOk};
+ghost use Rattle.std.specs.Prelude.{◌≡◌, ◌≢◌, ℕ, ◌+◌, ◌*◌, ◌<◌, ◌≤◌, List, [], ◌∷◌, ◌++◌, length, slice_get, Some, IfOk, OnOk, OnErr};
 ghost use Rattle.flux_defs.specs.Digits.{dig};
 ghost use Rattle.vertex_planners.specs.Kept.{Gains, Loses, HaveRoom, HaveSpans, AtRow, RoomAt, SpansAt, AtPlaces};
 ghost use Rattle.vertex_planners.specs.Rows.{places_of, count_all, count_some, HaveKeysBelow};
@@ -32,14 +32,15 @@ impl<P: Planner + Drop> VertexPlanners<P> {
         }
     }
 
-    /// One vertex more, behind the others.
+    /// One vertex more, behind the others. Where no memory is left there are those as before.
     pub fn push<L: Ledger>(
         &mut self,
         alloc: Global,
         item: Item<P>,
         steps: &mut Steps<L>,
     ) -> Result<(), AllocError>
-        ensures { OnOk result (items_of self.new ≡ items_of self.old ++ item ∷ []) }
+        ensures ok { OnOk result (items_of self.new ≡ items_of self.old ++ item ∷ []) }
+        ensures same { OnErr result (items_of self.new ≡ items_of self.old) }
     {
         match self.items.push(alloc, item, steps) {
             Ok(()) => return Ok(()),

@@ -1,5 +1,5 @@
 //! Numbers by places and vertices.
-ghost use Rattle.std.specs.Prelude.{◌≡◌, ℕ, ◌+◌, ◌<◌, ◌≤◌, List, [], ◌∷◌, ◌++◌, length, Option, Some, None, IfSome, IfNone, IfOk, OnOk, IsSome, slice_get};
+ghost use Rattle.std.specs.Prelude.{◌≡◌, ℕ, ◌+◌, ◌<◌, ◌≤◌, List, [], ◌∷◌, ◌++◌, length, Option, Some, None, IfSome, IfNone, IfOk, OnOk, OnErr, IsSome, slice_get};
 ghost use Rattle.vertex_planners.specs.Rows.{places_of, count_all, IsLeft, HasNoneLeft, IsRow, IsRowTaken};
 
 use crate::amounts::Amounts;
@@ -22,9 +22,10 @@ impl Rows {
         }
     }
 
-    /// One place more, behind the others.
+    /// One place more, behind the others. Where no memory is left there are those as before.
     pub fn push(&mut self, amounts: Amounts) -> Result<(), AllocError>
-        ensures { OnOk result (places_of self.new ≡ places_of self.old ++ amounts ∷ []) }
+        ensures ok { OnOk result (places_of self.new ≡ places_of self.old ++ amounts ∷ []) }
+        ensures same { OnErr result (places_of self.new ≡ places_of self.old) }
     {
         match self.places.push(amounts) {
             Ok(()) => Ok(()),

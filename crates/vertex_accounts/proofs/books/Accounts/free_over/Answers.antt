@@ -1,4 +1,4 @@
-use Rattle.std.proofs.Common.{length, sym, ◌∙◌, ap, arith, true≢false, ℕ, ◌+◌, ◌*◌}
+use Rattle.std.proofs.Common.{sym, ◌∙◌, ap, arith, true≢false, ℕ, ◌+◌, ◌*◌}
 use Rattle.flux_defs.specs.Digits.{dig}
 use Rattle.book_laws.proofs.Views.{free_closed, free_pool, free_plain}
 use Rattle.vertex_planners.specs.Lists.{items_of}

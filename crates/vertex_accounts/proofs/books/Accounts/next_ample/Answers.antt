@@ -1,4 +1,4 @@
-use Rattle.std.proofs.Common.{ℕ, ◌+◌, ◌*◌, length, slice_get, Some, sym, ◌∙◌, ap, arith}
+use Rattle.std.proofs.Common.{ℕ, ◌+◌, ◌*◌, slice_get, sym, ◌∙◌, ap, arith}
 use Rattle.flux_defs.specs.Digits.{dig}
 use Rattle.vertex_planners.specs.Lists.{items_of}
 use Rattle.vertex_planners.proofs.PlaceLaws.{item_at}

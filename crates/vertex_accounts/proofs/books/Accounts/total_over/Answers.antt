@@ -1,4 +1,4 @@
-use Rattle.std.proofs.Common.{ℕ, ◌+◌, ◌*◌, length, slice_get, Some, sym, ◌∙◌, ap, subst, arith, true≢false}
+use Rattle.std.proofs.Common.{ℕ, ◌+◌, ◌*◌, slice_get, sym, ◌∙◌, ap, subst, arith, true≢false}
 use Rattle.flux_defs.specs.Digits.{dig}
 use Rattle.planner_points.specs.Spans.{IsLeastFree}
 use Rattle.book_laws.specs.Amounts.{capacity}

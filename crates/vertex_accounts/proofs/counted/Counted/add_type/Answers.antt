@@ -1,4 +1,4 @@
-use Rattle.std.proofs.Common.{◌∷◌, ◌++◌, [], List, Option, Some, ℕ, length, refl, sym, ◌∙◌, ap, subst}
+use Rattle.std.proofs.Common.{◌∷◌, ◌++◌, [], List, Option, Some, ℕ, refl, sym, ◌∙◌, ap, subst}
 use Rattle.vertex_accounts.specs.declared.quantities.Quantity.TheVariants.{Units}
 use Rattle.vertex_accounts.specs.Capacities.{AreOf}
 use Rattle.vertex_accounts.proofs.CountLaws.{no_place, own_place}

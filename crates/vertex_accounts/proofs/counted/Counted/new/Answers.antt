@@ -1,4 +1,4 @@
-use Rattle.std.proofs.Common.{◌≡◌, ◌≤◌, List, ℕ, Some, length, option_copied, slice_get, sym, ◌∙◌, ap, subst, arith}
+use Rattle.std.proofs.Common.{◌≡◌, List, ℕ, Some, option_copied, slice_get, sym, ◌∙◌, ap, subst, arith}
 use Rattle.std.proofs.Common.{None}
 use Rattle.prune_filters.specs.Filters.{IsCounted}
 use Rattle.vertex_planners.proofs.PlaceLaws.{within_list}
