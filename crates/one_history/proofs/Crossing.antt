@@ -1,7 +1,7 @@
 -- A core may go to another thread: what it is made of may, one type after another. The check's own search looks for the
 -- whole at once, and stops at its limit.
 use denote.RattleType.{RattleType}
-use denote.Param.Send.{IsSend, IsSync, sendable, view_send}
+use denote.Param.Send.{IsSend, IsSync, sendable, view_send, view_sync}
 use denote.Param.SendFields.{as_row_send, as_row_sync, declared_send, declared_sync}
 use denote.Struct.Field.{row_field}
 use Rattle.std.proofs.Crossing.{crosses, Arc-send, Arc-sync}
@@ -21,6 +21,8 @@ use Rattle.vertex_accounts.specs.contracts.counted.Counted as counted
 use Rattle.vertex_planners.specs.contracts.items.Item as item
 use Rattle.vertex_planners.specs.contracts.planners.VertexPlanners as planners
 use Rattle.snapshot_store.specs.contracts.pages.Pages as pages
+use Rattle.book_state.specs.contracts.filtered.FilteredGraph as filtered
+use Rattle.book_state.specs.contracts.filtered.FilteredGraph.TheInside as filtered_inside
 use Rattle.book_state.specs.contracts.held.BookState as book
 use Rattle.book_state.specs.contracts.held.BookState.TheInside as book_inside
 use Rattle.book_state.specs.contracts.held.Kept as kept
@@ -108,26 +110,23 @@ any_ghosts T = record {
   change_cost = λ p. 0;
 }
 
+filtered_send : IsSend filtered.the_row
+filtered_send =
+    view_send filtered_inside.the_row _ _ _ _
+    (declared_send filtered_inside.the_type (Arc-send graph.the_row graph_send graph_sync, (rules_send, (search (crosses, sendable) depth 20, tt))))
+
+filtered_sync : IsSync filtered.the_row
+filtered_sync =
+    view_sync filtered_inside.the_row _ _ _ _
+    (declared_sync filtered_inside.the_type (Arc-sync graph.the_row graph_send graph_sync, (rules_sync, (search (crosses, sendable) depth 20, tt))))
+
 kept_send : IsSend kept.the_row
 kept_send =
-    let g = Arc-send graph.the_row graph_send graph_sync in
-    let r = Arc-send rule.the_row rules_send rules_sync in
+    let a = Arc-send _ (accounts_send min_tree.the_row (any_ghosts _) min_tree_send min_tree_sync)
+        (accounts_sync min_tree.the_row (any_ghosts _) min_tree_send min_tree_sync) in
     declared_send kept.the_type (
-      g,
-      (
-        r,
-        (
-          search sendable,
-          (
-            search sendable,
-            (
-              Arc-send _ (accounts_send min_tree.the_row (any_ghosts _) min_tree_send min_tree_sync)
-                  (accounts_sync min_tree.the_row (any_ghosts _) min_tree_send min_tree_sync),
-              (table_send, tt),
-            ),
-          ),
-        ),
-      ),
+      Arc-send filtered.the_row filtered_send filtered_sync,
+      (search sendable, (search sendable, (a, (table_send, tt)))),
     )
 
 book_send : IsSend book.the_row
