@@ -123,7 +123,7 @@ filtered_sync =
 kept_send : IsSend kept.the_row
 kept_send =
     let a = Arc-send _ (accounts_send min_tree.the_row (any_ghosts _) min_tree_send min_tree_sync)
-        (accounts_sync min_tree.the_row (any_ghosts _) min_tree_send min_tree_sync) in
+    (accounts_sync min_tree.the_row (any_ghosts _) min_tree_send min_tree_sync) in
     declared_send kept.the_type (
       Arc-send filtered.the_row filtered_send filtered_sync,
       (search sendable, (search sendable, (a, (table_send, tt)))),
