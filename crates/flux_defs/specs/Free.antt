@@ -1,5 +1,5 @@
 -- What is free of a vertex, and of a kind at a vertex and below it (planners and aggregates, as flux-sched has them).
-use Rattle.std.specs.Prelude.{◌≡◌, ℕ, ◌-◌, ◌≤◌, ◌&&◌, ◌==◌, if◌then◌else◌, List, sum_by}
+use Rattle.std.specs.Prelude.{◌≡◌, ℕ, ◌-◌, ◌<◌, ◌≤◌, ◌&&◌, ◌==◌, if◌then◌else◌, List, sum_by}
 use Rattle.std.specs.List.{enumerate_from}
 use Rattle.flux_defs.specs.declared.vertices.Vertex.{Vertex}
 use Rattle.flux_defs.specs.declared.claims.Job.{Job}
@@ -40,3 +40,7 @@ IsFreeOver vertices jobs w v n = IsFreeIn (no_bars vertices jobs) w v n
 -- n is the least total of the kind at v over the window
 abbrev pub IsTotalOver : List Vertex → List Job → Window → ℕ → ℕ → ℕ → Type 0
 IsTotalOver vertices jobs w kind v n = IsLeastIn w (λ m. total_at vertices jobs kind m v) n
+
+-- the least total of the kind at v is below the amount
+abbrev pub IsTooLittle : List Vertex → List Job → Window → ℕ → ℕ → ℕ → Type 0
+IsTooLittle vertices jobs w v kind amount = (n : ℕ) × IsTotalOver vertices jobs w kind v n × (n < amount)

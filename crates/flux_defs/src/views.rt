@@ -4,7 +4,7 @@ ghost use Rattle.flux_defs.specs.declared.vertices.Vertex.{Vertex};
 ghost use Rattle.flux_defs.specs.declared.claims.Job.{Job};
 ghost use Rattle.flux_defs.specs.Jobs.{IsPoint, IsNextPoint};
 ghost use Rattle.flux_defs.specs.Closed.{IsClosedOver, IsTouchedOver};
-ghost use Rattle.flux_defs.specs.Free.{IsFreeOver, IsTotalOver};
+ghost use Rattle.flux_defs.specs.Free.{IsFreeOver, IsTotalOver, IsTooLittle};
 
 use crate::claims::Window;
 use crate::lists::List;
@@ -65,6 +65,24 @@ pub trait FreeView {
         ensures answer { (jobs : List Job) → stands_for self.now jobs → IfSome result (IsTotalOver (graph self.now) jobs window kind vertex) }
         ensures kept { IfSome result (λ _. keeps self.now vertex kind) }
         ensures unkept { IfNone result (keeps self.now vertex kind → ⊥) }
+        ensures some_work { steps.old < steps.new }
+        ensures work { steps.new ≤ steps.old + cost self.now };
+
+    /// Whether the least total of the kind, over its vertices at this one or below it, at a moment of the window, is
+    /// below the amount; false where the view's filter rules keep no such total.
+    fn total_below<L: Ledger>(
+        &self,
+        vertex: u32,
+        kind: u32,
+        amount: u64,
+        window: Window,
+        steps: &mut Steps<L>,
+    ) -> bool
+        requires vertex { vertex < length (graph self.now) }
+        requires window { window.from < window.to }
+        ensures answer { (jobs : List Job) → stands_for self.now jobs →
+            (IsTrue result ↔ (keeps self.now vertex kind × IsTooLittle (graph self.now) jobs window vertex kind amount)) }
+        ensures kept { IsTrue result → keeps self.now vertex kind }
         ensures some_work { steps.old < steps.new }
         ensures work { steps.new ≤ steps.old + cost self.now };
 
@@ -129,6 +147,18 @@ impl<'a> FreeView for NoJobs<'a> {
     ) -> Option<u64> {
         steps.tick();
         None
+    }
+
+    fn total_below<L: Ledger>(
+        &self,
+        _vertex: u32,
+        _kind: u32,
+        _amount: u64,
+        _window: Window,
+        steps: &mut Steps<L>,
+    ) -> bool {
+        steps.tick();
+        false
     }
 
     fn next_point<L: Ledger>(&self, _after: u64, steps: &mut Steps<L>) -> Option<u64> {

@@ -70,6 +70,18 @@ impl<'a> FreeView for PlainJobs<'a> {
         None
     }
 
+    fn total_below<L: Ledger>(
+        &self,
+        _vertex: u32,
+        _kind: u32,
+        _amount: u64,
+        _window: Window,
+        steps: &mut Steps<L>,
+    ) -> bool {
+        steps.tick();
+        false
+    }
+
     fn next_point<L: Ledger>(&self, after: u64, steps: &mut Steps<L>) -> Option<u64> {
         steps.tick();
         next_point(self.jobs.items(), after)

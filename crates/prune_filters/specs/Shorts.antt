@@ -1,29 +1,25 @@
 -- When a vertex is short: a total that is kept there is below what is demanded.
-use Rattle.std.specs.Prelude.{◌≡◌, ℕ, ◌<◌, ◌≤◌, ◌==◌, List, Any, Contains, IsTrue}
+use Rattle.std.specs.Prelude.{◌≡◌, ℕ, ◌≤◌, ◌==◌, List, Any, Contains, IsTrue}
 use Rattle.std.specs.List.{list_any}
 use Rattle.flux_defs.specs.declared.vertices.Vertex.{Vertex}
 use Rattle.flux_defs.specs.declared.claims.Job.{Job}
 use Rattle.flux_defs.specs.declared.claims.Window.{Window}
 use Rattle.flux_defs.specs.declared.requests.Need.{Need}
-use Rattle.flux_defs.specs.Free.{IsTotalOver}
+use Rattle.flux_defs.specs.Free.{IsTooLittle}
 use Rattle.prune_filters.specs.declared.shorts.Demand.{Demand}
 use Rattle.prune_filters.specs.Demands.{demand, capped}
 
 -- over the vertices, the jobs and a window
 module _ (vertices : List Vertex) (jobs : List Job) (w : Window) where
-  -- the least total of the kind at v is below the amount
-  abbrev pub IsTooLittle : ℕ → ℕ → ℕ → Type 0
-  IsTooLittle v kind amount = (n : ℕ) × IsTotalOver vertices jobs w kind v n × (n < amount)
-
   -- v has too little of some kind for one of the need; a demand past 64 bits is the greatest number of 64 bits
   abbrev pub HasTooLittleFor : Need → ℕ → Type 0
-  HasTooLittleFor need v = (kind : ℕ) × IsTooLittle v kind (capped (demand vertices kind 1 need))
+  HasTooLittleFor need v = (kind : ℕ) × IsTooLittle vertices jobs w v kind (capped (demand vertices kind 1 need))
 
   -- where these totals are kept (of a kind, the second number, at a vertex, the first)
   module _ (keeps : ℕ → ℕ → Type 0) where
     -- a total of the kind is kept at v, and it is below the amount
     abbrev pub IsBelow : ℕ → ℕ → ℕ → Type 0
-    IsBelow v kind amount = keeps v kind × IsTooLittle v kind amount
+    IsBelow v kind amount = keeps v kind × IsTooLittle vertices jobs w v kind amount
 
     -- v is short of some of these demands
     abbrev pub IsShortOf : List Demand → ℕ → Type 0
