@@ -5,9 +5,10 @@ use Rattle.flux_defs.specs.declared.claims.Window.{Window}
 use Rattle.flux_defs.specs.declared.requests.Ask.{Ask}
 use Rattle.flux_defs.specs.Graph.{ResourceGraph}
 use Rattle.flux_defs.specs.ValidGraph.{IsValidGraph}
+use Rattle.flux_defs.specs.Free.{IsTooLittle}
 use Rattle.flux_defs.specs.Needs.{IsProperAsk}
 use Rattle.prune_filters.specs.declared.shorts.Demand.{Demand}
-use Rattle.prune_filters.specs.Shorts.{IsTooLittle, IsShortIn}
+use Rattle.prune_filters.specs.Shorts.{IsShortIn}
 use Rattle.prune_laws.proofs.Demanded.{too_little_fit}
 use Rattle.dfu_match.specs.declared.matching.Matched.TheVariants.{Short}
 use Rattle.dfu_match.specs.Tables.{AreDemandsOfAll}

@@ -1,7 +1,7 @@
 //! Whether a kept total is below a demand.
 ghost use Rattle.std.specs.Prelude.{◌≡◌, ◌+◌, ◌*◌, ◌<◌, ◌≤◌, ◌↔◌, IsTrue, length, List, MatchOption, IfSome};
 ghost use Rattle.flux_defs.specs.declared.claims.Job.{Job};
-ghost use Rattle.prune_filters.specs.Shorts.{IsBelow, IsShortOf, IsShortIn};
+ghost use Rattle.prune_filters.specs.Shorts.{IsShortOf, IsShortIn};
 
 use flux_defs::{FreeView, List, Steps, Window};
 use std::sync::ledger::Ledger;
@@ -52,30 +52,9 @@ pub fn first_short<F: FreeView, L: Ledger>(
     ensures work { steps.new ≤ steps.old + length demands.now * F.cost view.now }
 {
     for demand in demands.items() {
-        if is_below(view, vertex, *demand, window, steps) {
+        if view.total_below(vertex, demand.kind, demand.amount, window, steps) {
             return Some(*demand);
         }
     }
     None
-}
-
-/// Whether the view tells a total below the amount.
-fn is_below<F: FreeView, L: Ledger>(
-    view: &F,
-    vertex: u32,
-    demand: Demand,
-    window: Window,
-    steps: &mut Steps<L>,
-) -> bool
-    requires vertex { vertex < length (F.graph view.now) }
-    requires opens { window.from < window.to }
-    ensures answer { (jobs : List Job) → F.stands_for view.now jobs →
-        (IsTrue result ↔ IsBelow (F.graph view.now) jobs window (F.keeps view.now) vertex demand.kind demand.amount) }
-    ensures kept { IsTrue result → F.keeps view.now vertex demand.kind }
-    ensures work { steps.new ≤ steps.old + F.cost view.now }
-{
-    match view.total_over(vertex, demand.kind, window, steps) {
-        None => false,
-        Some(total) => total < demand.amount,
-    }
 }

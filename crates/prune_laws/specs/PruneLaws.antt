@@ -8,13 +8,13 @@ use Rattle.flux_defs.specs.Graph.{ResourceGraph, Scope, Everywhere, is_at_or_bel
 use Rattle.flux_defs.specs.ValidGraph.{IsValidGraph}
 use Rattle.flux_defs.specs.Jobs.{EachMoment}
 use Rattle.flux_defs.specs.Closed.{Scene}
-use Rattle.flux_defs.specs.Free.{total_at}
+use Rattle.flux_defs.specs.Free.{total_at, IsTooLittle}
 use Rattle.flux_defs.specs.Available.{IsAvailable}
 use Rattle.flux_defs.specs.Needs.{IsValidNeed, AreValidNeeds}
 use Rattle.flux_defs.specs.Fits.{Fits}
 use Rattle.flux_defs.specs.Lowest.{CanServe}
 use Rattle.prune_filters.specs.Demands.{demand, needs_demand, capped}
-use Rattle.prune_filters.specs.Shorts.{HasTooLittleFor, IsTooLittle}
+use Rattle.prune_filters.specs.Shorts.{HasTooLittleFor}
 
 -- what an ask with these bars meets
 abbrev pub scene : ResourceGraph → List Job → List ℕ → Scene

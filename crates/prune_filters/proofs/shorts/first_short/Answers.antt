@@ -4,19 +4,19 @@ use Rattle.prune_filters.specs.Shorts.{IsBelow}
 use Rattle.prune_filters.proofs.ShortLaws.{found, none_next, none_at_all}
 use Rattle.prune_filters.proofs.shorts.first_short.Goals as goal
 
-pub returns-then-is_below : goal.returns-then-is_below
-returns-then-is_below g c =
+pub returns-then-total_below : goal.returns-then-total_below
+returns-then-total_below g c =
     let v = c.args.view.now in
     record {
       answer = λ jobs stands. rw (← c.items-demand-items.ensures) (found
           (λ d. IsBelow (g.F.FreeView.graph v) jobs c.args.window (g.F.FreeView.keeps v) c.args.vertex d.kind d.amount)
           c.items-demand-items.result.now c.loop-demand.demand-index _ c.loop-demand-test.true
-          ((c.is_below.ensures.answer jobs stands).0 c.if-is_below.true));
-      kept = c.is_below.ensures.kept c.if-is_below.true;
+          ((c.total_below.ensures.answer jobs stands).0 c.if-total_below.true));
+      kept = c.total_below.ensures.kept c.if-total_below.true;
       work = (
           let each = mul-le-mul_right (g.F.FreeView.cost v) c.loop-demand-test.true in
           let same = c.items-demand-items.ensures in
-          rw (← same) (omega (arith, each, c.loop-demand.invariant.spent, c.is_below.ensures.work)));
+          rw (← same) (omega (arith, each, c.loop-demand.invariant.spent, c.total_below.ensures.work)));
     }
 
 pub loop-demand-preserved : goal.loop-demand-preserved
@@ -25,9 +25,9 @@ loop-demand-preserved g c =
     record {
       none = λ jobs stands. none_next
           (λ d. IsBelow (g.F.FreeView.graph v) jobs c.args.window (g.F.FreeView.keeps v) c.args.vertex d.kind d.amount)
-          c.items-demand-items.result.now c.loop-demand.demand-index _ c.is_below.result c.if-is_below.false
-          (c.is_below.ensures.answer jobs stands) c.loop-demand-test.true (c.loop-demand.invariant.none jobs stands);
-      spent = omega (arith, c.loop-demand.invariant.spent, c.is_below.ensures.work);
+          c.items-demand-items.result.now c.loop-demand.demand-index _ c.total_below.result c.if-total_below.false
+          (c.total_below.ensures.answer jobs stands) c.loop-demand-test.true (c.loop-demand.invariant.none jobs stands);
+      spent = omega (arith, c.loop-demand.invariant.spent, c.total_below.ensures.work);
     }
 
 pub returns : goal.returns
