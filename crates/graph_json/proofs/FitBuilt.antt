@@ -6,6 +6,8 @@ use Rattle.std.proofs.lemmas.Bool.{and_parts, and_from}
 use Rattle.std.proofs.lemmas.List.{length-take}
 use Rattle.std.proofs.lemmas.List.Sums.{AllPass-from_list_all, count_by-le-length}
 use Rattle.std.proofs.lemmas.Option.{slice_get-map, slice_get-get_or, slice_get_within, get_or_from_slice_get}
+use Rattle.flux_defs.specs.declared.limits.TheConstants.{MOST_NAME_BYTES, MOST_TYPE_BYTES, MOST_VERTICES}
+use Rattle.graph_json.specs.declared.fields.TheConstants.{GREATEST_ID}
 use Rattle.flux_defs.specs.declared.vertices.Vertex.{Vertex}
 use Rattle.resource_graph.specs.NamedGraph.{NamedGraph}
 use Rattle.graph_build.specs.Raw.{IsBuiltFrom, IsRenumbered, shape_of, rank_of, is_node_of, some_ranked, nodes_among}
@@ -36,21 +38,21 @@ tests_at p xs all k x e = ap p (sym (get_or_from_slice_get xs k x x e)) ∙ AllP
 -- ---- types
 
 abbrev AreTypes : List (List ℕ) → Type 0
-AreTypes list = list_all (is_name 64) list ≡ true
+AreTypes list = list_all (is_name MOST_TYPE_BYTES) list ≡ true
 
-types_more : (b : Bool) (list : List (List ℕ)) (t : List ℕ) → AreTypes list → is_name 64 t ≡ true → AreTypes (if b then list else list ++ t ∷ [])
+types_more : (b : Bool) (list : List (List ℕ)) (t : List ℕ) → AreTypes list → is_name MOST_TYPE_BYTES t ≡ true → AreTypes (if b then list else list ++ t ∷ [])
 types_more true list t all one = all
-types_more false list t all one = list_all_append (is_name 64) list (t ∷ []) all (and_from (is_name 64 t) true one refl)
+types_more false list t all one = list_all_append (is_name MOST_TYPE_BYTES) list (t ∷ []) all (and_from (is_name MOST_TYPE_BYTES t) true one refl)
 
 types_fold : (list more : List (List ℕ)) → AreTypes list → AreTypes more → AreTypes (fold with_text list more)
 types_fold list [] all rest = all
 types_fold list (t ∷ more) all rest =
-    let p = and_parts (is_name 64 t) (list_all (is_name 64) more) rest in
+    let p = and_parts (is_name MOST_TYPE_BYTES t) (list_all (is_name MOST_TYPE_BYTES) more) rest in
     types_fold (with_text list t) more (types_more (is_among list t) list t all p.0) p.1
 
 node_types : (nodes : List FileNode) → AllByRecursion IsFitNode nodes → AreTypes (map (λ x. x.kind) nodes)
 node_types [] all = refl
-node_types (x ∷ xs) all = and_from (is_name 64 x.kind) (list_all (is_name 64) (map (λ y. y.kind) xs)) all.0.kind (node_types xs all.1)
+node_types (x ∷ xs) all = and_from (is_name MOST_TYPE_BYTES x.kind) (list_all (is_name MOST_TYPE_BYTES) (map (λ y. y.kind) xs)) all.0.kind (node_types xs all.1)
 
 -- ---- the graph
 
@@ -81,17 +83,17 @@ module _ (nodes : List FileNode) (edges : List FileEdge) (fit : AllByRecursion I
       let r = map_some shape_of (slice_get raw i) x (sym (slice_get-map shape_of raw i) ∙ e) in
       subst HasFileNumbers r.2 (raw_fit (λ r. HasFileNumbers (shape_of r)) (λ n own. (own.number, own.rank)) i r.0 r.1)
 
-  rank_small : (k : ℕ) (x : Vertex) → k < length shapes → HasFileNumbers x → IfSome (rank_of (kinds_of nodes) shapes built.order k x) (λ n. n ≤ 2 ^ 32 - 2)
+  rank_small : (k : ℕ) (x : Vertex) → k < length shapes → HasFileNumbers x → IfSome (rank_of (kinds_of nodes) shapes built.order k x) (λ n. n ≤ GREATEST_ID)
   rank_small k x lt own = by (is_node_of (kinds_of nodes) x) (some_ranked (kinds_of nodes) shapes)
     where
-      count_small : nodes_among (kinds_of nodes) shapes (take k built.order) ≤ 2 ^ 32 - 2
+      count_small : nodes_among (kinds_of nodes) shapes (take k built.order) ≤ GREATEST_ID
       count_small =
           let counted : nodes_among (kinds_of nodes) shapes (take k built.order) ≤ length (take k built.order) = count_by-le-length (λ i. option_map_or (is_node_of (kinds_of nodes)) (slice_get shapes i) false) (take k built.order) in
           let many : length g.resources.vertices ≡ length shapes = built.arranged.as_many in
-          let few : length g.resources.vertices ≤ 65536 = built.whole.valid.few in
+          let few : length g.resources.vertices ≤ MOST_VERTICES = built.whole.valid.few in
           omega (arith, length-take k built.order)
 
-      by : (node ranked : Bool) → IfSome (cond node (cond ranked x.rank (Some (nodes_among (kinds_of nodes) shapes (take k built.order)))) None) (λ n. n ≤ 2 ^ 32 - 2)
+      by : (node ranked : Bool) → IfSome (cond node (cond ranked x.rank (Some (nodes_among (kinds_of nodes) shapes (take k built.order)))) None) (λ n. n ≤ GREATEST_ID)
       by true true = own.1
       by true false = count_small
       by false ranked = tt
@@ -121,22 +123,22 @@ module _ (nodes : List FileNode) (edges : List FileEdge) (fit : AllByRecursion I
   numbers_fit k y e =
       let from = comes k y e in
       let own = shape_fit from.index from.shape from.here in
-      (subst (λ o. IfSome o (λ n. n ≤ 2 ^ 32 - 2)) (sym from.renumbered.id) own.0, subst (λ o. IfSome o (λ n. n ≤ 2 ^ 32 - 2)) (sym from.rank) (rank_small k from.shape from.within own))
+      (subst (λ o. IfSome o (λ n. n ≤ GREATEST_ID)) (sym from.renumbered.id) own.0, subst (λ o. IfSome o (λ n. n ≤ GREATEST_ID)) (sym from.rank) (rank_small k from.shape from.within own))
 
-  type_fit : (k : ℕ) (t : List ℕ) → slice_get g.resources.kinds k ≡ Some t → is_name 64 t ≡ true
+  type_fit : (k : ℕ) (t : List ℕ) → slice_get g.resources.kinds k ≡ Some t → is_name MOST_TYPE_BYTES t ≡ true
   type_fit k t e =
       let used = built.whole.valid.kinds.used k (slice_get_within g.resources.kinds k t e) in
       let y = value_of (slice_get g.resources.vertices used.0) (λ y. y.kind ≡ k) used.1 in
       let from = comes used.0 y.0 y.1 in
       let called : slice_get (kinds_of nodes) from.shape.kind ≡ Some t = sym from.renumbered.kind ∙ (ap (slice_get g.resources.kinds) y.2 ∙ e) in
-      tests_at (is_name 64) (kinds_of nodes) (types_fold [] (map (λ x. x.kind) nodes) refl (node_types nodes fit)) from.shape.kind t called
+      tests_at (is_name MOST_TYPE_BYTES) (kinds_of nodes) (types_fold [] (map (λ x. x.kind) nodes) refl (node_types nodes fit)) from.shape.kind t called
 
   pub built_fits : IsFileGraph g
   built_fits = record {
     whole = built.whole;
-    kinds = tests_from (is_name 64) g.resources.kinds type_fit;
-    names = tests_from (is_name 255) g.names (text_fit (λ r. r.name) g.names (λ t. is_name 255 t ≡ true) built.texts.names (λ x own. own.name));
-    bases = tests_from (is_name 255) g.bases (text_fit (λ r. r.base) g.bases (λ t. is_name 255 t ≡ true) built.texts.bases (λ x own. own.base));
+    kinds = tests_from (is_name MOST_TYPE_BYTES) g.resources.kinds type_fit;
+    names = tests_from (is_name MOST_NAME_BYTES) g.names (text_fit (λ r. r.name) g.names (λ t. is_name MOST_NAME_BYTES t ≡ true) built.texts.names (λ x own. own.name));
+    bases = tests_from (is_name MOST_NAME_BYTES) g.bases (text_fit (λ r. r.base) g.bases (λ t. is_name MOST_NAME_BYTES t ≡ true) built.texts.bases (λ x own. own.base));
     units = tests_from is_unit g.units (text_fit (λ r. r.unit) g.units (λ t. is_unit t ≡ true) built.texts.units (λ x own. own.unit));
     properties = all_from AreProperties g.properties (text_fit (λ r. r.properties) g.properties AreProperties built.texts.properties (λ x own. own.properties));
     numbers = all_from HasFileNumbers g.resources.vertices numbers_fit;

@@ -12,6 +12,8 @@ use Rattle.std.specs.Result.{result_err, result_map_both}
 use Rattle.std.proofs.lemmas.Bool.{and_parts, and_from, ltb-true, leb-true, lt-ltb, le-leb}
 use Rattle.std.proofs.lemmas.List.{length-append}
 use Rattle.std.proofs.lemmas.Fmt.{digits_decimal}
+use Rattle.flux_defs.specs.declared.limits.TheConstants.{MOST_NAME_BYTES, MOST_TYPE_BYTES}
+use Rattle.graph_json.specs.declared.fields.TheConstants.{GREATEST_ID}
 use Rattle.json_whole.specs.Field.{text_or_kind, text_field}
 use Rattle.json_whole.specs.declared.fields.FieldFault.{FieldFault}
 use Rattle.json_whole.proofs.Numerals.{digits_by_test}
@@ -82,10 +84,10 @@ module _ (rule : List ℕ → Bool) where
       by (Some e) f = (ruled_value_ok e x f).1
 
 abbrev IsSmall : Option ℕ → Type 0
-IsSmall o = IfSome o (λ n. n ≤ 2 ^ 32 - 2)
+IsSmall o = IfSome o (λ n. n ≤ GREATEST_ID)
 
 small_number_ok : (m : Num) (o : Option ℕ) → small_number m ≡ Ok o → IsSmall o
-small_number_ok (unsigned n) o h = let p = if_ok (nat_le n (2 ^ 32 - 2)) (Some n) o FieldFault.Large h in subst IsSmall p.1 (leb-true n (2 ^ 32 - 2) p.0)
+small_number_ok (unsigned n) o h = let p = if_ok (nat_le n (GREATEST_ID)) (Some n) o FieldFault.Large h in subst IsSmall p.1 (leb-true n (GREATEST_ID) p.0)
 small_number_ok (negative (pos n)) o h = err_ok FieldFault.Small o h
 small_number_ok (negative (negsuc zero)) o h = let same : None ≡ o = cc in subst IsSmall same tt
 small_number_ok (negative (negsuc (suc n))) o h = err_ok FieldFault.Small o h
@@ -129,49 +131,49 @@ name_parts most t h =
 name_from : (most : ℕ) (t : List ℕ) → NameParts most t → is_name most t ≡ true
 name_from most t p = and_from (nat_lt 0 (length t) && nat_le (length t) most) (list_all is_name_byte t) (and_from (nat_lt 0 (length t)) (nat_le (length t) most) (lt-ltb 0 (length t) p.some) (le-leb (length t) most p.short)) p.bytes
 
-longer_name : (t : List ℕ) → is_name 64 t ≡ true → is_name 255 t ≡ true
-longer_name t h = let p = name_parts 64 t h in name_from 255 t (record { some = p.some; short = (let short : length t ≤ 64 = p.short in omega arith); bytes = p.bytes })
+longer_name : (t : List ℕ) → is_name MOST_TYPE_BYTES t ≡ true → is_name MOST_NAME_BYTES t ≡ true
+longer_name t h = let p = name_parts MOST_TYPE_BYTES t h in name_from MOST_NAME_BYTES t (record { some = p.some; short = (let short : length t ≤ MOST_TYPE_BYTES = p.short in omega arith); bytes = p.bytes })
 
 default_bytes : (n : Option ℕ) → IsSmall n → list_all is_name_byte (option_map_or decimal n []) ≡ true
 default_bytes None h = refl
 default_bytes (Some n) h = list_all_more is_ascii_digit is_name_byte digit_in_names (decimal n) (digits_decimal digits_by_test n (omega arith))
 
-short_name_ok : (base : List ℕ) (n : Option ℕ) (x : List ℕ) → is_name 255 base ≡ true → IsSmall n → short_name (default_name base n) ≡ Ok x → is_name 255 x ≡ true
+short_name_ok : (base : List ℕ) (n : Option ℕ) (x : List ℕ) → is_name MOST_NAME_BYTES base ≡ true → IsSmall n → short_name (default_name base n) ≡ Ok x → is_name MOST_NAME_BYTES x ≡ true
 short_name_ok base n x own small h =
-    let p = if_ok (nat_le (length (default_name base n)) 255) (default_name base n) x FieldFault.Text h in
-    let b = name_parts 255 base own in
+    let p = if_ok (nat_le (length (default_name base n)) MOST_NAME_BYTES) (default_name base n) x FieldFault.Text h in
+    let b = name_parts MOST_NAME_BYTES base own in
     let more : length (default_name base n) ≡ length base + length (option_map_or decimal n []) = length-append base (option_map_or decimal n []) in
     let some : 0 < length base = b.some in
-    ap (is_name 255) (sym p.1) ∙ name_from 255 (default_name base n) (record {
+    ap (is_name MOST_NAME_BYTES) (sym p.1) ∙ name_from MOST_NAME_BYTES (default_name base n) (record {
       some = omega arith;
-      short = leb-true (length (default_name base n)) 255 p.0;
+      short = leb-true (length (default_name base n)) MOST_NAME_BYTES p.0;
       bytes = list_all_append is_name_byte base (option_map_or decimal n []) b.bytes (default_bytes n small);
     })
 
-name_given_ok : (base : List ℕ) (n : Option ℕ) (d : Data) (x : List ℕ) → is_name 255 base ≡ true → IsSmall n → name_given base n d ≡ Ok x → is_name 255 x ≡ true
+name_given_ok : (base : List ℕ) (n : Option ℕ) (d : Data) (x : List ℕ) → is_name MOST_NAME_BYTES base ≡ true → IsSmall n → name_given base n d ≡ Ok x → is_name MOST_NAME_BYTES x ≡ true
 name_given_ok base n d x own small h = by (given (codes "name") d) h
   where
-    by : (o : Option Data) → name_or_default base n o ≡ Ok x → is_name 255 x ≡ true
+    by : (o : Option Data) → name_or_default base n o ≡ Ok x → is_name MOST_NAME_BYTES x ≡ true
     by None f = short_name_ok base n x own small f
-    by (Some e) f = (ruled_value_ok (is_name 255) e x f).1
+    by (Some e) f = (ruled_value_ok (is_name MOST_NAME_BYTES) e x f).1
 
 -- ---- properties
 
 abbrev AreNames : List (List ℕ) → Type 0
-AreNames list = list_all (is_name 255) list ≡ true
+AreNames list = list_all (is_name MOST_NAME_BYTES) list ≡ true
 
-names_insert : (k : List ℕ) (ks : List (List ℕ)) → is_name 255 k ≡ true → AreNames ks → AreNames (insert_key (slice_cmp nat_cmp) ks k)
-names_insert k [] one all = and_from (is_name 255 k) true one refl
-names_insert k (x ∷ xs) one all = by (slice_cmp nat_cmp k x) (names_insert k xs one (and_parts (is_name 255 x) (list_all (is_name 255) xs) all).1)
+names_insert : (k : List ℕ) (ks : List (List ℕ)) → is_name MOST_NAME_BYTES k ≡ true → AreNames ks → AreNames (insert_key (slice_cmp nat_cmp) ks k)
+names_insert k [] one all = and_from (is_name MOST_NAME_BYTES k) true one refl
+names_insert k (x ∷ xs) one all = by (slice_cmp nat_cmp k x) (names_insert k xs one (and_parts (is_name MOST_NAME_BYTES x) (list_all (is_name MOST_NAME_BYTES) xs) all).1)
   where
     by : (o : Ordering) → AreNames (insert_key (slice_cmp nat_cmp) xs k) → AreNames (match_ordering o (k ∷ x ∷ xs) (x ∷ xs) (x ∷ insert_key (slice_cmp nat_cmp) xs k))
-    by Less rest = and_from (is_name 255 k) (list_all (is_name 255) (x ∷ xs)) one all
+    by Less rest = and_from (is_name MOST_NAME_BYTES k) (list_all (is_name MOST_NAME_BYTES) (x ∷ xs)) one all
     by Equal rest = all
-    by Greater rest = and_from (is_name 255 x) (list_all (is_name 255) (insert_key (slice_cmp nat_cmp) xs k)) (and_parts (is_name 255 x) (list_all (is_name 255) xs) all).0 rest
+    by Greater rest = and_from (is_name MOST_NAME_BYTES x) (list_all (is_name MOST_NAME_BYTES) (insert_key (slice_cmp nat_cmp) xs k)) (and_parts (is_name MOST_NAME_BYTES x) (list_all (is_name MOST_NAME_BYTES) xs) all).0 rest
 
 names_fold : (ks more : List (List ℕ)) → AreNames ks → AreNames more → AreNames (fold (insert_key (slice_cmp nat_cmp)) ks more)
 names_fold ks [] all rest = all
-names_fold ks (k ∷ more) all rest = let p = and_parts (is_name 255 k) (list_all (is_name 255) more) rest in names_fold (insert_key (slice_cmp nat_cmp) ks k) more (names_insert k ks p.0 all) p.1
+names_fold ks (k ∷ more) all rest = let p = and_parts (is_name MOST_NAME_BYTES k) (list_all (is_name MOST_NAME_BYTES) more) rest in names_fold (insert_key (slice_cmp nat_cmp) ks k) more (names_insert k ks p.0 all) p.1
 
 neither_fault : {A : Type 0} (a b : Option A) → option_or a b ≡ None → (a ≡ None) × (b ≡ None)
 neither_fault None b h = (refl, h)
@@ -184,12 +186,12 @@ no_fault (Err e) h = absurd (let clash : Some e ≡ None = h in cc)
 texts_are_names : (at m : ℕ) (ds : Items) → first_misfit at m ds ≡ None → AreNames (texts_in ds)
 texts_are_names at m no_items h = refl
 texts_are_names at m (item d ds) h =
-    let both = neither_fault (result_err (at_field (Property at m) (ruled_value (is_name 255) d)))
+    let both = neither_fault (result_err (at_field (Property at m) (ruled_value (is_name MOST_NAME_BYTES) d)))
     (first_misfit at (suc m) ds) h in
-    let found = no_fault (at_field (Property at m) (ruled_value (is_name 255) d)) both.0 in
-    let text = ruled_value_ok (is_name 255) d found.0 (at_ok (Property at m) (ruled_value (is_name 255) d) found.0 found.1) in
-    ap (λ o. list_all (is_name 255) (option_map_or (λ s. s ∷ texts_in ds) o (texts_in ds))) text.0
-    ∙ and_from (is_name 255 found.0) (list_all (is_name 255) (texts_in ds)) text.1 (texts_are_names at (suc m) ds both.1)
+    let found = no_fault (at_field (Property at m) (ruled_value (is_name MOST_NAME_BYTES) d)) both.0 in
+    let text = ruled_value_ok (is_name MOST_NAME_BYTES) d found.0 (at_ok (Property at m) (ruled_value (is_name MOST_NAME_BYTES) d) found.0 found.1) in
+    ap (λ o. list_all (is_name MOST_NAME_BYTES) (option_map_or (λ s. s ∷ texts_in ds) o (texts_in ds))) text.0
+    ∙ and_from (is_name MOST_NAME_BYTES found.0) (list_all (is_name MOST_NAME_BYTES) (texts_in ds)) text.1 (texts_are_names at (suc m) ds both.1)
 
 unless_ok : {A : Type 0} (o : Option FileMisfit) (x y : A) → unless_misfit o x ≡ Ok y → (o ≡ None) × (x ≡ y)
 unless_ok None x y h = (refl, (let same : x ≡ y = cc in same))
@@ -204,7 +206,7 @@ properties_of_ok at (array ds) ps up h =
     let p = unless_ok (first_misfit at 0 ds) (in_order (texts_in ds)) ps h in
     subst AreProperties p.1 (names_fold [] (texts_in ds) refl (texts_are_names at 0 ds p.0), in_order-ordered (in_order (texts_in ds)) (ordered-in_order (texts_in ds)))
 properties_of_ok at (object ms) ps up h =
-    let p = if_ok (list_all (is_name 255) (keys_of ms)) (keys_of ms) ps
+    let p = if_ok (list_all (is_name MOST_NAME_BYTES) (keys_of ms)) (keys_of ms) ps
     (record { field = PropertyKey at; fault = FieldFault.Text }) h in
     subst AreProperties p.1 (p.0, in_order-ordered (keys_of ms) up.0)
 
@@ -219,11 +221,11 @@ properties_given_ok at d ps up h = by (given (codes "properties") d) refl h
 
 -- a node whose texts and numbers keep their rules
 pub record IsFitNode (x : FileNode) : Type 0 where
-  pub kind : is_name 64 x.kind ≡ true
-  pub base : is_name 255 x.base ≡ true
-  pub number : IfSome x.number (λ n. n ≤ 2 ^ 32 - 2)
-  pub name : is_name 255 x.name ≡ true
-  pub rank : IfSome x.rank (λ n. n ≤ 2 ^ 32 - 2)
+  pub kind : is_name MOST_TYPE_BYTES x.kind ≡ true
+  pub base : is_name MOST_NAME_BYTES x.base ≡ true
+  pub number : IfSome x.number (λ n. n ≤ GREATEST_ID)
+  pub name : is_name MOST_NAME_BYTES x.name ≡ true
+  pub rank : IfSome x.rank (λ n. n ≤ GREATEST_ID)
   pub unit : is_unit x.unit ≡ true
   pub properties : AreProperties x.properties
 
@@ -233,8 +235,8 @@ then_fits (Err e) f y h next = err_ok e y h
 
 node_with_ok : (at : ℕ) (id : List ℕ) (d : Data) (x : FileNode) → IsOrdered d → node_with at id d ≡ Ok x → IsFitNode x
 node_with_ok at id d x up h =
-    then_fits (at_key at TypeName (ruled_field (is_name 64) (codes "type") d)) _ x h (λ kind kind_is h1.
-    then_fits (at_key at Basename (ruled_given (is_name 255) kind (codes "basename") d)) _ x h1 (λ base base_is h2.
+    then_fits (at_key at TypeName (ruled_field (is_name MOST_TYPE_BYTES) (codes "type") d)) _ x h (λ kind kind_is h1.
+    then_fits (at_key at Basename (ruled_given (is_name MOST_NAME_BYTES) kind (codes "basename") d)) _ x h1 (λ base base_is h2.
     then_fits (at_key at Number (small_given (codes "id") d)) _ x h2 (λ n n_is h3.
     then_fits (at_key at Name (name_given base n d)) _ x h3 (λ name name_is h4.
     then_fits (at_key at Rank (small_given (codes "rank") d)) _ x h4 (λ rank rank_is h5.
@@ -252,8 +254,8 @@ node_with_ok at id d x up h =
       unit = unit;
       properties = properties;
     }) (λ m. m) (properties_given at d) x h7 in
-    let kind_fits : is_name 64 kind ≡ true = ruled_field_ok (is_name 64) (codes "type") d kind (at_ok (NodeField at TypeName) _ kind kind_is) in
-    let base_fits : is_name 255 base ≡ true = ruled_given_ok (is_name 255) kind (codes "basename") d base (longer_name kind kind_fits) (at_ok (NodeField at Basename) _ base base_is) in
+    let kind_fits : is_name MOST_TYPE_BYTES kind ≡ true = ruled_field_ok (is_name MOST_TYPE_BYTES) (codes "type") d kind (at_ok (NodeField at TypeName) _ kind kind_is) in
+    let base_fits : is_name MOST_NAME_BYTES base ≡ true = ruled_given_ok (is_name MOST_NAME_BYTES) kind (codes "basename") d base (longer_name kind kind_fits) (at_ok (NodeField at Basename) _ base base_is) in
     let n_fits : IsSmall n = small_given_ok (codes "id") d n (at_ok (NodeField at Number) _ n n_is) in
     subst IsFitNode made.2 (record {
       kind = kind_fits;

@@ -9,6 +9,8 @@ use Rattle.std.proofs.lemmas.List.{length-take, take-append-drop, drop_more, tak
 use Rattle.std.proofs.lemmas.List.Sums.{AllPass-from_list_all}
 use Rattle.std.proofs.lemmas.List.Folds.{list_any_at, Any-from_list_any}
 use Rattle.std.proofs.lemmas.Option.{slice_get-map, slice_get-get_or, slice_get_within, get_or_from_slice_get, same_Some, unwrap_or-slice_get}
+use Rattle.flux_defs.specs.declared.limits.TheConstants.{MOST_NAME_BYTES, MOST_TYPE_BYTES, MOST_VERTICES}
+use Rattle.graph_json.specs.declared.fields.TheConstants.{GREATEST_ID}
 use Rattle.flux_defs.specs.declared.vertices.Vertex.{Vertex}
 use Rattle.flux_defs.specs.Graph.{HasKind}
 use Rattle.flux_defs.specs.ValidGraph.{NumbersKinds}
@@ -386,7 +388,7 @@ module _ (g : NamedGraph) (whole : IsWhole g) where
   edges = file_edges 0 vertices
 
   count_small : length vertices ≤ 2 ^ 64
-  count_small = let few : length vertices ≤ 65536 = whole.valid.few in omega arith
+  count_small = let few : length vertices ≤ MOST_VERTICES = whole.valid.few in omega arith
 
   parent_small : (k : ℕ) (x : Vertex) → slice_get vertices k ≡ Some x → IfSome x.parent (λ p. p < length vertices)
   parent_small k x e = by x.parent refl
@@ -453,9 +455,9 @@ module _ (g : NamedGraph) (fits : IsFileGraph g) where
       let lt : k < length g.resources.vertices = slice_get_within g.resources.vertices k x e in
       let named : length g.names ≡ length g.resources.vertices = fits.whole.valid.named in
       record {
-        kind = test_within (is_name 64) g.resources.kinds x.kind [] fits.kinds (fits.whole.valid.kinds.known k x e);
-        base = test_within (is_name 255) g.bases k [] fits.bases (omega (arith, fits.whole.bases));
-        name = test_within (is_name 255) g.names k [] fits.names (omega arith);
+        kind = test_within (is_name MOST_TYPE_BYTES) g.resources.kinds x.kind [] fits.kinds (fits.whole.valid.kinds.known k x e);
+        base = test_within (is_name MOST_NAME_BYTES) g.bases k [] fits.bases (omega (arith, fits.whole.bases));
+        name = test_within (is_name MOST_NAME_BYTES) g.names k [] fits.names (omega arith);
         unit = test_within is_unit g.units k [] fits.units (omega (arith, fits.whole.units));
         properties = all_within AreProperties g.properties k [] fits.properties (omega (arith, fits.whole.properties));
         numbers = all_at HasFileNumbers g.resources.vertices fits.numbers k x e;
@@ -475,7 +477,7 @@ module _ (g : NamedGraph) (fits : IsFileGraph g) where
       let own = all_at HasFileNumbers g.resources.vertices fits.numbers k x e in
       (omega arith, small x.id own.0, small x.rank own.1)
     where
-      small : (o : Option ℕ) → IfSome o (λ n. n ≤ 2 ^ 32 - 2) → IfSome o (λ n. n < 2 ^ 64)
+      small : (o : Option ℕ) → IfSome o (λ n. n ≤ GREATEST_ID) → IfSome o (λ n. n < 2 ^ 64)
       small None h = tt
       small (Some n) h = omega arith
 
@@ -484,7 +486,7 @@ module _ (g : NamedGraph) (fits : IsFileGraph g) where
     where
       by : (o : Option ℕ) → IfSome o (λ p. p < length g.resources.vertices) → IfSome o (λ p. p < 2 ^ 64)
       by None h = tt
-      by (Some p) h = let few : length g.resources.vertices ≤ 65536 = fits.whole.valid.few in omega arith
+      by (Some p) h = let few : length g.resources.vertices ≤ MOST_VERTICES = fits.whole.valid.few in omega arith
 
   -- what is written of a graph that a file can hold is a file of that graph
   pub read_back : IsGraphText (graph_text g) g

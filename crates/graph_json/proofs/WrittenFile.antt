@@ -7,6 +7,8 @@ use Rattle.std.proofs.lemmas.Bool.{and_parts, le-leb, le-ltb}
 use Rattle.std.proofs.lemmas.List.Sums.{AllPass-from_list_all}
 use Rattle.std.proofs.lemmas.Str.{IsUtf8-from_ascii, is_utf8-from_IsUtf8}
 use Rattle.std.proofs.lemmas.Str.Ascii.{IsAscii-from_all}
+use Rattle.flux_defs.specs.declared.limits.TheConstants.{MOST_NAME_BYTES, MOST_TYPE_BYTES}
+use Rattle.graph_json.specs.declared.fields.TheConstants.{GREATEST_ID, MOST_UNIT_BYTES}
 use Rattle.serde_json.specs.Data.{Data}
 use Rattle.json_whole.specs.declared.fields.FieldFault.{FieldFault}
 use Rattle.flux_defs.specs.declared.vertices.Vertex.{Vertex}
@@ -62,9 +64,9 @@ written_file g = record { nodes = file_nodes g 0 g.resources.vertices; edges = m
 
 -- the texts and numbers of vertex v, which is x, keep their rules
 pub record FitsNode (g : NamedGraph) (v : ℕ) (x : Vertex) : Type 0 where
-  pub kind : is_name 64 (unwrap_or (slice_get g.resources.kinds x.kind) []) ≡ true
-  pub base : is_name 255 (unwrap_or (slice_get g.bases v) []) ≡ true
-  pub name : is_name 255 (unwrap_or (slice_get g.names v) []) ≡ true
+  pub kind : is_name MOST_TYPE_BYTES (unwrap_or (slice_get g.resources.kinds x.kind) []) ≡ true
+  pub base : is_name MOST_NAME_BYTES (unwrap_or (slice_get g.bases v) []) ≡ true
+  pub name : is_name MOST_NAME_BYTES (unwrap_or (slice_get g.names v) []) ≡ true
   pub unit : is_unit (unwrap_or (slice_get g.units v) []) ≡ true
   pub properties : AreProperties (unwrap_or (slice_get g.properties v) [])
   pub numbers : HasFileNumbers x
@@ -84,22 +86,22 @@ readable_name : (most : ℕ) (t : List ℕ) → is_name most t ≡ true → read
 readable_name most t e = ascii_text is_name_byte name_byte_small t (and_parts (nat_lt 0 (length t) && nat_le (length t) most) (list_all is_name_byte t) e).1
 
 readable_unit : (t : List ℕ) → is_unit t ≡ true → readable t ≡ t
-readable_unit t e = ascii_text is_ascii_graphic graphic_small t (and_parts (nat_le (length t) 64) (list_all is_ascii_graphic t) e).1
+readable_unit t e = ascii_text is_ascii_graphic graphic_small t (and_parts (nat_le (length t) MOST_UNIT_BYTES) (list_all is_ascii_graphic t) e).1
 
 -- a text that keeps its rule
 kept : (rule : List ℕ → Bool) (t : List ℕ) → readable t ≡ t → rule t ≡ true → ruled rule (readable t) ≡ Ok t
 kept rule t same fits = ap (ruled rule) same ∙ ap (λ b. if b then Ok t else Err FieldFault.Text) fits
 
-kept_small : (o : Option ℕ) → IfSome o (λ n. n ≤ 2 ^ 32 - 2) → small_number (or_none o) ≡ Ok o
+kept_small : (o : Option ℕ) → IfSome o (λ n. n ≤ GREATEST_ID) → small_number (or_none o) ≡ Ok o
 kept_small None h = refl
-kept_small (Some n) h = ap (λ b. if b then Ok (Some n) else Err FieldFault.Large) (le-leb n (2 ^ 32 - 2) h)
+kept_small (Some n) h = ap (λ b. if b then Ok (Some n) else Err FieldFault.Large) (le-leb n (GREATEST_ID) h)
 
 kept_size : (n : ℕ) → n ≤ 2 ^ 46 → (if nat_lt n 0 then Err FieldFault.Small else (if nat_lt (2 ^ 46) n then Err FieldFault.Large else Ok n)) ≡ Ok n
 kept_size n h = rw (le-ltb n 0 (omega arith), le-ltb (2 ^ 46) n h) refl
 
-readable_names : (list : List (List ℕ)) → list_all (is_name 255) list ≡ true → map readable list ≡ list
+readable_names : (list : List (List ℕ)) → list_all (is_name MOST_NAME_BYTES) list ≡ true → map readable list ≡ list
 readable_names [] all = refl
-readable_names (t ∷ ts) all = let p = and_parts (is_name 255 t) (list_all (is_name 255) ts) all in ap₂ (λ x xs. x ∷ xs) (readable_name 255 t p.0) (readable_names ts p.1)
+readable_names (t ∷ ts) all = let p = and_parts (is_name MOST_NAME_BYTES t) (list_all (is_name MOST_NAME_BYTES) ts) all in ap₂ (λ x xs. x ∷ xs) (readable_name MOST_NAME_BYTES t p.0) (readable_names ts p.1)
 
 same_keys : (ks : List (List ℕ)) → keys_of (keys_object ks) ≡ ks
 same_keys [] = refl
@@ -107,7 +109,7 @@ same_keys (k ∷ ks) = ap (λ l. k ∷ l) (same_keys ks)
 
 -- ---- nodes
 
-read_node : (at : ℕ) (id : List ℕ) (d : Data) (x : FileNode) → ruled_field (is_name 64) (codes "type") d ≡ Ok x.kind → ruled_given (is_name 255) x.kind (codes "basename") d ≡ Ok x.base
+read_node : (at : ℕ) (id : List ℕ) (d : Data) (x : FileNode) → ruled_field (is_name MOST_TYPE_BYTES) (codes "type") d ≡ Ok x.kind → ruled_given (is_name MOST_NAME_BYTES) x.kind (codes "basename") d ≡ Ok x.base
     → small_given (codes "id") d ≡ Ok x.number → name_given x.base x.number d ≡ Ok x.name → small_given (codes "rank") d ≡ Ok x.rank → size_given (codes "size") d ≡ Ok x.size
     → ruled_given is_unit [] (codes "unit") d ≡ Ok x.unit → properties_given at d ≡ Ok x.properties → id ≡ x.id → node_with at id d ≡ Ok x
 read_node at id d x kind base n name rank size unit properties same = rw (kind, base, n, name, rank, size, unit, properties, same) refl
@@ -119,7 +121,7 @@ module _ (g : NamedGraph) (v : ℕ) (x : Vertex) (fits : FitsNode g v x) where
   kept_properties : (at : ℕ) → properties_given at (metadata_data g v x) ≡ Ok (unwrap_or (slice_get g.properties v) [])
   kept_properties at =
       let keys : keys_of (keys_object (properties_at g v)) ≡ unwrap_or (slice_get g.properties v) [] = same_keys (properties_at g v) ∙ same_properties in
-      ap (λ ks. if list_all (is_name 255) ks then Ok ks else Err
+      ap (λ ks. if list_all (is_name MOST_NAME_BYTES) ks then Ok ks else Err
       (record { field = PropertyKey at; fault = FieldFault.Text })) keys
       ∙ ap (λ b. if b then Ok (unwrap_or (slice_get g.properties v) []) else Err
       (record { field = PropertyKey at; fault = FieldFault.Text })) fits.properties.0
@@ -127,10 +129,10 @@ module _ (g : NamedGraph) (v : ℕ) (x : Vertex) (fits : FitsNode g v x) where
   pub node_read : (at : ℕ) → node_of at (node_data g v x) ≡ Ok (file_node g v x)
   node_read at =
       read_node at (decimal v) (metadata_data g v x) (file_node g v x)
-      (kept (is_name 64) (unwrap_or (slice_get g.resources.kinds x.kind) []) (readable_name 64 (unwrap_or (slice_get g.resources.kinds x.kind) []) fits.kind) fits.kind)
-      (kept (is_name 255) (unwrap_or (slice_get g.bases v) []) (readable_name 255 (unwrap_or (slice_get g.bases v) []) fits.base) fits.base)
+      (kept (is_name MOST_TYPE_BYTES) (unwrap_or (slice_get g.resources.kinds x.kind) []) (readable_name MOST_TYPE_BYTES (unwrap_or (slice_get g.resources.kinds x.kind) []) fits.kind) fits.kind)
+      (kept (is_name MOST_NAME_BYTES) (unwrap_or (slice_get g.bases v) []) (readable_name MOST_NAME_BYTES (unwrap_or (slice_get g.bases v) []) fits.base) fits.base)
       (kept_small x.id fits.numbers.0)
-      (kept (is_name 255) (unwrap_or (slice_get g.names v) []) (readable_name 255 (unwrap_or (slice_get g.names v) []) fits.name) fits.name)
+      (kept (is_name MOST_NAME_BYTES) (unwrap_or (slice_get g.names v) []) (readable_name MOST_NAME_BYTES (unwrap_or (slice_get g.names v) []) fits.name) fits.name)
       (kept_small x.rank fits.numbers.1)
       (kept_size x.size fits.size)
       (kept is_unit (unwrap_or (slice_get g.units v) []) (readable_unit (unwrap_or (slice_get g.units v) []) fits.unit) fits.unit)

@@ -6,14 +6,15 @@ use Rattle.std.specs.Result.{result_map_both}
 use Rattle.flux_defs.specs.declared.limits.TheConstants.{GREATEST_NUMBER}
 use Rattle.serde_json.specs.Data.{Num, unsigned, negative, float, Data, null, boolean, number, string, array, object}
 use Rattle.serde_json.specs.Find.{get, as_number}
+use Rattle.graph_json.specs.declared.fields.TheConstants.{GREATEST_ID, MOST_UNIT_BYTES}
 use Rattle.json_whole.specs.Field.{number_or_kind, u64_field}
 use Rattle.json_whole.specs.declared.fields.FieldFault.{FieldFault}
 use Rattle.json_whole.specs.declared.fields.FieldFault.TheVariants.{Missing, Kind, Small, Large}
 use Rattle.json_fields.specs.Values.{given}
 
--- a unit: at most 64 visible ASCII characters
+-- a unit: at most so many visible ASCII characters
 abbrev pub is_unit : List ℕ → Bool
-is_unit text = nat_le (length text) 64 && list_all is_ascii_graphic text
+is_unit text = nat_le (length text) MOST_UNIT_BYTES && list_all is_ascii_graphic text
 
 -- the id of a node: a text, or a whole number, which counts as its decimal text
 abbrev pub id_of : Option Data → Result (List ℕ) FieldFault
@@ -31,7 +32,7 @@ id_field key d = id_of (get key d)
 
 -- a number that leaves the greatest number of 32 bits free, or -1, which stands for none
 abbrev pub small_number : Num → Result (Option ℕ) FieldFault
-small_number (unsigned n) = if nat_le n (2 ^ 32 - 2) then Ok (Some n) else Err Large
+small_number (unsigned n) = if nat_le n (GREATEST_ID) then Ok (Some n) else Err Large
 small_number (negative (pos n)) = Err Small
 small_number (negative (negsuc zero)) = Ok None
 small_number (negative (negsuc (suc n))) = Err Small

@@ -4,6 +4,7 @@ use Rattle.std.specs.List.{AllByRecursion, list_all}
 use Rattle.flux_defs.specs.declared.vertices.Vertex.{Vertex}
 use Rattle.flux_defs.specs.declared.limits.TheConstants.{MOST_NAME_BYTES, MOST_TYPE_BYTES}
 use Rattle.resource_graph.specs.NamedGraph.{NamedGraph, IsWhole}
+use Rattle.graph_json.specs.declared.fields.TheConstants.{GREATEST_ID}
 use Rattle.graph_json.specs.Fields.{is_unit}
 use Rattle.text_forms.specs.Names.{is_name}
 use Rattle.graph_json.specs.Nodes.{in_order}
@@ -14,7 +15,7 @@ AreProperties list = IsTrue (list_all (is_name MOST_NAME_BYTES) list) × (in_ord
 
 -- the id and the rank of a vertex leave the greatest number of 32 bits free
 abbrev pub HasFileNumbers : Vertex → Type 0
-HasFileNumbers x = IfSome x.id (λ n. n ≤ 2 ^ 32 - 2) × IfSome x.rank (λ n. n ≤ 2 ^ 32 - 2)
+HasFileNumbers x = IfSome x.id (λ n. n ≤ GREATEST_ID) × IfSome x.rank (λ n. n ≤ GREATEST_ID)
 
 -- A valid graph whose texts and numbers keep the rules of a graph file.
 pub record IsFileGraph (g : NamedGraph) : Type 0 where

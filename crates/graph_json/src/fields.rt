@@ -16,10 +16,10 @@ use json_fields::given;
 use json_whole::{FieldFault, need_u64};
 use serde_json::{Number, Value};
 
-/// The greatest id and rank.
-const GREATEST_SMALL: u64 = 4_294_967_294;
-/// The most characters of a unit.
-const MOST_UNIT_BYTES: usize = 64;
+/// The greatest id and rank: it leaves the greatest number of 32 bits free.
+pub const GREATEST_ID: u64 = 4_294_967_294;
+/// The most bytes of a unit, each of which is a character.
+pub const MOST_UNIT_BYTES: usize = 64;
 
 /// How a file writes the id of a node.
 #[derive(Clone, Copy, Debug)]
@@ -81,7 +81,7 @@ fn small_number(number: &Number) -> Result<Option<u32>, FieldFault>
     ensures { result ≡ small_number (number_view number.now) }
 {
     if let Some(n) = number.as_u64() {
-        if n > GREATEST_SMALL {
+        if n > GREATEST_ID {
             return Err(FieldFault::Large);
         }
         return Ok(Some(n as u32));

@@ -12,6 +12,7 @@ use Rattle.std.proofs.lemmas.List.Quantifiers.{position-Some}
 use Rattle.std.proofs.lemmas.List.Folds.{list_all-append}
 use Rattle.std.proofs.lemmas.Str.Parse.{digits_value_short}
 use Rattle.std.proofs.lemmas.Fmt.{length-decimal-le, decimal_nonempty}
+use Rattle.flux_defs.specs.declared.limits.TheConstants.{MOST_NAME_BYTES}
 use Rattle.idset_text.specs.declared.faults.TextFault.{TextFault}
 use Rattle.idset_text.specs.declared.hostlists.Hosts.{Hosts}
 use Rattle.idset_text.specs.declared.hostlists.Hosts.TheVariants.{One, Many}
@@ -56,18 +57,18 @@ padded_grows : (width m n : ℕ) → m ≤ n → n < 4294967296 → length (padd
 padded_grows width m n le small = omega (arith, length-padded width m, length-padded width n, decimal_grows m n le small)
 
 -- where the last name isn't too long, none is
-all_short : (prefix : List ℕ) (width hi count lo : ℕ) → lo + count ≤ hi + 1 → hi < 4294967296 → length prefix + length (padded width hi) ≤ 255 → All (λ name. length name ≤ 255) (names_from prefix width count lo)
-all_short prefix width hi zero lo le small short = All-nil (λ name. length name ≤ 255)
+all_short : (prefix : List ℕ) (width hi count lo : ℕ) → lo + count ≤ hi + 1 → hi < 4294967296 → length prefix + length (padded width hi) ≤ MOST_NAME_BYTES → All (λ name. length name ≤ MOST_NAME_BYTES) (names_from prefix width count lo)
+all_short prefix width hi zero lo le small short = All-nil (λ name. length name ≤ MOST_NAME_BYTES)
 all_short prefix width hi (suc count) lo le small short =
     let name_len : length (prefix ++ padded width lo) ≡ length prefix + length (padded width lo) = length-append prefix (padded width lo) in
-    let own : length (prefix ++ padded width lo) ≤ 255 = omega (arith, padded_grows width lo hi (omega arith) small) in
-    All-cons (λ name. length name ≤ 255) (prefix ++ padded width lo) (names_from prefix width count (lo + 1)) own (all_short prefix width hi count (lo + 1) (omega arith) small short)
+    let own : length (prefix ++ padded width lo) ≤ MOST_NAME_BYTES = omega (arith, padded_grows width lo hi (omega arith) small) in
+    All-cons (λ name. length name ≤ MOST_NAME_BYTES) (prefix ++ padded width lo) (names_from prefix width count (lo + 1)) own (all_short prefix width hi count (lo + 1) (omega arith) small short)
 
 -- and where none is, the last isn't
-last_short : (prefix : List ℕ) (width lo hi : ℕ) → lo ≤ hi → All (λ name. length name ≤ 255) (names_from prefix width (hi + 1 - lo) lo) → length prefix + length (padded width hi) ≤ 255
+last_short : (prefix : List ℕ) (width lo hi : ℕ) → lo ≤ hi → All (λ name. length name ≤ MOST_NAME_BYTES) (names_from prefix width (hi + 1 - lo) lo) → length prefix + length (padded width hi) ≤ MOST_NAME_BYTES
 last_short prefix width lo hi le short =
-    let own : length (prefix ++ padded width hi) ≤ 255 =
-    All-contains (λ name. length name ≤ 255) (names_from prefix width (hi + 1 - lo) lo) (prefix ++ padded width hi) short (many_has prefix (padded width hi) (prefix ++ padded width hi) lo hi width refl (hi, le, omega arith, refl)) in
+    let own : length (prefix ++ padded width hi) ≤ MOST_NAME_BYTES =
+    All-contains (λ name. length name ≤ MOST_NAME_BYTES) (names_from prefix width (hi + 1 - lo) lo) (prefix ++ padded width hi) short (many_has prefix (padded width hi) (prefix ++ padded width hi) lo hi width refl (hi, le, omega arith, refl)) in
     omega (arith, own, length-append prefix (padded width hi))
 
 -- ---- pieces
@@ -102,7 +103,7 @@ piece_was_read prefix piece numbers e =
         let both = and_parts _ _ fit in
         let front = and_parts _ _ both.0 in
         let ordered : lo ≤ hi = leb-true lo hi front.0 in
-        let short : length prefix + length (padded (width_of (ends_of piece).0) hi) ≤ 255 = leb-true _ 255 both.1 in
+        let short : length prefix + length (padded (width_of (ends_of piece).0) hi) ≤ MOST_NAME_BYTES = leb-true _ MOST_NAME_BYTES both.1 in
         record {
           first = (ends_of piece).0;
           last = (ends_of piece).1;
@@ -156,7 +157,7 @@ piece_is_read prefix piece first last lo hi width is =
 
     fit : fits (length prefix) first last lo hi ≡ true
     fit = and_from _ _ (and_from _ _ (le-leb lo hi is.ordered) (wide_by (has_leading_zero first) is.wide))
-        (le-leb (length prefix + length (padded (width_of first) hi)) 255 (last_short prefix (width_of first) lo hi is.ordered (let P : ℕ → Type 0 = λ w. All (λ name. length name ≤ 255) (names_from prefix w (hi + 1 - lo) lo) in subst P is.width_is is.short)))
+        (le-leb (length prefix + length (padded (width_of first) hi)) MOST_NAME_BYTES (last_short prefix (width_of first) lo hi is.ordered (let P : ℕ → Type 0 = λ w. All (λ name. length name ≤ MOST_NAME_BYTES) (names_from prefix w (hi + 1 - lo) lo) in subst P is.width_is is.short)))
 
 pieces_are_read : (prefix : List ℕ) (parts : List (List ℕ)) (hosts : List Hosts) → AllZip (IsPiece prefix) parts hosts → hosts_of_pieces prefix parts ≡ Some hosts
 pieces_are_read prefix [] [] are = refl
@@ -184,7 +185,7 @@ pieces_plain prefix (part ∷ parts) (Many own lo hi width ∷ hosts) are = and_
 -- ---- items
 
 prefix_bytes : (prefix : List ℕ) → (prefix ≡ []) ⊎ IsTrue (is_host_name prefix) → (list_all is_name_byte prefix ≡ true)
-    × (length prefix ≤ 255)
+    × (length prefix ≤ MOST_NAME_BYTES)
 prefix_bytes prefix (inl none) = (ap (list_all is_name_byte) none, omega (arith, ap length none))
 prefix_bytes prefix (inr is) = let parts = name_parts prefix is in (parts.bytes, parts.short)
 

@@ -13,6 +13,7 @@ use Rattle.std.proofs.lemmas.List.Sums.{AllPass-from_list_all}
 use Rattle.std.proofs.lemmas.List.Folds.{list_all-append, list_all_at}
 use Rattle.std.proofs.lemmas.Str.Parse.{digits_value_short}
 use Rattle.std.proofs.lemmas.Fmt.{length-decimal-le}
+use Rattle.flux_defs.specs.declared.limits.TheConstants.{MOST_NAME_BYTES}
 use Rattle.idset_text.specs.declared.hostlists.Hosts.{Hosts}
 use Rattle.idset_text.specs.declared.hostlists.Hosts.TheVariants.{One, Many}
 use Rattle.idset_text.specs.declared.hostlists.Numbers.{Numbers}
@@ -39,7 +40,7 @@ name_bytes_plain (byte ∷ bytes) h = let both = and_parts _ _ h in and_from _ _
 -- what a name keeps
 pub record NameParts (name : List ℕ) : Type 0 where
   pub some : 0 < length name
-  pub short : length name ≤ 255
+  pub short : length name ≤ MOST_NAME_BYTES
   pub bytes : list_all is_name_byte name ≡ true
 
 pub name_parts : (name : List ℕ) → is_host_name name ≡ true → NameParts name
@@ -87,12 +88,12 @@ or_second true b e = refl
 or_second false b e = e
 
 -- a prefix of a name is one, or nothing
-pub prefix_is_fine : (prefix : List ℕ) → list_all is_name_byte prefix ≡ true → length prefix ≤ 255 →
+pub prefix_is_fine : (prefix : List ℕ) → list_all is_name_byte prefix ≡ true → length prefix ≤ MOST_NAME_BYTES →
     (eqb (length prefix) 0 || is_host_name prefix) ≡ true
 prefix_is_fine [] p short = refl
 prefix_is_fine (byte ∷ prefix) p short = or_second (eqb (length (byte ∷ prefix)) 0) (is_host_name (byte ∷ prefix))
     (and_from _ _ (and_from _ _ (lt-ltb 0 (length (byte ∷ prefix)) (omega arith))
-    (le-leb (length (byte ∷ prefix)) 255 short)) p)
+    (le-leb (length (byte ∷ prefix)) MOST_NAME_BYTES short)) p)
 
 pub hosts_of_item-listed : (prefix list : List ℕ) (hosts : Option (List Hosts)) → list_all is_name_byte prefix ≡ true → hosts_of_list prefix list ≡ hosts → hosts_of_item (listed prefix list) ≡ hosts
 hosts_of_item-listed prefix list hosts p read =
@@ -108,7 +109,7 @@ hosts_of_item-listed prefix list hosts p read =
 -- what a run's text needs to be read
 record Reads (prefix first last : List ℕ) (lo hi : ℕ) : Type 0 where
   prefix_bytes : list_all is_name_byte prefix ≡ true
-  prefix_short : length prefix ≤ 255
+  prefix_short : length prefix ≤ MOST_NAME_BYTES
   first_digits : are_digits first ≡ true
   last_digits : are_digits last ≡ true
   first_number : host_number first ≡ Some lo
@@ -321,7 +322,7 @@ run_reads true first last seen f l run =
     let len : length first ≡ length prefix + length (digits_of first) = ap length (sym (name_is first)) ∙ length-append prefix (digits_of first) in
     let last_name : last ≡ prefix ++ padded width run.hi = sym (name_is last) ∙ ap (λ (p : List ℕ). p ++ digits_of last) run.prefix ∙ ap (λ (ds : List ℕ). prefix ++ ds) run.padding in
     let last_len : length last ≡ length prefix + length (padded width run.hi) = ap length last_name ∙ length-append prefix (padded width run.hi) in
-    let short : length prefix + length (padded width run.hi) ≤ 255 = omega (arith, last_len, last_is.short) in
+    let short : length prefix + length (padded width run.hi) ≤ MOST_NAME_BYTES = omega (arith, last_len, last_is.short) in
     record {
       hosts = Many prefix run.lo run.hi width ∷ [];
       read = hostlist_of-run prefix (digits_of first) (digits_of last) run.lo run.hi (record {
@@ -331,7 +332,7 @@ run_reads true first last seen f l run =
         last_digits = (host_number_written (digits_of last) run.hi run.last_number).digits;
         first_number = run.first_number;
         last_number = run.last_number;
-        fit = and_from _ _ (and_from _ _ (le-leb run.lo run.hi run.ordered) (alike (has_leading_zero (digits_of first)) run.wide)) (le-leb (length prefix + length (padded width run.hi)) 255 short);
+        fit = and_from _ _ (and_from _ _ (le-leb run.lo run.hi run.ordered) (alike (has_leading_zero (digits_of first)) run.wide)) (le-leb (length prefix + length (padded width run.hi)) MOST_NAME_BYTES short);
       });
       are = append-nil (names_from prefix width (run.hi + 1 - run.lo) run.lo) ∙ sym run.names;
     }

@@ -11,6 +11,7 @@ use Rattle.std.proofs.lemmas.List.{length-append, length-take, get_or_append_lef
 use Rattle.std.proofs.lemmas.List.Elements.{All-tail, All-head}
 use Rattle.std.proofs.lemmas.List.Folds.{list_all-append}
 use Rattle.std.proofs.lemmas.Fmt.{decimal_nonempty}
+use Rattle.idset_text.specs.declared.idsets.TheConstants.{NO_ID}
 use Rattle.idset_text.specs.declared.idsets.Range.{Range}
 use Rattle.idset_text.specs.declared.faults.TextFault.{TextFault}
 use Rattle.idset_text.specs.Faults.{IsResultOf}
@@ -23,26 +24,26 @@ use Rattle.idset_text.proofs.IdsetLemmas.{with_run-with_run}
 
 -- ---- ids
 
-pub id_of-decimal : (n : ℕ) → n < 4294967295 → id_of (decimal n) ≡ Some n
+pub id_of-decimal : (n : ℕ) → n < NO_ID → id_of (decimal n) ≡ Some n
 id_of-decimal n lt =
-    ap (λ (t : Bool). cond t None (option_and_then (λ number. cond (ltb number 4294967295) (Some number) None) (number_of (decimal n)))) (has_leading_zero-decimal n (omega arith))
-    ∙ ap (option_and_then (λ number. cond (ltb number 4294967295) (Some number) None)) (number_of-decimal n (omega arith))
-    ∙ ap (λ (t : Bool). cond t (Some n) None) (lt-ltb n 4294967295 lt)
+    ap (λ (t : Bool). cond t None (option_and_then (λ number. cond (ltb number NO_ID) (Some number) None) (number_of (decimal n)))) (has_leading_zero-decimal n (omega arith))
+    ∙ ap (option_and_then (λ number. cond (ltb number NO_ID) (Some number) None)) (number_of-decimal n (omega arith))
+    ∙ ap (λ (t : Bool). cond t (Some n) None) (lt-ltb n NO_ID lt)
 
 -- an id was written in the one way
-pub id_was_written : (bytes : List ℕ) (n : ℕ) → id_of bytes ≡ Some n → (bytes ≡ decimal n) × (n < 4294967295)
+pub id_was_written : (bytes : List ℕ) (n : ℕ) → id_of bytes ≡ Some n → (bytes ≡ decimal n) × (n < NO_ID)
 id_was_written bytes n e = by_zero (has_leading_zero bytes) refl e
   where
     small_one : ℕ → Option ℕ
-    small_one number = cond (ltb number 4294967295) (Some number) None
+    small_one number = cond (ltb number NO_ID) (Some number) None
 
-    by_zero : (b : Bool) → has_leading_zero bytes ≡ b → cond b None (option_and_then (λ number. cond (ltb number 4294967295) (Some number) None) (number_of bytes)) ≡ Some n → (bytes ≡ decimal n) × (n < 4294967295)
+    by_zero : (b : Bool) → has_leading_zero bytes ≡ b → cond b None (option_and_then (λ number. cond (ltb number NO_ID) (Some number) None) (number_of bytes)) ≡ Some n → (bytes ≡ decimal n) × (n < NO_ID)
     by_zero true lead f = absurd cc
-    by_zero false lead f = option_and_then_some (λ number. cond (ltb number 4294967295) (Some number) None) (number_of bytes) n f
+    by_zero false lead f = option_and_then_some (λ number. cond (ltb number NO_ID) (Some number) None) (number_of bytes) n f
         (λ x read kept.
-        let test = cond_some (ltb x 4294967295) x n kept in
+        let test = cond_some (ltb x NO_ID) x n kept in
         let same : number_of bytes ≡ Some n = read ∙ ap (λ (v : ℕ). Some v) test.1 in
-        (digits_are_decimal bytes n lead (number_was_written bytes n same), omega (arith, ltb-true x 4294967295 test.0, test.1)))
+        (digits_are_decimal bytes n lead (number_was_written bytes n same), omega (arith, ltb-true x NO_ID test.0, test.1)))
 
 -- ---- ranges
 
@@ -60,14 +61,14 @@ item-range_text range is = (is, by_test (eqb range.lo range.hi) refl)
 -- an item is read as its range
 pub range_of-item : (item : List ℕ) (range : Range) → IsItem item range → range_of item ≡ Some range
 range_of-item item range (is, inl (alone, same)) =
-    let small : range.lo < 4294967295 = omega (arith, is.ordered, is.small) in
+    let small : range.lo < NO_ID = omega (arith, is.ordered, is.small) in
     ap range_of alone
     ∙ ap (λ (ends : List ℕ × List ℕ). range_between (id_of ends.0) (id_of ends.1)) (ends_of-digits (decimal range.lo) (are_digits-decimal range.lo (omega arith)))
     ∙ ap (λ (o : Option ℕ). range_between o o) (id_of-decimal range.lo small)
     ∙ ap (λ (n : ℕ). range_between (Some range.lo) (Some n)) same
     ∙ range_between-ids range is
 range_of-item item range (is, inr both) =
-    let small : range.lo < 4294967295 = omega (arith, is.ordered, is.small) in
+    let small : range.lo < NO_ID = omega (arith, is.ordered, is.small) in
     ap range_of both
     ∙ ap (λ (ends : List ℕ × List ℕ). range_between (id_of ends.0) (id_of ends.1)) (ends_of-joined (decimal range.lo) (decimal range.hi) (are_digits-decimal range.lo (omega arith)))
     ∙ ap (λ (o : Option ℕ). range_between o (id_of (decimal range.hi))) (id_of-decimal range.lo small)
@@ -141,7 +142,7 @@ above_was_written least bytes range e =
 -- ids that rise, as ranges do
 abbrev pub IdsRise : ℕ → List ℕ → Type 0
 IdsRise least [] = Unit {0}
-IdsRise least (id ∷ ids) = (least ≤ id) × (id < 4294967295) × IdsRise (id + 1) ids
+IdsRise least (id ∷ ids) = (least ≤ id) × (id < NO_ID) × IdsRise (id + 1) ids
 
 rises-with_run : (least : ℕ) (run : Range) (runs : List Range) → least ≤ run.lo → IsRange run → Rises (run.hi + 1) runs → Rises least (with_run run runs)
 rises-with_run least run [] low is r = (low, is, tt)
@@ -161,12 +162,12 @@ increasing_tail id ids h k lt =
     let p : get_or (id ∷ ids) (suc k) 0 < get_or (id ∷ ids) (suc k + 1) 0 = h (suc k) (omega arith) in
     omega (arith, p, ap (λ (n : ℕ). get_or (id ∷ ids) n 0) e)
 
-pub ids_rise : (least : ℕ) (ids : List ℕ) → (0 < length ids → least ≤ get_or ids 0 0) → IsStrictlyIncreasing ids → All (λ id. id < 4294967295) ids → IdsRise least ids
+pub ids_rise : (least : ℕ) (ids : List ℕ) → (0 < length ids → least ≤ get_or ids 0 0) → IsStrictlyIncreasing ids → All (λ id. id < NO_ID) ids → IdsRise least ids
 ids_rise least [] low h small = tt
 ids_rise least (id ∷ ids) low h small = (
   low (omega arith),
-  All-head (λ x. x < 4294967295) id ids small,
-  ids_rise (id + 1) ids (λ some. let p : id < get_or (id ∷ ids) (0 + 1) 0 = h 0 (omega arith) in let q : id < get_or ids 0 0 = p in omega (arith, q)) (increasing_tail id ids h) (All-tail (λ x. x < 4294967295) id ids small),
+  All-head (λ x. x < NO_ID) id ids small,
+  ids_rise (id + 1) ids (λ some. let p : id < get_or (id ∷ ids) (0 + 1) 0 = h 0 (omega arith) in let q : id < get_or ids 0 0 = p in omega (arith, q)) (increasing_tail id ids h) (All-tail (λ x. x < NO_ID) id ids small),
 )
 
 -- ---- the ids of runs
@@ -210,7 +211,7 @@ digits_plain (byte ∷ bytes) d =
     let bounds = digit_bounds byte both.0 in
     and_from _ _ (and_from _ _ (and_from _ _ (ap not (ne_eqb byte 44 (λ e. omega (arith, bounds.0)))) (ap not (ne_eqb byte 91 (λ e. omega (arith, bounds.1))))) (ap not (ne_eqb byte 93 (λ e. omega (arith, bounds.1))))) (digits_plain bytes both.1)
 
-decimal_plain : (n : ℕ) → n < 4294967295 → list_all is_plain (decimal n) ≡ true
+decimal_plain : (n : ℕ) → n < NO_ID → list_all is_plain (decimal n) ≡ true
 decimal_plain n lt = digits_plain (decimal n) (are_digits-decimal n (omega arith))
 
 item_plain : (item : List ℕ) (range : Range) → IsItem item range → list_all is_plain item ≡ true
@@ -272,7 +273,7 @@ idset_of-comma_list : (text : List ℕ) (ranges : List Range) → IsCommaList te
 idset_of-comma_list text [] (item, items, are, joined) = absurd are
 idset_of-comma_list text (range ∷ ranges) (item, items, are, joined) =
     let begins = join_begins item items range are.1 in
-    let small : range.lo < 4294967295 = omega (arith, are.1.0.ordered, are.1.0.small) in
+    let small : range.lo < NO_ID = omega (arith, are.1.0.ordered, are.1.0.small) in
     let some : 0 < length (decimal range.lo) = decimal_nonempty range.lo (omega arith) in
     let digit = digit_bounds (get_or (decimal range.lo) 0 0) (digit_at_place (decimal range.lo) 0 (are_digits-decimal range.lo (omega arith)) some) in
     let whole : text ≡ decimal range.lo ++ begins.rest = joined ∙ begins.parts in
@@ -303,7 +304,7 @@ idset_of-runs_text [] r = refl
 idset_of-runs_text (run ∷ runs) r = idset_of-comma_list (runs_text (run ∷ runs)) (run ∷ runs) (range_text run, map range_text runs, texts_are_items 0 (run ∷ runs) r, refl)
 
 -- reading what was written gives the ids again
-pub written_again : (ids : List ℕ) → IsStrictlyIncreasing ids → All (λ id. id < 4294967295) ids → IsIdsetOf (idset_text ids) ids
+pub written_again : (ids : List ℕ) → IsStrictlyIncreasing ids → All (λ id. id < NO_ID) ids → IsIdsetOf (idset_text ids) ids
 written_again ids h small =
     let rise = ids_rise 0 ids (λ some. omega arith) h small in
     (runs_of ids, idset_of-runs_text (runs_of ids) (runs_rise 0 ids rise), ids_of-runs_of 0 ids rise)

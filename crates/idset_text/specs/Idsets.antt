@@ -2,6 +2,7 @@
 use Rattle.std.specs.Prelude.{◌≡◌, ◌<◌, ◌≤◌, ◌⊎◌, ⊤, ℕ, zero, suc, ◌+◌, ◌-◌, ◌==◌, nat_lt, nat_le, Bool, ◌&&◌, if◌then◌else◌, List, [], ◌∷◌, ◌++◌, length, take, slice_index, Option, Some, None, Result, Ok, Err, map, decimal}
 use Rattle.std.specs.List.{flat_map, join_with_byte}
 use Rattle.std.specs.Option.{option_and_then}
+use Rattle.idset_text.specs.declared.idsets.TheConstants.{NO_ID}
 use Rattle.idset_text.specs.declared.idsets.Range.{Range}
 use Rattle.idset_text.specs.Items.{Item, items_of, ends_of, with_first}
 use Rattle.idset_text.specs.Numbers.{has_leading_zero, number_of}
@@ -11,7 +12,7 @@ use Rattle.idset_text.specs.Numbers.{has_leading_zero, number_of}
 -- what each range of an idset keeps
 pub record IsRange (range : Range) : Type 0 where
   pub ordered : range.lo ≤ range.hi
-  pub small : range.hi < 4294967295
+  pub small : range.hi < NO_ID
 
 -- each range lies above the one before, the first at `least` or above
 abbrev pub Rises : ℕ → List Range → Type 0
@@ -39,9 +40,9 @@ IsIdset text ranges = ((text ≡ []) × (ranges ≡ [])) ⊎ (IsCommaList text r
 
 -- ---- the grammar, item by item
 
--- an id: digits without a leading zero, up to 4294967294
+-- an id: digits without a leading zero, below the number that is none
 abbrev pub id_of : List ℕ → Option ℕ
-id_of bytes = if has_leading_zero bytes then None else option_and_then (λ number. if nat_lt number 4294967295 then Some number else None) (number_of bytes)
+id_of bytes = if has_leading_zero bytes then None else option_and_then (λ number. if nat_lt number NO_ID then Some number else None) (number_of bytes)
 
 -- the ids from one on and up to another that isn't below it
 abbrev pub range_between : Option ℕ → Option ℕ → Option Range

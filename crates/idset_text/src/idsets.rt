@@ -2,6 +2,7 @@
 ghost use Rattle.std.specs.Prelude.{◌≡◌, Ok, ℕ, ◌+◌, ◌<◌, ◌^◌, ◌↔◌, ◌∷◌, ◌++◌, length, decimal, All, Contains, IsTrue, IfOk, IfSome, OnOk};
 ghost use Rattle.std.specs.List.{list_any};
 ghost use Rattle.std.specs.List.Sorted.{IsStrictlyIncreasing};
+ghost use Rattle.idset_text.specs.declared.idsets.TheConstants.{NO_ID};
 ghost use Rattle.idset_text.specs.Faults.{IsResultOf};
 ghost use Rattle.idset_text.specs.Items.{items_of};
 ghost use Rattle.idset_text.specs.Idsets.{id_of, range_of, range_from, ranges_of, idset_of, IsIdset, Rises, is_within, ids_of, range_text, idset_text, IsIdsetOf, IsShortestOf};
@@ -12,6 +13,9 @@ use crate::numbers::{leads_with_zero, number};
 use flux_defs::{List, Text};
 use std::alloc::{AllocError, Global};
 use text_forms::push_decimal;
+
+/// The number of 32 bits that is no id.
+pub const NO_ID: u32 = 4_294_967_295;
 
 /// The ids from `lo` up to and with `hi`.
 #[derive(Clone, Copy, Debug, PartialEq, Eq)]
@@ -32,13 +36,13 @@ impl Range {
 /// The id that the bytes write.
 fn id(bytes: &[u8]) -> Option<u32>
     ensures value { result ≡ id_of bytes.now }
-    ensures small { IfSome result (λ id. id < 4294967295) }
+    ensures small { IfSome result (λ id. id < NO_ID) }
 {
     if leads_with_zero(bytes) {
         return None;
     }
     match number(bytes) {
-        Some(number) if number < u32::MAX => Some(number),
+        Some(number) if number < NO_ID => Some(number),
         _ => None,
     }
 }
@@ -46,7 +50,7 @@ fn id(bytes: &[u8]) -> Option<u32>
 /// The range that an item writes.
 fn item_range(item: &[u8]) -> Option<Range>
     ensures value { result ≡ range_of item.now }
-    ensures small { IfSome result (λ range. range.hi < 4294967295) }
+    ensures small { IfSome result (λ range. range.hi < NO_ID) }
 {
     let (first, last) = ends(item);
     let lo = id(first)?;
@@ -61,7 +65,7 @@ fn item_range(item: &[u8]) -> Option<Range>
 /// The range that an item writes, if it begins at `least` or above.
 fn range_at_least(least: u32, item: &[u8]) -> Option<Range>
     ensures value { result ≡ range_from least item.now }
-    ensures small { IfSome result (λ range. range.hi < 4294967295) }
+    ensures small { IfSome result (λ range. range.hi < NO_ID) }
 {
     let range = item_range(item)?;
     if least <= range.lo { Some(range) } else { None }
@@ -179,7 +183,7 @@ fn text_of(alloc: Global, ids: &[u32]) -> Result<Vec<u8>, AllocError>
 pub fn write_idset(alloc: Global, ids: &List<u32>) -> Result<Text, AllocError>
     requires { IsStrictlyIncreasing ids.now }
     ensures text { IfOk result (λ text. text ≡ idset_text ids.now) }
-    ensures again { IfOk result (λ text. All (λ id. id < 4294967295) ids.now → IsIdsetOf text ids.now) }
+    ensures again { IfOk result (λ text. All (λ id. id < NO_ID) ids.now → IsIdsetOf text ids.now) }
     ensures shortest { IfOk result (λ text. IsShortestOf text ids.now) }
 {
     let text = text_of(alloc, ids.items())?;

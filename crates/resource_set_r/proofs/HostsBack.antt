@@ -6,6 +6,7 @@ use Rattle.std.proofs.lemmas.Bool.{and_parts, cases_eq, cases_lt}
 use Rattle.std.proofs.lemmas.Bool.Decides.{nat_tests}
 use Rattle.std.proofs.lemmas.Option.{slice_get-get_or}
 use Rattle.std.proofs.lemmas.Str.{IsUtf8-from_ascii}
+use Rattle.idset_text.specs.declared.idsets.TheConstants.{NO_ID}
 use Rattle.graph_laws.proofs.Containment.{equal_from}
 use Rattle.flux_defs.specs.declared.vertices.Vertex.{Vertex}
 use Rattle.flux_defs.specs.Graph.{is_at_or_below}
@@ -116,14 +117,14 @@ module _ (vertices : List Vertex) where
       where
         by : (o : Option Vertex) → slice_get vertices n ≡ o → option_and_then (λ x. x.rank) o ≡ Some rank → Small rank
         by None f g = cc
-        by (Some x) f g = let x_small = all_at HasIdNumbers vertices n x small f in subst (λ (o : Option ℕ). IfSome o (λ k. k < 4294967295)) g x_small.rank
+        by (Some x) f g = let x_small = all_at HasIdNumbers vertices n x small f in subst (λ (o : Option ℕ). IfSome o (λ k. k < NO_ID)) g x_small.rank
 
     pub id_small : (kind : Option ℕ) (n id : ℕ) → id_of_type vertices kind n ≡ Some id → Small id
     id_small kind n id e = by (is_of_type vertices kind n) e
       where
         at : (o : Option Vertex) → slice_get vertices n ≡ o → option_and_then (λ x. x.id) o ≡ Some id → Small id
         at None f g = cc
-        at (Some x) f g = let x_small = all_at HasIdNumbers vertices n x small f in subst (λ (o : Option ℕ). IfSome o (λ k. k < 4294967295)) g x_small.id
+        at (Some x) f g = let x_small = all_at HasIdNumbers vertices n x small f in subst (λ (o : Option ℕ). IfSome o (λ k. k < NO_ID)) g x_small.id
 
         by : (b : Bool) → (if b then option_and_then (λ x. x.id) (slice_get vertices n) else None) ≡ Some id → Small id
         by true g = at (slice_get vertices n) refl g

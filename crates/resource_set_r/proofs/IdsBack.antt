@@ -23,11 +23,12 @@ use Rattle.resource_set_r.specs.Rows.{rising, is_same, with_rank, element_of, el
 use Rattle.resource_set_r.specs.ReadRows.{idset_read, idset_text_at, covers, IsRepeatedRank}
 use Rattle.std.proofs.lemmas.Map.Keys.{IsStrictlyIncreasing-from_sorted, sorted_from_strictly_increasing}
 use Rattle.std.proofs.lemmas.List.Sums.{sum_by-cons, sum_by-append}
+use Rattle.idset_text.specs.declared.idsets.TheConstants.{NO_ID}
 use Rattle.resource_set_r.proofs.Rising.{sorted_front, sorted_rest}
 use Rattle.text_forms.proofs.Ascii.{utf8_decimal}
 
 abbrev pub Small : ℕ → Type 0
-Small n = n < 4294967295
+Small n = n < NO_ID
 
 -- ids that can be written and read
 pub record AreFine (ids : List ℕ) : Type 0 where
@@ -36,7 +37,7 @@ pub record AreFine (ids : List ℕ) : Type 0 where
 
 -- ---- one idset
 
-utf8_range : (range : Range) → range.lo ≤ range.hi → range.hi < 4294967295 → IsUtf8 (range_text range)
+utf8_range : (range : Range) → range.lo ≤ range.hi → range.hi < NO_ID → IsUtf8 (range_text range)
 utf8_range range le small = by (range.lo == range.hi)
   where
     by : (b : Bool) → IsUtf8 (if b then decimal range.lo else (decimal range.lo ++ 45 ∷ decimal range.hi))

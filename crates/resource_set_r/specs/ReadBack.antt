@@ -1,6 +1,7 @@
 -- What is written of a job is read again.
 use Rattle.std.specs.Prelude.{◌≡◌, ◌^◌, ◌<◌, ◌≤◌, length, map, IfSome, IsTrue}
 use Rattle.std.specs.List.{AllByRecursion}
+use Rattle.idset_text.specs.declared.idsets.TheConstants.{NO_ID}
 use Rattle.flux_defs.specs.declared.vertices.Vertex.{Vertex}
 use Rattle.flux_defs.specs.declared.claims.Claim.{Claim}
 use Rattle.flux_defs.specs.declared.claims.Claim.TheVariants.{Take, Hold, Pass}
@@ -19,8 +20,8 @@ use Rattle.resource_set_r.specs.WrittenR.{r_text}
 
 -- its id and its rank leave the greatest number of 32 bits free
 pub record HasIdNumbers (x : Vertex) : Type 0 where
-  pub id : IfSome x.id (λ n. n < 4294967295)
-  pub rank : IfSome x.rank (λ n. n < 4294967295)
+  pub id : IfSome x.id (λ n. n < NO_ID)
+  pub rank : IfSome x.rank (λ n. n < NO_ID)
 
 -- what is taken has at most 64 bits
 abbrev pub HasSmallQuantity : Claim → Type 0
