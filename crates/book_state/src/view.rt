@@ -57,6 +57,23 @@ impl FreeView for BookState {
         accounts.total_over(graph, vertex, kind, window, steps)
     }
 
+    fn total_below<L: Ledger>(
+        &self,
+        vertex: u32,
+        kind: u32,
+        amount: u64,
+        window: Window,
+        steps: &mut Steps<L>,
+    ) -> bool {
+        if !self.keeps_total(vertex, kind) {
+            steps.tick();
+            return false;
+        }
+        let graph = self.graph();
+        let accounts = self.accounts();
+        accounts.total_below(graph, vertex, kind, amount, window, steps)
+    }
+
     fn next_point<L: Ledger>(&self, after: u64, steps: &mut Steps<L>) -> Option<u64> {
         let accounts = self.accounts();
         accounts.next_point(after, steps)
