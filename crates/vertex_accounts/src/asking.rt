@@ -233,8 +233,8 @@ impl<P: Planner + Drop> Accounts<P> {
             steps.tick();
             return None;
         };
-        let some = self.total_where_enough(graph, vertex, place, 1, window, steps);
-        Some(some.unwrap_or(0))
+        let found = self.total_where_enough(graph, vertex, place, 1, window, steps);
+        Some(found.unwrap_or(0))
     }
 
     /// Whether totals of the type are kept and the least of them at the vertex, over a moment of the window, is below
