@@ -119,9 +119,9 @@ impl BookState {
     fn keeps_total(&self, vertex: u32, kind: u32) -> bool
         ensures { IsTrue result ↔ KeepsTotal self.now vertex kind }
     {
-        let Some(found) = self.graph().vertices().get(vertex as usize) else {
-            return false;
-        };
-        self.kept.filtered.keeps(found.kind, kind)
+        match self.graph().vertices().get(vertex as usize) {
+            Some(found) => return self.kept.filtered.keeps(found.kind, kind),
+            None => return false,
+        }
     }
 }
