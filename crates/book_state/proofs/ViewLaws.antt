@@ -87,13 +87,17 @@ there : {A : Type 0} (o : Option A) (P : A → Type 0) → IsSomeAnd o P → (x 
 there None P h = absurd h
 there (Some x) P h = (x, refl, h)
 
-pub kind_kept : (a : Accounts Plan) (book : Kept) → a ≡ accounts_of book → (jobs : List Job) → StandsFor book jobs → (v kind : ℕ) → KeepsTotal book v kind → KeepsKind a kind
+pub kind_kept : (a : Accounts Plan) (book : Kept) → a ≡ accounts_of book → (jobs : List Job) → StandsFor book jobs →
+    (v kind : ℕ) → KeepsTotal book v kind → KeepsKind a kind
 kind_kept a book ea jobs is v kind keeps =
     let kinds = (graph_of book).resources.kinds in
-    let (x, at, pair) = there (slice_get (vertices_of book) v) (λ x. KeepsPair (graph_of book) (rules_of book) x.kind kind) keeps in
-    let (high, upper, some) = there (slice_get kinds x.kind) (λ high. IsSomeAnd (slice_get kinds kind) (λ low. IsKept (rules_of book) high low)) pair in
-    let (low, lower, rule) = there (slice_get kinds kind) (λ low. IsKept (rules_of book) high low) some in
-    subst (λ (b : Accounts Plan). KeepsKind b kind) (sym ea) (is.kinds kind low lower (rule.0, rule.1, rule.2, rule.3, rule.4.0))
+    let rules = rules_of book in
+    let (x, at, pair) = there (slice_get (vertices_of book) v) (λ x. KeepsPair (graph_of book) rules x.kind kind) keeps in
+    let (high, upper, some) =
+    there (slice_get kinds x.kind) (λ high. IsSomeAnd (slice_get kinds kind) (λ low. IsKept rules high low)) pair in
+    let (low, lower, rule) = there (slice_get kinds kind) (λ low. IsKept rules high low) some in
+    subst (λ (b : Accounts Plan). KeepsKind b kind) (sym ea)
+    (is.kinds kind low lower (rule.0, rule.1, rule.2, rule.3, rule.4.0))
 
 -- the next point
 module _ (a : Accounts Plan) (book : Kept) (ea : a ≡ accounts_of book) where

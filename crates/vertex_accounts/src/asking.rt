@@ -252,7 +252,8 @@ impl<P: Planner + Drop> Accounts<P> {
         requires window { window.from < window.to }
         requires inside { vertex < length graph.now.resources.vertices }
         ensures answer { (jobs : List Job) → AreAccounts P.total_of P.stands_for graph.now.resources.vertices jobs self.now →
-            (IsTrue result ↔ (KeepsKind self.now kind × IsTooLittle graph.now.resources.vertices jobs window vertex kind amount)) }
+            (IsTrue result ↔
+            (KeepsKind self.now kind × IsTooLittle graph.now.resources.vertices jobs window vertex kind amount)) }
         ensures kept { IsTrue result → KeepsKind self.now kind }
         ensures some_work { steps.old < steps.new }
         ensures work { (most_looks : ℕ) → CostWithin P.look_cost most_looks (items_of self.now.planners) →
@@ -266,8 +267,8 @@ impl<P: Planner + Drop> Accounts<P> {
             .is_none()
     }
 
-    /// The least total at the vertex, over a moment of the window, of the type with this place; `None` exactly where it is
-    /// below the amount.
+    /// The least total at the vertex, over a moment of the window, of the type with this place; `None` exactly where it
+    /// is below the amount.
     fn total_where_enough<L: Ledger>(
         &self,
         graph: &Graph,
@@ -281,7 +282,8 @@ impl<P: Planner + Drop> Accounts<P> {
         requires place { place < length (counted_of self.now).quantities }
         requires window { window.from < window.to }
         requires inside { vertex < length graph.now.resources.vertices }
-        ensures answer { (kind : ℕ) (jobs : List Job) → slice_get (counted_of self.now).places kind ≡ Some (Some place) →
+        ensures answer { (kind : ℕ) (jobs : List Job) →
+            slice_get (counted_of self.now).places kind ≡ Some (Some place) →
             AreAccounts P.total_of P.stands_for graph.now.resources.vertices jobs self.now →
             MatchOption result
             (IsTooLittle graph.now.resources.vertices jobs window vertex kind amount)
