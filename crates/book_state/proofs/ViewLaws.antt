@@ -1,10 +1,12 @@
 -- From the accounts of a book to the book.
-use Rattle.std.proofs.Common.{◌≡◌, ℕ, ◌+◌, ◌*◌, ◌<◌, ◌≤◌, List, [], ◌∷◌, ◌++◌, length, Option, Some, None, IfSome, sym, ap, subst, arith}
+use Rattle.std.proofs.Common.{◌≡◌, ℕ, ◌+◌, ◌*◌, ◌<◌, ◌≤◌, List, [], ◌∷◌, ◌++◌, length, Option, Some, None, IfSome, slice_get, refl, sym, ap, subst, arith}
+use Rattle.std.specs.Option.{IsSomeAnd}
 use Rattle.std.specs.FinMap.{len}
 use Rattle.flux_defs.specs.declared.vertices.Vertex.{Vertex}
 use Rattle.flux_defs.specs.declared.claims.Job.{Job}
 use Rattle.flux_defs.specs.Digits.{dig}
 use Rattle.resource_graph.specs.NamedGraph.{NamedGraph, IsWhole}
+use Rattle.prune_filters.specs.Filters.{IsKept}
 use Rattle.prune_filters.specs.Amples.{IsNextAmpleOrNone}
 use Rattle.planner_min_tree.specs.Plans as Plans
 use Rattle.planner_min_tree.specs.Plans.{Plan}
@@ -12,9 +14,9 @@ use Rattle.vertex_planners.specs.Lists.{items_of}
 use Rattle.vertex_planners.specs.Work.{CostWithin}
 use Rattle.vertex_accounts.specs.declared.books.Accounts.{Accounts}
 use Rattle.vertex_accounts.specs.Costs.{look_most, closed_most, accounts_most}
-use Rattle.vertex_accounts.specs.Books.{AreAccountsOf, AreAccounts, types_of}
+use Rattle.vertex_accounts.specs.Books.{AreAccountsOf, AreAccounts, KeepsKind, types_of}
 use Rattle.book_state.specs.declared.held.Kept.{Kept}
-use Rattle.book_state.specs.Books.{graph_of, vertices_of, rules_of, accounts_of, rows_of, StandsFor, IsBook, MayAdd, cost_of, change_cost_of}
+use Rattle.book_state.specs.Books.{graph_of, vertices_of, rules_of, accounts_of, rows_of, KeepsPair, KeepsTotal, StandsFor, IsBook, MayAdd, cost_of, change_cost_of}
 use Rattle.flux_defs.specs.Closed.{no_bars}
 use Rattle.flux_defs.specs.Available.{IsAvailable}
 use Rattle.book_laws.specs.Amounts.{TakesFromPool}
@@ -79,6 +81,23 @@ module _ (g : NamedGraph) (a : Accounts Plan) (book : Kept) (eg : g ≡ graph_of
       let covered = change_covered (length g.resources.vertices) a.count (len (rows_of book)) (types_of a) rules claims (256 * dig (length a.times.points + 2)) old mid new
       whole.valid.few types (times_change a g.resources.vertices is.0 at (len (rows_of book)) is.1.few) (work (256 * dig (2 * a.count + 2)) (all_change a g.resources.vertices is.0 at)) row in
       subst (λ (x : Accounts Plan). new ≤ old + 8192 * (claims + 1) * (1 + rules) * dig (2 * x.count + len (rows_of book) + 4)) ea covered
+
+-- the accounts keep totals of each type of which the rules keep one at some vertex
+there : {A : Type 0} (o : Option A) (P : A → Type 0) → IsSomeAnd o P → (x : A) × (o ≡ Some x) × P x
+there None P h = absurd h
+there (Some x) P h = (x, refl, h)
+
+pub kind_kept : (a : Accounts Plan) (book : Kept) → a ≡ accounts_of book → (jobs : List Job) → StandsFor book jobs →
+    (v kind : ℕ) → KeepsTotal book v kind → KeepsKind a kind
+kind_kept a book ea jobs is v kind keeps =
+    let kinds = (graph_of book).resources.kinds in
+    let rules = rules_of book in
+    let (x, at, pair) = there (slice_get (vertices_of book) v) (λ x. KeepsPair (graph_of book) rules x.kind kind) keeps in
+    let (high, upper, some) =
+    there (slice_get kinds x.kind) (λ high. IsSomeAnd (slice_get kinds kind) (λ low. IsKept rules high low)) pair in
+    let (low, lower, rule) = there (slice_get kinds kind) (λ low. IsKept rules high low) some in
+    subst (λ (b : Accounts Plan). KeepsKind b kind) (sym ea)
+    (is.kinds kind low lower (rule.0, rule.1, rule.2, rule.3, rule.4.0))
 
 -- the next point
 module _ (a : Accounts Plan) (book : Kept) (ea : a ≡ accounts_of book) where

@@ -57,6 +57,23 @@ impl FreeView for BookState {
         accounts.total_over(graph, vertex, kind, window, steps)
     }
 
+    fn total_below<L: Ledger>(
+        &self,
+        vertex: u32,
+        kind: u32,
+        amount: u64,
+        window: Window,
+        steps: &mut Steps<L>,
+    ) -> bool {
+        if !self.keeps_total(vertex, kind) {
+            steps.tick();
+            return false;
+        }
+        let graph = self.graph();
+        let accounts = self.accounts();
+        accounts.total_below(graph, vertex, kind, amount, window, steps)
+    }
+
     fn next_point<L: Ledger>(&self, after: u64, steps: &mut Steps<L>) -> Option<u64> {
         let accounts = self.accounts();
         accounts.next_point(after, steps)
@@ -102,9 +119,9 @@ impl BookState {
     fn keeps_total(&self, vertex: u32, kind: u32) -> bool
         ensures { IsTrue result ↔ KeepsTotal self.now vertex kind }
     {
-        let Some(found) = self.graph().vertices().get(vertex as usize) else {
-            return false;
-        };
-        self.kept.filtered.keeps(found.kind, kind)
+        match self.graph().vertices().get(vertex as usize) {
+            Some(found) => return self.kept.filtered.keeps(found.kind, kind),
+            None => return false,
+        }
     }
 }

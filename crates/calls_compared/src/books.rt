@@ -1,6 +1,7 @@
 //! Books of jobs in shared trees beside plain lists of jobs.
 ghost use Rattle.std.specs.Prelude.{◌≡◌, ◌<◌, length};
 ghost use Rattle.std.specs.Arc.{arc_value};
+ghost use Rattle.book_state.specs.Books.{vertices_of};
 
 use crate::adding::may_add;
 use book_state::BookState;
@@ -246,9 +247,33 @@ fn differing<L: Ledger>(
     let mut count = closed as u64 + touched as u64 + free as u64 + next as u64;
     for kind in 0..6u32 {
         let told = book.total_over(vertex, kind, window, steps);
-        if told != total_of(graph, &plain, rules, vertex, kind, window, steps) {
-            count = count.wrapping_add(1);
-        }
+        let total = total_of(graph, &plain, rules, vertex, kind, window, steps);
+        count = count.wrapping_add((told != total) as u64);
+        count = count.wrapping_add(wrongly_below(book, vertex, kind, total, window, steps));
+    }
+    count
+}
+
+/// For how many amounts up to 17 the book is wrong about whether the total is below; none is kept where it is `None`.
+fn wrongly_below<L: Ledger>(
+    book: &BookState,
+    vertex: u32,
+    kind: u32,
+    total: Option<u64>,
+    window: Window,
+    steps: &mut Steps<L>,
+) -> u64
+    requires vertex { vertex < length (vertices_of book.now) }
+    requires window { window.from < window.to }
+{
+    let mut count = 0u64;
+    for amount in 0..18u64 {
+        let below = match total {
+            None => false,
+            Some(total) => total < amount,
+        };
+        let told = book.total_below(vertex, kind, amount, window, steps);
+        count = count.wrapping_add((told != below) as u64);
     }
     count
 }

@@ -1,4 +1,4 @@
--- What jobs leave of a type, moment by moment: nothing at all, and at the root from when on so much.
+-- What jobs leave of a type at the root, moment by moment, and from when on it is so much.
 use Rattle.std.proofs.Common.{◌≡◌, ℕ, zero, suc, ◌≤◌, List, [], ◌∷◌, ◌++◌, Option, Some, None, ◌⊎◌, inl, inr, sym, ◌∙◌, subst, arith, IsTrue, true≢false}
 use Rattle.std.specs.Prelude.{sum_by}
 use Rattle.std.proofs.lemmas.Bool.{cases_lt}
@@ -11,24 +11,23 @@ use Rattle.flux_defs.specs.Graph.{ResourceGraph, is_at_or_below}
 use Rattle.flux_defs.specs.ValidGraph.{StandsInPreorder}
 use Rattle.flux_defs.specs.Jobs.{holds_over, IsPoint, IsNextPoint}
 use Rattle.flux_defs.specs.Closed.{no_bars, is_closed}
-use Rattle.flux_defs.specs.Free.{total_at, IsTotalOver}
+use Rattle.flux_defs.specs.Free.{total_at}
 use Rattle.graph_laws.proofs.Containment.{below_le}
 use Rattle.graph_laws.proofs.Preorder.{parents_first}
 use Rattle.planner_points.specs.declared.spans.Span.{Span}
-use Rattle.planner_points.specs.Spans.{free_at, IsEnd, IsLeastFree}
+use Rattle.planner_points.specs.Spans.{free_at, IsEnd}
 use Rattle.prune_filters.specs.Amples.{IsNextAmpleOrNone}
 use Rattle.book_laws.specs.Amounts.{capacity, part_within}
 use Rattle.book_laws.specs.Grouped.{time_of, some_span, grouped}
 use Rattle.book_laws.specs.TotalLaws.{AreFair}
 use Rattle.book_laws.proofs.GroupedLaws.{used_grouped}
-use Rattle.book_laws.proofs.Sums.{bool_of, live_most, live_where}
+use Rattle.book_laws.proofs.Sums.{bool_of, live_where}
 use Rattle.book_laws.proofs.Totals.{total_open, total_closed}
 use Rattle.book_laws.proofs.Within.{closed_is}
 use Rattle.vertex_accounts.specs.declared.quantities.Quantity.{Quantity}
 use Rattle.vertex_accounts.specs.declared.quantities.Quantity.TheVariants.{Holds, Claims, Takes, Units}
-use Rattle.vertex_accounts.specs.Quantities.{amount_in, total_in, part_count, IsUnitsOf}
+use Rattle.vertex_accounts.specs.Quantities.{amount_in, total_in, IsUnitsOf}
 use Rattle.vertex_accounts.proofs.AskingLaws.{FirstOrNone}
-use Rattle.vertex_accounts.proofs.OwnLaws.{part_less}
 
 -- of the units of a type
 pub units_first : (vertices : List Vertex) (jobs : List Job) (kind from quantity : ℕ) (found : Option ℕ) (q : Quantity) → IsUnitsOf kind q →
@@ -99,20 +98,3 @@ module _ (g : ResourceGraph) (o : StandsInPreorder g) (jobs : List Job) (fair : 
       | inr ge ↦ ge
     ];
   }
-
--- where jobs leave nothing of a vertex's capacity its total is 0, whether it is closed or not
-pub none_left : (g : ResourceGraph) → StandsInPreorder g → (jobs : List Job) → AreFair g.vertices jobs → (w : Window) (kind v : ℕ) →
-    IsLeastFree (capacity g.vertices kind v) (grouped (part_count g.vertices kind v) jobs) w 0 → IsTotalOver g.vertices jobs w kind v 0
-none_left g o jobs fair w kind v least =
-    let m = least.reached.0 in
-    let left = least.reached.3 in
-    let used = used_grouped (part_count g.vertices kind v) jobs m in
-    let most = live_most (part_count g.vertices kind v) (part_within g.vertices kind v) jobs m (part_less g.vertices kind v) in
-    let none : total_at g.vertices jobs kind m v ≡ 0 = elim (bool_of (is_closed (no_bars g.vertices jobs) m v)) [
-      | inl closed ↦ total_closed g o kind v jobs m closed
-      | inr open_ ↦ (let all = total_open g o kind v jobs m fair.within fair.pools open_ in omega (arith, all, used, left, most))
-    ] in
-    record {
-      each = λ k lo hi. omega arith;
-      reached = (m, least.reached.1, least.reached.2, none);
-    }

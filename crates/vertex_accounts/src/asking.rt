@@ -6,7 +6,7 @@ ghost use Rattle.flux_defs.specs.Digits.{dig};
 ghost use Rattle.flux_defs.specs.Graph.{chain, is_pool};
 ghost use Rattle.flux_defs.specs.Jobs.{some_live_claim, SomeMoment, IsPoint, IsNextPoint};
 ghost use Rattle.flux_defs.specs.Closed.{IsClosedOver, IsTouchedOver};
-ghost use Rattle.flux_defs.specs.Free.{IsFreeOver, IsTotalOver};
+ghost use Rattle.flux_defs.specs.Free.{IsFreeOver, IsTotalOver, IsTooLittle};
 ghost use Rattle.planner_points.specs.Spans.{IsLeastFree};
 ghost use Rattle.book_laws.specs.Amounts.{is_hold, holds_along};
 ghost use Rattle.book_laws.specs.Grouped.{grouped};
@@ -233,16 +233,78 @@ impl<P: Planner + Drop> Accounts<P> {
             steps.tick();
             return None;
         };
+        let found = self.total_where_enough(graph, vertex, place, 1, window, steps);
+        Some(found.unwrap_or(0))
+    }
+
+    /// Whether totals of the type are kept and the least of them at the vertex, over a moment of the window, is below
+    /// the amount. Where jobs leave less of it there, it doesn't look whether the vertex is closed.
+    pub fn total_below<L: Ledger>(
+        &self,
+        graph: &Graph,
+        vertex: u32,
+        kind: u32,
+        amount: u64,
+        window: Window,
+        steps: &mut Steps<L>,
+    ) -> bool
+        requires graph { AreAccountsOf graph.now.resources.vertices self.now }
+        requires window { window.from < window.to }
+        requires inside { vertex < length graph.now.resources.vertices }
+        ensures answer { (jobs : List Job) → AreAccounts P.total_of P.stands_for graph.now.resources.vertices jobs self.now →
+            (IsTrue result ↔
+            (KeepsKind self.now kind × IsTooLittle graph.now.resources.vertices jobs window vertex kind amount)) }
+        ensures kept { IsTrue result → KeepsKind self.now kind }
+        ensures some_work { steps.old < steps.new }
+        ensures work { (most_looks : ℕ) → CostWithin P.look_cost most_looks (items_of self.now.planners) →
+            steps.new ≤ steps.old + (closed_most (length graph.now.resources.vertices) most_looks + most_looks) }
+    {
+        let Some(place) = self.counted().place_of(kind) else {
+            steps.tick();
+            return false;
+        };
+        self.total_where_enough(graph, vertex, place, amount, window, steps)
+            .is_none()
+    }
+
+    /// The least total at the vertex, over a moment of the window, of the type with this place; `None` exactly where it
+    /// is below the amount.
+    fn total_where_enough<L: Ledger>(
+        &self,
+        graph: &Graph,
+        vertex: u32,
+        place: usize,
+        amount: u64,
+        window: Window,
+        steps: &mut Steps<L>,
+    ) -> Option<u64>
+        requires graph { AreAccountsOf graph.now.resources.vertices self.now }
+        requires place { place < length (counted_of self.now).quantities }
+        requires window { window.from < window.to }
+        requires inside { vertex < length graph.now.resources.vertices }
+        ensures answer { (kind : ℕ) (jobs : List Job) →
+            slice_get (counted_of self.now).places kind ≡ Some (Some place) →
+            AreAccounts P.total_of P.stands_for graph.now.resources.vertices jobs self.now →
+            MatchOption result
+            (IsTooLittle graph.now.resources.vertices jobs window vertex kind amount)
+            (λ n. (amount ≤ n) × IsTotalOver graph.now.resources.vertices jobs window kind vertex n) }
+        ensures some_work { steps.old < steps.new }
+        ensures work { (most_looks : ℕ) → CostWithin P.look_cost most_looks (items_of self.now.planners) →
+            steps.new ≤ steps.old + (closed_most (length graph.now.resources.vertices) most_looks + most_looks) }
+    {
         graph.is_valid();
         let item = self.planners.at(vertex, steps);
         let least = self.least_in(item, vertex, place, window, steps);
-        if least == 0 {
-            return Some(0);
+        if least < amount {
+            return None;
         }
-        if self.closed_at(graph, item, vertex, window, steps) {
-            return Some(0);
+        if !self.closed_at(graph, item, vertex, window, steps) {
+            return Some(least);
         }
-        Some(least)
+        if amount > 0 {
+            return None;
+        }
+        Some(0)
     }
 
     /// The least start or end of a job that is later than the moment; `None` exactly where there is none.
