@@ -17,12 +17,12 @@ use Rattle.asked_calls.specs.Calls.{Served, Call, serve, print, load}
 use Rattle.fluxion_shell.specs.Causes.{past_graph, long_input, told_file, IsOfFile, OfServing, OfNaming, AppendsFrontOfSome, IsPastLimit, limit_of, HasCause, OrEarlier, IsWritten, ShowsLines, ShowsInput, ShowsFile, ShowsStore, IsFirstShown, HasGraphFile, IsInOrder, Known, FailsWith}
 
 pub known : (told : Option Stored) (name old new : List ℕ) → old ≡ [] →
-    IfSome told (λ files. (bytes : List ℕ) × (file_of files name ≡ Some bytes) × (length bytes ≤ 268435456)
+    IfSome told (λ files. (bytes : List ℕ) × (file_of files name ≡ Some bytes) × (length bytes ≤ MOST_FILE_BYTES)
     × (new ≡ old ++ bytes)) → Known told name new
 known None name old new none h = tt
 known (Some files) name old new none (bytes, found, few, is) =
     let same : new ≡ bytes = is ∙ ap (λ xs. xs ++ bytes) none in
-    (found ∙ ap Some (sym same), subst (λ (b : List ℕ). length b ≤ 268435456) (sym same) few)
+    (found ∙ ap Some (sym same), subst (λ (b : List ℕ). length b ≤ MOST_FILE_BYTES) (sym same) few)
 
 -- what holds of a file of the name holds of the told one
 told_holds : (told : Option Stored) (name : List ℕ) (P : List ℕ → Type 0) →
@@ -178,7 +178,7 @@ module _ (F : Type 0) (told : Option Stored) (name : List ℕ) (bytes : List ℕ
   pub shows_then : (s : Status) (Then : NamedGraph → Type 0) → Then g → ShowsStore F s told name Then
   shows_then s Then then_shown = by told told_bytes
     where
-      file : length bytes ≤ 268435456 → ShowsFile F s bytes Then
+      file : length bytes ≤ MOST_FILE_BYTES → ShowsFile F s bytes Then
       file few = record {
         long = λ many. absurd (omega arith);
         faulty = λ short fault has. absurd (has.1.plain (no_fault_told bytes g fault text has.0));
@@ -212,12 +212,12 @@ module _ (F : Type 0) (told : Option Stored) (name : List ℕ) (bytes : List ℕ
 
 module _ (Failed : Type 0) (form : Form) (g : NamedGraph) where
   -- it is too long
-  pub long_shown : (left : Option (List ℕ)) → IfSome left (λ input. 268435456 < length input) → IfSome left
+  pub long_shown : (left : Option (List ℕ)) → IfSome left (λ input. MOST_FILE_BYTES < length input) → IfSome left
       (ShowsInput Failed form long_input g)
   long_shown None h = tt
   long_shown (Some input) h = ((λ many. inr (inr refl)), (λ few. absurd (omega arith)))
 
-  lines_shown : (left : Option (List ℕ)) (input : List ℕ) (s : Status) → length input ≤ 268435456 →
+  lines_shown : (left : Option (List ℕ)) (input : List ℕ) (s : Status) → length input ≤ MOST_FILE_BYTES →
       IfSome left (λ lines. input ≡ lines) → ShowsLines Failed s (over_in SHIPPED g form input) → IfSome left
       (ShowsInput Failed form s g)
   lines_shown None input s few is shown = tt
@@ -227,14 +227,14 @@ module _ (Failed : Type 0) (form : Form) (g : NamedGraph) where
   )
 
   -- no line is past a limit
-  pub written_shown : (left : Option (List ℕ)) (input : List ℕ) (s : Status) → length input ≤ 268435456 →
+  pub written_shown : (left : Option (List ℕ)) (input : List ℕ) (s : Status) → length input ≤ MOST_FILE_BYTES →
       IfSome left (λ lines. input ≡ lines) → over_in SHIPPED g form input ≡ None → IsWritten s → IfSome left
       (ShowsInput Failed form s g)
   written_shown left input s few is within ends = lines_shown left input s few is
       (subst (ShowsLines Failed s) (sym within) (inr (inr ends)))
 
   -- this line is
-  pub over_shown : (left : Option (List ℕ)) (input : List ℕ) (over : Over) → length input ≤ 268435456 →
+  pub over_shown : (left : Option (List ℕ)) (input : List ℕ) (over : Over) → length input ≤ MOST_FILE_BYTES →
       IfSome left (λ lines. input ≡ lines) → over_in SHIPPED g form input ≡ Some over → IfSome left
       (ShowsInput Failed form (limit_of over) g)
   over_shown left input over few is past = lines_shown left input (limit_of over) few is

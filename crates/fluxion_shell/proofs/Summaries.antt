@@ -22,7 +22,7 @@ use Rattle.fluxion_lines.proofs.OrderLaws.{one_client}
 use Rattle.load_script.specs.Counts.{counts_text, end_of}
 use Rattle.load_script.specs.Lines.{load_text}
 use Rattle.load_script.specs.Vertices.{IsLoadGraph}
-use Rattle.load_script.specs.declared.lines.TheConstants.{LOAD_LIMITS}
+use Rattle.load_script.specs.declared.lines.TheConstants.{LOAD_LIMITS, MOST_COMMANDS}
 use Rattle.load_script.proofs.Read as read
 use Rattle.load_script.proofs.Tallies.{legal_claims}
 use Rattle.asked_calls.specs.Calls.{Served, IsServing, only_name}
@@ -32,7 +32,7 @@ use Rattle.fluxion_shell.proofs.Output.{played_together}
 
 -- an input that is a load's passes no limit, so only want of memory keeps it from being read
 pub only_memory : (g : NamedGraph) (commands : ℕ) (form : Form) (input : List ℕ) (told : InputFault) → IsLoadGraph g →
-    commands ≤ 20000 → form ≡ Rfc14 → input ≡ load_text commands →
+    commands ≤ MOST_COMMANDS → form ≡ Rfc14 → input ≡ load_text commands →
     (told ≡ fault.Memory) ⊎ ((over : Over) × (told ≡ fault.Over over) ×
     (over_in LOAD_LIMITS g form input ≡ Some over)) →
     told ≡ fault.Memory
@@ -43,7 +43,7 @@ only_memory g commands form input told graph few form-is input-is (inr (over, is
     absurd (let clash : None ≡ Some over = sym none ∙ past in cc)
 
 -- the script has one client
-pub few_clients : (g : NamedGraph) (commands : ℕ) (form : Form) (input : List ℕ) (script : Script) → commands ≤ 20000 →
+pub few_clients : (g : NamedGraph) (commands : ℕ) (form : Form) (input : List ℕ) (script : Script) → commands ≤ MOST_COMMANDS →
     input ≡ load_text commands → script ≡ script_of g form input → length script.lines ≤ 1
 few_clients g commands form input script few input-is script-is =
     let lines : length script.lines ≡ length (clients_of input) =
@@ -61,7 +61,7 @@ pub counts_fit : (graph : ResourceGraph) (rules : List Rule) (horizon : ℕ) (pl
     entries ≡ played.journal → (end_of entries).claim_count < 18446744073709551616
 counts_fit graph rules horizon played script entries together entries-is =
     let setting : Setting = (empty_course graph rules horizon SHIPPED.claims).setting in
-    let few : (end_of played.journal).claim_count ≤ 2097152 =
+    let few : (end_of played.journal).claim_count ≤ SHIPPED.claims =
     legal_claims setting first_state played.journal together.plays.legal (omega arith) in
     let same : (end_of entries).claim_count ≡ (end_of played.journal).claim_count = ap (λ es.
     (end_of es).claim_count) entries-is in
@@ -69,7 +69,7 @@ counts_fit graph rules horizon played script entries together entries-is =
 
 -- what was played is the load's history, and its counts are the summary
 pub summed : (commands : ℕ) (served : Served) (g h : NamedGraph) (input : List ℕ) (script : Script) (core : Course)
-    (entries : List Entry) (text : List ℕ) → commands ≤ 20000 → IsServing (only_name []) served → IsLoadGraph g →
+    (entries : List Entry) (text : List ℕ) → commands ≤ MOST_COMMANDS → IsServing (only_name []) served → IsLoadGraph g →
     h ≡ g →
     input ≡ load_text commands → IsPlayedTogether
     (empty_course h.resources served.rules served.horizon SHIPPED.claims) core script →

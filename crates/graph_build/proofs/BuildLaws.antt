@@ -5,6 +5,7 @@ use Rattle.std.specs.Option.{IsSomeAnd, option_map}
 use Rattle.std.proofs.lemmas.Bool.{cases_lt}
 use Rattle.std.proofs.lemmas.List.{length-map}
 use Rattle.std.proofs.lemmas.Option.{slice_get-get_or, slice_get_within, same_Some, slice_get_past, slice_get-map}
+use Rattle.flux_defs.specs.declared.limits.TheConstants.{MOST_TYPES}
 use Rattle.flux_defs.specs.declared.vertices.Vertex.{Vertex}
 use Rattle.flux_defs.specs.Graph.{ResourceGraph, parent_of, HasKind}
 use Rattle.flux_defs.specs.ValidGraph.{IsValidGraph, NumbersKinds}
@@ -194,9 +195,9 @@ built_whole kinds raw list order numbers numbering made texts apart fine pre has
     let indices : IsOrderOf (length raw) order = subst (λ (n : ℕ). IsOrderOf n order) long pre.indices in
     let kept = texts_kept raw list order g texts indices arranged_list has in
     let list_long : length list ≡ length made = arranged_list.as_many ∙ sym built.as_many in
-    let few : length numbering.kinds.items ≤ 256 =
+    let few : length numbering.kinds.items ≤ MOST_TYPES =
     (let a : length numbering.kinds.items ≤ length kinds = numbered.few in
-    let b : length kinds ≤ 256 = fine.few_kinds in omega arith) in
+    let b : length kinds ≤ MOST_TYPES = fine.few_kinds in omega arith) in
     let valid : IsValidGraph g texts.names = valid_of_faultless kinds vertices (raw_names raw) apart fine order g
     arranged texts.names
     (ap length has.names ∙ (length-map list (λ (r : RawVertex). r.name) ∙ (list_long ∙ arranged.as_many)))

@@ -7,6 +7,7 @@ use Rattle.std.proofs.lemmas.List.{take_all}
 use Rattle.std.proofs.lemmas.List.Sums.{count_by_more_yes, count_by_more_no}
 use Rattle.std.proofs.lemmas.List.Folds.{Any-from_list_any, list_any_at}
 use Rattle.std.proofs.lemmas.Option.{slice_get-get_or, slice_get_within, slice_get_past, get_or_from_slice_get, same_Some}
+use Rattle.flux_defs.specs.declared.limits.TheConstants.{MOST_VERTICES, MOST_TYPES}
 use Rattle.flux_defs.specs.declared.vertices.Vertex.{Vertex}
 use Rattle.flux_defs.specs.Graph.{ResourceGraph, parent_of, chain, is_below, HasKind, IsNode, is_pool, is_pool_kind}
 use Rattle.flux_defs.specs.ValidGraph.{IsValidGraph, HasType, HasId, HasRank, IsDevice, NumbersKinds, HasFairSizes, NumbersDevices}
@@ -518,12 +519,12 @@ module _ (kinds : List (List ℕ)) (vertices : List Vertex) (names : List (List 
         names_clash v u v_in u_in same (λ less. (index v, less, is, inr (tv, tu)))
         (λ more. (index u, more, sym is, inr (tu, tv)))
 
-    pub valid_of_faultless : NumbersKinds g → length g.kinds ≤ 256 → IsPreorderOf vertices order →
+    pub valid_of_faultless : NumbersKinds g → length g.kinds ≤ MOST_TYPES → IsPreorderOf vertices order →
         IsValidGraph g built_names
     valid_of_faultless numbers few_kinds pre =
         let rooted = rooted_of_faultless (record { kinds = kinds; vertices = vertices }) names fine in
         record {
-          few = (let few : length vertices ≤ 65536 = fine.few in let long = arranged.as_many in omega arith);
+          few = (let few : length vertices ≤ MOST_VERTICES = fine.few in let long = arranged.as_many in omega arith);
           few_kinds = few_kinds;
           kinds = numbers;
           preorder = preorder_arranged kinds vertices order g arranged rooted pre;

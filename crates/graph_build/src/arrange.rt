@@ -1,6 +1,6 @@
 //! A list of vertices, arranged in preorder.
 ghost use Rattle.std.specs.Prelude.{◌≡◌, ℕ, ◌<◌, ◌≤◌, [], cond, length, map, slice_get, slice_index, Some, IfOk, OnOk};
-ghost use Rattle.flux_defs.specs.declared.limits.TheConstants.{MOST_VERTICES};
+ghost use Rattle.flux_defs.specs.declared.limits.TheConstants.{MOST_VERTICES, MOST_TYPES};
 ghost use Rattle.std.specs.Option.{option_map};
 ghost use Rattle.resource_graph.specs.Lines.{KnowsParents};
 ghost use Rattle.graph_build.specs.Orders.{IsOrderOf};
@@ -109,7 +109,7 @@ pub(crate) fn numbered_kinds(
     vertices: &[Vertex],
     order: &[u32],
 ) -> Result<KindNumbering, AllocError>
-    requires few_kinds { length kinds.now ≤ 256 }
+    requires few_kinds { length kinds.now ≤ MOST_TYPES }
     requires indices { IsOrderOf (length vertices.now) order.now }
     requires known { KnowsKinds vertices.now (length kinds.now) }
     ensures { IfOk result (IsKindNumbering kinds.now vertices.now order.now (length order.now)) }
@@ -146,7 +146,7 @@ fn use_kind(
 ) -> Result<(), AllocError>
     requires within { kind < length kinds.now }
     requires whole { length numbering.old.numbers.items ≡ length kinds.now }
-    requires few { length numbering.old.kinds.items ≤ 256 }
+    requires few { length numbering.old.kinds.items ≤ MOST_TYPES }
     ensures { OnOk result (AddsKind kinds.now kind numbering.old numbering.new) }
 {
     if numbering.numbers[kind].is_some() {

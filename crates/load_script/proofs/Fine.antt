@@ -7,6 +7,7 @@ use Rattle.std.specs.Str.Parse.{AllDigits}
 use Rattle.std.proofs.lemmas.Bool.{and_parts}
 use Rattle.std.proofs.lemmas.Bool.Decides.{eqb_tells}
 use Rattle.std.proofs.lemmas.Fmt.{decimal_is_IsNumeral, length-decimal-le}
+use Rattle.load_script.specs.declared.lines.TheConstants.{MOST_COMMANDS}
 use Rattle.list_laws.proofs.Lists.{all_append}
 use Rattle.load_script.specs.Draws.{drawn, row_of, extent_of, seconds_on, second_at}
 use Rattle.load_script.specs.Jobspecs.{core_request, memory_request, slot_request, node_request, task_text, jobspec, core_and_memory, nodes_jobspec, slots_jobspec, memory_jobspec}
@@ -144,11 +145,11 @@ fine_memories slots seconds a c = fine_more _ 700 _ (omega arith) (fine_jobspec 
 
 -- ---- numbers
 
-drawn_small : (commands k : ℕ) → commands ≤ 20000 → drawn commands k < 2147483648
+drawn_small : (commands k : ℕ) → commands ≤ MOST_COMMANDS → drawn commands k < 2147483648
 drawn_small commands zero few = omega arith
 drawn_small commands (suc k) few = omega arith
 
-extent_small : (commands k : ℕ) → commands ≤ 20000 → extent_of commands k < 4096
+extent_small : (commands k : ℕ) → commands ≤ MOST_COMMANDS → extent_of commands k < 4096
 extent_small commands k few = let small = drawn_small commands k few in omega (arith, small)
 
 on_small : (row extent : ℕ) → seconds_on row extent ≤ 120
@@ -171,7 +172,7 @@ fine_ask : (verb : List ℕ) (k : ℕ) (spec : List ℕ) → Fine 10 verb → k 
 fine_ask verb k spec a small b = fine_more _ 800 _ (omega arith)
     (joined (joined (joined a (fine_decimal k small)) (fine_text (codes " ") refl)) b)
 
-fine_command : (k row extent second : ℕ) → k ≤ 20000 → extent < 4096 → second < 1000000000000 →
+fine_command : (k row extent second : ℕ) → k ≤ MOST_COMMANDS → extent < 4096 → second < 1000000000000 →
     Fine 800 (command_text k row extent second)
 fine_command k row extent second few small late =
     fine_cond (nat_lt row 4) 800 _ _
@@ -194,7 +195,7 @@ fine_command k row extent second few small late =
     mod_le : (m n : ℕ) → m % n ≤ m
     mod_le m n = omega arith
 
-pub fine_line : (commands k : ℕ) → commands ≤ 20000 → k ≤ 20000 → Fine 1000 (load_line commands k)
+pub fine_line : (commands k : ℕ) → commands ≤ MOST_COMMANDS → k ≤ MOST_COMMANDS → Fine 1000 (load_line commands k)
 unfolding load_line
 fine_line commands k few most = fine_more _ 1000 _ (omega arith)
     (fine_append _ _ _ _ (fine_text (codes "load ") refl)

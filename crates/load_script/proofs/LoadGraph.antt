@@ -7,6 +7,7 @@ use Rattle.std.proofs.lemmas.Bool.Decides.{eqb_tells}
 use Rattle.std.proofs.lemmas.Fmt.{decimal_injective}
 use Rattle.std.proofs.lemmas.Option.{slice_get-get_or, slice_get_within, same_Some}
 use Rattle.std.proofs.lemmas.List.Folds.{list_any_none}
+use Rattle.flux_defs.specs.declared.limits.TheConstants.{GREATEST_NUMBER}
 use Rattle.flux_defs.specs.declared.vertices.Vertex.{Vertex}
 use Rattle.flux_defs.specs.Graph.{ResourceGraph, parent_of, chain, is_at_or_below, is_below, is_pool_kind, is_pool}
 use Rattle.flux_defs.specs.ValidGraph.{IsDevice, HasType}
@@ -674,7 +675,7 @@ facts = record {
   unreserved = λ v has. (let x = typed (codes "slot") v has in (kind_by x.0.kind (key (codes "slot")) x.2).2 refl);
   leaves = λ v has. leaf v has.1.0 has.0 has.1.1;
   whole = λ v has. sized v has.0 has.1;
-  most = λ v has. (let x = value_of (slice_get shapes v) (λ (w : Vertex). 70368744177664 < w.size) has in
+  most = λ v has. (let x = value_of (slice_get shapes v) (λ (w : Vertex). GREATEST_NUMBER < w.size) has in
       let few = (size_of v x.0 x.1).1 in let past = x.2 in omega (arith, few, past));
   housed = λ v device. (let x = of_device v device in let p = node_above v x.0 x.1 x.2 in (p.0, p.2, p.3));
   identified = λ v has.

@@ -6,6 +6,7 @@ use Rattle.std.proofs.lemmas.Bool.Decides.{nat_tests, eqb_tells}
 use Rattle.std.proofs.Math.Nat.{mul-suc, mul-le-mul}
 use Rattle.std.proofs.lemmas.List.{length-map}
 use Rattle.std.proofs.lemmas.List.FromFn.{length-range_with_len}
+use Rattle.flux_defs.specs.declared.limits.TheConstants.{MOST_VERTICES}
 use Rattle.list_laws.proofs.Lists.{all_along}
 use Rattle.text_forms.specs.Cuts.{Lacks}
 use Rattle.text_table.specs.Tables.{with_text, with_texts}
@@ -16,7 +17,7 @@ use Rattle.fluxion_lines.specs.declared.commands.Form.TheVariants.{Rfc14}
 use Rattle.fluxion_lines.specs.declared.input.Over.TheVariants as over
 use Rattle.fluxion_lines.specs.Commands.{client_of}
 use Rattle.fluxion_lines.proofs.BarLaws.{bars_within}
-use Rattle.load_script.specs.declared.lines.TheConstants.{LOAD_LIMITS}
+use Rattle.load_script.specs.declared.lines.TheConstants.{LOAD_LIMITS, MOST_COMMANDS}
 use Rattle.fluxion_lines.specs.Inputs.{client_in, clients_of, over_size, line_over_size, bars_in, over_bars, over_from, over_in}
 use Rattle.fluxion_lines.proofs.LineLaws.{ended}
 use Rattle.load_script.specs.Lines.{command_text, load_line, load_text}
@@ -75,7 +76,7 @@ begins : (commands k : ℕ) → client_of (load_line commands k) ≡ load_name
 unfolding load_line
 begins commands k = named (command_text k (row_of commands k) (extent_of commands k) (second_at commands k))
 
-client_is : (commands k : ℕ) → commands ≤ 20000 → k ≤ 20000 → client_in (load_line commands k) ≡ load_name
+client_is : (commands k : ℕ) → commands ≤ MOST_COMMANDS → k ≤ MOST_COMMANDS → client_in (load_line commands k) ≡ load_name
 client_is commands k few most = ap client_of (read_whole (load_line commands k)
     (fine_line commands k few most).plain) ∙ begins commands k
 
@@ -85,7 +86,7 @@ record Good (raw : List ℕ) : Type 0 where
   client : client_in raw ≡ load_name
   short : length raw ≤ 1000
 
-good_line : (commands k : ℕ) → commands ≤ 20000 → k ≤ 20000 → Good (load_line commands k)
+good_line : (commands k : ℕ) → commands ≤ MOST_COMMANDS → k ≤ MOST_COMMANDS → Good (load_line commands k)
 good_line commands k few most = record {
   client = client_is commands k few most;
   short =
@@ -96,13 +97,13 @@ good_lines : (f : ℕ → List ℕ) (ks : List ℕ) → AllByRecursion (λ k. Go
 good_lines f [] all = tt
 good_lines f (k ∷ ks) all = (all.0, good_lines f ks all.1)
 
-read_lines : (commands : ℕ) → commands ≤ 20000 →
+read_lines : (commands : ℕ) → commands ≤ MOST_COMMANDS →
     lines_of (load_text commands) ≡ map (load_line commands) (range_with_len 1 commands)
 read_lines commands few = lines_are (load_line commands) (range_with_len 1 commands)
     (over_range (λ k. Lacks 10 (load_line commands k)) 1 commands
     (λ k low lt. lacks_feed (load_line commands k) (fine_line commands k few (omega arith)).plain))
 
-all_good : (commands : ℕ) → commands ≤ 20000 →
+all_good : (commands : ℕ) → commands ≤ MOST_COMMANDS →
     AllByRecursion Good (map (load_line commands) (range_with_len 1 commands))
 all_good commands few = good_lines (load_line commands) (range_with_len 1 commands)
     (over_range (λ k. Good (load_line commands k)) 1 commands (λ k low lt. good_line commands k few (omega arith)))
@@ -131,7 +132,7 @@ one_at_most clients (inl none) = let is : length clients ≡ 0 = ap length none 
 one_at_most clients (inr one) = let is : length clients ≡ 1 = ap length one in omega (arith, is)
 
 -- the input of a load is one client's
-pub one_client : (commands : ℕ) → commands ≤ 20000 → length (clients_of (load_text commands)) ≤ 1
+pub one_client : (commands : ℕ) → commands ≤ MOST_COMMANDS → length (clients_of (load_text commands)) ≤ 1
 one_client commands few =
     subst (λ (raws : List (List ℕ)). length (with_texts [] (map client_in raws)) ≤ 1) (sym (read_lines commands few))
     (one_at_most _ (few_clients [] (map (load_line commands) (range_with_len 1 commands)) (inl refl)
@@ -187,13 +188,13 @@ module _ (g : NamedGraph) where
       (bars + bars_in g Rfc14 raw) (at + 1) raws)) here ∙ rest)
 
 -- no line of a load is past a limit
-pub no_limit : (g : NamedGraph) (commands : ℕ) → length g.resources.vertices ≤ 65536 → commands ≤ 20000 →
+pub no_limit : (g : NamedGraph) (commands : ℕ) → length g.resources.vertices ≤ MOST_VERTICES → commands ≤ MOST_COMMANDS →
     over_in LOAD_LIMITS g Rfc14 (load_text commands) ≡ None
 no_limit g commands few most =
     let long = many commands in
-    let short : length (map (load_line commands) (range_with_len 1 commands)) ≤ 20000 = omega (arith, long, most) in
+    let short : length (map (load_line commands) (range_with_len 1 commands)) ≤ MOST_COMMANDS = omega (arith, long, most) in
     let product : length g.resources.vertices * length (map (load_line commands)
-    (range_with_len 1 commands)) ≤ 65536 * 20000 =
+    (range_with_len 1 commands)) ≤ MOST_VERTICES * MOST_COMMANDS =
     mul-le-mul few short in
     subst (λ (raws : List (List ℕ)). over_from LOAD_LIMITS g Rfc14 [] 0 1 raws ≡ None) (sym (read_lines commands most))
     (none_from g LOAD_LIMITS [] 0 1 (map (load_line commands) (range_with_len 1 commands)) (inl refl)

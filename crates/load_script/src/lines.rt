@@ -5,7 +5,7 @@ ghost use Rattle.load_script.specs.declared.lines.TheConstants.{MOST_COMMANDS};
 
 use crate::draws::{next_drawn, seconds_on};
 use crate::jobspecs::{memory_jobspec, nodes_jobspec, slots_jobspec};
-use flux_defs::{Limits, Text};
+use flux_defs::{Limits, SHIPPED, Text};
 use std::alloc::{AllocError, Global};
 use text_forms::{push_bytes, push_decimal};
 
@@ -15,11 +15,11 @@ pub const MOST_COMMANDS: u64 = 20_000;
 /// The limits that the input of a load is read with: the program's, but that any number of nodes may be barred. The
 /// jobspecs of a load bar none.
 pub const LOAD_LIMITS: Limits = Limits {
-    lines: 262_144,
-    line_bytes: 1_048_576,
-    clients: 64,
+    lines: SHIPPED.lines,
+    line_bytes: SHIPPED.line_bytes,
+    clients: SHIPPED.clients,
     barred: u64::MAX,
-    claims: 2_097_152,
+    claims: SHIPPED.claims,
 };
 
 /// Adds a verb, the number of a job, and its jobspec.

@@ -1,6 +1,6 @@
 //! The tables of a graph, each made in one pass over its vertices.
 ghost use Rattle.std.specs.Prelude.{◌≡◌, ◌<◌, ◌≤◌, ◌+◌, ◌*◌, length, IfOk};
-ghost use Rattle.flux_defs.specs.declared.limits.TheConstants.{MOST_VERTICES};
+ghost use Rattle.flux_defs.specs.declared.limits.TheConstants.{MOST_VERTICES, MOST_TYPES};
 ghost use Rattle.resource_graph.specs.Preorder.{InPreorder, KnowsKinds, RanksApart};
 ghost use Rattle.resource_graph.specs.Holds.{HasPasts, HasNodes, HasLists, HasRanked, HasPools, HasNested, AddsNested, CountsUp, AreEmpty, HasNodesTo};
 ghost use Rattle.resource_graph.specs.Tables.{IsNodeOf};
@@ -138,7 +138,7 @@ pub(crate) fn nested_table(
     kinds: usize,
 ) -> Result<Vec<bool>, AllocError>
     requires order { InPreorder vertices.now }
-    requires few_kinds { kinds ≤ 256 }
+    requires few_kinds { kinds ≤ MOST_TYPES }
     requires known { KnowsKinds vertices.now kinds }
     ensures { IfOk result (λ nested. HasNested vertices.now kinds nested.items) }
 {
@@ -152,7 +152,7 @@ pub(crate) fn nested_table(
 /// Marks each type above the vertex as one that contains its type.
 fn mark_above(vertices: &[Vertex], kinds: usize, v: usize, nested: &mut Vec<bool>)
     requires order { InPreorder vertices.now }
-    requires few_kinds { kinds ≤ 256 }
+    requires few_kinds { kinds ≤ MOST_TYPES }
     requires known { KnowsKinds vertices.now kinds }
     requires within { v < length vertices.now }
     requires whole { length nested.old.items ≡ kinds * kinds }
@@ -170,7 +170,7 @@ fn mark_above(vertices: &[Vertex], kinds: usize, v: usize, nested: &mut Vec<bool
 
 /// The index of a pair of types in a table with a row for each upper one.
 fn cell_of(kinds: usize, upper: usize, lower: usize) -> usize
-    requires few { kinds ≤ 256 }
+    requires few { kinds ≤ MOST_TYPES }
     requires upper_in { upper < kinds }
     requires lower_in { lower < kinds }
     ensures index { result ≡ upper * kinds + lower }

@@ -1,6 +1,7 @@
 -- The table as it is made, and as it is closed.
 use Rattle.std.proofs.Common.{◌≡◌, ℕ, List, [], ◌∷◌, length, Option, Some, refl, sym, ap, ◌∙◌, subst, inl, ⊎_elim}
 use Rattle.std.specs.List.{range_with_len}
+use Rattle.turn_table.specs.declared.view.TheConstants.{ALL_SHARES}
 use mathlib.Core.Logic.{dite}
 use mathlib.Core.Option.{some, some-injective}
 use mathlib.Core.Option as maybe
@@ -54,7 +55,7 @@ module _ {V E K : Type 0} (history : V → List E) (setting : V → K) (k : K) w
     pub mine : v.mine ≡ range_with_len 0 (length (history b))
 
   -- the last seat has no turn, so the value is at home
-  at_home : (s : State (Option V) (View E K)) (i : ℕ) (v : View E K) → Seen Rule i v s → v.share ≡ 65536
+  at_home : (s : State (Option V) (View E K)) (i : ℕ) (v : View E K) → Seen Rule i v s → v.share ≡ ALL_SHARES
       → v.phase ≡ Idle → (b : V) × (get_elem? s.homes 0 ≡ some (some (Some b))) × IsLast v b
   at_home s i v found last idle =
       let r : Rule s = found.0 in
@@ -81,7 +82,7 @@ module _ {V E K : Type 0} (history : V → List E) (setting : V → K) (k : K) w
 
   -- what is in the slot at the end
   pub closes : (ws : List ℕ) (slots : List (Option V)) (i : ℕ) (v : View E K) (o : Option V)
-      → Final (Seen Rule i v) ws slots → v.share ≡ 65536 → v.phase ≡ Idle → get_elem? slots 0 ≡ some o
+      → Final (Seen Rule i v) ws slots → v.share ≡ ALL_SHARES → v.phase ≡ Idle → get_elem? slots 0 ≡ some o
       → (b : V) × (o ≡ Some b) × IsLast v b
   closes ws slots i v o final last idle at =
       let h = at_home final.0 i v final.1 last idle in
@@ -89,7 +90,7 @@ module _ {V E K : Type 0} (history : V → List E) (setting : V → K) (k : K) w
       (h.0, some-injective o (Some h.0) (sym at ∙ there), h.2)
 
   pub closes_with : (ws : List ℕ) (slots : List (Option V)) (i : ℕ) (v : View E K) (o : Option V) (b : V)
-      → Final (Seen Rule i v) ws slots → v.share ≡ 65536 → v.phase ≡ Idle → get_elem? slots 0 ≡ some o → o ≡ Some b
+      → Final (Seen Rule i v) ws slots → v.share ≡ ALL_SHARES → v.phase ≡ Idle → get_elem? slots 0 ≡ some o → o ≡ Some b
       → IsLast v b
   closes_with ws slots i v o b final last idle at is =
       let h = closes ws slots i v o final last idle at in

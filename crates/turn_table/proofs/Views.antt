@@ -6,6 +6,7 @@ use Rattle.std.specs.List.{range_with_len, sum_by}
 use Rattle.std.proofs.lemmas.Bool.Decides.{nat_tests}
 use Rattle.std.proofs.lemmas.List.Elements.{All-nil, All-cons, All-append, All-weaker}
 use Rattle.std.proofs.lemmas.List.Sums.{sum_by-append}
+use Rattle.turn_table.specs.declared.view.TheConstants.{ALL_SHARES}
 use mathlib.Core.Option.{some, some-injective, some-ne-none}
 use mathlib.Core.List.{IsPrefix}
 use lib.ListN.{get_elem?}
@@ -290,7 +291,7 @@ module _ {E K : Type 0} where
 
   -- where one view has all the shares, every other is spent, and it has all positions
   module _ (k : K) (log : List E) (views : List (View E K)) (i : ℕ) (v : View E K) (at : get_elem? views i ≡ some v)
-      (fits : Each (Fits log k) views) (c : IsCounted (length log) views) (last : v.share ≡ 65536) where
+      (fits : Each (Fits log k) views) (c : IsCounted (length log) views) (last : v.share ≡ ALL_SHARES) where
     pub others_spent : (j : ℕ) (u : View E K) → j ≢ i → get_elem? views j ≡ some u → u ≡ spent
     others_spent j u ne a =
         let both = two_within part views i j v u ne at a in

@@ -18,8 +18,8 @@ played-requires-clause-few g c = λ κs l.
     let form = c.args.serving.form in
     let input = c.args.input.now in
     let within = ap (λ l. over_in l graph form input) (sym c.shipped.ensures) ∙ c.in-Ok.ensures.within refl in
-    let few : length c.in-Ok.script.lines ≤ 64 =
-    subst (λ (s : Script). length s.lines ≤ 64) (sym c.in-Ok.ensures.script) (few_clients_within SHIPPED graph form input within) in
+    let few : length c.in-Ok.script.lines ≤ SHIPPED.clients =
+    subst (λ (s : Script). length s.lines ≤ SHIPPED.clients) (sym c.in-Ok.ensures.script) (few_clients_within SHIPPED graph form input within) in
     omega (arith, few)
 
 pub played-requires-clause-proper : goal.played-requires-clause-proper

@@ -1,4 +1,5 @@
 use Rattle.std.proofs.Common.{◌≡◌, ◌+◌, All, length}
+use Rattle.turn_table.specs.declared.view.TheConstants.{ALL_SHARES}
 use Rattle.turn_table.specs.declared.tests.Log.{Log}
 use Rattle.turn_table.specs.declared.tests.Client.{Client}
 use Rattle.turn_table.specs.Seats.{share, Rests}
@@ -8,7 +9,7 @@ use Rattle.turn_table.proofs.tests.deal.Given as goal
 abbrev pub invariant-loop-number : goal.invariant-loop-number
 invariant-loop-number l =
     (Belongs (λ (log : Log). log.name) l.turn l.first × Rests l.first)
-    × (share l.first + length l.clients.items ≡ 65536)
+    × (share l.first + length l.clients.items ≡ ALL_SHARES)
     × (length l.clients.items ≡ l.number)
     × All (λ (c : Client). Belongs (λ (log : Log). log.name) l.turn c.seat × Rests c.seat × (share c.seat ≡ 1))
     l.clients.items
