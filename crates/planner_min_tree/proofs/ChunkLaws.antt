@@ -82,11 +82,11 @@ unmarked_left d (p ∷ xs) ys h s =
     gone qs ge near few = if_gt {a = suc p.time} {b = d.time} _ _ ge ∙ if_le {a = p.time} {b = d.time} _ _ near
         ∙ if_le {a = p.ends} {b = 1} _ _ few
 
-changed_right : (c : Change) (xs ys : List Point) → latest_of xs < time_of c → changed c (xs ++ ys) ≡ xs ++ changed c ys
+pub changed_right : (c : Change) (xs ys : List Point) → latest_of xs < time_of c → changed c (xs ++ ys) ≡ xs ++ changed c ys
 changed_right (More d) xs ys h = marked_right d xs ys h
 changed_right (Less d) xs ys h = unmarked_right d xs ys h
 
-changed_left : (c : Change) (xs ys : List Point) → time_of c ≤ latest_of xs → 0 < length xs →
+pub changed_left : (c : Change) (xs ys : List Point) → time_of c ≤ latest_of xs → 0 < length xs →
     changed c (xs ++ ys) ≡ changed c xs ++ ys
 changed_left (More d) xs ys h s = marked_left d xs ys h s
 changed_left (Less d) xs ys h s = unmarked_left d xs ys h s
@@ -121,7 +121,7 @@ change_in c (qs ∷ rs ∷ chunks) ps edit filled g e =
     ]
 
 -- one end of a span more leaves the latest point, and some point is there
-latest_more : (d : Mark) (ps : List Point) → latest_of ps ≤ latest_of (marked d ps)
+pub latest_more : (d : Mark) (ps : List Point) → latest_of ps ≤ latest_of (marked d ps)
 latest_more d [] = omega arith
 latest_more d (p ∷ ps) =
     elim (cases_lt p.time d.time) [
@@ -138,7 +138,7 @@ latest_more d (p ∷ ps) =
       ]
     ]
 
-some_more : (d : Mark) (ps : List Point) → 0 < length (marked d ps)
+pub some_more : (d : Mark) (ps : List Point) → 0 < length (marked d ps)
 some_more d [] = omega arith
 some_more d (p ∷ ps) =
     elim (cases_lt p.time d.time) [
@@ -197,7 +197,7 @@ both_in d c (qs ∷ rs ∷ chunks) ps edit filled same g e =
           ])
     ]
 
-filled_append : {X : Type 0} (xs ys : List (List X)) → AreFilled xs → AreFilled ys → AreFilled (xs ++ ys)
+pub filled_append : {X : Type 0} (xs ys : List (List X)) → AreFilled xs → AreFilled ys → AreFilled (xs ++ ys)
 filled_append [] ys a b = b
 filled_append (x ∷ xs) ys a b = (a.0, filled_append xs ys a.1 b)
 

@@ -9,3 +9,4 @@ pub mod Nexts
 pub mod Counts
 pub mod PlanFacts
 pub mod Rises
+pub mod Timelines

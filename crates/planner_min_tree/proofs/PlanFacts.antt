@@ -16,7 +16,7 @@ use Rattle.planner_min_tree.proofs.Nexts as nexts
 use Rattle.planner_min_tree.proofs.Counts as counts
 
 -- there are at most as many chunks as points
-few_chunks : {X : Type 0} (lists : List (List X)) → AreFilled lists → length lists ≤ length (flat lists)
+pub few_chunks : {X : Type 0} (lists : List (List X)) → AreFilled lists → length lists ≤ length (flat lists)
 few_chunks [] f = omega arith
 few_chunks (xs ∷ lists) f = omega (arith, f.0, few_chunks lists f.1, length-append xs (flat lists))
 
@@ -25,8 +25,6 @@ pub low_height : {X : Type 0} (h : ℕ) (lists : List (List X)) → AreFilled li
 low_height h lists f l =
     let few = few_chunks lists f in
     omega (arith, dig_mono (length lists) (length (flat lists) + 2) (omega arith))
-
-pub ruleset cost_facts = (low_height)
 
 -- points with the numbers of spans say what these leave
 marks_of : (total : ℕ) (points : List Point) (spans : List Span) → Tallies total points spans → Marks total points spans

@@ -1,15 +1,15 @@
 -- The first moment from one on at which so much is free, by the points.
-use Rattle.std.proofs.Common.{◌≡◌, ℕ, ◌+◌, ◌<◌, ◌≤◌, List, [], ◌∷◌, refl, sym, ◌∙◌, subst, arith, inl, inr, Option, Some, None}
+use Rattle.std.proofs.Common.{◌≡◌, ℕ, ◌<◌, ◌≤◌, List, [], ◌∷◌, refl, sym, ◌∙◌, subst, arith, inl, inr, Option, Some, None}
 use Rattle.std.specs.Prelude.{MatchOption}
 use Rattle.std.proofs.lemmas.Bool.{cases_lt}
 use Rattle.planner_points.specs.declared.spans.Span.{Span}
-use Rattle.planner_points.specs.Spans.{free_at, IsEnd, IsFirstFree}
+use Rattle.planner_points.specs.Spans.{free_at, IsFirstFree}
 use Rattle.planner_min_tree.specs.declared.points.Point.{Point}
 use Rattle.planner_min_tree.specs.Chunks.{Each}
 use Rattle.planner_min_tree.specs.Points.{past, value_at, first_rise, rise_after}
 use Rattle.planner_min_tree.specs.Marks.{IsRising, Marks, ends_at}
 use Rattle.planner_min_tree.proofs.Dips.{if_le, if_gt}
-use Rattle.planner_min_tree.proofs.Sums.{now_at, not_yet_at, at_none, each_of}
+use Rattle.planner_min_tree.proofs.Sums.{now_at, at_none, each_of}
 use Rattle.planner_min_tree.proofs.Nexts.{some_end}
 
 -- the number before the first point is that at the start

@@ -1,5 +1,5 @@
 -- Points of time at which what is free changes, and what a list of them does to a number.
-use Rattle.std.specs.Prelude.{ℕ, suc, ◌+◌, ◌-◌, ◌^◌, ◌<◌, ◌≤◌, min, max, nat_le, nat_lt, if◌then◌else◌, Option, Some, None, List, [], ◌∷◌}
+use Rattle.std.specs.Prelude.{ℕ, suc, ◌+◌, ◌-◌, ◌^◌, ◌<◌, ◌≤◌, min, max, nat_le, nat_lt, if◌then◌else◌, Option, Some, None, List, [], ◌∷◌, length}
 use Rattle.planner_min_tree.specs.declared.points.Point.{Point}
 use Rattle.planner_min_tree.specs.declared.points.Dip.{Dip}
 
@@ -7,6 +7,10 @@ use Rattle.planner_min_tree.specs.declared.points.Dip.{Dip}
 abbrev pub latest_of : List Point → ℕ
 latest_of [] = 0
 latest_of (p ∷ ps) = max p.time (latest_of ps)
+
+-- the time has its place among the points, where others come behind them: there are some, and the latest isn't before it
+abbrev pub HasPlace : ℕ → List Point → Type 0
+HasPlace t ps = (0 < length ps) × (t ≤ latest_of ps)
 
 -- how far a number falls below where it began, at most
 abbrev pub need_of : List Point → ℕ

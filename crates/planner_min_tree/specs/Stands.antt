@@ -1,12 +1,10 @@
 -- What is true of a planner's points at all times.
 use Rattle.std.specs.Prelude.{List}
 use Rattle.planner_points.specs.declared.spans.Span.{Span}
-use Rattle.planner_min_tree.specs.Chunks.{flat, AreFilled}
 use Rattle.planner_min_tree.specs.Marks.{Marks}
 use Rattle.planner_min_tree.specs.declared.planner.MinTree.TheInside.{Inside}
 
--- the points are those of some spans, and no chunk of them is empty
+-- the points are those of some spans
 pub record IsPlan (t : Inside) : Type 0 where
   pub spans : List Span
-  pub marks : Marks t.total (flat t.points.0) spans
-  pub filled : AreFilled t.points.0
+  pub marks : Marks t.total t.points spans

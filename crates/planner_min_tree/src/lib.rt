@@ -8,6 +8,7 @@ mod chunks;
 mod marking;
 mod planner;
 mod points;
+mod timeline;
 mod walks;
 
 pub use planner::{MinTree, has_few_points};

@@ -124,7 +124,7 @@ fn remove_mark<const N: usize>(points: &mut ArrayVec<Point, N>, mark: Mark)
 
 impl Change {
     /// The second at which the end is.
-    fn time(&self) -> u64
+    pub fn time(&self) -> u64
         ensures { result ≡ time_of self.now }
     {
         match self {
@@ -344,4 +344,20 @@ pub fn twice_changed<L: Ledger>(
             chunk_changed_twice(alloc, copy, at, mark, second, steps)
         }
     }
+}
+
+/// The points of a tree after one change. The tree stays.
+pub fn once_changed<L: Ledger>(
+    alloc: Global,
+    tree: &Tree<Chunk, Dip>,
+    change: Change,
+    steps: &mut Steps<L>,
+) -> Result<Tree<Chunk, Dip>, AllocError>
+    requires { AreFilled tree.now.0 }
+    ensures items { IfOk result (λ new. flat new.0 ≡ changed change (flat tree.now.0)) }
+    ensures filled { IfOk result (λ new. AreFilled new.0) }
+    ensures work { steps.new ≤ steps.old + 5 * tree.now.1 + 4 }
+{
+    let copy = tree.share()?;
+    many_changed(alloc, copy, change, steps)
 }

@@ -1,15 +1,13 @@
 //! The planner.
-ghost use Rattle.std.specs.Prelude.{◌≡◌, ℕ, ◌+◌, ◌*◌, ◌<◌, ◌≤◌, List, [], ◌∷◌, ◌++◌, length, IfOk, MatchOption};
+ghost use Rattle.std.specs.Prelude.{◌≡◌, ℕ, ◌+◌, ◌*◌, ◌<◌, ◌≤◌, List, [], ◌∷◌, ◌++◌, length, IfOk, IfSome, MatchOption};
 ghost use Rattle.flux_defs.specs.Digits.{dig};
 ghost use Rattle.planner_points.specs.declared.spans.Span.{Span};
 ghost use Rattle.planner_points.specs.Spans.{span_of, HasRoom, HasSpan, IsLeastFree, IsEnd, IsNextEnd, MayStart, IsFirstStart, IsFirstFree, free_at};
 ghost use Rattle.planner_min_tree.specs.Plans.{StandsFor};
 
-use crate::chunks::Chunk;
-use crate::marking::{Change, Mark, twice_changed};
-use crate::points::{Dip, Point};
-use crate::walks::{Side, first_from, lowest_in, rise_after, value_at};
-use balanced_tree::Tree;
+use crate::marking::{Change, Mark};
+use crate::points::Point;
+use crate::timeline::Timeline;
 use flux_defs::{Steps, Window};
 use node_store::Share;
 use planner_points::Planner;
@@ -24,17 +22,16 @@ use std::sync::ledger::Ledger;
 pub struct MinTree {
     total: u64,
     horizon: u64,
-    points: Tree<Chunk, Dip>,
+    points: Timeline,
 }
 
 impl Model for MinTree {
     ghost use Rattle.planner_min_tree.specs.Plans.{Plan};
-    ghost use Rattle.planner_min_tree.specs.Chunks.{flat};
     ghost use Rattle.planner_min_tree.specs.Stands.{IsPlan};
 
     ghost Value = { Plan };
 
-    ghost view = { λ tree. record { total = tree.total; horizon = tree.horizon; points = flat tree.points.0 } };
+    ghost view = { λ tree. record { total = tree.total; horizon = tree.horizon; points = tree.points } };
 
     ghost invariant = { λ tree. IsPlan tree };
 }
@@ -51,14 +48,12 @@ impl MinTree {
     ghost use Rattle.planner_min_tree.specs.Points.{first_from};
 
     /// The first point after that second.
-    #[tactic(auto, using(crate::proofs::PlanFacts::cost_facts))]
     fn next<L: Ledger>(&self, after: u64, steps: &mut Steps<L>) -> Option<Point>
         ensures point { result ≡ first_from (after + 1) self.now.points }
         ensures work { steps.new ≤ steps.old + 2 * dig (length self.now.points + 2) }
         ensures counted { steps.old ≤ steps.new }
     {
-        let _height = self.points.height();
-        first_from(Side { tree: &self.points }, after as u128 + 1, steps)
+        self.points.first_from(after as u128 + 1, steps)
     }
 
     /// Whether so much is free from t on for so long, and all of that before the horizon.
@@ -100,14 +95,16 @@ impl Planner for MinTree {
 
     ghost look_cost = { λ planner. 16 * dig (length planner.points + 2) };
 
-    ghost change_cost = { λ planner. 256 * dig (length planner.points + 2) };
+    ghost change_cost = { λ planner. 128 * dig (length planner.points + 2) };
+
+    ghost settle_cost = { λ planner. 128 * dig (length planner.points + 2) };
 
     /// The planner without spans. It takes no memory.
     fn empty(_alloc: Global, total: u64, horizon: u64) -> Result<MinTree, AllocError> {
         Ok(MinTree {
             total,
             horizon,
-            points: Tree::empty(),
+            points: Timeline::empty(),
         })
     }
 
@@ -122,7 +119,25 @@ impl Planner for MinTree {
         })
     }
 
-    #[tactic(auto, using(crate::proofs::PlanFacts::cost_facts))]
+    fn settled<L: Ledger>(
+        &self,
+        alloc: Global,
+        moment: u64,
+        steps: &mut Steps<L>,
+    ) -> Result<Option<MinTree>, AllocError>
+        ensures same { IfOk result (λ some. IfSome some (λ planner. planner ≡ self.now)) }
+        ensures work { steps.new ≤ steps.old + 128 * dig (length self.now.points + 2) }
+    {
+        match self.points.settled(alloc, moment, steps)? {
+            None => Ok(None),
+            Some(points) => Ok(Some(MinTree {
+                total: self.total,
+                horizon: self.horizon,
+                points,
+            })),
+        }
+    }
+
     fn with_span<L: Ledger>(
         &self,
         alloc: Global,
@@ -136,9 +151,8 @@ impl Planner for MinTree {
         ensures horizon { IfOk result (λ planner. planner.horizon ≡ self.now.horizon) }
         ensures spans { IfOk result (λ planner. (before after : List Span) → StandsFor self.now (before ++ after) →
             StandsFor planner (before ++ span_of window quantity ∷ after)) }
-        ensures work { steps.new ≤ steps.old + 256 * dig (length self.now.points + 2) }
+        ensures work { steps.new ≤ steps.old + 128 * dig (length self.now.points + 2) }
     {
-        let _height = self.points.height();
         let stop = Mark {
             time: window.to,
             taken: 0,
@@ -149,13 +163,9 @@ impl Planner for MinTree {
             taken: quantity,
             given: 0,
         };
-        let points = twice_changed(
-            alloc,
-            &self.points,
-            Change::More(stop),
-            Change::More(start),
-            steps,
-        )?;
+        let points = self
+            .points
+            .twice_changed(alloc, Change::More(stop), Change::More(start), steps)?;
         Ok(MinTree {
             total: self.total,
             horizon: self.horizon,
@@ -163,7 +173,6 @@ impl Planner for MinTree {
         })
     }
 
-    #[tactic(auto, using(crate::proofs::PlanFacts::cost_facts))]
     fn without_span<L: Ledger>(
         &self,
         alloc: Global,
@@ -177,9 +186,8 @@ impl Planner for MinTree {
         ensures horizon { IfOk result (λ planner. planner.horizon ≡ self.now.horizon) }
         ensures spans { IfOk result (λ planner. (before after : List Span) →
             StandsFor self.now (before ++ span_of window quantity ∷ after) → StandsFor planner (before ++ after)) }
-        ensures work { steps.new ≤ steps.old + 256 * dig (length self.now.points + 2) }
+        ensures work { steps.new ≤ steps.old + 128 * dig (length self.now.points + 2) }
     {
-        let _height = self.points.height();
         let start = Mark {
             time: window.from,
             taken: quantity,
@@ -190,13 +198,9 @@ impl Planner for MinTree {
             taken: 0,
             given: quantity,
         };
-        let points = twice_changed(
-            alloc,
-            &self.points,
-            Change::Less(start),
-            Change::Less(stop),
-            steps,
-        )?;
+        let points = self
+            .points
+            .twice_changed(alloc, Change::Less(start), Change::Less(stop), steps)?;
         Ok(MinTree {
             total: self.total,
             horizon: self.horizon,
@@ -204,7 +208,7 @@ impl Planner for MinTree {
         })
     }
 
-    #[tactic(auto, using(crate::proofs::PlanFacts::cost_facts, crate::proofs::PlanFacts::marks_run))]
+    #[tactic(auto, using(crate::proofs::PlanFacts::marks_run))]
     fn min_over<L: Ledger>(&self, window: Window, steps: &mut Steps<L>) -> u64
         requires { window.from < window.to }
         ensures least { (spans : List Span) → StandsFor self.now spans →
@@ -212,14 +216,8 @@ impl Planner for MinTree {
         ensures work { steps.new ≤ steps.old + 4 * dig (length self.now.points + 2) }
         ensures counted { steps.old ≤ steps.new }
     {
-        let _height = self.points.height();
-        lowest_in(
-            Side { tree: &self.points },
-            window.from,
-            window.to,
-            self.total,
-            steps,
-        )
+        self.points
+            .lowest_in(window.from, window.to, self.total, steps)
     }
 
     fn first_at_least<L: Ledger>(
@@ -248,7 +246,7 @@ impl Planner for MinTree {
         }
     }
 
-    #[tactic(auto, using(crate::proofs::PlanFacts::cost_facts, crate::proofs::PlanFacts::marks_run))]
+    #[tactic(auto, using(crate::proofs::PlanFacts::marks_run))]
     fn first_free<L: Ledger>(&self, from: u64, quantity: u64, steps: &mut Steps<L>) -> Option<u64>
         ensures first { (spans : List Span) → StandsFor self.now spans →
             MatchOption result
@@ -257,12 +255,10 @@ impl Planner for MinTree {
         ensures work { steps.new ≤ steps.old + 16 * dig (length self.now.points + 2) }
         ensures counted { steps.old ≤ steps.new }
     {
-        let _height = self.points.height();
-        let side = Side { tree: &self.points };
-        if value_at(side, from, self.total, steps) >= quantity {
+        if self.points.value_at(from, self.total, steps) >= quantity {
             return Some(from);
         }
-        rise_after(side, from, quantity, self.total, steps)
+        self.points.rise_after(from, quantity, self.total, steps)
     }
 
     fn next_point<L: Ledger>(&self, after: u64, steps: &mut Steps<L>) -> Option<u64>

@@ -1,7 +1,7 @@
 //! Points, and what a few of them one after the other say of a moment or a window.
-ghost use Rattle.std.specs.Prelude.{◌≡◌, IsTrue, false, ◌+◌, ◌-◌, ◌^◌, ◌<◌, ◌≤◌, List, [], ◌∷◌, ◌++◌, length, IfOk};
+ghost use Rattle.std.specs.Prelude.{◌≡◌, ◌↔◌, IsTrue, false, ◌+◌, ◌-◌, ◌^◌, ◌<◌, ◌≤◌, List, [], ◌∷◌, ◌++◌, length, IfOk};
 ghost use Rattle.std.specs.Option.{option_copied};
-ghost use Rattle.planner_min_tree.specs.Points.{past, Runs, dip_of, lowest, lowest_before, lowest_from, lowest_in, count_before, first_from, value_at, first_rise, rise_after};
+ghost use Rattle.planner_min_tree.specs.Points.{past, Runs, dip_of, latest_of, lowest, lowest_before, lowest_from, lowest_in, count_before, first_from, value_at, first_rise, rise_after};
 
 use std::alloc::AllocError;
 
@@ -22,9 +22,9 @@ pub struct Point {
 #[derive(Clone, Copy, Debug, PartialEq, Eq)]
 pub struct Dip {
     pub latest: u64,
-    pub need: u128,
-    pub rest: u128,
-    pub top: u128,
+    pub need: u64,
+    pub rest: u64,
+    pub top: u64,
 }
 
 impl Point {
@@ -45,8 +45,8 @@ impl Point {
     fn dip(&self) -> Dip
         ensures { result ≡ dip_of (self.now ∷ []) }
     {
-        let (taken, given) = (self.taken as u128, self.given as u128);
-        let (need, rest) = (taken.saturating_sub(given), given.saturating_sub(taken));
+        let need = self.taken.saturating_sub(self.given);
+        let rest = self.given.saturating_sub(self.taken);
         Dip {
             latest: self.time,
             need,
@@ -103,8 +103,7 @@ impl Dip {
         requires fits { free - self.need + self.rest < 2 ^ 64 }
         ensures { result ≡ free - self.need + self.rest }
     {
-        let (need, rest) = (self.need as u64, self.rest as u64);
-        free - need + rest
+        free - self.need + self.rest
     }
 }
 
@@ -115,8 +114,8 @@ impl Dip {
         ensures high { IsTrue result → quantity ≤ free - self.need + self.top }
         ensures low { result ≡ false → free - self.need + self.top < quantity }
     {
-        let lowest = free - self.need as u64;
-        quantity.saturating_sub(lowest) as u128 <= self.top
+        let lowest = free - self.need;
+        quantity.saturating_sub(lowest) <= self.top
     }
 }
 
@@ -148,6 +147,16 @@ pub fn count_before(points: &[Point], t: u64) -> usize
                 0
             }
         }
+    }
+}
+
+/// Whether no point is later than the moment.
+pub fn are_over(points: &[Point], moment: u64) -> bool
+    ensures { IsTrue result ↔ latest_of points.now ≤ moment }
+{
+    match points {
+        [] => true,
+        [point, rest @ ..] => point.time <= moment && are_over(rest, moment),
     }
 }
 

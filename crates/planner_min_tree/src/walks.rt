@@ -60,7 +60,7 @@ pub fn first_from<L: Ledger>(side: Side<'_>, t: u128, steps: &mut Steps<L>) -> O
 
 /// The least that is free before a moment.
 #[tactic(auto, using(crate::proofs::TwoSides::before_facts))]
-fn lowest_before<L: Ledger>(side: Side<'_>, to: u64, free: u64, steps: &mut Steps<L>) -> u64
+pub fn lowest_before<L: Ledger>(side: Side<'_>, to: u64, free: u64, steps: &mut Steps<L>) -> u64
     requires runs { Runs (flat side.tree.now.0) free }
     requires later { 0 < to }
     ensures value { result ≡ lowest_before to (flat side.entry.tree.now.0) free }
@@ -73,7 +73,7 @@ fn lowest_before<L: Ledger>(side: Side<'_>, to: u64, free: u64, steps: &mut Step
         Shape::Fork(left, right) => {
             let sum = left.sum();
             if sum.latest < to {
-                let lowest = free - sum.need as u64;
+                let lowest = free - sum.need;
                 lowest.min(lowest_before(Side { tree: right }, to, sum.past(free), steps))
             } else {
                 lowest_before(Side { tree: left }, to, free, steps)
@@ -84,7 +84,7 @@ fn lowest_before<L: Ledger>(side: Side<'_>, to: u64, free: u64, steps: &mut Step
 
 /// The least that is free at a moment and later.
 #[tactic(auto, using(crate::proofs::TwoSides::from_facts))]
-fn lowest_from<L: Ledger>(side: Side<'_>, from: u64, free: u64, steps: &mut Steps<L>) -> u64
+pub fn lowest_from<L: Ledger>(side: Side<'_>, from: u64, free: u64, steps: &mut Steps<L>) -> u64
     requires { Runs (flat side.tree.now.0) free }
     ensures value { result ≡ lowest_from from (flat side.entry.tree.now.0) free }
     ensures work { steps.new ≤ steps.old + side.entry.tree.now.1 + 1 }
@@ -99,7 +99,7 @@ fn lowest_from<L: Ledger>(side: Side<'_>, from: u64, free: u64, steps: &mut Step
             if sum.latest <= from {
                 lowest_from(Side { tree: right }, from, past, steps)
             } else {
-                let lowest = past - right.sum().need as u64;
+                let lowest = past - right.sum().need;
                 lowest.min(lowest_from(Side { tree: left }, from, free, steps))
             }
         }
@@ -191,7 +191,7 @@ fn first_rise<L: Ledger>(
 
 /// The same, which takes no step where there is none.
 #[tactic(auto, using(crate::proofs::TwoSides::some_facts))]
-fn some_rise<L: Ledger>(
+pub fn some_rise<L: Ledger>(
     side: Side<'_>,
     quantity: u64,
     free: u64,

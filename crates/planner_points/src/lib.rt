@@ -6,9 +6,11 @@
 #![tactic(auto)]
 
 mod planners;
+mod renewing;
 mod span_list;
 mod spans;
 
 pub use planners::Planner;
+pub use renewing::{renewed_with, renewed_without};
 pub use span_list::SpanList;
 pub use spans::Span;

@@ -1,5 +1,5 @@
 //! What every planner answers.
-ghost use Rattle.std.specs.Prelude.{◌≡◌, ℕ, ◌+◌, ◌<◌, ◌≤◌, List, [], ◌∷◌, ◌++◌, IfOk, MatchOption};
+ghost use Rattle.std.specs.Prelude.{◌≡◌, ℕ, ◌+◌, ◌<◌, ◌≤◌, List, [], ◌∷◌, ◌++◌, ◌↔◌, IfOk, IfSome, MatchOption};
 ghost use Rattle.planner_points.specs.declared.spans.Span.{Span};
 ghost use Rattle.planner_points.specs.Spans.{free_at, span_of, HasRoom, HasSpan, IsLeastFree, IsEnd, IsNextEnd, MayStart, IsFirstStart, IsFirstFree};
 
@@ -25,6 +25,9 @@ pub trait Planner: Sized {
     /// How many steps `with_span` and `without_span` take at most.
     ghost change_cost: { Self → ℕ };
 
+    /// How many steps `settled` takes at most.
+    ghost settle_cost: { Self → ℕ };
+
     /// The planner without spans.
     fn empty(alloc: Global, total: u64, horizon: u64) -> Result<Self, AllocError>
         ensures total { IfOk result (λ planner. total_of planner ≡ total) }
@@ -37,6 +40,22 @@ pub trait Planner: Sized {
         ensures horizon { IfOk result (λ planner. horizon_of planner ≡ horizon_of self.now) }
         ensures spans { IfOk result (λ planner. (spans : List Span) → stands_for self.now spans →
             stands_for planner spans) };
+
+    /// The same planner, made ready for questions from that second on: what is past stands apart, and calls that ask no
+    /// earlier second pass over it. `None` where there is nothing to set apart. Each second is right.
+    fn settled<L: Ledger>(
+        &self,
+        alloc: Global,
+        moment: u64,
+        steps: &mut Steps<L>,
+    ) -> Result<Option<Self>, AllocError>
+        ensures total { IfOk result (λ some. IfSome some (λ planner. total_of planner ≡ total_of self.now)) }
+        ensures horizon { IfOk result (λ some. IfSome some (λ planner. horizon_of planner ≡ horizon_of self.now)) }
+        ensures spans { IfOk result (λ some. IfSome some (λ planner. (spans : List Span) →
+            (stands_for planner spans ↔ stands_for self.now spans))) }
+        ensures look { IfOk result (λ some. IfSome some (λ planner. look_cost planner ≡ look_cost self.now)) }
+        ensures change { IfOk result (λ some. IfSome some (λ planner. change_cost planner ≡ change_cost self.now)) }
+        ensures work { steps.new ≤ steps.old + settle_cost self.now };
 
     /// The planner with one span more. So much has to be free over its window.
     fn with_span<L: Ledger>(

@@ -170,6 +170,8 @@ impl Planner for SpanList {
 
     ghost change_cost = { λ _. 0 };
 
+    ghost settle_cost = { λ _. 0 };
+
     /// The planner without spans. It takes no memory.
     fn empty(alloc: Global, total: u64, horizon: u64) -> Result<SpanList, AllocError> {
         Ok(SpanList {
@@ -187,6 +189,16 @@ impl Planner for SpanList {
             horizon: self.horizon,
             spans,
         })
+    }
+
+    /// Nothing stands apart: each answer walks over the whole list.
+    fn settled<L: Ledger>(
+        &self,
+        _alloc: Global,
+        _moment: u64,
+        _steps: &mut Steps<L>,
+    ) -> Result<Option<SpanList>, AllocError> {
+        Ok(None)
     }
 
     fn with_span<L: Ledger>(

@@ -2,6 +2,7 @@
 ghost use Rattle.std.specs.Prelude.{◌≡◌, ℕ, ◌+◌, ◌*◌, ◌<◌, ◌≤◌, List, [], ◌∷◌, ◌++◌, length, IfOk};
 ghost use Rattle.flux_defs.specs.declared.claims.Job.{Job};
 ghost use Rattle.book_laws.specs.TotalLaws.{AreFair};
+ghost use Rattle.planner_points.specs.Work.{renew_cost};
 ghost use Rattle.vertex_planners.specs.Lists.{items_of};
 ghost use Rattle.vertex_planners.specs.Work.{CostWithin};
 ghost use Rattle.vertex_accounts.specs.Books.{IsOnGraph, AreAccounts, KeepsKind, types_of};
@@ -10,19 +11,20 @@ ghost use Rattle.vertex_accounts.specs.Costs.{accounts_most};
 use crate::books::Accounts;
 use crate::counted::rows_of;
 use flux_defs::{Job, Steps, Window};
-use planner_points::Planner;
+use planner_points::{Planner, renewed_with, renewed_without};
 use resource_graph::Graph;
 use std::alloc::{AllocError, Global};
 use std::sync::Arc;
 use std::sync::ledger::Ledger;
 
 impl<P: Planner + Drop> Accounts<P> {
-    /// The accounts of one job more, which oversubscribes no vertex beside the others. More claims than 2^64 - 1 are
-    /// answered as want of memory.
+    /// The accounts of one job more, which oversubscribes no vertex beside the others. The planners that change are made ready
+    /// before for questions from that second on. More claims than 2^64 - 1 are answered as want of memory.
     pub fn with_job<L: Ledger>(
         &self,
         alloc: Global,
         graph: &Graph,
+        moment: u64,
         job: &Job,
         steps: &mut Steps<L>,
     ) -> Result<Accounts<P>, AllocError>
@@ -33,8 +35,8 @@ impl<P: Planner + Drop> Accounts<P> {
             AreFair graph.now.resources.vertices (jobs ++ job.now ∷ []) → AreAccounts P.total_of P.stands_for graph.now.resources.vertices (jobs ++ job.now ∷ []) book) }
         ensures kinds { IfOk result (λ book. (kind : ℕ) → KeepsKind self.now kind → KeepsKind book kind) }
         ensures types { IfOk result (λ book. types_of book ≡ types_of self.now) }
-        ensures work { (most : ℕ) → CostWithin P.change_cost most (items_of self.now.planners) → steps.new ≤ steps.old +
-            (accounts_most (length graph.now.resources.vertices) most (types_of self.now) (length job.now.claims) + P.change_cost self.now.times) }
+        ensures work { (most : ℕ) → CostWithin (renew_cost P.settle_cost P.change_cost) most (items_of self.now.planners) → steps.new ≤ steps.old +
+            (accounts_most (length graph.now.resources.vertices) most (types_of self.now) (length job.now.claims) + renew_cost P.settle_cost P.change_cost self.now.times) }
         ensures count { IfOk result (λ book. book.count ≡ self.now.count + length job.now.claims) }
     {
         graph.is_valid();
@@ -48,8 +50,8 @@ impl<P: Planner + Drop> Accounts<P> {
         let quantities = self.counted().quantities.items();
         let claims = job.claims.items();
         let rows = rows_of(alloc, graph, quantities, claims)?;
-        let planners = self.planners.gained(alloc, window, rows, steps)?;
-        let times = self.times.with_span(alloc, window, 0, steps)?;
+        let planners = self.planners.gained(alloc, moment, window, rows, steps)?;
+        let times = renewed_with(&self.times, alloc, moment, window, 0, steps)?;
         Ok(Accounts {
             counted: Arc::try_clone(&self.counted)?,
             planners,
@@ -58,11 +60,12 @@ impl<P: Planner + Drop> Accounts<P> {
         })
     }
 
-    /// The accounts of one job less.
+    /// The accounts of one job less. The planners that change are made ready before for questions from that second on.
     pub fn without_job<L: Ledger>(
         &self,
         alloc: Global,
         graph: &Graph,
+        moment: u64,
         job: &Job,
         steps: &mut Steps<L>,
     ) -> Result<Accounts<P>, AllocError>
@@ -73,8 +76,8 @@ impl<P: Planner + Drop> Accounts<P> {
             AreAccounts P.total_of P.stands_for graph.now.resources.vertices (before ++ after) book) }
         ensures kinds { IfOk result (λ book. (kind : ℕ) → KeepsKind self.now kind → KeepsKind book kind) }
         ensures types { IfOk result (λ book. types_of book ≡ types_of self.now) }
-        ensures work { (most : ℕ) → CostWithin P.change_cost most (items_of self.now.planners) → steps.new ≤ steps.old +
-            (accounts_most (length graph.now.resources.vertices) most (types_of self.now) (length job.now.claims) + P.change_cost self.now.times) }
+        ensures work { (most : ℕ) → CostWithin (renew_cost P.settle_cost P.change_cost) most (items_of self.now.planners) → steps.new ≤ steps.old +
+            (accounts_most (length graph.now.resources.vertices) most (types_of self.now) (length job.now.claims) + renew_cost P.settle_cost P.change_cost self.now.times) }
     {
         let count = self.count - job.claims.len() as u64;
         let window = Window {
@@ -84,8 +87,8 @@ impl<P: Planner + Drop> Accounts<P> {
         let quantities = self.counted().quantities.items();
         let claims = job.claims.items();
         let rows = rows_of(alloc, graph, quantities, claims)?;
-        let planners = self.planners.lost(alloc, window, rows, steps)?;
-        let times = self.times.without_span(alloc, window, 0, steps)?;
+        let planners = self.planners.lost(alloc, moment, window, rows, steps)?;
+        let times = renewed_without(&self.times, alloc, moment, window, 0, steps)?;
         Ok(Accounts {
             counted: Arc::try_clone(&self.counted)?,
             planners,

@@ -2,12 +2,13 @@
 ghost use Rattle.std.specs.Prelude.{◌≡◌, ℕ, ◌+◌, ◌*◌, ◌<◌, ◌≤◌, List, [], ◌∷◌, ◌++◌, length, slice_get, slice_index_or, Some, IfOk, MatchOption};
 ghost use Rattle.planner_points.specs.declared.spans.Span.{Span};
 ghost use Rattle.planner_points.specs.Spans.{free_at, HasRoom, IsLeastFree, IsFirstFree};
+ghost use Rattle.planner_points.specs.Work.{renew_cost};
 ghost use Rattle.book_laws.specs.Grouped.{some_span};
 ghost use Rattle.vertex_planners.specs.Kept.{Gains, Loses, HaveRoom, HaveSpans, AtRow};
 ghost use Rattle.vertex_planners.specs.Rows.{count_some};
 
 use flux_defs::{List, Steps, Window};
-use planner_points::Planner;
+use planner_points::{Planner, renewed_with, renewed_without};
 use std::alloc::{AllocError, Global};
 use std::marker::Model;
 use std::sync::ledger::Ledger;
@@ -81,10 +82,12 @@ impl<P: Planner + Drop> Item<P> {
         planner.first_free(from, quantity, steps)
     }
 
-    /// The item, of which each planner gains a span over the window of its place's number, if that isn't 0.
+    /// The item, of which each planner gains a span over the window of its place's number, if that isn't 0, made ready before for
+    /// questions from that second on.
     pub(crate) fn gained<L: Ledger>(
         &self,
         alloc: Global,
+        moment: u64,
         window: Window,
         row: &List<u64>,
         steps: &mut Steps<L>,
@@ -93,7 +96,7 @@ impl<P: Planner + Drop> Item<P> {
         requires window { window.from < window.to }
         requires room { HaveRoom P.total_of P.stands_for window row.now self.now }
         ensures gains { IfOk result (AtRow (Gains P.total_of P.stands_for window) row.now self.now) }
-        ensures work { (most : ℕ) → ((k : ℕ) (p : P) → slice_get self.now k ≡ Some p → P.change_cost p ≤ most) →
+        ensures work { (most : ℕ) → ((k : ℕ) (p : P) → slice_get self.now k ≡ Some p → renew_cost P.settle_cost P.change_cost p ≤ most) →
             steps.new ≤ steps.old + count_some row.now * most }
     {
         let mut planners = List::new(alloc);
@@ -104,7 +107,7 @@ impl<P: Planner + Drop> Item<P> {
             let Some(number) = row.get(place) else {
                 unreachable!()
             };
-            let planner = gain(alloc, old, window, *number, steps)?;
+            let planner = gain(alloc, old, moment, window, *number, steps)?;
             match planners.push(planner) {
                 Ok(()) => {}
                 Err((_, refused)) => return Err(refused),
@@ -113,10 +116,12 @@ impl<P: Planner + Drop> Item<P> {
         Ok(Item { planners })
     }
 
-    /// The item, of which each planner loses a span over the window of its place's number, if that isn't 0.
+    /// The item, of which each planner loses a span over the window of its place's number, if that isn't 0, made ready before for
+    /// questions from that second on.
     pub(crate) fn lost<L: Ledger>(
         &self,
         alloc: Global,
+        moment: u64,
         window: Window,
         row: &List<u64>,
         steps: &mut Steps<L>,
@@ -125,7 +130,7 @@ impl<P: Planner + Drop> Item<P> {
         requires window { window.from < window.to }
         requires span { HaveSpans P.stands_for window row.now self.now }
         ensures loses { IfOk result (AtRow (Loses P.total_of P.stands_for window) row.now self.now) }
-        ensures work { (most : ℕ) → ((k : ℕ) (p : P) → slice_get self.now k ≡ Some p → P.change_cost p ≤ most) →
+        ensures work { (most : ℕ) → ((k : ℕ) (p : P) → slice_get self.now k ≡ Some p → renew_cost P.settle_cost P.change_cost p ≤ most) →
             steps.new ≤ steps.old + count_some row.now * most }
     {
         let mut planners = List::new(alloc);
@@ -136,7 +141,7 @@ impl<P: Planner + Drop> Item<P> {
             let Some(number) = row.get(place) else {
                 unreachable!()
             };
-            let planner = lose(alloc, old, window, *number, steps)?;
+            let planner = lose(alloc, old, moment, window, *number, steps)?;
             match planners.push(planner) {
                 Ok(()) => {}
                 Err((_, refused)) => return Err(refused),
@@ -146,10 +151,11 @@ impl<P: Planner + Drop> Item<P> {
     }
 }
 
-/// The planner with a span more; the same one where the quantity is 0.
+/// The planner with a span more, made ready before for questions from that second on; the same one where the quantity is 0.
 fn gain<P: Planner + Drop, L: Ledger>(
     alloc: Global,
     planner: &P,
+    moment: u64,
     window: Window,
     quantity: u64,
     steps: &mut Steps<L>,
@@ -158,18 +164,19 @@ fn gain<P: Planner + Drop, L: Ledger>(
     requires room { (spans : List Span) → P.stands_for planner.now spans → HasRoom (P.total_of planner.now) spans window quantity }
     ensures gains { IfOk result (Gains P.total_of P.stands_for window quantity planner.now) }
     ensures none { quantity ≡ 0 → steps.new ≤ steps.old }
-    ensures work { steps.new ≤ steps.old + P.change_cost planner.now }
+    ensures work { steps.new ≤ steps.old + renew_cost P.settle_cost P.change_cost planner.now }
 {
     if quantity == 0 {
         return Ok(planner.share()?);
     }
-    Ok(planner.with_span(alloc, window, quantity, steps)?)
+    renewed_with(planner, alloc, moment, window, quantity, steps)
 }
 
-/// The planner with a span less; the same one where the quantity is 0.
+/// The planner with a span less, made ready before for questions from that second on; the same one where the quantity is 0.
 fn lose<P: Planner + Drop, L: Ledger>(
     alloc: Global,
     planner: &P,
+    moment: u64,
     window: Window,
     quantity: u64,
     steps: &mut Steps<L>,
@@ -178,10 +185,10 @@ fn lose<P: Planner + Drop, L: Ledger>(
     requires span { (before : List Span) × (after : List Span) × P.stands_for planner.now (before ++ (some_span window quantity ++ after)) }
     ensures loses { IfOk result (Loses P.total_of P.stands_for window quantity planner.now) }
     ensures none { quantity ≡ 0 → steps.new ≤ steps.old }
-    ensures work { steps.new ≤ steps.old + P.change_cost planner.now }
+    ensures work { steps.new ≤ steps.old + renew_cost P.settle_cost P.change_cost planner.now }
 {
     if quantity == 0 {
         return Ok(planner.share()?);
     }
-    Ok(planner.without_span(alloc, window, quantity, steps)?)
+    renewed_without(planner, alloc, moment, window, quantity, steps)
 }

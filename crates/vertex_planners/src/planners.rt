@@ -1,6 +1,7 @@
 //! Planners by vertices.
 ghost use Rattle.std.specs.Prelude.{◌≡◌, ◌≢◌, ℕ, ◌+◌, ◌*◌, ◌<◌, ◌≤◌, List, [], ◌∷◌, ◌++◌, length, slice_get, Some, IfOk, OnOk, OnErr};
 ghost use Rattle.flux_defs.specs.Digits.{dig};
+ghost use Rattle.planner_points.specs.Work.{renew_cost};
 ghost use Rattle.vertex_planners.specs.Kept.{Gains, Loses, HaveRoom, HaveSpans, AtRow, RoomAt, SpansAt, AtPlaces};
 ghost use Rattle.vertex_planners.specs.Rows.{places_of, count_all, count_some, HaveKeysBelow};
 ghost use Rattle.vertex_planners.specs.Work.{change_most, CostWithin};
@@ -62,10 +63,12 @@ impl<P: Planner + Drop> VertexPlanners<P> {
         }
     }
 
-    /// The planners, of which each gains a span over the window of its vertex's number at its place, if that isn't 0.
+    /// The planners, of which each gains a span over the window of its vertex's number at its place, if that isn't 0. Each that
+    /// does is made ready before for questions from that second on.
     pub fn gained<L: Ledger>(
         &self,
         alloc: Global,
+        moment: u64,
         window: Window,
         rows: Rows,
         steps: &mut Steps<L>,
@@ -77,21 +80,23 @@ impl<P: Planner + Drop> VertexPlanners<P> {
         ensures len { IfOk result (λ all. length (items_of all) ≡ length (items_of self.now)) }
         ensures places { IfOk result (λ all. AreWide (length (places_of rows)) (items_of all)) }
         ensures gains { IfOk result (λ all. AtPlaces (Gains P.total_of P.stands_for window) (places_of rows) (items_of self.now) (items_of all)) }
-        ensures work { (most : ℕ) → CostWithin P.change_cost most (items_of self.now) →
+        ensures work { (most : ℕ) → CostWithin (renew_cost P.settle_cost P.change_cost) most (items_of self.now) →
             steps.new ≤ steps.old + count_all (places_of rows) * change_most (length (items_of self.now)) most }
     {
         let mut items = self.items.snap()?;
         let mut left = rows;
         while let Some((vertex, row)) = left.pop(alloc)? {
-            gain_at(alloc, &mut items, vertex, window, &row, steps)?;
+            gain_at(alloc, &mut items, vertex, moment, window, &row, steps)?;
         }
         Ok(VertexPlanners { items })
     }
 
-    /// The planners, of which each loses a span over the window of its vertex's number at its place, if that isn't 0.
+    /// The planners, of which each loses a span over the window of its vertex's number at its place, if that isn't 0. Each that
+    /// does is made ready before for questions from that second on.
     pub fn lost<L: Ledger>(
         &self,
         alloc: Global,
+        moment: u64,
         window: Window,
         rows: Rows,
         steps: &mut Steps<L>,
@@ -103,13 +108,13 @@ impl<P: Planner + Drop> VertexPlanners<P> {
         ensures len { IfOk result (λ all. length (items_of all) ≡ length (items_of self.now)) }
         ensures places { IfOk result (λ all. AreWide (length (places_of rows)) (items_of all)) }
         ensures loses { IfOk result (λ all. AtPlaces (Loses P.total_of P.stands_for window) (places_of rows) (items_of self.now) (items_of all)) }
-        ensures work { (most : ℕ) → CostWithin P.change_cost most (items_of self.now) →
+        ensures work { (most : ℕ) → CostWithin (renew_cost P.settle_cost P.change_cost) most (items_of self.now) →
             steps.new ≤ steps.old + count_all (places_of rows) * change_most (length (items_of self.now)) most }
     {
         let mut items = self.items.snap()?;
         let mut left = rows;
         while let Some((vertex, row)) = left.pop(alloc)? {
-            lose_at(alloc, &mut items, vertex, window, &row, steps)?;
+            lose_at(alloc, &mut items, vertex, moment, window, &row, steps)?;
         }
         Ok(VertexPlanners { items })
     }
@@ -120,6 +125,7 @@ fn gain_at<P: Planner + Drop, L: Ledger>(
     alloc: Global,
     items: &mut Pages<Item<P>>,
     vertex: u32,
+    moment: u64,
     window: Window,
     row: &List<u64>,
     steps: &mut Steps<L>,
@@ -132,11 +138,11 @@ fn gain_at<P: Planner + Drop, L: Ledger>(
     ensures here { OnOk result ((x y : List P) → slice_get items.old vertex ≡ Some x → slice_get items.new vertex ≡ Some y →
         AtRow (Gains P.total_of P.stands_for window) row.now x y) }
     ensures others { OnOk result ((u : ℕ) → u ≢ vertex → slice_get items.new u ≡ slice_get items.old u) }
-    ensures work { (most : ℕ) → ((x : List P) (k : ℕ) (p : P) → slice_get items.old vertex ≡ Some x → slice_get x k ≡ Some p → P.change_cost p ≤ most) →
+    ensures work { (most : ℕ) → ((x : List P) (k : ℕ) (p : P) → slice_get items.old vertex ≡ Some x → slice_get x k ≡ Some p → renew_cost P.settle_cost P.change_cost p ≤ most) →
         steps.new ≤ steps.old + (4 * dig (length items.old + 1) + count_some row.now * most) }
 {
     let item = match items.get(vertex as u64, steps) {
-        Some(item) => item.gained(alloc, window, row, steps)?,
+        Some(item) => item.gained(alloc, moment, window, row, steps)?,
         None => unreachable!(),
     };
     match items.put(alloc, vertex as u64, item, steps) {
@@ -150,6 +156,7 @@ fn lose_at<P: Planner + Drop, L: Ledger>(
     alloc: Global,
     items: &mut Pages<Item<P>>,
     vertex: u32,
+    moment: u64,
     window: Window,
     row: &List<u64>,
     steps: &mut Steps<L>,
@@ -162,11 +169,11 @@ fn lose_at<P: Planner + Drop, L: Ledger>(
     ensures here { OnOk result ((x y : List P) → slice_get items.old vertex ≡ Some x → slice_get items.new vertex ≡ Some y →
         AtRow (Loses P.total_of P.stands_for window) row.now x y) }
     ensures others { OnOk result ((u : ℕ) → u ≢ vertex → slice_get items.new u ≡ slice_get items.old u) }
-    ensures work { (most : ℕ) → ((x : List P) (k : ℕ) (p : P) → slice_get items.old vertex ≡ Some x → slice_get x k ≡ Some p → P.change_cost p ≤ most) →
+    ensures work { (most : ℕ) → ((x : List P) (k : ℕ) (p : P) → slice_get items.old vertex ≡ Some x → slice_get x k ≡ Some p → renew_cost P.settle_cost P.change_cost p ≤ most) →
         steps.new ≤ steps.old + (4 * dig (length items.old + 1) + count_some row.now * most) }
 {
     let item = match items.get(vertex as u64, steps) {
-        Some(item) => item.lost(alloc, window, row, steps)?,
+        Some(item) => item.lost(alloc, moment, window, row, steps)?,
         None => unreachable!(),
     };
     match items.put(alloc, vertex as u64, item, steps) {

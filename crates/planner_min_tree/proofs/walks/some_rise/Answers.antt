@@ -1,4 +1,4 @@
-use Rattle.std.proofs.Common.{◌≡◌, sym, ◌∙◌}
+use Rattle.std.proofs.Common.{sym, ◌∙◌}
 use Rattle.planner_min_tree.specs.Chunks.{flat}
 use Rattle.planner_min_tree.proofs.Dips.{rise_found, none_never}
 use Rattle.planner_min_tree.proofs.walks.some_rise.Goals as goal

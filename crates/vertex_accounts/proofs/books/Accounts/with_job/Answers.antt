@@ -63,7 +63,7 @@ returns-in_err-times-clause-work g c = λ most within.
     (subst (λ (qs : List Quantity). count_all (places_of c.in_ok-rows.rows) ≤ sum_by reach_of qs * length c.items-claims.result.now) quantities c.in_ok-rows.ensures.few) in
     let all = numbers_cost (length (items_of c.args.self.now.planners)) (length c.args.graph.now.resources.vertices) most (types_of c.args.self.now) (sum_by reach_of (counted_of c.args.self.now).quantities)
     (length c.args.job.now.claims) (count_all (places_of c.in_ok-rows.rows)) c.args.steps.now c.gained.new.steps is.graph.len is.graph.counts.reach few (c.gained.ensures.work most within) in
-    let times = c.with_span.ensures.work in
+    let times = c.renewed_with.ensures.work in
     omega (arith, all, times)
 
 pub returns-in_err-try_clone-clause-work : goal.returns-in_err-try_clone-clause-work
@@ -74,7 +74,7 @@ returns-in_err-try_clone-clause-work g c = λ most within.
     (subst (λ (qs : List Quantity). count_all (places_of c.in_ok-rows.rows) ≤ sum_by reach_of qs * length c.items-claims.result.now) quantities c.in_ok-rows.ensures.few) in
     let all = numbers_cost (length (items_of c.args.self.now.planners)) (length c.args.graph.now.resources.vertices) most (types_of c.args.self.now) (sum_by reach_of (counted_of c.args.self.now).quantities)
     (length c.args.job.now.claims) (count_all (places_of c.in_ok-rows.rows)) c.args.steps.now c.gained.new.steps is.graph.len is.graph.counts.reach few (c.gained.ensures.work most within) in
-    let times = c.with_span.ensures.work in
+    let times = c.renewed_with.ensures.work in
     omega (arith, all, times)
 
 pub returns-clause-work : goal.returns-clause-work
@@ -85,5 +85,5 @@ returns-clause-work g c = λ most within.
     (subst (λ (qs : List Quantity). count_all (places_of c.in_ok-rows.rows) ≤ sum_by reach_of qs * length c.items-claims.result.now) quantities c.in_ok-rows.ensures.few) in
     let all = numbers_cost (length (items_of c.args.self.now.planners)) (length c.args.graph.now.resources.vertices) most (types_of c.args.self.now) (sum_by reach_of (counted_of c.args.self.now).quantities)
     (length c.args.job.now.claims) (count_all (places_of c.in_ok-rows.rows)) c.args.steps.now c.gained.new.steps is.graph.len is.graph.counts.reach few (c.gained.ensures.work most within) in
-    let times = c.with_span.ensures.work in
+    let times = c.renewed_with.ensures.work in
     omega (arith, all, times)

@@ -23,8 +23,8 @@ lost-requires-clause-span g c =
     (subst (λ (qs : List Quantity). AreNumbers vertices qs c.items-claims.result.now (places_of c.in_ok-rows.rows)) quantities c.in_ok-rows.ensures.numbers) in
     spans_in g.P.Planner.total_of g.P.Planner.stands_for vertices before c.args.job.now after (counted_of c.args.self.now) (places_of c.in_ok-rows.rows) numbers (items_of c.args.self.now.planners) is.kept
 
-pub without_span-requires-clause-span : goal.without_span-requires-clause-span
-without_span-requires-clause-span g c =
+pub renewed_without-requires-clause-span : goal.renewed_without-requires-clause-span
+renewed_without-requires-clause-span g c =
     let (before, after, is) = c.requires.there in
     (times_of before, times_of after, subst (g.P.Planner.stands_for c.args.self.now.times) (times_append before (c.args.job.now ∷ after)) is.times)
 
@@ -62,7 +62,7 @@ returns-in_err-times-clause-work g c = λ most within.
     (subst (λ (qs : List Quantity). count_all (places_of c.in_ok-rows.rows) ≤ sum_by reach_of qs * length c.items-claims.result.now) quantities c.in_ok-rows.ensures.few) in
     let all = numbers_cost (length (items_of c.args.self.now.planners)) (length c.args.graph.now.resources.vertices) most (types_of c.args.self.now) (sum_by reach_of (counted_of c.args.self.now).quantities)
     (length c.args.job.now.claims) (count_all (places_of c.in_ok-rows.rows)) c.args.steps.now c.lost.new.steps is.graph.len is.graph.counts.reach few (c.lost.ensures.work most within) in
-    let times = c.without_span.ensures.work in
+    let times = c.renewed_without.ensures.work in
     omega (arith, all, times)
 
 pub returns-in_err-try_clone-clause-work : goal.returns-in_err-try_clone-clause-work
@@ -73,7 +73,7 @@ returns-in_err-try_clone-clause-work g c = λ most within.
     (subst (λ (qs : List Quantity). count_all (places_of c.in_ok-rows.rows) ≤ sum_by reach_of qs * length c.items-claims.result.now) quantities c.in_ok-rows.ensures.few) in
     let all = numbers_cost (length (items_of c.args.self.now.planners)) (length c.args.graph.now.resources.vertices) most (types_of c.args.self.now) (sum_by reach_of (counted_of c.args.self.now).quantities)
     (length c.args.job.now.claims) (count_all (places_of c.in_ok-rows.rows)) c.args.steps.now c.lost.new.steps is.graph.len is.graph.counts.reach few (c.lost.ensures.work most within) in
-    let times = c.without_span.ensures.work in
+    let times = c.renewed_without.ensures.work in
     omega (arith, all, times)
 
 pub returns-clause-work : goal.returns-clause-work
@@ -84,5 +84,5 @@ returns-clause-work g c = λ most within.
     (subst (λ (qs : List Quantity). count_all (places_of c.in_ok-rows.rows) ≤ sum_by reach_of qs * length c.items-claims.result.now) quantities c.in_ok-rows.ensures.few) in
     let all = numbers_cost (length (items_of c.args.self.now.planners)) (length c.args.graph.now.resources.vertices) most (types_of c.args.self.now) (sum_by reach_of (counted_of c.args.self.now).quantities)
     (length c.args.job.now.claims) (count_all (places_of c.in_ok-rows.rows)) c.args.steps.now c.lost.new.steps is.graph.len is.graph.counts.reach few (c.lost.ensures.work most within) in
-    let times = c.without_span.ensures.work in
+    let times = c.renewed_without.ensures.work in
     omega (arith, all, times)

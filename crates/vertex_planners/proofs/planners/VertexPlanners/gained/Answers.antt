@@ -1,4 +1,5 @@
 use Rattle.std.proofs.Common.{◌+◌, ◌*◌, length, arith}
+use Rattle.planner_points.specs.Work.{renew_cost}
 use Rattle.vertex_planners.specs.Rows.{places_of, count_all}
 use Rattle.vertex_planners.specs.Kept.{Gains, HasRoomFor}
 use Rattle.vertex_planners.specs.Lists.{items_of}
@@ -34,7 +35,7 @@ loop-left-preserved g c =
       work = λ most within.
           walk_counts (Gains g.P.Planner.total_of g.P.Planner.stands_for c.args.window) (items_of c.args.self.now) (places_of c.args.rows)
           c.loop-left.items (places_of c.loop-left.left) (places_of c.pop.new.self) c.in-Some.vertex c.in-Some.row c.loop-left.invariant.walked off
-          g.P.Planner.change_cost most c.loop-left.steps c.gain_at.new.steps (c.args.steps.now + count_all (places_of c.args.rows) * change_most (length (items_of c.args.self.now)) most)
+          (renew_cost g.P.Planner.settle_cost g.P.Planner.change_cost) most c.loop-left.steps c.gain_at.new.steps (c.args.steps.now + count_all (places_of c.args.rows) * change_most (length (items_of c.args.self.now)) most)
           within (c.gain_at.ensures.work most) (c.loop-left.invariant.work most within);
     }
 
@@ -48,7 +49,7 @@ returns-in_err-gain_at-clause-work g c = λ most within.
     let counts = walk_counts (Gains g.P.Planner.total_of g.P.Planner.stands_for c.args.window) (items_of c.args.self.now) (places_of c.args.rows)
     c.loop-left.items (places_of c.loop-left.left) (places_of c.pop.new.self) c.in-Some.vertex c.in-Some.row c.loop-left.invariant.walked
     (row_of (Gains g.P.Planner.total_of g.P.Planner.stands_for c.args.window) (items_of c.args.self.now) (places_of c.args.rows) (places_of c.loop-left.left) (places_of c.pop.new.self) c.in_ok-vertex.field-0 c.in-Some.vertex c.in-Some.row c.in-Some.is c.in_ok-vertex.ensures.taken)
-    g.P.Planner.change_cost most c.loop-left.steps c.gain_at.new.steps (c.args.steps.now + count_all (places_of c.args.rows) * change_most (length (items_of c.args.self.now)) most)
+    (renew_cost g.P.Planner.settle_cost g.P.Planner.change_cost) most c.loop-left.steps c.gain_at.new.steps (c.args.steps.now + count_all (places_of c.args.rows) * change_most (length (items_of c.args.self.now)) most)
     within (c.gain_at.ensures.work most) (c.loop-left.invariant.work most within) in
     omega (arith, counts)
 
