@@ -13,6 +13,7 @@ use Rattle.planner_min_tree.specs.Plans.{Plan}
 use Rattle.planner_min_tree.proofs.PlanFacts.{few_points}
 use Rattle.book_laws.specs.Grouped.{grouped, times_of}
 use Rattle.book_laws.proofs.GroupedLaws.{grouped_few, times_many}
+use Rattle.planner_points.specs.Work.{renew_cost}
 use Rattle.vertex_planners.specs.Lists.{items_of}
 use Rattle.vertex_planners.proofs.PlaceLaws.{within_list, item_at, in_place}
 use Rattle.vertex_accounts.specs.declared.books.Accounts.{Accounts}
@@ -46,12 +47,16 @@ looks_cost vertices b looks few some le =
     let d = dig_few 16 (vertices + 1) (let p : 2 ^ 17 ≡ 131072 = refl in omega (arith, few, p)) in
     omega (arith, d, some, le)
 
+-- a planner is made ready for the present moment, and changed
+abbrev one_change : Plan → ℕ
+one_change plan = 128 * dig (length plan.points + 2)
+
+abbrev pub change_cost : Plan → ℕ
+change_cost plan = renew_cost one_change one_change plan
+
 module _ (book : Accounts Plan) (vertices : List Vertex) (jobs : List Job) (is : AreAccounts (λ (p : Plan). p.total) Plans.StandsFor vertices jobs book) where
   abbrev look_cost : Plan → ℕ
   look_cost plan = 16 * dig (length plan.points + 2)
-
-  abbrev change_cost : Plan → ℕ
-  change_cost plan = 256 * dig (length plan.points + 2)
 
   points_cost : (plan : Plan) (spans : List Span) (n : ℕ) → Plans.StandsFor plan spans → length spans ≤ n → dig (length plan.points + 2) ≤ dig (2 * n + 2)
   points_cost plan spans n stands few =

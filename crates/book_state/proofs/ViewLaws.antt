@@ -23,7 +23,7 @@ use Rattle.book_laws.specs.Amounts.{TakesFromPool}
 use Rattle.book_laws.specs.TotalLaws.{AreFair}
 use Rattle.book_laws.proofs.Adding.{fair_added}
 use Rattle.book_state.proofs.BookLaws.{both_of}
-use Rattle.book_state.proofs.CostLaws.{all_cost, all_change, times_cost, times_change, answer_covered, ample_covered, next_covered, change_covered}
+use Rattle.book_state.proofs.CostLaws.{change_cost, all_cost, all_change, times_cost, times_change, answer_covered, ample_covered, next_covered, change_covered}
 
 module _ (g : NamedGraph) (a : Accounts Plan) (book : Kept) (eg : g ≡ graph_of book) (ea : a ≡ accounts_of book) where
   pub accounts_at : (jobs : List Job) → StandsFor book jobs → AreAccounts (λ (p : Plan). p.total) Plans.StandsFor g.resources.vertices jobs a
@@ -71,14 +71,14 @@ module _ (g : NamedGraph) (a : Accounts Plan) (book : Kept) (eg : g ≡ graph_of
 
   -- a job of so many claims more or less
   pub change_at : IsBook book → IsWhole g → (claims old mid new : ℕ) →
-      ((most : ℕ) → CostWithin (λ (p : Plan). 256 * dig (length p.points + 2)) most (items_of a.planners) →
-      mid ≤ old + (accounts_most (length g.resources.vertices) most (types_of a) claims + 256 * dig (length a.times.points + 2))) →
+      ((most : ℕ) → CostWithin change_cost most (items_of a.planners) →
+      mid ≤ old + (accounts_most (length g.resources.vertices) most (types_of a) claims + change_cost a.times)) →
       new ≤ mid + 256 * dig (len (rows_of book) + 2) → new ≤ old + change_cost_of book claims
   change_at is whole claims old mid new work row =
       let at = accounts_at is.0 is.1 in
       let rules = length (rules_of book) in
       let types : types_of a ≤ rules = subst (λ (x : Accounts Plan). types_of x ≤ rules) (sym ea) is.1.types in
-      let covered = change_covered (length g.resources.vertices) a.count (len (rows_of book)) (types_of a) rules claims (256 * dig (length a.times.points + 2)) old mid new
+      let covered = change_covered (length g.resources.vertices) a.count (len (rows_of book)) (types_of a) rules claims (change_cost a.times) old mid new
       whole.valid.few types (times_change a g.resources.vertices is.0 at (len (rows_of book)) is.1.few) (work (256 * dig (2 * a.count + 2)) (all_change a g.resources.vertices is.0 at)) row in
       subst (λ (x : Accounts Plan). new ≤ old + 8192 * (claims + 1) * (1 + rules) * dig (2 * x.count + len (rows_of book) + 4)) ea covered
 

@@ -117,7 +117,7 @@ impl BookState {
     {
         let graph = self.graph();
         let old = self.accounts();
-        let accounts = old.with_job(alloc, graph, job, steps)?;
+        let accounts = old.with_job(alloc, graph, self.kept.moment, job, steps)?;
         Ok(BookState {
             kept: Kept {
                 filtered: Arc::try_clone(&self.kept.filtered)?,
@@ -148,7 +148,7 @@ impl BookState {
     {
         let graph = self.graph();
         let old = self.accounts();
-        let accounts = old.without_job(alloc, graph, job, steps)?;
+        let accounts = old.without_job(alloc, graph, self.kept.moment, job, steps)?;
         Ok(BookState {
             kept: Kept {
                 filtered: Arc::try_clone(&self.kept.filtered)?,

@@ -91,6 +91,26 @@ impl Tried {
     }
 }
 
+impl Tried {
+    /// The same spans, of which what is past stands apart in the tree.
+    fn settle<L: Ledger>(
+        self,
+        alloc: Global,
+        moment: u64,
+        steps: &mut Steps<L>,
+    ) -> Result<Tried, AllocError> {
+        let Tried { tree, plain, spans } = self;
+        match tree.settled(alloc, moment, steps)? {
+            Some(ready) => Ok(Tried {
+                tree: ready,
+                plain,
+                spans,
+            }),
+            None => Ok(Tried { tree, plain, spans }),
+        }
+    }
+}
+
 /// A window of at most 300 seconds of the first 2,300.
 fn window_of(seed: &mut Seed) -> Window
     ensures { result.from < result.to }
@@ -115,11 +135,13 @@ fn differing<L: Ledger>(tried: &Tried, seed: &mut Seed, steps: &mut Steps<L>) ->
 }
 
 /// How many answers differ in 2,000 turns, in each of which a span goes in or out, and how many spans stand at the end.
+/// Turn by turn the present moment goes on a second, and what is past by then stands apart in the tree.
 pub fn compared<L: Ledger>(alloc: Global, steps: &mut Steps<L>) -> Result<(u64, u64), AllocError> {
     let mut tried = Tried::empty(alloc, 20, 3000)?;
     let mut seed = Seed::of(1);
     let mut count = 0u64;
-    for _ in 0..2000u64 {
+    for moment in 0..2000u64 {
+        tried = tried.settle(alloc, moment, steps)?;
         if seed.below(4) == 0 {
             tried = tried.remove(alloc, seed.below(64) as usize, steps)?;
         } else {

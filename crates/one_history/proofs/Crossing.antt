@@ -108,6 +108,7 @@ any_ghosts T = record {
   stands_for = λ p spans. Unit {0};
   look_cost = λ p. 0;
   change_cost = λ p. 0;
+  settle_cost = λ p. 0;
 }
 
 filtered_send : IsSend filtered.the_row

@@ -1,4 +1,4 @@
--- Points in two lists of chunks, one behind the other: where a change has its place, and a chunk that goes from one to the other.
+-- Points in two lists of chunks, one behind the other: the place of a change, and a chunk that goes from one to the other.
 use Rattle.std.proofs.Common.{◌≡◌, ℕ, zero, suc, ◌+◌, ◌*◌, ◌<◌, ◌≤◌, max, List, [], ◌∷◌, ◌++◌, length, length-append, refl, sym, ◌∙◌, ap, arith, append-nil, append_assoc, inl, inr, Some, slice_get}
 use Rattle.std.proofs.lemmas.Bool.{cases_lt}
 use Rattle.flux_defs.specs.Digits.{dig}
@@ -98,7 +98,8 @@ most_changed (More d) ps = most_more d ps
 most_changed (Less d) ps = omega (arith, most_less d ps)
 
 -- a second change has its place among the points still
-still_placed : (c d : Change) (ps : List Point) → StaysLate c d → HasPlace (time_of d) ps → HasPlace (time_of d) (changed c ps)
+still_placed : (c d : Change) (ps : List Point) → StaysLate c d → HasPlace (time_of d) ps →
+    HasPlace (time_of d) (changed c ps)
 still_placed (More m) d ps late place = (some_more m ps, omega (arith, latest_more m ps, place.1))
 still_placed (Less m) d ps late place =
     let there = latest_less m (time_of d) ps late place.1 in
@@ -132,7 +133,8 @@ module _ (c d : Change) (xs ys : List (List Point)) where
       ∙ ap (changed d) (sym (inside c (flat xs) (flat ys) place) ∙ ap (changed c) (sym (flat_append xs ys)))
 
   pub first_inside : HasPlace (time_of c) (flat xs) → (HasPlace (time_of d) (flat xs) → ⊥) →
-      (ws zs : List (List Point)) → flat ws ≡ changed c (flat xs) → flat zs ≡ changed d (flat ys) → Twice (flat (ws ++ zs))
+      (ws zs : List (List Point)) → flat ws ≡ changed c (flat xs) → flat zs ≡ changed d (flat ys) →
+      Twice (flat (ws ++ zs))
   first_inside place off ws zs e f = flat_append ws zs ∙ ap (λ l. l ++ flat zs) e ∙ ap (λ l. changed c (flat xs) ++ l) f
       ∙ sym (behind d (changed c (flat xs)) (flat ys)
       (λ there. off (place.0, late (time_of d) there.1)))
@@ -142,7 +144,8 @@ module _ (c d : Change) (xs ys : List (List Point)) where
       late t h = omega (arith, h, most_changed c (flat xs), place.1)
 
   pub second_inside : (HasPlace (time_of c) (flat xs) → ⊥) → HasPlace (time_of d) (flat xs) →
-      (ws zs : List (List Point)) → flat ws ≡ changed d (flat xs) → flat zs ≡ changed c (flat ys) → Twice (flat (ws ++ zs))
+      (ws zs : List (List Point)) → flat ws ≡ changed d (flat xs) → flat zs ≡ changed c (flat ys) →
+      Twice (flat (ws ++ zs))
   second_inside off place ws zs e f = flat_append ws zs ∙ ap (λ l. l ++ flat zs) e ∙ ap (λ l. changed d (flat xs) ++ l) f
       ∙ sym (inside d (flat xs) (changed c (flat ys)) place)
       ∙ ap (changed d) (sym (behind c (flat xs) (flat ys) off) ∙ ap (changed c) (sym (flat_append xs ys)))
@@ -164,8 +167,8 @@ last_gains (xs ∷ ys ∷ lists) (suc at) last next edit n g e =
     ap (λ l. xs ++ l) (last_gains (ys ∷ lists) at last next edit (omega arith) g e)
     ∙ sym (append_assoc xs (flat (ys ∷ lists)) next)
 
-pub filled_at : {X : Type 0} (lists : List (List X)) (at : ℕ) (xs : List X) → AreFilled lists → slice_get lists at ≡ Some xs →
-    0 < length xs
+pub filled_at : {X : Type 0} (lists : List (List X)) (at : ℕ) (xs : List X) → AreFilled lists →
+    slice_get lists at ≡ Some xs → 0 < length xs
 filled_at [] at xs f g = absurd (cc)
 filled_at (ys ∷ lists) zero xs f g = let same : ys ≡ xs = cc in rw (← same) f.0
 filled_at (ys ∷ lists) (suc at) xs f g = filled_at lists at xs f.1 g
@@ -189,7 +192,8 @@ pub ruleset first_facts = (first_goes, change_fills)
 pub ruleset settle_facts = (set_apart, filled_at)
 
 -- how high the trees of two lists are that are one list of points
-pub low_both : {X : Type 0} (h k : ℕ) (xs ys : List (List X)) (now : List X) → flat (xs ++ ys) ≡ now → AreFilled xs × AreFilled ys →
+pub low_both : {X : Type 0} (h k : ℕ) (xs ys : List (List X)) (now : List X) → flat (xs ++ ys) ≡ now →
+    AreFilled xs × AreFilled ys →
     h + 1 ≤ 2 * dig (length xs) → k + 1 ≤ 2 * dig (length ys) →
     (h + 1 ≤ 2 * dig (length now + 2)) × (k + 1 ≤ 2 * dig (length now + 2))
 low_both {X = X} h k xs ys now is filled l m =

@@ -107,7 +107,7 @@ abbrev pub changed : Change → List Point → List Point
 changed (More d) ps = marked d ps
 changed (Less d) ps = unmarked d ps
 
--- after the first change the points are as late as the second one needs: the first is an end more, or an earlier one less
+-- after the first change the points are as late as the second needs: the first is an end more, or an earlier one less
 abbrev pub StaysLate : Change → Change → Type 0
 StaysLate (More d) second = Unit {0}
 StaysLate (Less d) second = d.time < time_of second

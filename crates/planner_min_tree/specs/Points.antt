@@ -8,7 +8,7 @@ abbrev pub latest_of : List Point → ℕ
 latest_of [] = 0
 latest_of (p ∷ ps) = max p.time (latest_of ps)
 
--- the time has its place among the points, where others come behind them: there are some, and the latest isn't before it
+-- the time has its place among the points, where others come behind: there are some, and the latest isn't before it
 abbrev pub HasPlace : ℕ → List Point → Type 0
 HasPlace t ps = (0 < length ps) × (t ≤ latest_of ps)
 

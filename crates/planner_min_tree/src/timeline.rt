@@ -18,8 +18,8 @@ use std::alloc::{AllocError, Global};
 use std::marker::Model;
 use std::sync::ledger::Ledger;
 
-/// The points of a planner in two trees: those that are past, and behind them those that are to come. Contracts see the list
-/// of all of them. A call that asks no second before the last that is past goes over what is past without a step.
+/// The points of a planner in two trees: those that are past, and behind them those that are to come. Contracts see the
+/// list of all of them. A call that asks no second before the last that is past goes over what is past without a step.
 #[derive(Drop)]
 pub struct Timeline {
     past: Tree<Chunk, Dip>,
@@ -104,7 +104,8 @@ fn both_changed<L: Ledger>(
     }
 }
 
-/// What stands in the place of the last chunk where the next one comes behind it: both in one where they have room in it.
+/// What stands in the place of the last chunk where the next one comes behind it: both in one where they have room in
+/// it.
 fn joined<L: Ledger>(
     alloc: Global,
     last: &Chunk,
@@ -240,7 +241,8 @@ impl Timeline {
         walks::value_at(Side { tree: &self.past }, m, free, steps)
     }
 
-    /// The time of the first point that is later than a moment and after which so much is free, where less is at the moment.
+    /// The time of the first point that is later than a moment and after which so much is free, where less is at the
+    /// moment.
     #[tactic(auto, using(crate::proofs::TwoSides::after_facts))]
     pub fn rise_after<L: Ledger>(
         &self,
@@ -286,8 +288,8 @@ impl Timeline {
         Ok(Timeline { past, coming })
     }
 
-    /// The same points, of which the first chunk of those to come is past where no point of it is later than the moment;
-    /// `None` where one is, or none is to come.
+    /// The same points, of which the first chunk of those to come is past, where no point of it is later than the
+    /// moment; `None` where one is, or none is to come.
     #[tactic(auto, using(crate::proofs::Timelines::settle_facts))]
     pub fn settled<L: Ledger>(
         &self,

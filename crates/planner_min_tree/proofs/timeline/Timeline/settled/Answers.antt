@@ -15,9 +15,25 @@ returns-in_err-past-clause-work g c =
 pub returns-in_err-coming-clause-work : goal.returns-in_err-coming-clause-work
 returns-in_err-coming-clause-work g c =
     let low = low_both _ _ _ _ _ c.self.view_is c.self.invariant c.height-past.ensures.low c.height-coming.ensures.low in
-    omega (arith, low.0, low.1, c.get-chunk.ensures.work, c.look.ensures.work, c.with_behind.ensures.work, c.without_first.ensures.work)
+    omega (
+      arith,
+      low.0,
+      low.1,
+      c.get-chunk.ensures.work,
+      c.look.ensures.work,
+      c.with_behind.ensures.work,
+      c.without_first.ensures.work,
+    )
 
 pub returns-clause-work : goal.returns-clause-work
 returns-clause-work g c =
     let low = low_both _ _ _ _ _ c.self.view_is c.self.invariant c.height-past.ensures.low c.height-coming.ensures.low in
-    omega (arith, low.0, low.1, c.get-chunk.ensures.work, c.look.ensures.work, c.with_behind.ensures.work, c.without_first.ensures.work)
+    omega (
+      arith,
+      low.0,
+      low.1,
+      c.get-chunk.ensures.work,
+      c.look.ensures.work,
+      c.with_behind.ensures.work,
+      c.without_first.ensures.work,
+    )
