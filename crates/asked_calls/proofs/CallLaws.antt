@@ -1,11 +1,13 @@
 -- Words are at most one call.
-use Rattle.std.proofs.Common.{◌≡◌, ℕ, List, ◌∷◌, get_or, codes, Option, Some, None, MatchOption, unwrap_or, refl, sym, ◌∙◌, ap, subst, arith}
+use Rattle.std.proofs.Common.{◌≡◌, ℕ, List, ◌∷◌, get_or, codes, Option, Some, None, MatchOption, unwrap_or, refl, sym}
+use Rattle.std.proofs.Common.{◌∙◌, ap, subst, arith}
 use Rattle.text_forms.specs.Numbers.{number_in}
 use Rattle.command_words.specs.Givens.{Word}
 use Rattle.command_words.specs.Values.{Values, values_in}
 use Rattle.fluxion_lines.specs.declared.commands.Form.{Form}
 use Rattle.fluxion_lines.specs.declared.commands.Form.TheVariants.{V1, Rfc14}
-use Rattle.asked_calls.specs.Calls.{Served, Call, serve, print, load, IsHorizonOf, form_word, IsFormOf, IsServing, AreWordsOf, only_name, IsInForm, IsCallOf, call_held}
+use Rattle.asked_calls.specs.Calls.{Served, Call, serve, print, load, IsHorizonOf, form_word, IsFormOf, IsServing}
+use Rattle.asked_calls.specs.Calls.{AreWordsOf, only_name, IsInForm, IsCallOf, call_held}
 use Rattle.asked_calls.specs.declared.calls.Asked.{Asked}
 use Rattle.prune_filters.proofs.RuleLaws.{one_list}
 

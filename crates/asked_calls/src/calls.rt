@@ -4,7 +4,9 @@ ghost use Rattle.prune_filters.specs.declared.rules.Rule.{Rule};
 ghost use Rattle.prune_filters.specs.Filters.{AreRulesOf};
 ghost use Rattle.fluxion_lines.specs.declared.commands.Form.{Form};
 ghost use Rattle.command_words.specs.Values.{values_held};
-ghost use Rattle.asked_calls.specs.Calls.{Served, Call, IsHorizon, IsHorizonOf, AreFiltersOf, form_word, IsFormOf, IsServing, IsCommandCount, IsInForm, IsCallOf, only_name, served_held, call_held};
+ghost use Rattle.asked_calls.specs.Calls.{Served, Call, IsHorizon, IsHorizonOf, AreFiltersOf, form_word, IsFormOf};
+ghost use Rattle.asked_calls.specs.Calls.{IsServing, IsCommandCount, IsInForm, IsCallOf, only_name, served_held};
+ghost use Rattle.asked_calls.specs.Calls.{call_held};
 
 use command_words::{WordValues, as_texts, read_words};
 use flux_defs::{LATEST_HORIZON, List, Text};

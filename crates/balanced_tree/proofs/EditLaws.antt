@@ -1,5 +1,6 @@
 -- An edit of two lists, one after the other.
-use Rattle.std.proofs.Common.{◌≡◌, ℕ, zero, suc, ◌-◌, ◌<◌, ◌≤◌, List, [], ◌∷◌, ◌++◌, length, ap, append_assoc, arith, sym, ◌∙◌}
+use Rattle.std.proofs.Common.{◌≡◌, ℕ, zero, suc, ◌-◌, ◌<◌, ◌≤◌, List, [], ◌∷◌, ◌++◌, length, ap, append_assoc, arith}
+use Rattle.std.proofs.Common.{sym, ◌∙◌}
 use Rattle.balanced_tree.specs.declared.edits.Edit.{Edit}
 use Rattle.balanced_tree.specs.Edits.{edited, made}
 

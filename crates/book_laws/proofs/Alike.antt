@@ -1,5 +1,7 @@
 -- Two lists of jobs whose claims amount to the same make the same claims available.
-use Rattle.std.proofs.Common.{◌≡◌, ℕ, zero, suc, ◌+◌, ◌-◌, ◌<◌, ◌≤◌, nat_le, Bool, true, false, not, ◌&&◌, ◌||◌, cond, List, [], ◌∷◌, length, Option, Some, None, slice_get, ◌⊎◌, inl, inr, refl, sym, ◌∙◌, ap, subst, arith, IsTrue, true≢false}
+use Rattle.std.proofs.Common.{◌≡◌, ℕ, zero, suc, ◌+◌, ◌-◌, ◌<◌, ◌≤◌, nat_le, Bool, true, false, not, ◌&&◌, ◌||◌, cond}
+use Rattle.std.proofs.Common.{List, [], ◌∷◌, length, Option, Some, None, slice_get, ◌⊎◌, inl, inr, refl, sym, ◌∙◌, ap}
+use Rattle.std.proofs.Common.{subst, arith, IsTrue, true≢false}
 use Rattle.std.specs.List.{list_any, sum_by, AllByRecursion}
 use Rattle.std.proofs.lemmas.Bool.{or_cases}
 use Rattle.flux_defs.specs.declared.vertices.Vertex.{Vertex}
@@ -23,7 +25,8 @@ use Rattle.book_laws.proofs.Closing.{hold_over, nothing_along}
 -- at each vertex of the graph the claims of the two lists amount to the same, moment by moment
 pub record AmountAlike (vertices : List Vertex) (a b : List Job) : Type 0 where
   pub holds : (v m : ℕ) → v < length vertices → live_sum (hold_of v) a m ≡ live_sum (hold_of v) b m
-  pub claims : (v m : ℕ) → v < length vertices → live_sum (claim_within vertices v) a m ≡ live_sum (claim_within vertices v) b m
+  pub claims : (v m : ℕ) →
+      v < length vertices → live_sum (claim_within vertices v) a m ≡ live_sum (claim_within vertices v) b m
   pub takes : (v m : ℕ) → v < length vertices → live_sum (take_of v) a m ≡ live_sum (take_of v) b m
 
 pub alike_swap : (vertices : List Vertex) (a b : List Job) → AmountAlike vertices a b → AmountAlike vertices b a
@@ -33,7 +36,8 @@ alike_swap vertices a b h = record {
   takes = λ v m lt. sym (h.takes v m lt);
 }
 
-some_too : (test : Claim → Bool) (a b : List Job) (m : ℕ) → live_sum (λ c. cond (test c) 1 0) a m ≡ live_sum (λ c. cond (test c) 1 0) b m →
+some_too : (test : Claim → Bool) (a b : List Job) (m : ℕ) →
+    live_sum (λ c. cond (test c) 1 0) a m ≡ live_sum (λ c. cond (test c) 1 0) b m →
     IsTrue (some_live_claim a m test) → IsTrue (some_live_claim b m test)
 some_too test a b m same some = elim (bool_of (some_live_claim b m test)) [
   | inl there ↦ there
@@ -42,11 +46,13 @@ some_too test a b m same some = elim (bool_of (some_live_claim b m test)) [
 
 module _ (vertices : List Vertex) (first : ParentsFirst vertices) where
   -- a vertex's chain stays in the graph
-  pub chain_within : (most v : ℕ) → v < length vertices → AllByRecursion (λ u. u < length vertices) (chain vertices most (Some v))
+  pub chain_within : (most v : ℕ) →
+      v < length vertices → AllByRecursion (λ u. u < length vertices) (chain vertices most (Some v))
   chain_within zero v lt = tt
   chain_within (suc most) v lt = (lt, up (parent_of vertices v) refl (chain_within most))
     where
-      up : (p : Option ℕ) → parent_of vertices v ≡ p → ((u : ℕ) → u < length vertices → AllByRecursion (λ x. x < length vertices) (chain vertices most (Some u))) →
+      up : (p : Option ℕ) → parent_of vertices v ≡ p →
+          ((u : ℕ) → u < length vertices → AllByRecursion (λ x. x < length vertices) (chain vertices most (Some u))) →
           AllByRecursion (λ u. u < length vertices) (chain vertices most p)
       up None e rest = ends most
         where
@@ -56,24 +62,34 @@ module _ (vertices : List Vertex) (first : ParentsFirst vertices) where
       up (Some p) e rest = rest p (let below = first v p e in omega arith)
 
   module _ (a b : List Job) (alike : AmountAlike vertices a b) where
-    along : (vs : List ℕ) (m : ℕ) → AllByRecursion (λ u. u < length vertices) vs → IsTrue (some_live_claim a m (holds_along vs)) → IsTrue (some_live_claim b m (holds_along vs))
+    along : (vs : List ℕ) (m : ℕ) → AllByRecursion (λ u. u < length vertices) vs →
+        IsTrue (some_live_claim a m (holds_along vs)) → IsTrue (some_live_claim b m (holds_along vs))
     along [] m inside h = absurd (nothing_along a m h)
-    along (v ∷ vs) m inside h = elim (live_either (holds_along (v ∷ vs)) (is_hold v) (holds_along vs) (λ c both. or_cases (is_hold v c) (holds_along vs c) both) a m h) [
-      | inl here ↦ live_along (is_hold v) (holds_along (v ∷ vs)) (λ c t. ap (λ x. x || holds_along vs c) t) b m (some_too (is_hold v) a b m (alike.holds v m inside.0) here)
-      | inr later ↦ live_along (holds_along vs) (holds_along (v ∷ vs)) (λ c t. later_true (is_hold v c) (holds_along vs c) t) b m (along vs m inside.1 later)
-    ]
+    along (v ∷ vs) m inside h = elim (live_either (holds_along (v ∷ vs))
+        (is_hold v) (holds_along vs) (λ c both. or_cases (is_hold v c) (holds_along vs c) both) a m h) [
+          | inl here ↦ live_along (is_hold v) (holds_along (v ∷ vs))
+              (λ c t. ap (λ x. x || holds_along vs c) t) b m
+              (some_too (is_hold v) a b m (alike.holds v m inside.0) here)
+          | inr later ↦ live_along (holds_along vs)
+              (holds_along (v ∷ vs))
+              (λ c t. later_true (is_hold v c) (holds_along vs c) t) b m (along vs m inside.1 later)
+        ]
       where
         later_true : (x y : Bool) → IsTrue y → IsTrue (x || y)
         later_true true y t = refl
         later_true false y t = t
 
-    pub closed_too : (v m : ℕ) → v < length vertices → IsTrue (is_closed (no_bars vertices a) m v) → IsTrue (is_closed (no_bars vertices b) m v)
+    pub closed_too : (v m : ℕ) →
+        v < length vertices → IsTrue (is_closed (no_bars vertices a) m v) → IsTrue (is_closed (no_bars vertices b) m v)
     closed_too v m lt h =
         let vs = chain vertices (length vertices) (Some v) in
-        let held = live_along (holds_over vertices v) (holds_along vs) (λ c t. hold_over vertices v c ∙ t) a m (sym (closed_is vertices a m v) ∙ h) in
-        closed_is vertices b m v ∙ live_along (holds_along vs) (holds_over vertices v) (λ c t. sym (hold_over vertices v c) ∙ t) b m (along vs m (chain_within (length vertices) v lt) held)
+        let held = live_along (holds_over vertices v)
+        (holds_along vs) (λ c t. hold_over vertices v c ∙ t) a m (sym (closed_is vertices a m v) ∙ h) in
+        closed_is vertices b m v ∙ live_along (holds_along vs) (holds_over vertices v)
+        (λ c t. sym (hold_over vertices v c) ∙ t) b m (along vs m (chain_within (length vertices) v lt) held)
 
-    pub touched_too : (v m : ℕ) → v < length vertices → IsTrue (is_touched (no_bars vertices a) m v) → IsTrue (is_touched (no_bars vertices b) m v)
+    pub touched_too : (v m : ℕ) → v < length vertices →
+        IsTrue (is_touched (no_bars vertices a) m v) → IsTrue (is_touched (no_bars vertices b) m v)
     touched_too v m lt h = or_left_ _ (some_too (is_on_or_below vertices v) a b m (alike.claims v m lt) (or_none _ h))
       where
         or_none : (x : Bool) → IsTrue (x || false) → IsTrue x
@@ -85,18 +101,25 @@ module _ (vertices : List Vertex) (first : ParentsFirst vertices) where
         or_left_ false t = t
 
   module _ (a b : List Job) (alike : AmountAlike vertices a b) where
-    closed_same : (v m : ℕ) → v < length vertices → is_closed (no_bars vertices a) m v ≡ is_closed (no_bars vertices b) m v
-    closed_same v m lt = same_tests _ _ (closed_too a b alike v m lt) (closed_too b a (alike_swap vertices a b alike) v m lt)
+    closed_same : (v m : ℕ) →
+        v < length vertices → is_closed (no_bars vertices a) m v ≡ is_closed (no_bars vertices b) m v
+    closed_same v m lt =
+        same_tests _ _ (closed_too a b alike v m lt) (closed_too b a (alike_swap vertices a b alike) v m lt)
 
-    touched_same : (v m : ℕ) → v < length vertices → is_touched (no_bars vertices a) m v ≡ is_touched (no_bars vertices b) m v
-    touched_same v m lt = same_tests _ _ (touched_too a b alike v m lt) (touched_too b a (alike_swap vertices a b alike) v m lt)
+    touched_same : (v m : ℕ) →
+        v < length vertices → is_touched (no_bars vertices a) m v ≡ is_touched (no_bars vertices b) m v
+    touched_same v m lt =
+        same_tests _ _ (touched_too a b alike v m lt) (touched_too b a (alike_swap vertices a b alike) v m lt)
 
     free_same : (v m : ℕ) → v < length vertices → free_at (no_bars vertices a) m v ≡ free_at (no_bars vertices b) m v
     free_same v m lt =
-        ap (λ (x : Bool). cond x 0 (cond (is_pool vertices v) (size_of vertices v - taken_at a m v) 1)) (closed_same v m lt)
-        ∙ ap (λ (n : ℕ). cond (is_closed (no_bars vertices b) m v) 0 (cond (is_pool vertices v) (size_of vertices v - n) 1)) (alike.takes v m lt)
+        ap (λ (x : Bool). cond x 0 (cond (is_pool vertices v) (size_of vertices v - taken_at a m v) 1))
+        (closed_same v m lt)
+        ∙ ap (λ (n : ℕ). cond (is_closed (no_bars vertices b) m v) 0
+        (cond (is_pool vertices v) (size_of vertices v - n) 1)) (alike.takes v m lt)
 
-    available_at : (m : ℕ) (c : Claim) → vertex_of c < length vertices → is_available_at (no_bars vertices a) m c ≡ is_available_at (no_bars vertices b) m c
+    available_at : (m : ℕ) (c : Claim) → vertex_of c < length vertices →
+        is_available_at (no_bars vertices a) m c ≡ is_available_at (no_bars vertices b) m c
     available_at m (Take v q) lt = ap (nat_le q) (free_same v m lt)
     available_at m (Hold v) lt =
         ap (λ x. not x && not (is_touched (no_bars vertices a) m v)) (closed_same v m lt)
@@ -106,4 +129,5 @@ module _ (vertices : List Vertex) (first : ParentsFirst vertices) where
     pub available_alike : (w : Window) (cs : List Claim) → AllByRecursion (λ c. vertex_of c < length vertices) cs →
         AllByRecursion (IsAvailable (no_bars vertices a) w) cs → AllByRecursion (IsAvailable (no_bars vertices b) w) cs
     available_alike w [] inside h = tt
-    available_alike w (c ∷ cs) inside h = ((λ m lo hi. sym (available_at m c inside.0) ∙ h.0 m lo hi), available_alike w cs inside.1 h.1)
+    available_alike w (c ∷ cs) inside h =
+        ((λ m lo hi. sym (available_at m c inside.0) ∙ h.0 m lo hi), available_alike w cs inside.1 h.1)

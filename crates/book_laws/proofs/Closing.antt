@@ -1,5 +1,7 @@
 -- A vertex is closed where it or a vertex above it is held: along the chain of its parents.
-use Rattle.std.proofs.Common.{◌≡◌, ℕ, zero, suc, ◌+◌, ◌-◌, ◌<◌, ◌≤◌, ◌==◌, nat_eq, Bool, true, false, ◌||◌, ◌&&◌, List, [], ◌∷◌, length, Option, Some, None, IsTrue, refl, sym, ◌∙◌, ap, arith, ◌⊎◌, ◌↔◌, inl, inr, true≢false}
+use Rattle.std.proofs.Common.{◌≡◌, ℕ, zero, suc, ◌+◌, ◌-◌, ◌<◌, ◌≤◌, ◌==◌, nat_eq, Bool, true, false, ◌||◌, ◌&&◌, List}
+use Rattle.std.proofs.Common.{[], ◌∷◌, length, Option, Some, None, IsTrue, refl, sym, ◌∙◌, ap, arith, ◌⊎◌, ◌↔◌, inl}
+use Rattle.std.proofs.Common.{inr, true≢false}
 use Rattle.std.specs.List.{list_any}
 use Rattle.std.proofs.lemmas.Bool.{or_cases, or_left, or_right}
 use Rattle.flux_defs.specs.declared.vertices.Vertex.{Vertex}
@@ -24,17 +26,19 @@ along_later v vs c h = or_right (is_hold v c) (holds_along vs c) h
 
 -- over a window: the first of the chain is held, or another one
 pub held_cons : (jobs : List Job) (w : Window) (v : ℕ) (vs : List ℕ) →
-    ((SomeMoment w (λ m. IsTrue (some_live_claim jobs m (is_hold v))) ⊎ SomeMoment w (λ m. IsTrue (some_live_claim jobs m (holds_along vs))))
+    ((SomeMoment w (λ m. IsTrue (some_live_claim jobs m (is_hold v)))
+    ⊎ SomeMoment w (λ m. IsTrue (some_live_claim jobs m (holds_along vs))))
     ↔ SomeMoment w (λ m. IsTrue (some_live_claim jobs m (holds_along (v ∷ vs)))))
 held_cons jobs w v vs = (
   λ either. elim either [
     | inl (m, lo, hi, h) ↦ (m, lo, hi, live_along (is_hold v) (holds_along (v ∷ vs)) (along_here v vs) jobs m h)
     | inr (m, lo, hi, h) ↦ (m, lo, hi, live_along (holds_along vs) (holds_along (v ∷ vs)) (along_later v vs) jobs m h)
   ],
-  λ (m, lo, hi, h). elim (live_either (holds_along (v ∷ vs)) (is_hold v) (holds_along vs) (λ c both. or_cases (is_hold v c) (holds_along vs c) both) jobs m h) [
-    | inl a ↦ inl (m, lo, hi, a)
-    | inr b ↦ inr (m, lo, hi, b)
-  ],
+  λ (m, lo, hi, h). elim (live_either (holds_along (v ∷ vs))
+      (is_hold v) (holds_along vs) (λ c both. or_cases (is_hold v c) (holds_along vs c) both) jobs m h) [
+        | inl a ↦ inl (m, lo, hi, a)
+        | inr b ↦ inr (m, lo, hi, b)
+      ],
 )
 
 -- no claim holds a vertex of the empty chain
@@ -48,15 +52,17 @@ never false b e t = true≢false (sym t)
 
 pub nothing_along : (jobs : List Job) (m : ℕ) → IsTrue (some_live_claim jobs m (holds_along [])) → ⊥
 nothing_along [] m t = true≢false (sym t)
-nothing_along (job ∷ jobs) m t = elim (or_cases (is_live m job && list_any (holds_along []) job.claims) (some_live_claim jobs m (holds_along [])) t) [
-  | inl now ↦ never (is_live m job) (list_any (holds_along []) job.claims) (no_claim job.claims) now
-  | inr later ↦ nothing_along jobs m later
-]
+nothing_along (job ∷ jobs) m t = elim (or_cases
+    (is_live m job && list_any (holds_along []) job.claims) (some_live_claim jobs m (holds_along [])) t) [
+      | inl now ↦ never (is_live m job) (list_any (holds_along []) job.claims) (no_claim job.claims) now
+      | inr later ↦ nothing_along jobs m later
+    ]
 
 pub held_nil : (jobs : List Job) (w : Window) → SomeMoment w (λ m. IsTrue (some_live_claim jobs m (holds_along []))) → ⊥
 held_nil jobs w (m, lo, hi, h) = nothing_along jobs m h
 
-pub hold_over : (vertices : List Vertex) (v : ℕ) (c : Claim) → holds_along (chain vertices (length vertices) (Some v)) c ≡ holds_over vertices v c
+pub hold_over : (vertices : List Vertex) (v : ℕ) (c : Claim) →
+    holds_along (chain vertices (length vertices) (Some v)) c ≡ holds_over vertices v c
 hold_over vertices v (Take u q) = none (chain vertices (length vertices) (Some v))
   where
     none : (vs : List ℕ) → holds_along vs (Take u q) ≡ false
@@ -71,8 +77,21 @@ hold_over vertices v (Pass u) = none (chain vertices (length vertices) (Some v))
 
 -- closed over a window: some vertex of the chain is held
 pub held_closed : (vertices : List Vertex) (jobs : List Job) (w : Window) (v : ℕ) →
-    (SomeMoment w (λ m. IsTrue (some_live_claim jobs m (holds_along (chain vertices (length vertices) (Some v))))) ↔ SomeMoment w (λ m. IsTrue (is_closed (no_bars vertices jobs) m v)))
+    (SomeMoment w (λ m. IsTrue (some_live_claim jobs m (holds_along (chain vertices (length vertices) (Some v)))))
+    ↔ SomeMoment w (λ m. IsTrue (is_closed (no_bars vertices jobs) m v)))
 held_closed vertices jobs w v = (
-  λ (m, lo, hi, h). (m, lo, hi, closed_is vertices jobs m v ∙ live_along (holds_along (chain vertices (length vertices) (Some v))) (holds_over vertices v) (λ c t. sym (hold_over vertices v c) ∙ t) jobs m h),
-  λ (m, lo, hi, h). (m, lo, hi, live_along (holds_over vertices v) (holds_along (chain vertices (length vertices) (Some v))) (λ c t. hold_over vertices v c ∙ t) jobs m (sym (closed_is vertices jobs m v) ∙ h)),
+  λ (m, lo, hi, h). (
+    m,
+    lo,
+    hi,
+    closed_is vertices jobs m v ∙ live_along (holds_along (chain vertices (length vertices) (Some v)))
+        (holds_over vertices v) (λ c t. sym (hold_over vertices v c) ∙ t) jobs m h,
+  ),
+  λ (m, lo, hi, h). (
+    m,
+    lo,
+    hi,
+    live_along (holds_over vertices v) (holds_along (chain vertices (length vertices) (Some v)))
+        (λ c t. hold_over vertices v c ∙ t) jobs m (sym (closed_is vertices jobs m v) ∙ h),
+  ),
 )

@@ -1,5 +1,7 @@
 -- What the spans of jobs take, and how they change with the jobs.
-use Rattle.std.proofs.Common.{◌≡◌, ℕ, zero, suc, ◌+◌, ◌-◌, ◌<◌, ◌≤◌, nat_le, nat_lt, Bool, true, false, ◌&&◌, ◌||◌, cond, List, [], ◌∷◌, ◌++◌, length, ◌⊎◌, ◌↔◌, inl, inr, refl, sym, ◌∙◌, ap, subst, arith, append_assoc, length-append, IsTrue, true≢false}
+use Rattle.std.proofs.Common.{◌≡◌, ℕ, zero, suc, ◌+◌, ◌-◌, ◌<◌, ◌≤◌, nat_le, nat_lt, Bool, true, false, ◌&&◌, ◌||◌}
+use Rattle.std.proofs.Common.{cond, List, [], ◌∷◌, ◌++◌, length, ◌⊎◌, ◌↔◌, inl, inr, refl, sym, ◌∙◌, ap, subst, arith}
+use Rattle.std.proofs.Common.{append_assoc, length-append, IsTrue, true≢false}
 use Rattle.std.specs.List.{list_any, sum_by, AllByRecursion}
 use Rattle.std.proofs.lemmas.List.Sums.{sum_by-cons, sum_by-append}
 use Rattle.flux_defs.specs.declared.claims.Claim.{Claim}
@@ -38,7 +40,8 @@ grouped_append f (job ∷ xs) ys =
 
 -- a job between others has its span between theirs
 pub grouped_middle : (f : Claim → ℕ) (before : List Job) (job : Job) (after : List Job) →
-    grouped f (before ++ job ∷ after) ≡ grouped f before ++ (some_span (time_of job) (sum_by f job.claims) ++ grouped f after)
+    grouped f (before ++ job ∷ after)
+    ≡ grouped f before ++ (some_span (time_of job) (sum_by f job.claims) ++ grouped f after)
 grouped_middle f before job after = grouped_append f before (job ∷ after)
 
 pub times_append : (xs ys : List Job) → times_of (xs ++ ys) ≡ times_of xs ++ times_of ys
@@ -71,7 +74,8 @@ times_many (job ∷ jobs) = let r = times_many jobs in omega arith
 pub times_nothing : (jobs : List Job) (m : ℕ) → used_at (times_of jobs) m ≡ 0
 times_nothing [] m = refl
 times_nothing (job ∷ jobs) m =
-    let a = sum_by-cons (λ (span : Span). cond (is_in span.window m) span.quantity 0) (span_of (time_of job) 0) (times_of jobs) in
+    let a = sum_by-cons
+    (λ (span : Span). cond (is_in span.window m) span.quantity 0) (span_of (time_of job) 0) (times_of jobs) in
     let b = cond_none (is_in (time_of job) m) in
     let c = times_nothing jobs m in
     omega arith
@@ -88,21 +92,27 @@ points_ends (job ∷ jobs) t (inl h) = inl h
 points_ends (job ∷ jobs) t (inr h) = inr (points_ends jobs t h)
 
 -- the least of numbers that agree
-pub least_same : (w : Window) (a b : ℕ → ℕ) (n : ℕ) → ((m : ℕ) → w.from ≤ m → m < w.to → a m ≡ b m) → IsLeastIn w a n → IsLeastIn w b n
+pub least_same : (w : Window) (a b : ℕ → ℕ) (n : ℕ) →
+    ((m : ℕ) → w.from ≤ m → m < w.to → a m ≡ b m) → IsLeastIn w a n → IsLeastIn w b n
 least_same w a b n same least = record {
   each = λ m lo hi. (let e = same m lo hi in let le = least.each m lo hi in omega arith);
   reached = (let (m, lo, hi, e) = least.reached in (m, lo, hi, sym (same m lo hi) ∙ e));
 }
 
 -- 1 for claims that pass a test sums to something exactly where a live claim passes it
-pub counted_some : (test : Claim → Bool) (jobs : List Job) (m : ℕ) → IsTrue (some_live_claim jobs m test) → 1 ≤ live_sum (λ c. cond (test c) 1 0) jobs m
-counted_some test jobs m some = live_where test (λ c. cond (test c) 1 0) 1 (λ c h. subst (λ b. 1 ≤ cond b 1 0) (sym h) (omega arith)) jobs m some
+pub counted_some : (test : Claim → Bool) (jobs : List Job) (m : ℕ) →
+    IsTrue (some_live_claim jobs m test) → 1 ≤ live_sum (λ c. cond (test c) 1 0) jobs m
+counted_some test jobs m some =
+    live_where test (λ c. cond (test c) 1 0) 1 (λ c h. subst (λ b. 1 ≤ cond b 1 0) (sym h) (omega arith)) jobs m some
 
-pub counted_none : (test : Claim → Bool) (jobs : List Job) (m : ℕ) → some_live_claim jobs m test ≡ false → live_sum (λ c. cond (test c) 1 0) jobs m ≡ 0
-counted_none test jobs m none = live_unless test (λ c. cond (test c) 1 0) (λ c. 0) (λ c h. ap (λ b. cond b 1 0) h) jobs m none ∙ live_none jobs m
+pub counted_none : (test : Claim → Bool) (jobs : List Job) (m : ℕ) →
+    some_live_claim jobs m test ≡ false → live_sum (λ c. cond (test c) 1 0) jobs m ≡ 0
+counted_none test jobs m none =
+    live_unless test (λ c. cond (test c) 1 0) (λ c. 0) (λ c h. ap (λ b. cond b 1 0) h) jobs m none ∙ live_none jobs m
 
 -- less than all is left at some moment exactly where such a claim is live at some moment
-pub least_tells : (test : Claim → Bool) (jobs : List Job) (w : Window) (total n : ℕ) → 0 < total → IsLeastIn w (λ m. total - live_sum (λ c. cond (test c) 1 0) jobs m) n →
+pub least_tells : (test : Claim → Bool) (jobs : List Job) (w : Window) (total n : ℕ) →
+    0 < total → IsLeastIn w (λ m. total - live_sum (λ c. cond (test c) 1 0) jobs m) n →
     (n < total ↔ SomeMoment w (λ m. IsTrue (some_live_claim jobs m test)))
 least_tells test jobs w total n some least = (
   λ lt. (let (m, lo, hi, e) = least.reached in

@@ -1,5 +1,6 @@
 -- Sums over the claims of live jobs.
-use Rattle.std.proofs.Common.{◌≡◌, ℕ, zero, suc, ◌+◌, ◌<◌, ◌≤◌, Bool, true, false, ◌&&◌, ◌||◌, cond, List, [], ◌∷◌, ◌++◌, ◌⊎◌, inl, inr, refl, sym, ◌∙◌, ap, subst, arith, IsTrue, true≢false}
+use Rattle.std.proofs.Common.{◌≡◌, ℕ, zero, suc, ◌+◌, ◌<◌, ◌≤◌, Bool, true, false, ◌&&◌, ◌||◌, cond, List, [], ◌∷◌}
+use Rattle.std.proofs.Common.{◌++◌, ◌⊎◌, inl, inr, refl, sym, ◌∙◌, ap, subst, arith, IsTrue, true≢false}
 use Rattle.std.specs.List.{list_any, sum_by}
 use Rattle.std.proofs.lemmas.Bool.{and_parts, and_from, or_cases, or_left, or_right}
 use Rattle.std.proofs.lemmas.List.Sums.{sum_by-cons, sum_by-append, sum_by_push}
@@ -20,13 +21,16 @@ cond_none false = refl
 abbrev pub job_sum : (Claim → ℕ) → ℕ → Job → ℕ
 job_sum f m job = cond (is_live m job) (sum_by f job.claims) 0
 
-pub live_cons : (f : Claim → ℕ) (job : Job) (jobs : List Job) (m : ℕ) → live_sum f (job ∷ jobs) m ≡ job_sum f m job + live_sum f jobs m
+pub live_cons : (f : Claim → ℕ) (job : Job) (jobs : List Job) (m : ℕ) →
+    live_sum f (job ∷ jobs) m ≡ job_sum f m job + live_sum f jobs m
 live_cons f job jobs m = sum_by-cons (job_sum f m) job jobs
 
-pub live_append : (f : Claim → ℕ) (xs ys : List Job) (m : ℕ) → live_sum f (xs ++ ys) m ≡ live_sum f xs m + live_sum f ys m
+pub live_append : (f : Claim → ℕ) (xs ys : List Job) (m : ℕ) →
+    live_sum f (xs ++ ys) m ≡ live_sum f xs m + live_sum f ys m
 live_append f xs ys m = sum_by-append (job_sum f m) xs ys
 
-pub live_push : (f : Claim → ℕ) (jobs : List Job) (job : Job) (m : ℕ) → live_sum f (jobs ++ job ∷ []) m ≡ live_sum f jobs m + job_sum f m job
+pub live_push : (f : Claim → ℕ) (jobs : List Job) (job : Job) (m : ℕ) →
+    live_sum f (jobs ++ job ∷ []) m ≡ live_sum f jobs m + job_sum f m job
 live_push f jobs job m = sum_by_push (job_sum f m) jobs job
 
 -- sums of sums
@@ -65,24 +69,29 @@ both_of : (b : Bool) (q r : ℕ) → cond b q 0 + cond b r 0 ≡ cond b (q + r) 
 both_of true q r = refl
 both_of false q r = omega arith
 
-pub live_add : (f g : Claim → ℕ) (jobs : List Job) (m : ℕ) → live_sum (λ c. f c + g c) jobs m ≡ live_sum f jobs m + live_sum g jobs m
+pub live_add : (f g : Claim → ℕ) (jobs : List Job) (m : ℕ) →
+    live_sum (λ c. f c + g c) jobs m ≡ live_sum f jobs m + live_sum g jobs m
 live_add f g jobs m =
     sum_same (job_sum (λ c. f c + g c) m) (λ job. job_sum f m job + job_sum g m job) jobs
-    (λ job. ap (λ n. cond (is_live m job) n 0) (sum_add f g job.claims) ∙ sym (both_of (is_live m job) (sum_by f job.claims) (sum_by g job.claims)))
+    (λ job. ap (λ n. cond (is_live m job) n 0) (sum_add f g job.claims)
+    ∙ sym (both_of (is_live m job) (sum_by f job.claims) (sum_by g job.claims)))
     ∙ sum_add (job_sum f m) (job_sum g m) jobs
 
 pub live_none : (jobs : List Job) (m : ℕ) → live_sum (λ c. 0) jobs m ≡ 0
 live_none jobs m =
-    sum_same (job_sum (λ c. 0) m) (λ job. 0) jobs (λ job. ap (λ n. cond (is_live m job) n 0) (sum_none job.claims) ∙ cond_none (is_live m job))
+    sum_same (job_sum (λ c. 0) m)
+    (λ job. 0) jobs (λ job. ap (λ n. cond (is_live m job) n 0) (sum_none job.claims) ∙ cond_none (is_live m job))
     ∙ sum_none jobs
 
 cond_most : (b : Bool) (q r : ℕ) → q ≤ r → cond b q 0 ≤ cond b r 0
 cond_most true q r le = le
 cond_most false q r le = omega arith
 
-pub live_most : (f g : Claim → ℕ) (jobs : List Job) (m : ℕ) → ((c : Claim) → f c ≤ g c) → live_sum f jobs m ≤ live_sum g jobs m
+pub live_most : (f g : Claim → ℕ) (jobs : List Job) (m : ℕ) →
+    ((c : Claim) → f c ≤ g c) → live_sum f jobs m ≤ live_sum g jobs m
 live_most f g jobs m h =
-    sum_most (job_sum f m) (job_sum g m) jobs (λ job. cond_most (is_live m job) (sum_by f job.claims) (sum_by g job.claims) (sum_most f g job.claims h))
+    sum_most (job_sum f m) (job_sum g m) jobs
+    (λ job. cond_most (is_live m job) (sum_by f job.claims) (sum_by g job.claims) (sum_most f g job.claims h))
 
 -- a sum of live sums is a live sum of sums
 pub live_swap : {X : Type 0} (g : X → Claim → ℕ) (xs : List X) (jobs : List Job) (m : ℕ) →
@@ -94,17 +103,20 @@ live_swap g (x ∷ xs) jobs m =
     ∙ sym (live_add (g x) (λ c. sum_by (λ y. g y c) xs) jobs m)
     ∙ sum_same (job_sum (λ c. g x c + sum_by (λ y. g y c) xs) m) (job_sum (λ c. sum_by (λ y. g y c) (x ∷ xs)) m) jobs
     (λ job. ap (λ n. cond (is_live m job) n 0)
-    (sum_same (λ c. g x c + sum_by (λ y. g y c) xs) (λ c. sum_by (λ y. g y c) (x ∷ xs)) job.claims (λ c. sym (sum_by-cons (λ y. g y c) x xs))))
+    (sum_same (λ c. g x c + sum_by (λ y. g y c) xs)
+    (λ c. sum_by (λ y. g y c) (x ∷ xs)) job.claims (λ c. sym (sum_by-cons (λ y. g y c) x xs))))
 
 -- a test fails at each item of a list where it passes at none
-not_any : {X : Type 0} (test : X → Bool) (x : X) (xs : List X) → list_any test (x ∷ xs) ≡ false → (test x ≡ false) × (list_any test xs ≡ false)
+not_any : {X : Type 0} (test : X → Bool) (x : X) (xs : List X) →
+    list_any test (x ∷ xs) ≡ false → (test x ≡ false) × (list_any test xs ≡ false)
 not_any test x xs h = parts (test x) (list_any test xs) h
   where
     parts : (a b : Bool) → (a || b) ≡ false → (a ≡ false) × (b ≡ false)
     parts true b h = absurd (true≢false h)
     parts false b h = (refl, h)
 
-pub sum_unless : {X : Type 0} (test : X → Bool) (f g : X → ℕ) → ((x : X) → test x ≡ false → f x ≡ g x) → (xs : List X) → list_any test xs ≡ false → sum_by f xs ≡ sum_by g xs
+pub sum_unless : {X : Type 0} (test : X → Bool) (f g : X → ℕ) →
+    ((x : X) → test x ≡ false → f x ≡ g x) → (xs : List X) → list_any test xs ≡ false → sum_by f xs ≡ sum_by g xs
 sum_unless test f g h [] none = refl
 sum_unless test f g h (x ∷ xs) none =
     let n = not_any test x xs none in
@@ -115,17 +127,20 @@ sum_unless test f g h (x ∷ xs) none =
     omega arith
 
 -- two sums agree that agree on claims which fail a test, where no live claim passes it
-pub live_unless : (test : Claim → Bool) (f g : Claim → ℕ) → ((c : Claim) → test c ≡ false → f c ≡ g c) → (jobs : List Job) (m : ℕ) →
+pub live_unless : (test : Claim → Bool) (f g : Claim → ℕ) →
+    ((c : Claim) → test c ≡ false → f c ≡ g c) → (jobs : List Job) (m : ℕ) →
     some_live_claim jobs m test ≡ false → live_sum f jobs m ≡ live_sum g jobs m
 live_unless test f g h jobs m none =
     sum_unless (λ job. is_live m job && list_any test job.claims) (job_sum f m) (job_sum g m)
     (λ job e. by_life (is_live m job) job e) jobs none
   where
-    by_life : (b : Bool) (job : Job) → (b && list_any test job.claims) ≡ false → cond b (sum_by f job.claims) 0 ≡ cond b (sum_by g job.claims) 0
+    by_life : (b : Bool) (job : Job) →
+        (b && list_any test job.claims) ≡ false → cond b (sum_by f job.claims) 0 ≡ cond b (sum_by g job.claims) 0
     by_life true job e = sum_unless test f g h job.claims e
     by_life false job e = refl
 
-sum_where : {X : Type 0} (test : X → Bool) (f : X → ℕ) (k : ℕ) → ((x : X) → IsTrue (test x) → k ≤ f x) → (xs : List X) → IsTrue (list_any test xs) → k ≤ sum_by f xs
+sum_where : {X : Type 0} (test : X → Bool) (f : X → ℕ) (k : ℕ) →
+    ((x : X) → IsTrue (test x) → k ≤ f x) → (xs : List X) → IsTrue (list_any test xs) → k ≤ sum_by f xs
 sum_where test f k h [] some = absurd (true≢false (sym some))
 sum_where test f k h (x ∷ xs) some = go (test x) refl (sum_where test f k h xs)
   where
@@ -136,16 +151,19 @@ sum_where test f k h (x ∷ xs) some = go (test x) refl (sum_where test f k h xs
         omega (arith, sum_by-cons f x xs)
 
 -- a sum is at least what each claim has that passes a test, where some live claim passes it
-pub live_where : (test : Claim → Bool) (f : Claim → ℕ) (k : ℕ) → ((c : Claim) → IsTrue (test c) → k ≤ f c) → (jobs : List Job) (m : ℕ) →
+pub live_where : (test : Claim → Bool) (f : Claim → ℕ) (k : ℕ) →
+    ((c : Claim) → IsTrue (test c) → k ≤ f c) → (jobs : List Job) (m : ℕ) →
     IsTrue (some_live_claim jobs m test) → k ≤ live_sum f jobs m
 live_where test f k h jobs m some =
-    sum_where (λ job. is_live m job && list_any test job.claims) (job_sum f m) k (λ job e. by_life (is_live m job) job e) jobs some
+    sum_where (λ job. is_live m job && list_any test job.claims)
+    (job_sum f m) k (λ job e. by_life (is_live m job) job e) jobs some
   where
     by_life : (b : Bool) (job : Job) → IsTrue (b && list_any test job.claims) → k ≤ cond b (sum_by f job.claims) 0
     by_life true job e = sum_where test f k h job.claims e
     by_life false job e = absurd (true≢false (sym e))
 
-pub any_along : {X : Type 0} (s t : X → Bool) → ((x : X) → IsTrue (s x) → IsTrue (t x)) → (xs : List X) → IsTrue (list_any s xs) → IsTrue (list_any t xs)
+pub any_along : {X : Type 0} (s t : X → Bool) →
+    ((x : X) → IsTrue (s x) → IsTrue (t x)) → (xs : List X) → IsTrue (list_any s xs) → IsTrue (list_any t xs)
 any_along s t h [] some = some
 any_along s t h (x ∷ xs) some = elim (or_cases (s x) (list_any s xs) some) [
   | inl now ↦ or_left (t x) (list_any t xs) (h x now)
@@ -153,23 +171,34 @@ any_along s t h (x ∷ xs) some = elim (or_cases (s x) (list_any s xs) some) [
 ]
 
 -- a live claim that passes one test passes another
-pub live_along : (s t : Claim → Bool) → ((c : Claim) → IsTrue (s c) → IsTrue (t c)) → (jobs : List Job) (m : ℕ) → IsTrue (some_live_claim jobs m s) → IsTrue (some_live_claim jobs m t)
+pub live_along : (s t : Claim → Bool) → ((c : Claim) → IsTrue (s c) → IsTrue (t c)) →
+    (jobs : List Job) (m : ℕ) → IsTrue (some_live_claim jobs m s) → IsTrue (some_live_claim jobs m t)
 live_along s t h jobs m some =
     any_along (λ job. is_live m job && list_any s job.claims) (λ job. is_live m job && list_any t job.claims)
-    (λ job both. (let b = and_parts (is_live m job) (list_any s job.claims) both in and_from _ _ b.0 (any_along s t h job.claims b.1))) jobs some
+    (λ job both. (let b = and_parts (is_live m job) (list_any s job.claims) both in
+    and_from _ _ b.0 (any_along s t h job.claims b.1))) jobs some
 
-any_either : {X : Type 0} (s a b : X → Bool) → ((x : X) → IsTrue (s x) → IsTrue (a x) ⊎ IsTrue (b x)) → (xs : List X) → IsTrue (list_any s xs) → IsTrue (list_any a xs) ⊎ IsTrue (list_any b xs)
+any_either : {X : Type 0} (s a b : X → Bool) → ((x : X) → IsTrue (s x) → IsTrue (a x) ⊎ IsTrue (b x)) →
+    (xs : List X) → IsTrue (list_any s xs) → IsTrue (list_any a xs) ⊎ IsTrue (list_any b xs)
 any_either s a b h [] some = absurd (true≢false (sym some))
 any_either s a b h (x ∷ xs) some = elim (or_cases (s x) (list_any s xs) some) [
-  | inl now ↦ elim (h x now) [ inl p ↦ inl (or_left (a x) (list_any a xs) p) | inr q ↦ inr (or_left (b x) (list_any b xs) q) ]
-  | inr later ↦ elim (any_either s a b h xs later) [ inl p ↦ inl (or_right (a x) (list_any a xs) p) | inr q ↦ inr (or_right (b x) (list_any b xs) q) ]
+  | inl now ↦ elim (h x now) [
+    | inl p ↦ inl (or_left (a x) (list_any a xs) p)
+    | inr q ↦ inr (or_left (b x) (list_any b xs) q)
+  ]
+  | inr later ↦ elim (any_either s a b h xs later) [
+    | inl p ↦ inl (or_right (a x) (list_any a xs) p)
+    | inr q ↦ inr (or_right (b x) (list_any b xs) q)
+  ]
 ]
 
 -- a live claim that passes a test passes one of two others
-pub live_either : (s a b : Claim → Bool) → ((c : Claim) → IsTrue (s c) → IsTrue (a c) ⊎ IsTrue (b c)) → (jobs : List Job) (m : ℕ) → IsTrue (some_live_claim jobs m s) →
+pub live_either : (s a b : Claim → Bool) → ((c : Claim) → IsTrue (s c) → IsTrue (a c) ⊎ IsTrue (b c)) →
+    (jobs : List Job) (m : ℕ) → IsTrue (some_live_claim jobs m s) →
     IsTrue (some_live_claim jobs m a) ⊎ IsTrue (some_live_claim jobs m b)
 live_either s a b h jobs m some =
-    any_either (λ job. is_live m job && list_any s job.claims) (λ job. is_live m job && list_any a job.claims) (λ job. is_live m job && list_any b job.claims)
+    any_either (λ job. is_live m job && list_any s job.claims)
+    (λ job. is_live m job && list_any a job.claims) (λ job. is_live m job && list_any b job.claims)
     (λ job both. (let p = and_parts (is_live m job) (list_any s job.claims) both in
     elim (any_either s a b h job.claims p.1) [
       | inl x ↦ inl (and_from (is_live m job) (list_any a job.claims) p.0 x)

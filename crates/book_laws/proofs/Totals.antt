@@ -1,5 +1,7 @@
 -- The total of a kind at a vertex: its capacity there less what live jobs have of it at the vertex and below it.
-use Rattle.std.proofs.Common.{◌≡◌, ◌≢◌, ℕ, zero, suc, ◌+◌, ◌-◌, ◌<◌, ◌≤◌, ◌==◌, Bool, true, false, ◌&&◌, cond, List, [], ◌∷◌, length, Option, Some, None, slice_get, ◌⊎◌, inl, inr, refl, sym, ◌∙◌, ap, subst, arith, IsTrue, true≢false}
+use Rattle.std.proofs.Common.{◌≡◌, ◌≢◌, ℕ, zero, suc, ◌+◌, ◌-◌, ◌<◌, ◌≤◌, ◌==◌, Bool, true, false, ◌&&◌, cond, List, []}
+use Rattle.std.proofs.Common.{◌∷◌, length, Option, Some, None, slice_get, ◌⊎◌, inl, inr, refl, sym, ◌∙◌, ap, subst}
+use Rattle.std.proofs.Common.{arith, IsTrue, true≢false}
 use Rattle.std.specs.List.{AllByRecursion, list_any, sum_by, enumerate_from}
 use Rattle.std.specs.Option.{option_map_or}
 use Rattle.std.proofs.lemmas.Bool.{and_parts, and_from}
@@ -17,8 +19,10 @@ use Rattle.flux_defs.specs.Free.{free_at, taken_at, total_at}
 use Rattle.list_laws.proofs.Tests.{false_from}
 use Rattle.graph_laws.proofs.Containment.{below_trans, line}
 use Rattle.graph_laws.proofs.Preorder.{parents_first}
-use Rattle.book_laws.specs.Amounts.{live_sum, is_of_kind, kind_sum, capacity, part_of, part_within, use_of, AreWithinSizes, TakesFromPool}
-use Rattle.book_laws.proofs.Sums.{bool_of, cond_none, live_none, live_most, live_along, live_swap, live_unless, sum_none, sum_same, sum_add, sum_most}
+use Rattle.book_laws.specs.Amounts.{live_sum, is_of_kind, kind_sum, capacity, part_of, part_within, use_of}
+use Rattle.book_laws.specs.Amounts.{AreWithinSizes, TakesFromPool}
+use Rattle.book_laws.proofs.Sums.{bool_of, cond_none, live_none, live_most, live_along, live_swap, live_unless}
+use Rattle.book_laws.proofs.Sums.{sum_none, sum_same, sum_add, sum_most}
 use Rattle.book_laws.proofs.Within.{closed_is, adds_up}
 
 -- sums over the vertices, by place
@@ -28,7 +32,8 @@ module _ (vertices : List Vertex) where
   StandsAt at xs = (i : ℕ) (x : Vertex) → slice_get xs i ≡ Some x → slice_get vertices (at + i) ≡ Some x
 
   stands_next : (at : ℕ) (x : Vertex) (xs : List Vertex) → StandsAt at (x ∷ xs) → StandsAt (at + 1) xs
-  stands_next at x xs h i y e = let same : at + suc i ≡ at + 1 + i = omega arith in ap (slice_get vertices) (sym same) ∙ h (suc i) y e
+  stands_next at x xs h i y e = let same : at + suc i ≡ at + 1 + i = omega arith in
+      ap (slice_get vertices) (sym same) ∙ h (suc i) y e
 
   stands_first : (at : ℕ) (x : Vertex) (xs : List Vertex) → StandsAt at (x ∷ xs) → slice_get vertices at ≡ Some x
   stands_first at x xs h = let same : at + 0 ≡ at = omega arith in ap (slice_get vertices) (sym same) ∙ h 0 x refl
@@ -38,7 +43,8 @@ module _ (vertices : List Vertex) where
 
   -- two sums over the vertices agree that agree at each
   pub each_same : (f g : ℕ → Vertex → ℕ) → ((u : ℕ) (x : Vertex) → slice_get vertices u ≡ Some x → f u x ≡ g u x) →
-      (at : ℕ) (xs : List Vertex) → StandsAt at xs → sum_by (λ (u, x). f u x) (enumerate_from at xs) ≡ sum_by (λ (u, x). g u x) (enumerate_from at xs)
+      (at : ℕ) (xs : List Vertex) → StandsAt at xs →
+      sum_by (λ (u, x). f u x) (enumerate_from at xs) ≡ sum_by (λ (u, x). g u x) (enumerate_from at xs)
   each_same f g h at [] s = refl
   each_same f g h at (x ∷ xs) s =
       let a = sum_by-cons (λ (p : ℕ × Vertex). f p.0 p.1) (at, x) (enumerate_from (at + 1) xs) in
@@ -90,7 +96,8 @@ module _ (vertices : List Vertex) where
         let r = one_from k (at + 1) xs (omega arith) in
         omega arith
 
-    pub one_sum : sum_by (λ (u, x). mine u x) (enumerate_from 0 vertices) ≡ option_map_or (λ x. cond (test v x) q 0) (slice_get vertices v) 0
+    pub one_sum : sum_by (λ (u, x). mine u x) (enumerate_from 0 vertices)
+        ≡ option_map_or (λ x. cond (test v x) q 0) (slice_get vertices v) 0
     one_sum = one_from v 0 vertices (omega arith)
 
 -- what a claim uses of the vertices of a kind at v and below it
@@ -107,22 +114,27 @@ module _ (g : ResourceGraph) (o : StandsInPreorder g) (kind v : ℕ) where
   inside (suc u) x (y ∷ ys) e = let r = inside u x ys e in omega arith
 
   -- a take
-  take_part : (p q : ℕ) → kind_sum g.vertices kind v (λ u. use_of g.vertices u (Take p q)) ≡ part_within g.vertices kind v (Take p q)
+  take_part : (p q : ℕ) →
+      kind_sum g.vertices kind v (λ u. use_of g.vertices u (Take p q)) ≡ part_within g.vertices kind v (Take p q)
   take_part p q = one_sum g.vertices p q counts ∙ by_place (slice_get g.vertices p)
     where
       by_test : (a b : Bool) → cond (a && b) q 0 ≡ cond b (cond a q 0) 0
       by_test true b = refl
       by_test false b = sym (cond_none b)
 
-      by_place : (s : _) → option_map_or (λ (x : Vertex). cond (counts p x) q 0) s 0 ≡ cond (is_at_or_below g.vertices p v) (cond (option_map_or (λ (x : Vertex). x.kind == kind) s false) q 0) 0
+      by_place : (s : _) → option_map_or (λ (x : Vertex). cond (counts p x) q 0) s 0
+          ≡ cond (is_at_or_below g.vertices p v) (cond (option_map_or (λ (x : Vertex). x.kind == kind) s false) q 0) 0
       by_place None = sym (cond_none (is_at_or_below g.vertices p v))
       by_place (Some x) = by_test (x.kind == kind) (is_at_or_below g.vertices p v)
 
   -- a hold at v or below it
-  hold_inside : (h : ℕ) → IsTrue (is_at_or_below g.vertices h v) → kind_sum g.vertices kind v (λ u. use_of g.vertices u (Hold h)) ≡ capacity g.vertices kind h
+  hold_inside : (h : ℕ) → IsTrue (is_at_or_below g.vertices h v) →
+      kind_sum g.vertices kind v (λ u. use_of g.vertices u (Hold h)) ≡ capacity g.vertices kind h
   hold_inside h below =
-      all_same g.vertices (λ u x. cond (counts u x) (use_of g.vertices u (Hold h)) 0) (λ u x. cond ((x.kind == kind) && is_at_or_below g.vertices u h) (size_of g.vertices u) 0)
-      (λ u x e. by_tests (x.kind == kind) (is_at_or_below g.vertices u v) (is_at_or_below g.vertices u h) (size_of g.vertices u)
+      all_same g.vertices (λ u x. cond (counts u x) (use_of g.vertices u (Hold h)) 0)
+      (λ u x. cond ((x.kind == kind) && is_at_or_below g.vertices u h) (size_of g.vertices u) 0)
+      (λ u x e. by_tests
+      (x.kind == kind) (is_at_or_below g.vertices u v) (is_at_or_below g.vertices u h) (size_of g.vertices u)
       (λ t. below_trans g.vertices (parents_first g o) u h v (inside u x g.vertices e) t below))
     where
       by_tests : (a b c : Bool) (n : ℕ) → (IsTrue c → IsTrue b) → cond (a && b) (cond c n 0) 0 ≡ cond (a && c) n 0
@@ -132,10 +144,12 @@ module _ (g : ResourceGraph) (o : StandsInPreorder g) (kind v : ℕ) where
       by_tests false b c n h = refl
 
   -- a hold of a vertex that is neither at v or below it nor above it
-  hold_outside : (h : ℕ) → is_at_or_below g.vertices h v ≡ false → is_at_or_below g.vertices v h ≡ false → kind_sum g.vertices kind v (λ u. use_of g.vertices u (Hold h)) ≡ 0
+  hold_outside : (h : ℕ) → is_at_or_below g.vertices h v ≡ false →
+      is_at_or_below g.vertices v h ≡ false → kind_sum g.vertices kind v (λ u. use_of g.vertices u (Hold h)) ≡ 0
   hold_outside h apart over =
       all_same g.vertices (λ u x. cond (counts u x) (use_of g.vertices u (Hold h)) 0) (λ u x. 0)
-      (λ u x e. by_tests (x.kind == kind) (is_at_or_below g.vertices u v) (is_at_or_below g.vertices u h) (size_of g.vertices u)
+      (λ u x e. by_tests
+      (x.kind == kind) (is_at_or_below g.vertices u v) (is_at_or_below g.vertices u h) (size_of g.vertices u)
       (λ a b. elim (line g.vertices (parents_first g o) u v h (inside u x g.vertices e) a b) [
         | inl up ↦ true≢false (sym up ∙ over)
         | inr down ↦ true≢false (sym down ∙ apart)
@@ -150,57 +164,74 @@ module _ (g : ResourceGraph) (o : StandsInPreorder g) (kind v : ℕ) where
 
   pass_part : (p : ℕ) → kind_sum g.vertices kind v (λ u. use_of g.vertices u (Pass p)) ≡ 0
   pass_part p =
-      all_same g.vertices (λ u x. cond (counts u x) 0 0) (λ u x. 0) (λ u x e. cond_none (counts u x)) ∙ sum_none (enumerate_from 0 g.vertices)
+      all_same g.vertices (λ u x. cond (counts u x) 0 0) (λ u x. 0) (λ u x e. cond_none (counts u x))
+      ∙ sum_none (enumerate_from 0 g.vertices)
 
   -- what a claim uses there is its part of the total, where it holds neither v nor a vertex above it
-  pub part_is : (c : Claim) → holds_over g.vertices v c ≡ false → kind_sum g.vertices kind v (λ u. use_of g.vertices u c) ≡ part_within g.vertices kind v c
+  pub part_is : (c : Claim) → holds_over g.vertices v c ≡ false →
+      kind_sum g.vertices kind v (λ u. use_of g.vertices u c) ≡ part_within g.vertices kind v c
   part_is (Take p q) apart = take_part p q
   part_is (Hold h) apart = by_test (is_at_or_below g.vertices h v) refl
     where
-      by_test : (b : Bool) → is_at_or_below g.vertices h v ≡ b → kind_sum g.vertices kind v (λ u. use_of g.vertices u (Hold h)) ≡ cond b (capacity g.vertices kind h) 0
+      by_test : (b : Bool) → is_at_or_below g.vertices h v ≡ b →
+          kind_sum g.vertices kind v (λ u. use_of g.vertices u (Hold h)) ≡ cond b (capacity g.vertices kind h) 0
       by_test true e = hold_inside h e
       by_test false e = hold_outside h e apart
   part_is (Pass p) apart = pass_part p ∙ sym (cond_none (is_at_or_below g.vertices p v))
 
   -- and never less than that
-  pub part_most : (c : Claim) → part_within g.vertices kind v c ≤ kind_sum g.vertices kind v (λ u. use_of g.vertices u c)
+  pub part_most : (c : Claim) →
+      part_within g.vertices kind v c ≤ kind_sum g.vertices kind v (λ u. use_of g.vertices u c)
   part_most (Take p q) = let e = take_part p q in omega arith
   part_most (Hold h) = by_test (is_at_or_below g.vertices h v) refl
     where
-      by_test : (b : Bool) → is_at_or_below g.vertices h v ≡ b → cond b (capacity g.vertices kind h) 0 ≤ kind_sum g.vertices kind v (λ u. use_of g.vertices u (Hold h))
+      by_test : (b : Bool) → is_at_or_below g.vertices h v ≡ b →
+          cond b (capacity g.vertices kind h) 0 ≤ kind_sum g.vertices kind v (λ u. use_of g.vertices u (Hold h))
       by_test true e = let same = hold_inside h e in omega arith
       by_test false e = omega arith
   part_most (Pass p) = let e = cond_none (is_at_or_below g.vertices p v) in omega arith
 
-  module _ (jobs : List Job) (m : ℕ) (within : AreWithinSizes g.vertices jobs) (pools : AllByRecursion (λ job. AllByRecursion (TakesFromPool g.vertices) job.claims) jobs) where
+  module _ (jobs : List Job) (m : ℕ) (within : AreWithinSizes g.vertices jobs)
+      (pools : AllByRecursion (λ job. AllByRecursion (TakesFromPool g.vertices) job.claims) jobs) where
     cond_live : (b : Bool) (f : Claim → ℕ) → cond b (live_sum f jobs m) 0 ≡ live_sum (λ c. cond b (f c) 0) jobs m
     cond_live true f = refl
     cond_live false f = sym (live_none jobs m)
 
     -- what live jobs use there, vertex by vertex and claim by claim
-    uses_swap : kind_sum g.vertices kind v (λ u. live_sum (use_of g.vertices u) jobs m) ≡ live_sum (λ c. kind_sum g.vertices kind v (λ u. use_of g.vertices u c)) jobs m
+    uses_swap : kind_sum g.vertices kind v (λ u. live_sum (use_of g.vertices u) jobs m)
+        ≡ live_sum (λ c. kind_sum g.vertices kind v (λ u. use_of g.vertices u c)) jobs m
     uses_swap =
-        all_same g.vertices (λ u x. cond (counts u x) (live_sum (use_of g.vertices u) jobs m) 0) (λ u x. live_sum (λ c. cond (counts u x) (use_of g.vertices u c) 0) jobs m)
+        all_same g.vertices (λ u x. cond (counts u x) (live_sum (use_of g.vertices u) jobs m) 0)
+        (λ u x. live_sum (λ c. cond (counts u x) (use_of g.vertices u c) 0) jobs m)
         (λ u x e. cond_live (counts u x) (use_of g.vertices u))
-        ∙ live_swap (λ (p : ℕ × Vertex) c. cond (counts p.0 p.1) (use_of g.vertices p.0 c) 0) (enumerate_from 0 g.vertices) jobs m
+        ∙ live_swap (λ (p : ℕ × Vertex) c. cond (counts p.0 p.1) (use_of g.vertices p.0 c) 0)
+        (enumerate_from 0 g.vertices) jobs m
 
     cond_add : (b : Bool) (x y : ℕ) → cond b x 0 + cond b y 0 ≡ cond b (x + y) 0
     cond_add true x y = refl
     cond_add false x y = omega arith
 
     -- free and used add up to the capacity
-    sums_up : total_at g.vertices jobs kind m v + kind_sum g.vertices kind v (λ u. live_sum (use_of g.vertices u) jobs m) ≡ capacity g.vertices kind v
+    sums_up : total_at g.vertices jobs kind m v + kind_sum g.vertices kind v
+        (λ u. live_sum (use_of g.vertices u) jobs m) ≡ capacity g.vertices kind v
     sums_up =
-        sym (sum_add (λ (p : ℕ × Vertex). cond (counts p.0 p.1) (free_at (no_bars g.vertices jobs) m p.0) 0) (λ (p : ℕ × Vertex). cond (counts p.0 p.1) (live_sum (use_of g.vertices p.0) jobs m) 0) (enumerate_from 0 g.vertices))
-        ∙ all_same g.vertices (λ u x. cond (counts u x) (free_at (no_bars g.vertices jobs) m u) 0 + cond (counts u x) (live_sum (use_of g.vertices u) jobs m) 0) (λ u x. cond (counts u x) (size_of g.vertices u) 0)
-        (λ u x e. cond_add (counts u x) _ _ ∙ ap (λ n. cond (counts u x) n 0) (adds_up g.vertices u jobs m x e within pools))
+        sym (sum_add (λ (p : ℕ × Vertex). cond (counts p.0 p.1) (free_at (no_bars g.vertices jobs) m p.0) 0)
+        (λ (p : ℕ × Vertex). cond (counts p.0 p.1) (live_sum (use_of g.vertices p.0) jobs m) 0)
+        (enumerate_from 0 g.vertices))
+        ∙ all_same g.vertices (λ u x. cond (counts u x) (free_at (no_bars g.vertices jobs) m u) 0 + cond
+        (counts u x) (live_sum (use_of g.vertices u) jobs m) 0) (λ u x. cond (counts u x) (size_of g.vertices u) 0)
+        (λ u x e. cond_add (counts u x) _ _
+        ∙ ap (λ n. cond (counts u x) n 0) (adds_up g.vertices u jobs m x e within pools))
 
     -- where neither v nor a vertex above it is held
-    pub total_open : is_closed (no_bars g.vertices jobs) m v ≡ false → total_at g.vertices jobs kind m v + live_sum (part_within g.vertices kind v) jobs m ≡ capacity g.vertices kind v
+    pub total_open : is_closed (no_bars g.vertices jobs) m v ≡ false →
+        total_at g.vertices jobs kind m v + live_sum (part_within g.vertices kind v) jobs m ≡ capacity g.vertices kind v
     total_open open_ =
-        let none : some_live_claim jobs m (holds_over g.vertices v) ≡ false = sym (closed_is g.vertices jobs m v) ∙ open_ in
+        let none : some_live_claim jobs m (holds_over g.vertices v) ≡ false =
+        sym (closed_is g.vertices jobs m v) ∙ open_ in
         let swapped = uses_swap in
-        let parts : live_sum (λ c. kind_sum g.vertices kind v (λ u. use_of g.vertices u c)) jobs m ≡ live_sum (part_within g.vertices kind v) jobs m =
+        let parts : live_sum (λ c. kind_sum g.vertices kind v (λ u. use_of g.vertices u c)) jobs m
+        ≡ live_sum (part_within g.vertices kind v) jobs m =
         live_unless (holds_over g.vertices v) _ (part_within g.vertices kind v) part_is jobs m none in
         let all = sums_up in
         omega arith
@@ -209,27 +240,34 @@ module _ (g : ResourceGraph) (o : StandsInPreorder g) (kind v : ℕ) where
     pub part_room : live_sum (part_within g.vertices kind v) jobs m ≤ capacity g.vertices kind v
     part_room =
         let swapped = uses_swap in
-        let le : live_sum (part_within g.vertices kind v) jobs m ≤ live_sum (λ c. kind_sum g.vertices kind v (λ u. use_of g.vertices u c)) jobs m =
+        let le : live_sum (part_within g.vertices kind v) jobs m ≤ live_sum
+        (λ c. kind_sum g.vertices kind v (λ u. use_of g.vertices u c)) jobs m =
         live_most (part_within g.vertices kind v) _ jobs m part_most in
         let all = sums_up in
         omega arith
 
   -- where v or a vertex above it is held nothing is free
-  pub total_closed : (jobs : List Job) (m : ℕ) → is_closed (no_bars g.vertices jobs) m v ≡ true → total_at g.vertices jobs kind m v ≡ 0
+  pub total_closed : (jobs : List Job) (m : ℕ) →
+      is_closed (no_bars g.vertices jobs) m v ≡ true → total_at g.vertices jobs kind m v ≡ 0
   total_closed jobs m closed =
       all_same g.vertices (λ u x. cond (counts u x) (free_at (no_bars g.vertices jobs) m u) 0) (λ u x. 0)
-      (λ u x e. by_tests (x.kind == kind) (is_at_or_below g.vertices u v) (free_at (no_bars g.vertices jobs) m u) (λ below. none_free u (inside u x g.vertices e) below))
+      (λ u x e. by_tests (x.kind == kind) (is_at_or_below g.vertices u v)
+      (free_at (no_bars g.vertices jobs) m u) (λ below. none_free u (inside u x g.vertices e) below))
       ∙ sum_none (enumerate_from 0 g.vertices)
     where
-      held_too : (u : ℕ) → u < length g.vertices → IsTrue (is_at_or_below g.vertices u v) → (c : Claim) → IsTrue (holds_over g.vertices v c) → IsTrue (holds_over g.vertices u c)
+      held_too : (u : ℕ) → u < length g.vertices → IsTrue (is_at_or_below g.vertices u v) →
+          (c : Claim) → IsTrue (holds_over g.vertices v c) → IsTrue (holds_over g.vertices u c)
       held_too u lt below (Take p q) h = h
       held_too u lt below (Hold p) h = below_trans g.vertices (parents_first g o) u v p lt below h
       held_too u lt below (Pass p) h = h
 
-      none_free : (u : ℕ) → u < length g.vertices → IsTrue (is_at_or_below g.vertices u v) → free_at (no_bars g.vertices jobs) m u ≡ 0
+      none_free : (u : ℕ) →
+          u < length g.vertices → IsTrue (is_at_or_below g.vertices u v) → free_at (no_bars g.vertices jobs) m u ≡ 0
       none_free u lt below =
-          let held = live_along (holds_over g.vertices v) (holds_over g.vertices u) (held_too u lt below) jobs m (sym (closed_is g.vertices jobs m v) ∙ closed) in
-          ap (λ b. cond b 0 (cond (is_pool g.vertices u) (size_of g.vertices u - taken_at jobs m u) 1)) (closed_is g.vertices jobs m u ∙ held)
+          let held = live_along (holds_over g.vertices v)
+          (holds_over g.vertices u) (held_too u lt below) jobs m (sym (closed_is g.vertices jobs m v) ∙ closed) in
+          ap (λ b. cond b 0 (cond (is_pool g.vertices u) (size_of g.vertices u - taken_at jobs m u) 1))
+          (closed_is g.vertices jobs m u ∙ held)
 
       by_tests : (a b : Bool) (n : ℕ) → (IsTrue b → n ≡ 0) → cond (a && b) n 0 ≡ 0
       by_tests true true n h = h refl

@@ -1,6 +1,8 @@
--- Where no vertex is oversubscribed, what is free of each vertex and what live jobs use of it add up to its units, and so
--- do the totals of a kind.
-use Rattle.std.proofs.Common.{◌≡◌, ◌≢◌, ℕ, zero, suc, ◌+◌, ◌-◌, ◌<◌, ◌≤◌, ◌==◌, Bool, true, false, not, ◌&&◌, ◌||◌, cond, List, [], ◌∷◌, length, Option, Some, None, slice_get, ◌⊎◌, inl, inr, refl, sym, ◌∙◌, ap, subst, arith, IsTrue, true≢false}
+-- Where no vertex is oversubscribed, what is free of each vertex and what live jobs use of it add up to its units, and
+-- so do the totals of a kind.
+use Rattle.std.proofs.Common.{◌≡◌, ◌≢◌, ℕ, zero, suc, ◌+◌, ◌-◌, ◌<◌, ◌≤◌, ◌==◌, Bool, true, false, not, ◌&&◌, ◌||◌}
+use Rattle.std.proofs.Common.{cond, List, [], ◌∷◌, length, Option, Some, None, slice_get, ◌⊎◌, inl, inr, refl, sym, ◌∙◌}
+use Rattle.std.proofs.Common.{ap, subst, arith, IsTrue, true≢false}
 use Rattle.std.specs.List.{AllByRecursion, list_any, sum_by, enumerate_from}
 use Rattle.std.specs.Option.{option_map_or}
 use Rattle.std.proofs.lemmas.Bool.{and_parts, and_from, or_left}
@@ -18,11 +20,14 @@ use Rattle.flux_defs.specs.Free.{free_at, taken_at, total_at}
 use Rattle.list_laws.proofs.Tests.{false_from}
 use Rattle.graph_laws.proofs.Containment.{below_trans, line}
 use Rattle.graph_laws.proofs.Preorder.{parents_first}
-use Rattle.book_laws.specs.Amounts.{live_sum, is_of_kind, kind_sum, capacity, part_of, part_within, use_of, AreWithinSizes, TakesFromPool}
-use Rattle.book_laws.proofs.Sums.{bool_of, cond_none, job_sum, live_cons, live_none, live_most, live_swap, live_unless, live_where, sum_none, sum_same, sum_add, sum_most}
+use Rattle.book_laws.specs.Amounts.{live_sum, is_of_kind, kind_sum, capacity, part_of, part_within, use_of}
+use Rattle.book_laws.specs.Amounts.{AreWithinSizes, TakesFromPool}
+use Rattle.book_laws.proofs.Sums.{bool_of, cond_none, job_sum, live_cons, live_none, live_most, live_swap, live_unless}
+use Rattle.book_laws.proofs.Sums.{live_where, sum_none, sum_same, sum_add, sum_most}
 
 -- a live job's hold closes a vertex, and nothing else does where nothing is barred
-pub closed_is : (vertices : List Vertex) (jobs : List Job) (m v : ℕ) → is_closed (no_bars vertices jobs) m v ≡ some_live_claim jobs m (holds_over vertices v)
+pub closed_is : (vertices : List Vertex) (jobs : List Job) (m v : ℕ) →
+    is_closed (no_bars vertices jobs) m v ≡ some_live_claim jobs m (holds_over vertices v)
 closed_is vertices jobs m v = or_none (some_live_claim jobs m (holds_over vertices v))
   where
     or_none : (b : Bool) → (b || false) ≡ b
@@ -33,7 +38,8 @@ closed_is vertices jobs m v = or_none (some_live_claim jobs m (holds_over vertic
 module _ (vertices : List Vertex) (v : ℕ) where
   use_covered : (c : Claim) → IsTrue (holds_over vertices v c) → size_of vertices v ≤ use_of vertices v c
   use_covered (Take u q) h = absurd (true≢false (sym h))
-  use_covered (Hold u) h = let e : use_of vertices v (Hold u) ≡ size_of vertices v = ap (λ b. cond b (size_of vertices v) 0) h in omega arith
+  use_covered (Hold u) h =
+      let e : use_of vertices v (Hold u) ≡ size_of vertices v = ap (λ b. cond b (size_of vertices v) 0) h in omega arith
   use_covered (Pass u) h = absurd (true≢false (sym h))
 
   pub use_uncovered : (c : Claim) → holds_over vertices v c ≡ false → use_of vertices v c ≡ take_of v c
@@ -42,7 +48,8 @@ module _ (vertices : List Vertex) (v : ℕ) where
   use_uncovered (Pass u) h = refl
 
   -- of what is no pool nothing is taken
-  takes_none : is_pool vertices v ≡ false → (cs : List Claim) → AllByRecursion (TakesFromPool vertices) cs → sum_by (take_of v) cs ≡ 0
+  takes_none : is_pool vertices v ≡ false →
+      (cs : List Claim) → AllByRecursion (TakesFromPool vertices) cs → sum_by (take_of v) cs ≡ 0
   takes_none plain [] t = refl
   takes_none plain (c ∷ cs) t =
       let one : take_of v c ≡ 0 = alone c t.0 in
@@ -57,10 +64,12 @@ module _ (vertices : List Vertex) (v : ℕ) where
       alone (Hold u) t = refl
       alone (Pass u) t = refl
 
-  pub taken_none : is_pool vertices v ≡ false → (jobs : List Job) → AllByRecursion (λ job. AllByRecursion (TakesFromPool vertices) job.claims) jobs → (m : ℕ) → taken_at jobs m v ≡ 0
+  pub taken_none : is_pool vertices v ≡ false → (jobs : List Job) →
+      AllByRecursion (λ job. AllByRecursion (TakesFromPool vertices) job.claims) jobs → (m : ℕ) → taken_at jobs m v ≡ 0
   taken_none plain [] t m = refl
   taken_none plain (job ∷ jobs) t m =
-      let one : job_sum (take_of v) m job ≡ 0 = ap (λ n. cond (is_live m job) n 0) (takes_none plain job.claims t.0) ∙ cond_none (is_live m job) in
+      let one : job_sum (take_of v) m job ≡ 0 =
+      ap (λ n. cond (is_live m job) n 0) (takes_none plain job.claims t.0) ∙ cond_none (is_live m job) in
       let r = taken_none plain jobs t.1 m in
       omega (arith, live_cons (take_of v) job jobs m)
 
@@ -68,21 +77,26 @@ module _ (vertices : List Vertex) (v : ℕ) where
   size_one : (x : Vertex) → slice_get vertices v ≡ Some x → is_pool vertices v ≡ false → size_of vertices v ≡ 1
   size_one x here plain =
       ap (λ o. option_map_or (λ y. y.size) o 0) here
-      ∙ unpooled vertices v x here (sym (ap (λ o. option_map_or (λ y. is_pool_kind vertices y.kind) o false) here) ∙ plain)
+      ∙ unpooled vertices v x here
+      (sym (ap (λ o. option_map_or (λ y. is_pool_kind vertices y.kind) o false) here) ∙ plain)
     where
-      unpooled : (all : List Vertex) (i : ℕ) (x : Vertex) → slice_get all i ≡ Some x → is_pool_kind all x.kind ≡ false → x.size ≡ 1
+      unpooled : (all : List Vertex) (i : ℕ) (x : Vertex) →
+          slice_get all i ≡ Some x → is_pool_kind all x.kind ≡ false → x.size ≡ 1
       unpooled [] i x e plain = absurd (cc)
       unpooled (y ∷ ys) zero x e plain =
           let same : y ≡ x = cc in
           elim (eqb_tells x.size 1) [
             | inl one ↦ one.1
-            | inr other ↦ absurd (true≢false (sym (or_left ((y.kind == x.kind) && not (y.size == 1)) (is_pool_kind ys x.kind)
-                (and_from _ _ (ap (λ z. z.kind == x.kind) same ∙ itself x.kind) (ap (λ z. not (z.size == 1)) same ∙ ap not other.0))) ∙ plain))
+            | inr other ↦
+                absurd (true≢false (sym (or_left ((y.kind == x.kind) && not (y.size == 1)) (is_pool_kind ys x.kind)
+                (and_from _ _ (ap (λ z. z.kind == x.kind) same ∙ itself x.kind)
+                (ap (λ z. not (z.size == 1)) same ∙ ap not other.0))) ∙ plain))
           ]
         where
           itself : (n : ℕ) → (n == n) ≡ true
           itself n = elim (eqb_tells n n) [ inl y ↦ y.0 | inr d ↦ absurd (d.1 refl) ]
-      unpooled (y ∷ ys) (suc i) x e plain = unpooled ys i x e (neither ((y.kind == x.kind) && not (y.size == 1)) (is_pool_kind ys x.kind) plain)
+      unpooled (y ∷ ys) (suc i) x e plain =
+          unpooled ys i x e (neither ((y.kind == x.kind) && not (y.size == 1)) (is_pool_kind ys x.kind) plain)
         where
           neither : (a b : Bool) → (a || b) ≡ false → b ≡ false
           neither true b h = absurd (true≢false h)
@@ -98,12 +112,14 @@ module _ (vertices : List Vertex) (v : ℕ) where
       within_here = within m v
 
       open_free : (pool : Bool) → is_pool vertices v ≡ pool → live_sum (use_of vertices v) jobs m ≡ taken_at jobs m v →
-          cond pool (size_of vertices v - taken_at jobs m v) 1 + live_sum (use_of vertices v) jobs m ≡ size_of vertices v
+          cond pool (size_of vertices v - taken_at jobs m v) 1 + live_sum (use_of vertices v) jobs m
+          ≡ size_of vertices v
       open_free true e same = let le = within_here in omega arith
       open_free false e same = let none = taken_none e jobs pools m in let one = size_one x here e in omega arith
 
       by_close : (b : Bool) → b ≡ some_live_claim jobs m (holds_over vertices v) →
-          cond b 0 (cond (is_pool vertices v) (size_of vertices v - taken_at jobs m v) 1) + live_sum (use_of vertices v) jobs m ≡ size_of vertices v
+          cond b 0 (cond (is_pool vertices v) (size_of vertices v - taken_at jobs m v) 1) + live_sum
+          (use_of vertices v) jobs m ≡ size_of vertices v
       by_close true e =
           let le = within_here in
           let ge : size_of vertices v ≤ live_sum (use_of vertices v) jobs m =

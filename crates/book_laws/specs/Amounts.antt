@@ -44,7 +44,8 @@ kind_sum vertices kind v f =
 abbrev pub capacity : List Vertex → ℕ → ℕ → ℕ
 capacity vertices kind v = kind_sum vertices kind v (size_of vertices)
 
--- what a claim has of a kind: a hold the capacity at its vertex, a take of a pool of that kind its quantity, a pass nothing
+-- what a claim has of a kind: a hold the capacity at its vertex, a take of a pool of that kind its quantity, a pass
+-- nothing
 abbrev pub part_of : List Vertex → ℕ → Claim → ℕ
 part_of vertices kind (Take v q) = if is_of_kind vertices kind v then q else 0
 part_of vertices kind (Hold v) = capacity vertices kind v

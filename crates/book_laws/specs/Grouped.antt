@@ -30,6 +30,7 @@ abbrev pub count_claims : List Job → ℕ
 count_claims jobs = sum_by (λ job. length job.claims) jobs
 
 -- one planner a vertex, each of the vertex's total, which stands for the spans of what the jobs' claims amount to there
-pub record AreKept {P : Type 0} (total_of : P → ℕ) (stands_for : P → List Span → Type 0) (total : ℕ → ℕ) (amount : ℕ → Claim → ℕ) (jobs : List Job) (planners : List P) : Type 0 where
+pub record AreKept {P : Type 0} (total_of : P → ℕ) (stands_for : P → List Span → Type 0)
+    (total : ℕ → ℕ) (amount : ℕ → Claim → ℕ) (jobs : List Job) (planners : List P) : Type 0 where
   pub totals : (v : ℕ) (planner : P) → slice_get planners v ≡ Some planner → total_of planner ≡ total v
   pub spans : (v : ℕ) (planner : P) → slice_get planners v ≡ Some planner → stands_for planner (grouped (amount v) jobs)

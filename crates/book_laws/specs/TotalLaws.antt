@@ -1,4 +1,5 @@
--- The total of a kind at a vertex, as statements: over jobs that don't oversubscribe a vertex and take from pools alone.
+-- The total of a kind at a vertex, as statements: over jobs that don't oversubscribe a vertex and take from pools
+-- alone.
 use Rattle.std.specs.Prelude.{◌≡◌, ℕ, ◌+◌, ◌≤◌, true, false, List}
 use Rattle.std.specs.List.{AllByRecursion}
 use Rattle.flux_defs.specs.declared.vertices.Vertex.{Vertex}
@@ -27,5 +28,6 @@ ClosedHasNone = (g : ResourceGraph) → StandsInPreorder g → (jobs : List Job)
 
 -- The parts of live jobs are at most the capacity.
 abbrev pub PartsHaveRoom : Type 0
-PartsHaveRoom = (g : ResourceGraph) → StandsInPreorder g → (jobs : List Job) → AreFair g.vertices jobs → (kind v m : ℕ) →
+PartsHaveRoom = (g : ResourceGraph) →
+    StandsInPreorder g → (jobs : List Job) → AreFair g.vertices jobs → (kind v m : ℕ) →
     live_sum (part_within g.vertices kind v) jobs m ≤ capacity g.vertices kind v

@@ -4,8 +4,8 @@
 
 ghost use Rattle.book_laws.specs.TotalLaws.{TotalsAddUp, ClosedHasNone, PartsHaveRoom};
 
-/// Where neither a vertex nor one above it is held, the total of a kind there and what live jobs have of the kind at the
-/// vertex and below it add up to its capacity.
+/// Where neither a vertex nor one above it is held, the total of a kind there and what live jobs have of the kind at
+/// the vertex and below it add up to its capacity.
 pub fn totals_add_up()
     ensures { TotalsAddUp }
 {}

@@ -1,5 +1,7 @@
 -- Which jobs a book stands for, and what two lists of jobs have in common for which it stands.
-use Rattle.std.proofs.Common.{◌≡◌, ℕ, zero, suc, ◌+◌, ◌<◌, ◌≤◌, nat_lt, cond, List, [], ◌∷◌, ◌++◌, length, length-append, get_or, slice_get, Option, Some, None, is_some, Contains, refl, sym, ◌∙◌, ap, subst, arith}
+use Rattle.std.proofs.Common.{◌≡◌, ℕ, zero, suc, ◌+◌, ◌<◌, ◌≤◌, nat_lt, cond, List, [], ◌∷◌, ◌++◌, length}
+use Rattle.std.proofs.Common.{length-append, get_or, slice_get, Option, Some, None, is_some, Contains, refl, sym, ◌∙◌}
+use Rattle.std.proofs.Common.{ap, subst, arith}
 use Rattle.std.specs.Arc.{arc_value}
 use Rattle.std.specs.List.{AllByRecursion}
 use Rattle.std.specs.Ordering.{nat_cmp}
@@ -41,8 +43,10 @@ use Rattle.book_state.specs.Books.{vertices_of, StandsIn, StandsFor}
 use Rattle.book_state.proofs.TieLaws.{agree_none, agree_more, agree_less, agree_along, without_middle}
 
 -- what two lists of jobs amount to at one place for which the accounts stand
-alike_in : (vertices : List Vertex) (a b : List Job) (accounts : Accounts Plan) (k : ℕ) (q : Quantity) → slice_get (arc_value accounts.counted).quantities k ≡ Some q →
-    AreAccounts (λ (p : Plan). p.total) Plans.StandsFor vertices a accounts → AreAccounts (λ (p : Plan). p.total) Plans.StandsFor vertices b accounts →
+alike_in : (vertices : List Vertex) (a b : List Job) (accounts : Accounts Plan) (k : ℕ) (q : Quantity) →
+    slice_get (arc_value accounts.counted).quantities k ≡ Some q →
+    AreAccounts (λ (p : Plan). p.total) Plans.StandsFor vertices a accounts →
+    AreAccounts (λ (p : Plan). p.total) Plans.StandsFor vertices b accounts →
     (v m : ℕ) → v < length vertices → live_sum (amount_in vertices q v) a m ≡ live_sum (amount_in vertices q v) b m
 alike_in vertices a b accounts k q of x y v m lt =
     let quantities = (arc_value accounts.counted).quantities in
@@ -59,12 +63,14 @@ alike_in vertices a b accounts k q of x y v m lt =
     let ub = used_grouped f b m in
     omega (arith, same, ra, rb, ua, ub)
 
-pub alike : (book : Kept) → ParentsFirst (vertices_of book) → (a b : List Job) → StandsFor book a → StandsFor book b → AmountAlike (vertices_of book) a b
+pub alike : (book : Kept) → ParentsFirst (vertices_of book) →
+    (a b : List Job) → StandsFor book a → StandsFor book b → AmountAlike (vertices_of book) a b
 alike book first a b x y =
     let vertices = vertices_of book in
     let accounts = arc_value book.accounts in
     let places = x.accounts_are.graph.counts in
-    let held = λ (v m : ℕ) (lt : v < length vertices). alike_in vertices a b accounts 0 Holds places.holds x.accounts_are y.accounts_are v m lt in
+    let held = λ (v m : ℕ) (lt : v < length vertices).
+    alike_in vertices a b accounts 0 Holds places.holds x.accounts_are y.accounts_are v m lt in
     record {
       holds = held;
       claims = λ v m lt.
@@ -77,41 +83,54 @@ alike book first a b x y =
     }
 
 -- what is available beside the one list is available beside the other
-pub stood : (book : Kept) → ((g : ResourceGraph) × (g.vertices ≡ vertices_of book) × StandsInPreorder g) → (a b : List Job) → StandsFor book a → StandsFor book b → (w : Window) (cs : List Claim) →
-    AllByRecursion (λ c. vertex_of c < length (vertices_of book)) cs → AllByRecursion (IsAvailable (no_bars (vertices_of book) a) w) cs → AllByRecursion (IsAvailable (no_bars (vertices_of book) b) w) cs
+pub stood : (book : Kept) → ((g : ResourceGraph) × (g.vertices ≡ vertices_of book) × StandsInPreorder g) →
+    (a b : List Job) → StandsFor book a → StandsFor book b → (w : Window) (cs : List Claim) →
+    AllByRecursion (λ c. vertex_of c < length (vertices_of book)) cs →
+    AllByRecursion (IsAvailable (no_bars (vertices_of book) a) w) cs →
+    AllByRecursion (IsAvailable (no_bars (vertices_of book) b) w) cs
 stood book (g, same, o) a b x y w cs inside available =
     let first = subst ParentsFirst same (parents_first g o) in
     available_alike (vertices_of book) first a b (alike book first a b x y) w cs inside available
 
 -- available and from pools, claim by claim
-pub both_of : (P Q : Claim → Type 0) (cs : List Claim) → AllByRecursion P cs → AllByRecursion Q cs → AllByRecursion (λ c. P c × Q c) cs
+pub both_of : (P Q : Claim → Type 0) (cs : List Claim) →
+    AllByRecursion P cs → AllByRecursion Q cs → AllByRecursion (λ c. P c × Q c) cs
 both_of P Q [] a b = tt
 both_of P Q (c ∷ cs) a b = ((a.0, b.0), both_of P Q cs a.1 b.1)
 
 -- a member parts a list
-pub split_at : {X : Type 0} (xs : List X) (x : X) → Contains xs x → (before : List X) × (after : List X) × (xs ≡ before ++ x ∷ after)
+pub split_at : {X : Type 0} (xs : List X) (x : X) →
+    Contains xs x → (before : List X) × (after : List X) × (xs ≡ before ++ x ∷ after)
 split_at {X = X} xs x (k, lt, is) = at xs k lt is
   where
-    at : (ys : List X) (i : ℕ) → i < length ys → get_or ys i x ≡ x → (before : List X) × (after : List X) × (ys ≡ before ++ x ∷ after)
+    at : (ys : List X) (i : ℕ) →
+        i < length ys → get_or ys i x ≡ x → (before : List X) × (after : List X) × (ys ≡ before ++ x ∷ after)
     at [] i h e = absurd (omega (arith, h))
     at (y ∷ ys) zero h e = ([], ys, ap (λ z. z ∷ ys) e)
     at (y ∷ ys) (suc i) h e = (let (b, a, q) = at ys i (omega (arith, h)) e in (y ∷ b, a, ap (λ zs. y ∷ zs) q))
 
 -- a new row is one more, and a row that changes is none more
-pub more_rows : (rows : FinMap nat_cmp Row) (id : ℕ) (row : Row) → get rows id ≡ None → len (insert rows id row) ≡ len rows + 1
-more_rows rows id row none = len-insert nat_cmp_total rows id row ∙ ap (λ (o : Option Row). cond (is_some o) (len rows) (len rows + 1)) none
+pub more_rows : (rows : FinMap nat_cmp Row) (id : ℕ) (row : Row) →
+    get rows id ≡ None → len (insert rows id row) ≡ len rows + 1
+more_rows rows id row none =
+    len-insert nat_cmp_total rows id row ∙ ap (λ (o : Option Row). cond (is_some o) (len rows) (len rows + 1)) none
 
-pub same_rows : (rows : FinMap nat_cmp Row) (id : ℕ) (row was : Row) → get rows id ≡ Some was → len (insert rows id row) ≡ len rows
-same_rows rows id row was some = len-insert nat_cmp_total rows id row ∙ ap (λ (o : Option Row). cond (is_some o) (len rows) (len rows + 1)) some
+pub same_rows : (rows : FinMap nat_cmp Row) (id : ℕ) (row was : Row) →
+    get rows id ≡ Some was → len (insert rows id row) ≡ len rows
+same_rows rows id row was some =
+    len-insert nat_cmp_total rows id row ∙ ap (λ (o : Option Row). cond (is_some o) (len rows) (len rows + 1)) some
 
-pub fewer : (before : List Job) (job : Job) (after : List Job) (n : ℕ) → length (before ++ job ∷ after) ≤ n → length (before ++ after) ≤ n
-fewer before job after n le = let a = length-append before (job ∷ after) in let b = length-append before after in omega (arith, a, b, le)
+pub fewer : (before : List Job) (job : Job) (after : List Job) (n : ℕ) →
+    length (before ++ job ∷ after) ≤ n → length (before ++ after) ≤ n
+fewer before job after n le = let a = length-append before (job ∷ after) in
+    let b = length-append before after in omega (arith, a, b, le)
 
 pub one_more : (jobs : List Job) (job : Job) (n m : ℕ) → length jobs ≤ n → m ≡ n + 1 → length (jobs ++ job ∷ []) ≤ m
 one_more jobs job n m le e = let a = length-append jobs (job ∷ []) in omega (arith, a, le, e)
 
 -- equal parts stand for the same jobs
-pub moved : (g h : NamedGraph) (r s : List Rule) (a b : Accounts Plan) (t u : FinMap nat_cmp Row) (jobs : List Job) → h ≡ g → s ≡ r → b ≡ a → u ≡ t → StandsIn g r a t jobs → StandsIn h s b u jobs
+pub moved : (g h : NamedGraph) (r s : List Rule) (a b : Accounts Plan) (t u : FinMap nat_cmp Row) (jobs : List Job) →
+    h ≡ g → s ≡ r → b ≡ a → u ≡ t → StandsIn g r a t jobs → StandsIn h s b u jobs
 moved g h r s a b t u jobs eg er ea et x =
     subst (λ (k : NamedGraph). StandsIn k s b u jobs) (sym eg)
     (subst (λ (k : List Rule). StandsIn g k b u jobs) (sym er)
@@ -119,8 +138,10 @@ moved g h r s a b t u jobs eg er ea et x =
     (subst (λ (k : FinMap nat_cmp Row). StandsIn g r a k jobs) (sym et) x)))
 
 -- a job more, and a job less
-pub added : (g : NamedGraph) (r : List Rule) (a b : Accounts Plan) (t : FinMap nat_cmp Row) (jobs : List Job) (job : Job) (at : ℕ) → get t job.id ≡ None →
-    AreAccounts (λ (p : Plan). p.total) Plans.StandsFor g.resources.vertices (jobs ++ job ∷ []) b → ((kind : ℕ) → KeepsKind a kind → KeepsKind b kind) → types_of b ≡ types_of a →
+pub added : (g : NamedGraph) (r : List Rule)
+    (a b : Accounts Plan) (t : FinMap nat_cmp Row) (jobs : List Job) (job : Job) (at : ℕ) → get t job.id ≡ None →
+    AreAccounts (λ (p : Plan). p.total) Plans.StandsFor g.resources.vertices (jobs ++ job ∷ []) b →
+    ((kind : ℕ) → KeepsKind a kind → KeepsKind b kind) → types_of b ≡ types_of a →
     StandsIn g r a t jobs → StandsIn g r b (insert t job.id (live_row at)) (jobs ++ job ∷ [])
 added g r a b t jobs job at fresh accounts kinds same x = record {
   accounts_are = accounts;
@@ -130,22 +151,32 @@ added g r a b t jobs job at fresh accounts kinds same x = record {
   types = (let types = x.types in omega (arith, same, types));
 }
 
-pub removed : (g : NamedGraph) (r : List Rule) (a b : Accounts Plan) (t : FinMap nat_cmp Row) (before : List Job) (job : Job) (after : List Job) (at : ℕ) → get t job.id ≡ Some (live_row at) →
-    AreAccounts (λ (p : Plan). p.total) Plans.StandsFor g.resources.vertices (before ++ after) b → ((kind : ℕ) → KeepsKind a kind → KeepsKind b kind) → types_of b ≡ types_of a →
+pub removed : (g : NamedGraph) (r : List Rule) (a b : Accounts Plan) (t : FinMap nat_cmp Row)
+    (before : List Job) (job : Job) (after : List Job) (at : ℕ) → get t job.id ≡ Some (live_row at) →
+    AreAccounts (λ (p : Plan). p.total) Plans.StandsFor g.resources.vertices (before ++ after) b →
+    ((kind : ℕ) → KeepsKind a kind → KeepsKind b kind) → types_of b ≡ types_of a →
     StandsIn g r a t (before ++ job ∷ after) → StandsIn g r b (insert t job.id (cancelled_row at)) (before ++ after)
 removed g r a b t before job after at live accounts kinds same x = record {
   accounts_are = accounts;
-  ties = agree_along _ _ _ _ refl (sym (without_middle before after job x.ties.own)) (agree_less t (before ++ job ∷ after) job.id at x.ties);
-  few = subst (λ (n : ℕ). length (before ++ after) ≤ n) (sym (same_rows t job.id (cancelled_row at) (live_row at) live)) (fewer before job after (len t) x.few);
+  ties = agree_along _ _ _ _ refl
+      (sym (without_middle before after job x.ties.own)) (agree_less t (before ++ job ∷ after) job.id at x.ties);
+  few = subst (λ (n : ℕ). length (before ++ after) ≤ n)
+      (sym (same_rows t job.id (cancelled_row at) (live_row at) live)) (fewer before job after (len t) x.few);
   kinds = λ kind name named counted. kinds kind (x.kinds kind name named counted);
   types = (let types = x.types in omega (arith, same, types));
 }
 
 -- no jobs
-pub none_stands : (g : NamedGraph) (r : List Rule) (a : Accounts Plan) → AreAccounts (λ (p : Plan). p.total) Plans.StandsFor g.resources.vertices [] a →
-    ((kind : ℕ) (name : List ℕ) → slice_get g.resources.kinds kind ≡ Some name → IsCounted r name → KeepsKind a kind) → types_of a ≤ length r → StandsIn g r a empty []
-none_stands g r a accounts kinds types = record { accounts_are = accounts; ties = agree_none; few = omega arith; kinds = kinds; types = types }
+pub none_stands : (g : NamedGraph) (r : List Rule) (a : Accounts Plan) →
+    AreAccounts (λ (p : Plan). p.total) Plans.StandsFor g.resources.vertices [] a →
+    ((kind : ℕ) (name : List ℕ) → slice_get g.resources.kinds kind ≡ Some name → IsCounted r name → KeepsKind a kind) →
+    types_of a ≤ length r → StandsIn g r a empty []
+none_stands g r a accounts kinds types =
+    record { accounts_are = accounts; ties = agree_none; few = omega arith; kinds = kinds; types = types }
 
 -- equal parts stand for an equal list
-pub moved_to : (g h : NamedGraph) (r s : List Rule) (a b : Accounts Plan) (t u : FinMap nat_cmp Row) (jobs others : List Job) → others ≡ jobs → h ≡ g → s ≡ r → b ≡ a → u ≡ t → StandsIn g r a t jobs → StandsIn h s b u others
-moved_to g h r s a b t u jobs others e eg er ea et x = subst (λ (js : List Job). StandsIn h s b u js) (sym e) (moved g h r s a b t u jobs eg er ea et x)
+pub moved_to : (g h : NamedGraph)
+    (r s : List Rule) (a b : Accounts Plan) (t u : FinMap nat_cmp Row) (jobs others : List Job) →
+    others ≡ jobs → h ≡ g → s ≡ r → b ≡ a → u ≡ t → StandsIn g r a t jobs → StandsIn h s b u others
+moved_to g h r s a b t u jobs others e eg er ea et x =
+    subst (λ (js : List Job). StandsIn h s b u js) (sym e) (moved g h r s a b t u jobs eg er ea et x)

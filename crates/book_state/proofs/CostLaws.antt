@@ -1,5 +1,6 @@
 -- What the looks of an answer cost together, and the changes of a job more or less.
-use Rattle.std.proofs.Common.{◌≡◌, ℕ, zero, suc, ◌+◌, ◌*◌, ◌/◌, ◌^◌, ◌<◌, ◌≤◌, cond, List, length, Some, slice_get, inl, inr, refl, sym, ap, subst, arith}
+use Rattle.std.proofs.Common.{◌≡◌, ℕ, zero, suc, ◌+◌, ◌*◌, ◌/◌, ◌^◌, ◌<◌, ◌≤◌, cond, List, length, Some, slice_get, inl}
+use Rattle.std.proofs.Common.{inr, refl, sym, ap, subst, arith}
 use Rattle.std.proofs.Math.Nat.{pow-suc, mul-le-mul_right}
 use Rattle.std.proofs.lemmas.Bool.Decides.{leb_tells}
 use Rattle.std.specs.Arc.{arc_value}
@@ -42,7 +43,8 @@ unfolding dig
 dig_few k n lt = few_digits n k n lt
 
 -- the looks of one answer, over at most 65,536 vertices
-pub looks_cost : (vertices b looks : ℕ) → vertices ≤ 65536 → 3 ≤ b → looks ≤ 16 * b → closed_most vertices looks + looks ≤ 512 * b
+pub looks_cost : (vertices b looks : ℕ) →
+    vertices ≤ 65536 → 3 ≤ b → looks ≤ 16 * b → closed_most vertices looks + looks ≤ 512 * b
 looks_cost vertices b looks few some le =
     let d = dig_few 16 (vertices + 1) (let p : 2 ^ 17 ≡ 131072 = refl in omega (arith, few, p)) in
     omega (arith, d, some, le)
@@ -54,20 +56,24 @@ one_change plan = 128 * dig (length plan.points + 2)
 abbrev pub change_cost : Plan → ℕ
 change_cost plan = renew_cost one_change one_change plan
 
-module _ (book : Accounts Plan) (vertices : List Vertex) (jobs : List Job) (is : AreAccounts (λ (p : Plan). p.total) Plans.StandsFor vertices jobs book) where
+module _ (book : Accounts Plan) (vertices : List Vertex)
+    (jobs : List Job) (is : AreAccounts (λ (p : Plan). p.total) Plans.StandsFor vertices jobs book) where
   abbrev look_cost : Plan → ℕ
   look_cost plan = 16 * dig (length plan.points + 2)
 
-  points_cost : (plan : Plan) (spans : List Span) (n : ℕ) → Plans.StandsFor plan spans → length spans ≤ n → dig (length plan.points + 2) ≤ dig (2 * n + 2)
+  points_cost : (plan : Plan) (spans : List Span) (n : ℕ) →
+      Plans.StandsFor plan spans → length spans ≤ n → dig (length plan.points + 2) ≤ dig (2 * n + 2)
   points_cost plan spans n stands few =
       let points = few_points plan.total plan.points spans stands in
       dig_mono (length plan.points + 2) (2 * n + 2) (omega (arith, points, few))
 
-  planner_cost : (v k : ℕ) (item : List Plan) (plan : Plan) → slice_get (items_of book.planners) v ≡ Some item → slice_get item k ≡ Some plan →
+  planner_cost : (v k : ℕ) (item : List Plan) (plan : Plan) →
+      slice_get (items_of book.planners) v ≡ Some item → slice_get item k ≡ Some plan →
       dig (length plan.points + 2) ≤ dig (2 * book.count + 2)
   planner_cost v k item plan there at =
       let quantities = (arc_value book.counted).quantities in
-      let lt : k < length quantities = (let wide = is.graph.places v item there in let within = within_list item k plan at in omega (arith, wide, within)) in
+      let lt : k < length quantities = (let wide = is.graph.places v item there in
+      let within = within_list item k plan at in omega (arith, wide, within)) in
       let (q, of) = item_at quantities k lt in
       let among = in_place (length quantities) k lt (items_of book.planners) is.graph.places v item plan there at in
       points_cost plan (grouped (amount_in vertices q v) jobs) book.count ((is.kept k q of).spans v plan among)
@@ -80,7 +86,8 @@ module _ (book : Accounts Plan) (vertices : List Vertex) (jobs : List Job) (is :
   all_change v k item plan there at = let d = planner_cost v k item plan there at in omega (arith, d)
 
   times_points : (g : ℕ) → length jobs ≤ g → dig (length book.times.points + 2) ≤ dig (2 * g + 2)
-  times_points g few = points_cost book.times (times_of jobs) g is.times (let many = times_many jobs in omega (arith, many, few))
+  times_points g few =
+      points_cost book.times (times_of jobs) g is.times (let many = times_many jobs in omega (arith, many, few))
 
   pub times_cost : (g : ℕ) → length jobs ≤ g → look_cost book.times ≤ 16 * dig (2 * g + 2)
   times_cost g few = let d = times_points g few in omega (arith, d)
@@ -90,7 +97,8 @@ module _ (book : Accounts Plan) (vertices : List Vertex) (jobs : List Job) (is :
 
 -- the digits of twice a number are one more at most
 double_digits : (n : ℕ) → dig (2 * n) ≤ suc (dig n)
-double_digits n = dig_few (dig n) (2 * n) (let p = pow-suc 2 (dig n) in let below = below_dig n in omega (arith, p, below))
+double_digits n =
+    dig_few (dig n) (2 * n) (let p = pow-suc 2 (dig n) in let below = below_dig n in omega (arith, p, below))
 
 four_digits : dig 4 ≡ 3
 unfolding dig
@@ -103,7 +111,8 @@ answer_covered vertices count g few =
     let four = four_digits in
     let some = dig_mono 4 (2 * count + g + 4) (omega arith) in
     let le = dig_mono (2 * count + 2) (2 * count + g + 4) (omega arith) in
-    looks_cost vertices (dig (2 * count + g + 4)) (16 * dig (2 * count + 2)) few (omega (arith, four, some)) (omega (arith, le))
+    looks_cost vertices
+    (dig (2 * count + g + 4)) (16 * dig (2 * count + 2)) few (omega (arith, four, some)) (omega (arith, le))
 
 pub next_covered : (count g : ℕ) → 16 * dig (2 * g + 2) + 1 ≤ 512 * dig (2 * count + g + 4)
 next_covered count g =
@@ -129,7 +138,8 @@ ample_covered vertices count g few =
     omega (arith, same, d, le, more, four, some, n)
 
 -- a change of one planner of at most 65,536
-planner_change : (vertices b changes : ℕ) → vertices ≤ 65536 → 3 ≤ b → changes ≤ 256 * b → change_most vertices changes ≤ 279 * b
+planner_change : (vertices b changes : ℕ) →
+    vertices ≤ 65536 → 3 ≤ b → changes ≤ 256 * b → change_most vertices changes ≤ 279 * b
 planner_change vertices b changes few some le =
     let d = dig_few 16 (vertices + 1) (let p : 2 ^ 17 ≡ 131072 = refl in omega (arith, few, p)) in
     omega (arith, d, some, le)
@@ -140,26 +150,31 @@ products : (claims types rules b each : ℕ) → types ≤ rules → each ≤ 27
 products claims types rules b each few le =
     let one : each * claims ≤ 279 * b * claims = mul-le-mul_right claims le in
     let c : 279 * b * claims ≡ 279 * (claims * b) = grind arith in
-    let parts : (18 + 16 * types) * claims * each ≡ 18 * (each * claims) + 16 * (types * (each * claims)) = grind arith in
+    let parts : (18 + 16 * types) * claims * each ≡ 18 * (each * claims) + 16 * (types * (each * claims)) =
+    grind arith in
     let more : types * (each * claims) ≤ rules * (each * claims) = mul-le-mul_right (each * claims) few in
     let up : (each * claims) * rules ≤ (279 * (claims * b)) * rules = mul-le-mul_right rules (omega (arith, one, c)) in
     let d : rules * (each * claims) ≡ (each * claims) * rules = grind arith in
     let e : (279 * (claims * b)) * rules ≡ 279 * (rules * (claims * b)) = grind arith in
     omega (arith, one, c, parts, more, up, d, e)
 
-expanded : (claims rules b : ℕ) → 8192 * (claims + 1) * (1 + rules) * b ≡ 8192 * (claims * b) + 8192 * (rules * (claims * b)) + 8192 * b + 8192 * (rules * b)
+expanded : (claims rules b : ℕ) → 8192 * (claims + 1) * (1 + rules) * b
+    ≡ 8192 * (claims * b) + 8192 * (rules * (claims * b)) + 8192 * b + 8192 * (rules * b)
 expanded claims rules b = grind arith
 
 -- a job more or less within the bound: all accounts, the times and the row
-pub change_covered : (vertices count g types rules claims times old mid new : ℕ) → vertices ≤ 65536 → types ≤ rules → times ≤ 256 * dig (2 * g + 2) →
-    mid ≤ old + (accounts_most vertices (256 * dig (2 * count + 2)) types claims + times) → new ≤ mid + 256 * dig (g + 2) → new ≤ old + 8192 * (claims + 1) * (1 + rules) * dig (2 * count + g + 4)
+pub change_covered : (vertices count g types rules claims times old mid new : ℕ) →
+    vertices ≤ 65536 → types ≤ rules → times ≤ 256 * dig (2 * g + 2) →
+    mid ≤ old + (accounts_most vertices (256 * dig (2 * count + 2)) types claims + times) →
+    new ≤ mid + 256 * dig (g + 2) → new ≤ old + 8192 * (claims + 1) * (1 + rules) * dig (2 * count + g + 4)
 change_covered vertices count g types rules claims times old mid new few kept span accounts row =
     let b = dig (2 * count + g + 4) in
     let four = four_digits in
     let some : dig 4 ≤ b = dig_mono 4 (2 * count + g + 4) (omega arith) in
     let le : dig (2 * count + 2) ≤ b = dig_mono (2 * count + 2) (2 * count + g + 4) (omega arith) in
     let each = change_most vertices (256 * dig (2 * count + 2)) in
-    let one = planner_change vertices b (256 * dig (2 * count + 2)) few (omega (arith, four, some)) (omega (arith, le)) in
+    let one =
+    planner_change vertices b (256 * dig (2 * count + 2)) few (omega (arith, four, some)) (omega (arith, le)) in
     let all = products claims types rules b each kept one in
     let same : 2 * g + 2 ≡ 2 * (g + 1) = omega arith in
     let doubled = double_digits (g + 1) in

@@ -1,5 +1,7 @@
 -- Rows by the types of a graph.
-use Rattle.std.proofs.Common.{◌≡◌, ℕ, zero, suc, ◌+◌, ◌<◌, ◌↔◌, IsTrue, Bool, false, true≢false, List, [], ◌∷◌, ◌++◌, length, take, take_all, get_or, slice_get, unwrap_or, Some, None, ◌⊎◌, inl, inr, refl, sym, ◌∙◌, ap, subst}
+use Rattle.std.proofs.Common.{◌≡◌, ℕ, zero, suc, ◌+◌, ◌<◌, ◌↔◌, IsTrue, Bool, false, true≢false, List, [], ◌∷◌, ◌++◌}
+use Rattle.std.proofs.Common.{length, take, take_all, get_or, slice_get, unwrap_or, Some, None, ◌⊎◌, inl, inr, refl}
+use Rattle.std.proofs.Common.{sym, ◌∙◌, ap, subst}
 use Rattle.std.specs.List.{AllZip}
 use Rattle.std.specs.Option.{IsSomeAnd}
 use Rattle.std.proofs.lemmas.List.{take_more}
@@ -11,7 +13,8 @@ use Rattle.vertex_accounts.proofs.CountLaws.{past_list}
 use Rattle.book_state.specs.Filtered.{IsKeptRow, AreKeptRows}
 
 -- one type more
-pub zipped_next : {Y : Type 0} (R : List ℕ → Y → Type 0) (kinds : List (List ℕ)) (k : ℕ) (ys : List Y) (name : List ℕ) (y : Y) →
+pub zipped_next : {Y : Type 0}
+    (R : List ℕ → Y → Type 0) (kinds : List (List ℕ)) (k : ℕ) (ys : List Y) (name : List ℕ) (y : Y) →
     slice_get kinds k ≡ Some name → AllZip R (take k kinds) ys → R name y → AllZip R (take (k + 1) kinds) (ys ++ y ∷ [])
 zipped_next {Y = Y} R kinds k ys name y at so_far r =
     let within : k < length kinds = slice_get_within kinds k name at in
@@ -60,7 +63,8 @@ module _ (kinds : List (List ℕ)) (rules : List Rule) where
   ]
 
   -- what a row tells
-  pub row_tells : (rows : List (List Bool)) (upper lower : ℕ) (row : List Bool) (b : Bool) → AreKeptRows kinds rules rows →
+  pub row_tells : (rows : List (List Bool)) (upper lower : ℕ) (row : List Bool) (b : Bool) →
+      AreKeptRows kinds rules rows →
       slice_get rows upper ≡ Some row → b ≡ unwrap_or (slice_get row lower) false → IsTrue b ↔ Keeps upper lower
   row_tells rows upper lower row b are at is = elim (zipped_at (IsKeptRow kinds rules) kinds rows upper are) [
     | inl (_, end) ↦ absurd (let some : Some row ≡ None = sym at ∙ end in cc)

@@ -1,5 +1,6 @@
 -- From the accounts of a book to the book.
-use Rattle.std.proofs.Common.{◌≡◌, ℕ, ◌+◌, ◌*◌, ◌<◌, ◌≤◌, List, [], ◌∷◌, ◌++◌, length, Option, Some, None, IfSome, slice_get, refl, sym, ap, subst, arith}
+use Rattle.std.proofs.Common.{◌≡◌, ℕ, ◌+◌, ◌*◌, ◌<◌, ◌≤◌, List, [], ◌∷◌, ◌++◌, length, Option, Some, None, IfSome}
+use Rattle.std.proofs.Common.{slice_get, refl, sym, ap, subst, arith}
 use Rattle.std.specs.Option.{IsSomeAnd}
 use Rattle.std.specs.FinMap.{len}
 use Rattle.flux_defs.specs.declared.vertices.Vertex.{Vertex}
@@ -16,25 +17,30 @@ use Rattle.vertex_accounts.specs.declared.books.Accounts.{Accounts}
 use Rattle.vertex_accounts.specs.Costs.{look_most, closed_most, accounts_most}
 use Rattle.vertex_accounts.specs.Books.{AreAccountsOf, AreAccounts, KeepsKind, types_of}
 use Rattle.book_state.specs.declared.held.Kept.{Kept}
-use Rattle.book_state.specs.Books.{graph_of, vertices_of, rules_of, accounts_of, rows_of, KeepsPair, KeepsTotal, StandsFor, IsBook, MayAdd, cost_of, change_cost_of}
+use Rattle.book_state.specs.Books.{graph_of, vertices_of, rules_of, accounts_of, rows_of, KeepsPair, KeepsTotal}
+use Rattle.book_state.specs.Books.{StandsFor, IsBook, MayAdd, cost_of, change_cost_of}
 use Rattle.flux_defs.specs.Closed.{no_bars}
 use Rattle.flux_defs.specs.Available.{IsAvailable}
 use Rattle.book_laws.specs.Amounts.{TakesFromPool}
 use Rattle.book_laws.specs.TotalLaws.{AreFair}
 use Rattle.book_laws.proofs.Adding.{fair_added}
 use Rattle.book_state.proofs.BookLaws.{both_of}
-use Rattle.book_state.proofs.CostLaws.{change_cost, all_cost, all_change, times_cost, times_change, answer_covered, ample_covered, next_covered, change_covered}
+use Rattle.book_state.proofs.CostLaws.{change_cost, all_cost, all_change, times_cost, times_change, answer_covered}
+use Rattle.book_state.proofs.CostLaws.{ample_covered, next_covered, change_covered}
 
 module _ (g : NamedGraph) (a : Accounts Plan) (book : Kept) (eg : g ≡ graph_of book) (ea : a ≡ accounts_of book) where
-  pub accounts_at : (jobs : List Job) → StandsFor book jobs → AreAccounts (λ (p : Plan). p.total) Plans.StandsFor g.resources.vertices jobs a
+  pub accounts_at : (jobs : List Job) →
+      StandsFor book jobs → AreAccounts (λ (p : Plan). p.total) Plans.StandsFor g.resources.vertices jobs a
   accounts_at jobs x =
       subst (AreAccounts (λ (p : Plan). p.total) Plans.StandsFor g.resources.vertices jobs) (sym ea)
-      (subst (λ (h : NamedGraph). AreAccounts (λ (p : Plan). p.total) Plans.StandsFor h.resources.vertices jobs (accounts_of book)) (sym eg) x.accounts_are)
+      (subst (λ (h : NamedGraph). AreAccounts
+      (λ (p : Plan). p.total) Plans.StandsFor h.resources.vertices jobs (accounts_of book)) (sym eg) x.accounts_are)
 
   pub graph_at : IsBook book → AreAccountsOf g.resources.vertices a
   graph_at is = (accounts_at is.0 is.1).graph
 
-  pub answer_at : (Q : List Vertex → List Job → Type 0) → ((jobs : List Job) → AreAccounts (λ (p : Plan). p.total) Plans.StandsFor g.resources.vertices jobs a → Q g.resources.vertices jobs) →
+  pub answer_at : (Q : List Vertex → List Job → Type 0) → ((jobs : List Job) →
+      AreAccounts (λ (p : Plan). p.total) Plans.StandsFor g.resources.vertices jobs a → Q g.resources.vertices jobs) →
       (jobs : List Job) → StandsFor book jobs → Q (vertices_of book) jobs
   answer_at Q f jobs x = subst (λ (h : NamedGraph). Q h.resources.vertices jobs) eg (f jobs (accounts_at jobs x))
 
@@ -42,7 +48,8 @@ module _ (g : NamedGraph) (a : Accounts Plan) (book : Kept) (eg : g ≡ graph_of
   inside_at v lt = subst (λ (h : NamedGraph). v < length h.resources.vertices) (sym eg) lt
 
   pub work_at : IsBook book → IsWhole g → (old new : ℕ) →
-      ((n : ℕ) → CostWithin (λ (p : Plan). 16 * dig (length p.points + 2)) n (items_of a.planners) → new ≤ old + (closed_most (length g.resources.vertices) n + n)) → new ≤ old + cost_of book
+      ((n : ℕ) → CostWithin (λ (p : Plan). 16 * dig (length p.points + 2)) n (items_of a.planners) →
+      new ≤ old + (closed_most (length g.resources.vertices) n + n)) → new ≤ old + cost_of book
   work_at is whole old new work =
       let at = accounts_at is.0 is.1 in
       let w = work (16 * dig (2 * a.count + 2)) (all_cost a g.resources.vertices is.0 at) in
@@ -51,7 +58,9 @@ module _ (g : NamedGraph) (a : Accounts Plan) (book : Kept) (eg : g ≡ graph_of
       omega (arith, w, c, same)
 
   pub ample_at : IsBook book → IsWhole g → (old new : ℕ) →
-      ((n : ℕ) → CostWithin (λ (p : Plan). 16 * dig (length p.points + 2)) n (items_of a.planners) → new ≤ old + (16 * dig (length a.times.points + 2) + 1 + look_most (length g.resources.vertices) n)) → new ≤ old + cost_of book
+      ((n : ℕ) → CostWithin (λ (p : Plan). 16 * dig (length p.points + 2)) n (items_of a.planners) →
+      new ≤ old + (16 * dig (length a.times.points + 2) + 1 + look_most (length g.resources.vertices) n)) →
+      new ≤ old + cost_of book
   ample_at is whole old new work =
       let at = accounts_at is.0 is.1 in
       let w = work (16 * dig (2 * a.count + 2)) (all_cost a g.resources.vertices is.0 at) in
@@ -61,11 +70,13 @@ module _ (g : NamedGraph) (a : Accounts Plan) (book : Kept) (eg : g ≡ graph_of
       omega (arith, w, t, c, same)
 
   pub ample_later_at : IsBook book → (kind amount after : ℕ) (found : Option ℕ) →
-      ((jobs : List Job) → AreAccounts (λ (p : Plan). p.total) Plans.StandsFor g.resources.vertices jobs a → IsNextAmpleOrNone g.resources.vertices jobs kind amount after found) →
+      ((jobs : List Job) → AreAccounts (λ (p : Plan). p.total) Plans.StandsFor g.resources.vertices jobs a →
+      IsNextAmpleOrNone g.resources.vertices jobs kind amount after found) →
       IfSome found (λ t. after < t)
   ample_later_at is kind amount after found answer = later found (answer is.0 (accounts_at is.0 is.1))
     where
-      later : (o : Option ℕ) → IsNextAmpleOrNone g.resources.vertices is.0 kind amount after o → IfSome o (λ t. after < t)
+      later : (o : Option ℕ) →
+          IsNextAmpleOrNone g.resources.vertices is.0 kind amount after o → IfSome o (λ t. after < t)
       later None h = tt
       later (Some t) h = h.later
 
@@ -78,9 +89,12 @@ module _ (g : NamedGraph) (a : Accounts Plan) (book : Kept) (eg : g ≡ graph_of
       let at = accounts_at is.0 is.1 in
       let rules = length (rules_of book) in
       let types : types_of a ≤ rules = subst (λ (x : Accounts Plan). types_of x ≤ rules) (sym ea) is.1.types in
-      let covered = change_covered (length g.resources.vertices) a.count (len (rows_of book)) (types_of a) rules claims (change_cost a.times) old mid new
-      whole.valid.few types (times_change a g.resources.vertices is.0 at (len (rows_of book)) is.1.few) (work (256 * dig (2 * a.count + 2)) (all_change a g.resources.vertices is.0 at)) row in
-      subst (λ (x : Accounts Plan). new ≤ old + 8192 * (claims + 1) * (1 + rules) * dig (2 * x.count + len (rows_of book) + 4)) ea covered
+      let covered = change_covered (length g.resources.vertices) a.count
+      (len (rows_of book)) (types_of a) rules claims (change_cost a.times) old mid new
+      whole.valid.few types (times_change a g.resources.vertices is.0 at (len (rows_of book)) is.1.few)
+      (work (256 * dig (2 * a.count + 2)) (all_change a g.resources.vertices is.0 at)) row in
+      subst (λ (x : Accounts Plan).
+      new ≤ old + 8192 * (claims + 1) * (1 + rules) * dig (2 * x.count + len (rows_of book) + 4)) ea covered
 
 -- the accounts keep totals of each type of which the rules keep one at some vertex
 there : {A : Type 0} (o : Option A) (P : A → Type 0) → IsSomeAnd o P → (x : A) × (o ≡ Some x) × P x
@@ -92,7 +106,8 @@ pub kind_kept : (a : Accounts Plan) (book : Kept) → a ≡ accounts_of book →
 kind_kept a book ea jobs is v kind keeps =
     let kinds = (graph_of book).resources.kinds in
     let rules = rules_of book in
-    let (x, at, pair) = there (slice_get (vertices_of book) v) (λ x. KeepsPair (graph_of book) rules x.kind kind) keeps in
+    let (x, at, pair) =
+    there (slice_get (vertices_of book) v) (λ x. KeepsPair (graph_of book) rules x.kind kind) keeps in
     let (high, upper, some) =
     there (slice_get kinds x.kind) (λ high. IsSomeAnd (slice_get kinds kind) (λ low. IsKept rules high low)) pair in
     let (low, lower, rule) = there (slice_get kinds kind) (λ low. IsKept rules high low) some in
@@ -101,10 +116,13 @@ kind_kept a book ea jobs is v kind keeps =
 
 -- the next point
 module _ (a : Accounts Plan) (book : Kept) (ea : a ≡ accounts_of book) where
-  pub accounts_in : (jobs : List Job) → StandsFor book jobs → AreAccounts (λ (p : Plan). p.total) Plans.StandsFor (vertices_of book) jobs a
-  accounts_in jobs x = subst (AreAccounts (λ (p : Plan). p.total) Plans.StandsFor (vertices_of book) jobs) (sym ea) x.accounts_are
+  pub accounts_in : (jobs : List Job) →
+      StandsFor book jobs → AreAccounts (λ (p : Plan). p.total) Plans.StandsFor (vertices_of book) jobs a
+  accounts_in jobs x =
+      subst (AreAccounts (λ (p : Plan). p.total) Plans.StandsFor (vertices_of book) jobs) (sym ea) x.accounts_are
 
-  pub next_at : IsBook book → (old new : ℕ) → new ≤ old + (16 * dig (length a.times.points + 2) + 1) → new ≤ old + cost_of book
+  pub next_at : IsBook book →
+      (old new : ℕ) → new ≤ old + (16 * dig (length a.times.points + 2) + 1) → new ≤ old + cost_of book
   next_at is old new w =
       let t = times_cost a (vertices_of book) is.0 (accounts_in is.0 is.1) (len (rows_of book)) is.1.few in
       let c = next_covered a.count (len (rows_of book)) in
@@ -112,9 +130,11 @@ module _ (a : Accounts Plan) (book : Kept) (ea : a ≡ accounts_of book) where
       omega (arith, w, t, c, same)
 
 -- a job that may be added oversubscribes no vertex beside the others
-pub fair_with : (g : NamedGraph) (book : Kept) → g ≡ graph_of book → IsWhole g → (job : Job) → MayAdd book job → (jobs : List Job) → StandsFor book jobs → AreFair g.resources.vertices (jobs ++ job ∷ [])
+pub fair_with : (g : NamedGraph) (book : Kept) → g ≡ graph_of book → IsWhole g → (job : Job) →
+    MayAdd book job → (jobs : List Job) → StandsFor book jobs → AreFair g.resources.vertices (jobs ++ job ∷ [])
 fair_with g book eg whole job may jobs x =
     let own = subst IsWhole eg whole in
     subst (λ (h : NamedGraph). AreFair h.resources.vertices (jobs ++ job ∷ [])) (sym eg)
     (fair_added (graph_of book).resources own.valid.preorder jobs job x.accounts_are.fair
-    (both_of (IsAvailable (no_bars (vertices_of book) jobs) (record { from = job.start; to = job.end })) (TakesFromPool (vertices_of book)) job.claims (may.available jobs x) may.from_pools) may.separate)
+    (both_of (IsAvailable (no_bars (vertices_of book) jobs) (record { from = job.start; to = job.end }))
+    (TakesFromPool (vertices_of book)) job.claims (may.available jobs x) may.from_pools) may.separate)

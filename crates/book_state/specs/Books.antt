@@ -50,24 +50,28 @@ rows_of book = book.table
 
 -- the rules keep totals of this type (the second) at vertices of that one (the first): some rule has these two
 abbrev pub KeepsPair : NamedGraph → List Rule → ℕ → ℕ → Type 0
-KeepsPair graph rules upper kind = IsSomeAnd (slice_get graph.resources.kinds upper) (λ high. IsSomeAnd (slice_get graph.resources.kinds kind) (λ low. IsKept rules high low))
+KeepsPair graph rules upper kind = IsSomeAnd (slice_get graph.resources.kinds upper)
+    (λ high. IsSomeAnd (slice_get graph.resources.kinds kind) (λ low. IsKept rules high low))
 
 -- the rules keep a total of this type (the second) at this vertex (the first)
 abbrev pub KeepsTotal : Kept → ℕ → ℕ → Type 0
-KeepsTotal book v kind = IsSomeAnd (slice_get (vertices_of book) v) (λ x. KeepsPair (graph_of book) (rules_of book) x.kind kind)
+KeepsTotal book v kind =
+    IsSomeAnd (slice_get (vertices_of book) v) (λ x. KeepsPair (graph_of book) (rules_of book) x.kind kind)
 
 -- the accounts of a book
 abbrev pub accounts_of : Kept → Accounts Plan
 accounts_of book = arc_value book.accounts
 
--- Over this graph, with these rules, accounts and rows stand for these jobs: the accounts do, exactly the jobs' ids have live
--- rows, of which there are no more than rows, and totals are kept of each type that a rule names, and of no more types than
--- there are rules.
-pub record StandsIn (graph : NamedGraph) (rules : List Rule) (accounts : Accounts Plan) (rows : FinMap nat_cmp Row) (jobs : List Job) : Type 0 where
+-- Over this graph, with these rules, accounts and rows stand for these jobs: the accounts do, exactly the jobs' ids
+-- have live rows, of which there are no more than rows, and totals are kept of each type that a rule names, and of no
+-- more types than there are rules.
+pub record StandsIn (graph : NamedGraph)
+    (rules : List Rule) (accounts : Accounts Plan) (rows : FinMap nat_cmp Row) (jobs : List Job) : Type 0 where
   pub accounts_are : AreAccounts (λ (p : Plan). p.total) Plans.StandsFor graph.resources.vertices jobs accounts
   pub ties : Agree rows jobs
   pub few : length jobs ≤ len rows
-  pub kinds : (kind : ℕ) (name : List ℕ) → slice_get graph.resources.kinds kind ≡ Some name → IsCounted rules name → KeepsKind accounts kind
+  pub kinds : (kind : ℕ) (name : List ℕ) →
+      slice_get graph.resources.kinds kind ≡ Some name → IsCounted rules name → KeepsKind accounts kind
   pub types : types_of accounts ≤ length rules
 
 -- the book stands for these jobs
@@ -84,9 +88,9 @@ pub record KeepsSetting (book other : Kept) : Type 0 where
   pub rules : rules_of other ≡ rules_of book
   pub horizon : horizon_of other ≡ horizon_of book
 
--- The job may be added: its time isn't empty and ends at the horizon or before; each claim is on a vertex of the graph, takes
--- are from pools, and any two claims are separate; over its time each claim is available beside the jobs that the book
--- stands for; and its id is new.
+-- The job may be added: its time isn't empty and ends at the horizon or before; each claim is on a vertex of the graph,
+-- takes are from pools, and any two claims are separate; over its time each claim is available beside the jobs that the
+-- book stands for; and its id is new.
 pub record MayAdd (book : Kept) (job : Job) : Type 0 where
   pub begins : job.start < job.end
   pub ends : job.end ≤ horizon_of book
@@ -94,14 +98,17 @@ pub record MayAdd (book : Kept) (job : Job) : Type 0 where
   pub from_pools : AllByRecursion (TakesFromPool (vertices_of book)) job.claims
   pub separate : AreAllSeparate (vertices_of book) job.claims
   pub available : (jobs : List Job) → StandsFor book jobs →
-      AllByRecursion (IsAvailable (no_bars (vertices_of book) jobs) (record { from = job.start; to = job.end })) job.claims
+      AllByRecursion
+      (IsAvailable (no_bars (vertices_of book) jobs) (record { from = job.start; to = job.end })) job.claims
   pub fresh : get (rows_of book) job.id ≡ None
 
--- how many steps an answer about the book takes at most: n is the number of its jobs' claims, g that of the ids that were ever added
+-- how many steps an answer about the book takes at most: n is the number of its jobs' claims, g that of the ids that
+-- were ever added
 abbrev pub cost_of : Kept → ℕ
 cost_of book = 512 * dig (2 * (arc_value book.accounts).count + len (rows_of book) + 4)
 
 -- how many steps a job more or less takes at most, of so many claims
 abbrev pub change_cost_of : Kept → ℕ → ℕ
 change_cost_of book claims =
-    8192 * (claims + 1) * (1 + length (rules_of book)) * dig (2 * (arc_value book.accounts).count + len (rows_of book) + 4)
+    8192 * (claims + 1) * (1 + length (rules_of book)) * dig
+    (2 * (arc_value book.accounts).count + len (rows_of book) + 4)

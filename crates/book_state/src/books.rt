@@ -1,5 +1,6 @@
 //! The book of jobs.
-ghost use Rattle.std.specs.Prelude.{◌≡◌, ◌↔◌, ℕ, ◌+◌, ◌*◌, ◌<◌, ◌≤◌, ◌∷◌, ◌++◌, [], List, Some, length, slice_get, Contains, IsTrue, IfOk};
+ghost use Rattle.std.specs.Prelude.{◌≡◌, ◌↔◌, ℕ, ◌+◌, ◌*◌, ◌<◌, ◌≤◌, ◌∷◌, ◌++◌, [], List, Some, length, slice_get};
+ghost use Rattle.std.specs.Prelude.{Contains, IsTrue, IfOk};
 ghost use Rattle.std.specs.Arc.{arc_value};
 ghost use Rattle.std.specs.FinMap as map;
 ghost use Rattle.flux_defs.specs.declared.claims.Job.{Job};
@@ -11,7 +12,8 @@ ghost use Rattle.planner_min_tree.specs.Plans as Plans;
 ghost use Rattle.planner_min_tree.specs.Plans.{Plan};
 ghost use Rattle.vertex_accounts.specs.Books.{AreAccounts, KeepsKind, types_of};
 ghost use Rattle.book_state.specs.Ties.{has_job};
-ghost use Rattle.book_state.specs.Books.{graph_of, rules_of, horizon_of, moment_of, rows_of, StandsFor, KeepsSetting, MayAdd, change_cost_of};
+ghost use Rattle.book_state.specs.Books.{graph_of, rules_of, horizon_of, moment_of, rows_of, StandsFor, KeepsSetting};
+ghost use Rattle.book_state.specs.Books.{MayAdd, change_cost_of};
 
 use crate::filtered::FilteredGraph;
 use crate::held::{BookState, Kept};
@@ -61,11 +63,12 @@ impl BookState {
         self.kept.moment
     }
 
-    /// The row of the job with this id, and `None` exactly where none was ever accepted. A live row is that of a job which
-    /// the book stands for. It takes no memory.
+    /// The row of the job with this id, and `None` exactly where none was ever accepted. A live row is that of a job
+    /// which the book stands for. It takes no memory.
     pub fn find<L: Ledger>(&self, id: u64, steps: &mut Steps<L>) -> Option<Row>
         ensures row { result ≡ map.get (rows_of self.now) id }
-        ensures live { (jobs : List Job) → StandsFor self.now jobs → (HasLiveRow (rows_of self.now) id ↔ IsTrue (has_job jobs id)) }
+        ensures live { (jobs : List Job) →
+            StandsFor self.now jobs → (HasLiveRow (rows_of self.now) id ↔ IsTrue (has_job jobs id)) }
         ensures work { steps.new ≤ steps.old + 16 * dig (map.len (rows_of self.now) + 2) }
     {
         self.kept.table.find(id, steps)
@@ -99,8 +102,8 @@ impl BookState {
         })
     }
 
-    /// The book with one job more, which the journal's entry at place `at` accepted. It costs by the job's claims and the
-    /// rules, whatever the graph's size.
+    /// The book with one job more, which the journal's entry at place `at` accepted. It costs by the job's claims and
+    /// the rules, whatever the graph's size.
     pub fn after_add<L: Ledger>(
         &self,
         alloc: Global,
@@ -112,7 +115,8 @@ impl BookState {
         ensures setting { IfOk result (λ book. KeepsSetting self.now book) }
         ensures moment { IfOk result (λ book. moment_of book ≡ moment_of self.now) }
         ensures rows { IfOk result (λ book. rows_of book ≡ map.insert (rows_of self.now) job.now.id (live_row at)) }
-        ensures jobs { IfOk result (λ book. (jobs : List Job) → StandsFor self.now jobs → StandsFor book (jobs ++ job.now ∷ [])) }
+        ensures jobs { IfOk result
+            (λ book. (jobs : List Job) → StandsFor self.now jobs → StandsFor book (jobs ++ job.now ∷ [])) }
         ensures work { steps.new ≤ steps.old + change_cost_of self.now (length job.now.claims) }
     {
         let graph = self.graph();
@@ -142,8 +146,10 @@ impl BookState {
         ensures moment { IfOk result (λ book. moment_of book ≡ moment_of self.now) }
         ensures rows { IfOk result (λ book. (at : ℕ) → map.get (rows_of self.now) job.now.id ≡ Some (live_row at) →
             rows_of book ≡ map.insert (rows_of self.now) job.now.id (cancelled_row at)) }
-        ensures jobs { IfOk result (λ book. (jobs : List Job) → StandsFor self.now jobs → Contains jobs job.now → StandsFor book (without_job job.now.id jobs)) }
-        ensures once { IfOk result (λ book. (before after : List Job) → StandsFor self.now (before ++ job.now ∷ after) → StandsFor book (before ++ after)) }
+        ensures jobs { IfOk result (λ book. (jobs : List Job) →
+            StandsFor self.now jobs → Contains jobs job.now → StandsFor book (without_job job.now.id jobs)) }
+        ensures once { IfOk result (λ book. (before after : List Job) →
+            StandsFor self.now (before ++ job.now ∷ after) → StandsFor book (before ++ after)) }
         ensures work { steps.new ≤ steps.old + change_cost_of self.now (length job.now.claims) }
     {
         let graph = self.graph();
@@ -168,8 +174,10 @@ fn first_accounts(
     rules: &Rules,
     horizon: u64,
 ) -> Result<Accounts<MinTree>, AllocError>
-    ensures accounts { IfOk result (λ book. AreAccounts (λ (p : Plan). p.total) Plans.StandsFor graph.now.resources.vertices [] book) }
-    ensures kinds { IfOk result (λ book. (kind : ℕ) (name : List ℕ) → slice_get graph.now.resources.kinds kind ≡ Some name → IsCounted rules.now name → KeepsKind book kind) }
+    ensures accounts { IfOk result
+        (λ book. AreAccounts (λ (p : Plan). p.total) Plans.StandsFor graph.now.resources.vertices [] book) }
+    ensures kinds { IfOk result (λ book. (kind : ℕ) (name : List ℕ) →
+        slice_get graph.now.resources.kinds kind ≡ Some name → IsCounted rules.now name → KeepsKind book kind) }
     ensures types { IfOk result (λ book. types_of book ≤ length rules.now) }
 {
     counted_accounts::<Brand>(alloc, graph, rules, horizon, Blank::new(1))
@@ -185,8 +193,10 @@ fn counted_accounts<L: Ledger>(
     requires name { blank.name ≡ L.name }
     requires parts { blank.parts ≡ L.parts }
     requires some { 0 < blank.parts }
-    ensures accounts { IfOk result (λ book. AreAccounts (λ (p : Plan). p.total) Plans.StandsFor graph.now.resources.vertices [] book) }
-    ensures kinds { IfOk result (λ book. (kind : ℕ) (name : List ℕ) → slice_get graph.now.resources.kinds kind ≡ Some name → IsCounted rules.now name → KeepsKind book kind) }
+    ensures accounts { IfOk result
+        (λ book. AreAccounts (λ (p : Plan). p.total) Plans.StandsFor graph.now.resources.vertices [] book) }
+    ensures kinds { IfOk result (λ book. (kind : ℕ) (name : List ℕ) →
+        slice_get graph.now.resources.kinds kind ≡ Some name → IsCounted rules.now name → KeepsKind book kind) }
     ensures types { IfOk result (λ book. types_of book ≤ length rules.now) }
 {
     let mut steps: Steps<L> = Steps::new(blank);

@@ -74,7 +74,8 @@ fn is_separate(graph: &Graph, claim: &Claim, others: &[Claim]) -> bool
 
 /// Whether claims are on vertices of the graph, takes among them from pools, and any two separate.
 fn fit_together(graph: &Graph, claims: &[Claim]) -> bool
-    ensures on_vertices { IsTrue result → AllByRecursion (λ c. vertex_of c < length graph.now.resources.vertices) claims.now }
+    ensures on_vertices { IsTrue result →
+        AllByRecursion (λ c. vertex_of c < length graph.now.resources.vertices) claims.now }
     ensures from_pools { IsTrue result → AllByRecursion (TakesFromPool graph.now.resources.vertices) claims.now }
     ensures separate { IsTrue result → AreAllSeparate graph.now.resources.vertices claims.now }
 {

@@ -45,7 +45,8 @@ impl Model for Tried {
 
     ghost view = { λ tried. tried.jobs };
 
-    ghost invariant = { λ tried. StandsFor tried.book tried.jobs × (graph_of tried.book ≡ arc_value tried.graph) × (horizon_of tried.book ≡ 40) };
+    ghost invariant = { λ tried. StandsFor tried.book tried.jobs
+        × (graph_of tried.book ≡ arc_value tried.graph) × (horizon_of tried.book ≡ 40) };
 }
 
 impl Tried {

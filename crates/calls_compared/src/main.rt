@@ -1,6 +1,6 @@
-//! Plays calls of the libraries that keep old versions: a few whose answers are known, and random ones, each beside a plain
-//! answer. It writes what came, and for each library how many answers differ. The numbers are the same in each run, by a
-//! fixed seed.
+//! Plays calls of the libraries that keep old versions: a few whose answers are known, and random ones, each beside a
+//! plain answer. It writes what came, and for each library how many answers differ. The numbers are the same in each
+//! run, by a fixed seed.
 #![tactic(auto)]
 
 ghost use Rattle.std.specs.Prelude.{◌≡◌, ◌<◌};

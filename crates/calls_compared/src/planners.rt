@@ -27,7 +27,8 @@ impl Model for Tried {
 
     ghost view = { λ tried. tried.spans.items };
 
-    ghost invariant = { λ tried. StandsFor tried.tree tried.spans.items × AreSame tried.plain.spans.items tried.spans.items };
+    ghost invariant = { λ tried. StandsFor tried.tree tried.spans.items
+        × AreSame tried.plain.spans.items tried.spans.items };
 }
 
 impl Tried {
@@ -153,8 +154,8 @@ pub fn compared<L: Ledger>(alloc: Global, steps: &mut Steps<L>) -> Result<(u64, 
     Ok((count, tried.spans.len() as u64))
 }
 
-/// What is known of a total of 10 with 6 over the first 50 seconds and 3 from 20 on and before 70: the least of it, of a
-/// share of it and of one without the 6; and what is first and next.
+/// What is known of a total of 10 with 6 over the first 50 seconds and 3 from 20 on and before 70: the least of it, of
+/// a share of it and of one without the 6; and what is first and next.
 pub fn told<L: Ledger>(
     alloc: Global,
     steps: &mut Steps<L>,

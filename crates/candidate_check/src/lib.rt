@@ -1,4 +1,5 @@
-//! Whether claims that a search found are still free: what a commit asks of a candidate, whatever the size of the graph.
+//! Whether claims that a search found are still free: what a commit asks of a candidate, whatever the size of the
+//! graph.
 #![tactic(auto)]
 
 mod checks;

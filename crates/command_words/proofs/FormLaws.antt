@@ -1,11 +1,18 @@
 -- The test of words tells exactly those in form.
-use Rattle.std.proofs.Common.{◌≡◌, ◌≢◌, ℕ, ◌==◌, List, [], ◌∷◌, ◌++◌, Bool, true, false, not, ◌&&◌, ◌||◌, if◌then◌else◌, Option, Some, None, option_map, option_and_then, is_some, MatchOption, Bor, String, Global, string_bytes, suc, map, slice_get, get_or, drop, length, ◌<◌, ◌≤◌, drop-cons, bytes_eq, inl, inr, refl, sym, ap, ◌∙◌}
+use Rattle.std.proofs.Common.{◌≡◌, ◌≢◌, ℕ, ◌==◌, List, [], ◌∷◌, ◌++◌, Bool, true, false, not, ◌&&◌, ◌||◌, if◌then◌else◌}
+use Rattle.std.proofs.Common.{Option, Some, None, option_map, option_and_then, is_some, MatchOption, Bor, String}
+use Rattle.std.proofs.Common.{Global, string_bytes, suc, map, slice_get, get_or, drop, length, ◌<◌, ◌≤◌, drop-cons}
+use Rattle.std.proofs.Common.{bytes_eq, inl, inr, refl, sym, ap, ◌∙◌}
 use Rattle.std.proofs.lemmas.Bool.Decides.{eqb_tells}
 use Rattle.std.proofs.Math.ListN.{drop_of_length-le}
 use Rattle.std.specs.Option.{option_or, option_map_or}
 use Rattle.command_words.specs.Givens as by_words
-use Rattle.command_words.specs.Givens.{Word, Given, graph, horizon, filters, jobspec, is_empty, begins_with_minus, dashes, rest_behind, behind_name, as_option, option_of, anything, value_for, only_names, and_given, from_option, from_word, given_from, has, are_new, if_complete, given_by}
-use Rattle.command_words.specs.Taken.{is_seen, marked, has_value, named_option, given_to, after_option, after_full, after_word, is_whole, goes_on}
+use Rattle.command_words.specs.Givens.{Word, Given, graph, horizon, filters, jobspec, is_empty, begins_with_minus}
+use Rattle.command_words.specs.Givens.{dashes, rest_behind, behind_name, as_option, option_of, anything, value_for}
+use Rattle.command_words.specs.Givens.{only_names, and_given, from_option, from_word, given_from, has, are_new}
+use Rattle.command_words.specs.Givens.{if_complete, given_by}
+use Rattle.command_words.specs.Taken.{is_seen, marked, has_value, named_option, given_to, after_option, after_full}
+use Rattle.command_words.specs.Taken.{after_word, is_whole, goes_on}
 use Rattle.command_words.specs.declared.forms.Name.{Name}
 use Rattle.command_words.specs.declared.forms.Name.TheVariants.{Graph, Horizon, Filters, Jobspec}
 use Rattle.command_words.specs.declared.forms.Next.{Next}

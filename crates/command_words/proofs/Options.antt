@@ -1,9 +1,11 @@
 -- What an option's word is for clap.
-use Rattle.std.proofs.Common.{◌≡◌, ◌⊎◌, ℕ, ◌==◌, [], ◌∷◌, ◌++◌, Bool, true, false, ◌||◌, if◌then◌else◌, Option, Some, None, bytes_eq, inl, inr, refl, sym, ap, ◌∙◌}
+use Rattle.std.proofs.Common.{◌≡◌, ◌⊎◌, ℕ, ◌==◌, [], ◌∷◌, ◌++◌, Bool, true, false, ◌||◌, if◌then◌else◌, Option, Some}
+use Rattle.std.proofs.Common.{None, bytes_eq, inl, inr, refl, sym, ap, ◌∙◌}
 use Rattle.std.proofs.lemmas.Bool.Decides.{eqb_tells}
 use Rattle.std.specs.Option.{option_or}
 use Rattle.clap.specs.Lexer.{long_of}
-use Rattle.command_words.specs.Givens.{Word, horizon, filters, jobspec, dashes, rest_behind, behind_name, as_option, option_of}
+use Rattle.command_words.specs.Givens.{Word, horizon, filters, jobspec, dashes, rest_behind, behind_name, as_option}
+use Rattle.command_words.specs.Givens.{option_of}
 
 abbrev pub is_option : Word → Bool
 is_option name = bytes_eq name horizon || (bytes_eq name filters || bytes_eq name jobspec)

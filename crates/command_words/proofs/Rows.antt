@@ -1,6 +1,8 @@
 -- What clap's walk holds once options and the graph file have their values.
-use Rattle.std.proofs.Common.{◌≡◌, List, [], ◌∷◌, ◌++◌, map, Bool, true, false, ◌||◌, if◌then◌else◌, Some, None, bytes_eq, refl, sym, ap, ◌∙◌, true≢false, append-nil}
-use Rattle.clap.specs.Walk.{Rule, Row, action_of, reading_by, most_values, at_row, with_values, used, more_values, has_row}
+use Rattle.std.proofs.Common.{◌≡◌, List, [], ◌∷◌, ◌++◌, map, Bool, true, false, ◌||◌, if◌then◌else◌, Some, None}
+use Rattle.std.proofs.Common.{bytes_eq, refl, sym, ap, ◌∙◌, true≢false, append-nil}
+use Rattle.clap.specs.Walk.{Rule, Row, action_of, reading_by, most_values, at_row, with_values, used, more_values}
+use Rattle.clap.specs.Walk.{has_row}
 use Rattle.clap.specs.Facts.{unwrap_or_range}
 use Rattle.clap.specs.Takes.{value_passes, use_passes}
 use Rattle.clap.specs.declared.builder.action.ArgAction.TheVariants.{Set}

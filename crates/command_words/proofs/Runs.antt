@@ -1,15 +1,19 @@
 -- clap's walk over words that are in form.
-use Rattle.std.proofs.Common.{◌≡◌, ◌⊎◌, List, [], ◌∷◌, ◌++◌, Bool, true, false, not, ◌&&◌, if◌then◌else◌, Option, Some, None, bytes_eq, refl, sym, ap, ◌∙◌, subst, inl, inr, ⊎_elim, true≢false, append-nil, append_assoc, fold}
+use Rattle.std.proofs.Common.{◌≡◌, ◌⊎◌, List, [], ◌∷◌, ◌++◌, Bool, true, false, not, ◌&&◌, if◌then◌else◌, Option, Some}
+use Rattle.std.proofs.Common.{None, bytes_eq, refl, sym, ap, ◌∙◌, subst, inl, inr, ⊎_elim, true≢false, append-nil}
+use Rattle.std.proofs.Common.{append_assoc, fold}
 use Rattle.std.proofs.lemmas.Slice.Eq.{bytes_eq-Decides}
 use Rattle.clap.specs.Lexer.{long_of, short_of}
 use Rattle.clap.specs.Walk.{Walk, settled, walked}
 use Rattle.clap.specs.Simple.{Shape}
 use Rattle.clap.specs.Takes.{settle_passes, walk_passes}
 use Rattle.clap.specs.declared.builder.value_parser.Reading.{Reading}
-use Rattle.command_words.specs.Givens.{Word, Given, Next, anything, value_for, only_names, graph, is_empty, begins_with_minus, and_given, option_of, from_option, given_from, has, are_new}
+use Rattle.command_words.specs.Givens.{Word, Given, Next, anything, value_for, only_names, graph, is_empty}
+use Rattle.command_words.specs.Givens.{begins_with_minus, and_given, option_of, from_option, given_from, has, are_new}
 use Rattle.command_words.proofs.Options.{is_option, option_reads}
 use Rattle.command_words.proofs.Rows.{rows}
-use Rattle.command_words.proofs.Steps.{Pend, none, full, open_at, all, PendOk, Serves, state, Goes, settle_ok, settles, dashes, operand, trailing, attached, opened, given}
+use Rattle.command_words.proofs.Steps.{Pend, none, full, open_at, all, PendOk, Serves, state, Goes, settle_ok, settles}
+use Rattle.command_words.proofs.Steps.{dashes, operand, trailing, attached, opened, given}
 
 abbrev dash : Word
 dash = 45 ∷ 45 ∷ []

@@ -1,8 +1,10 @@
 -- clap's walk, a word at a time.
-use Rattle.std.proofs.Common.{◌≡◌, ◌⊎◌, ℕ, List, [], ◌∷◌, ◌++◌, Bool, true, false, ◌&&◌, ◌||◌, if◌then◌else◌, Option, Some, None, codes, bytes_eq, refl, sym, ap, ap₂, ◌∙◌, subst, ⊎_elim, arith, true≢false}
+use Rattle.std.proofs.Common.{◌≡◌, ◌⊎◌, ℕ, List, [], ◌∷◌, ◌++◌, Bool, true, false, ◌&&◌, ◌||◌, if◌then◌else◌, Option}
+use Rattle.std.proofs.Common.{Some, None, codes, bytes_eq, refl, sym, ap, ap₂, ◌∙◌, subst, ⊎_elim, arith, true≢false}
 use Rattle.std.proofs.lemmas.Slice.Eq.{bytes_eq-Decides}
 use Rattle.clap.specs.Lexer.{long_of, short_of}
-use Rattle.clap.specs.Walk.{Rule, Row, Held, Walk, Waiting, idle, option, most_values, takes_values, takes_several, is_multiple, arg_by_id, arg_by_long, arg_by_index, settled, settled_rows, walked}
+use Rattle.clap.specs.Walk.{Rule, Row, Held, Walk, Waiting, idle, option, most_values, takes_values, takes_several}
+use Rattle.clap.specs.Walk.{is_multiple, arg_by_id, arg_by_long, arg_by_index, settled, settled_rows, walked}
 use Rattle.clap.specs.Simple.{Shape}
 use Rattle.clap.specs.Takes.{settle_passes, turn_passes}
 use Rattle.clap.specs.declared.builder.value_parser.Reading.{Reading}
@@ -138,7 +140,13 @@ module _ (how : Reading) (S : Shape) (k : Serves how S) where
   at_two us w = rw (has_append graph us (graph, w)) (rw or_true refl)
 
   abbrev walk_at : List Row → Option (Word × List Word) → Waiting → ℕ → Bool → Walk
-  walk_at l pending waiting n trailing = record { held = record { rows = l; pending = pending; skip = 0 }; waiting = waiting; position = n; is_trailing = trailing; stopped = None }
+  walk_at l pending waiting n trailing = record {
+    held = record { rows = l; pending = pending; skip = 0 };
+    waiting = waiting;
+    position = n;
+    is_trailing = trailing;
+    stopped = None;
+  }
 
   -- a word that is no flag goes to the operand
   pub operand : (done : List Given) (p : Pend) (w : Word) → PendOk done p → has graph (all done p) ≡ false →
@@ -167,7 +175,8 @@ module _ (how : Reading) (S : Shape) (k : Serves how S) where
             (sym (at_two (all done p) w))),
       )
 
-  not_graph_by : (name : Word) (b c d : Bool) → bytes_eq name (codes "horizon") ≡ b → bytes_eq name (codes "filters") ≡ c → bytes_eq name (codes "jobspec") ≡ d → (b || (c || d)) ≡ true → bytes_eq name graph ≡ false
+  not_graph_by : (name : Word) (b c d : Bool) → bytes_eq name (codes "horizon") ≡ b → bytes_eq name (codes "filters")
+      ≡ c → bytes_eq name (codes "jobspec") ≡ d → (b || (c || d)) ≡ true → bytes_eq name graph ≡ false
   not_graph_by name true c d e f g h = rw ((bytes_eq-Decides name (codes "horizon")).0 e) refl
   not_graph_by name false true d e f g h = rw ((bytes_eq-Decides name (codes "filters")).0 f) refl
   not_graph_by name false false true e f g h = rw ((bytes_eq-Decides name (codes "jobspec")).0 g) refl

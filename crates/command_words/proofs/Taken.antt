@@ -1,16 +1,20 @@
 -- clap takes words that are in form, and its rows are what they give.
-use Rattle.std.proofs.Common.{◌≡◌, is_some, List, [], ◌∷◌, Bool, true, false, ◌&&◌, ◌||◌, if◌then◌else◌, Option, Some, None, is_some, option_map, option_and_then, find, slice_get, codes, bytes_eq, refl, sym, ap, ◌∙◌, subst, true≢false, fold}
+use Rattle.std.proofs.Common.{◌≡◌, is_some, List, [], ◌∷◌, Bool, true, false, ◌&&◌, ◌||◌, if◌then◌else◌, Option, Some}
+use Rattle.std.proofs.Common.{None, is_some, option_map, option_and_then, find, slice_get, codes, bytes_eq, refl, sym}
+use Rattle.std.proofs.Common.{ap, ◌∙◌, subst, true≢false, fold}
 use Rattle.std.proofs.lemmas.Slice.Eq.{bytes_eq-Decides}
 use Rattle.std.specs.Option.{option_map_or}
 use Rattle.clap.specs.Facts.{explicit_source}
-use Rattle.clap.specs.Walk.{Rule, Row, with_default, walk, finished, reading_by, arg_by_id, arg_by_long, walk_from, nothing_held, first_of}
+use Rattle.clap.specs.Walk.{Rule, Row, with_default, walk, finished, reading_by, arg_by_id, arg_by_long, walk_from}
+use Rattle.clap.specs.Walk.{nothing_held, first_of}
 use Rattle.clap.specs.Simple.{App, Shape, HasMatchesOf, built, matches_of, is_simple}
 use Rattle.clap.specs.Matches.{found_of, first_value}
 use Rattle.clap.proofs.WalkLemmas.{first_value-rows}
 use Rattle.clap.specs.declared.parser.matches.ArgMatches.{ArgMatches}
 use Rattle.clap.specs.Takes.{takes, is_given}
 use Rattle.clap.specs.declared.builder.value_parser.Reading.{Reading}
-use Rattle.command_words.specs.Givens.{Word, Given, anything, graph, horizon, filters, jobspec, given_from, given_by, if_complete, has, are_new, value_of}
+use Rattle.command_words.specs.Givens.{Word, Given, anything, graph, horizon, filters, jobspec, given_from, given_by}
+use Rattle.command_words.specs.Givens.{if_complete, has, are_new, value_of}
 use Rattle.command_words.specs.Values.{values_of, values_given, values_in}
 use Rattle.command_words.specs.Commands.{words_app, option_rule, graph_rule}
 use Rattle.command_words.proofs.Rows.{Single, row, rows}
@@ -30,8 +34,10 @@ filled_option name = Rattle.clap.specs.Simple.filled (option_rule name)
 option_single : (name : Word) → Single how (filled_option name) name
 option_single name = record { id = refl; set = refl; range = refl; reads = refl; passes = λ v. refl; no_last = refl }
 
-by_name : (P : Word → Type 0) → P (codes "horizon") → P (codes "filters") → P (codes "jobspec") → (name : Word) (b c d : Bool)
-    → bytes_eq name (codes "horizon") ≡ b → bytes_eq name (codes "filters") ≡ c → bytes_eq name (codes "jobspec") ≡ d → (b || (c || d)) ≡ true → P name
+by_name : (P : Word → Type 0) →
+    P (codes "horizon") → P (codes "filters") → P (codes "jobspec") → (name : Word) (b c d : Bool)
+    → bytes_eq name (codes "horizon") ≡ b →
+    bytes_eq name (codes "filters") ≡ c → bytes_eq name (codes "jobspec") ≡ d → (b || (c || d)) ≡ true → P name
 by_name P h f j name true c d e1 e2 e3 o = subst P (sym ((bytes_eq-Decides name (codes "horizon")).0 e1)) h
 by_name P h f j name false true d e1 e2 e3 o = subst P (sym ((bytes_eq-Decides name (codes "filters")).0 e2)) f
 by_name P h f j name false false true e1 e2 e3 o = subst P (sym ((bytes_eq-Decides name (codes "jobspec")).0 e3)) j

@@ -1,8 +1,10 @@
 -- What the code that tests words holds of them: what may come next, and which names have a value.
-use Rattle.std.specs.Prelude.{Bool, true, false, ◌==◌, List, [], ◌∷◌, ◌++◌, Option, Some, None, if◌then◌else◌, option_map}
+use Rattle.std.specs.Prelude.{Bool, true, false, ◌==◌, List, [], ◌∷◌, ◌++◌, Option, Some, None, if◌then◌else◌}
+use Rattle.std.specs.Prelude.{option_map}
 use Rattle.std.specs.Option.{option_or, option_map_or}
 use Rattle.std.specs.Str.{bytes_eq}
-use Rattle.command_words.specs.Givens.{Word, dashes, horizon, filters, jobspec, is_empty, begins_with_minus, rest_behind}
+use Rattle.command_words.specs.Givens.{Word, dashes, horizon, filters, jobspec, is_empty, begins_with_minus}
+use Rattle.command_words.specs.Givens.{rest_behind}
 use Rattle.command_words.specs.declared.forms.Name.{Name}
 use Rattle.command_words.specs.declared.forms.Name.TheVariants.{Graph, Horizon, Filters, Jobspec}
 use Rattle.command_words.specs.declared.forms.Next.{Next}

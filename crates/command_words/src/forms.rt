@@ -1,7 +1,8 @@
 //! Which words are in form. `clap` takes more of them: empty ones, and a lone `-` as a value or an operand.
 ghost use Rattle.std.specs.Prelude.{◌≡◌, map, string_bytes, is_some, option_map};
 ghost use Rattle.command_words.specs.Givens.{rest_behind, given_by};
-ghost use Rattle.command_words.specs.Taken.{marked, is_seen, has_value, named_option, given_to, after_word, after_option, after_full, is_whole};
+ghost use Rattle.command_words.specs.Taken.{marked, is_seen, has_value, named_option, given_to, after_word};
+ghost use Rattle.command_words.specs.Taken.{after_option, after_full, is_whole};
 
 /// What is given a value.
 #[derive(Clone, Copy, Debug)]

@@ -1,5 +1,6 @@
 -- From the core's answers to the book's.
-use Rattle.std.proofs.Common.{◌≡◌, ℕ, ◌+◌, ◌-◌, ◌<◌, List, [], ◌∷◌, ◌++◌, length, slice_get, Some, refl, sym, ap, ◌∙◌, subst, arith, length-append, append-nil, Result, Ok, Err, IfOk, IfErr}
+use Rattle.std.proofs.Common.{◌≡◌, ℕ, ◌+◌, ◌-◌, ◌<◌, List, [], ◌∷◌, ◌++◌, length, slice_get, Some, refl, sym, ap, ◌∙◌}
+use Rattle.std.proofs.Common.{subst, arith, length-append, append-nil, Result, Ok, Err, IfOk, IfErr}
 use Rattle.std.specs.List.{range_with_len}
 use Rattle.std.proofs.lemmas.Option.{slice_get_within}
 use mathlib.Core.List.{IsPrefix}
@@ -30,7 +31,8 @@ last_at [] e = refl
 last_at (x ∷ xs) e = last_at xs e
 
 -- the core is one of the setting with this journal
-is_course : (g : Setting) (core : Course) (journal : List Entry) → core.setting ≡ g → journal ≡ core.journal → core ≡ course g journal
+is_course : (g : Setting) (core : Course) (journal : List Entry) →
+    core.setting ≡ g → journal ≡ core.journal → core ≡ course g journal
 is_course g core journal setting same = λ i. record { setting = setting i; journal = sym same i }
 
 -- what a core has become: the setting stays, and the journal grows
@@ -46,13 +48,16 @@ grown_same core core' same = record {
 
 -- ---- a decision
 
-module _ (client line : ℕ) (command : Command) (core core' : Course) (d : IsDecided core core' client line command) where
+module _ (client line : ℕ)
+    (command : Command) (core core' : Course) (d : IsDecided core core' client line command) where
   grown_decided : Grown core core'
   grown_decided = record { setting = d.setting; journal = (_, sym d.journal) }
 
   -- the new entry stands at the end
-  decided_line : line_at core'.journal (length core.journal) ≡ Some (record { client = client; line = line; command = command })
-  decided_line = ap (λ (j : List Entry). line_at j (length core.journal)) d.journal ∙ ap line_of_any (last_at core.journal _)
+  decided_line : line_at core'.journal (length core.journal)
+      ≡ Some (record { client = client; line = line; command = command })
+  decided_line = ap (λ (j : List Entry). line_at j (length core.journal)) d.journal
+      ∙ ap line_of_any (last_at core.journal _)
 
   decided_length : length core'.journal ≡ length core.journal + 1
   decided_length = ap length d.journal ∙ length-append core.journal _
@@ -111,7 +116,8 @@ pub record Went (g : Setting) (core core' : Course) (s s' : List Entry) (m m' : 
   pub mines : m' ≡ m ++ range_with_len (length core.journal) (length core'.journal - length core.journal)
 
 -- from what the turn says of its two calls
-pub went : (g : Setting) (core core' : Course) (s between s' : List Entry) (m held m' : List ℕ) → IsPrefix s core.journal
+pub went : (g : Setting) (core core' : Course) (s between s' : List Entry) (m held m' : List ℕ) →
+    IsPrefix s core.journal
     → between ≡ core.journal → core.setting ≡ g → held ≡ m → s' ≡ core'.journal
     → m' ≡ held ++ range_with_len (length between) (length core'.journal - length between) → Went g core core' s s' m m'
 went g core core' s between s' m held m' later all setting same sees mines = record {
@@ -137,8 +143,10 @@ module _ (g : Setting) (client line : ℕ) (core core' : Course) (s s' : List En
   later_now grown = prefix_trans s core.journal s' w.later (grown.journal.0, grown.journal.1 ∙ sym w.sees)
 
   -- from the core's course to the book's
-  at_courses : (P : Course → Course → Type 0) → Grown core core' → P core core' → P (course g core.journal) (course g s')
-  at_courses P grown p = subst (P (course g core.journal)) (after_is grown) (subst (λ (c : Course). P c core') before_is p)
+  at_courses : (P : Course → Course → Type 0) →
+      Grown core core' → P core core' → P (course g core.journal) (course g s')
+  at_courses P grown p =
+      subst (P (course g core.journal)) (after_is grown) (subst (λ (c : Course). P c core') before_is p)
 
   decided_at : (command : Command) (at : ℕ) → at ≡ length core.journal → IsDecided core core' client line command
       → IsDecidedAt g client line command s s' at
@@ -146,7 +154,8 @@ module _ (g : Setting) (client line : ℕ) (core core' : Course) (s s' : List En
     before = core.journal;
     later = w.later;
     place = place;
-    decided = at_courses (λ c c'. IsDecided c c' client line command) (grown_decided client line command core core' d) d;
+    decided =
+        at_courses (λ c c'. IsDecided c c' client line command) (grown_decided client line command core core' d) d;
   }
 
   placed_at : (command : Command) (at : ℕ) → at ≡ length core.journal → IsDecided core core' client line command
@@ -161,7 +170,8 @@ module _ (g : Setting) (client line : ℕ) (core core' : Course) (s s' : List En
   gained_one : (command : Command) (at : ℕ) → at ≡ length core.journal → IsDecided core core' client line command
       → m' ≡ m ++ at ∷ []
   gained_one command at place d =
-      one_more (length core.journal) (length core'.journal) at m m' (decided_length client line command core core' d) place w.mines
+      one_more (length core.journal)
+      (length core'.journal) at m m' (decided_length client line command core core' d) place w.mines
 
   pub gained_none : core' ≡ core → m' ≡ m
   gained_none same =
@@ -183,7 +193,8 @@ module _ (g : Setting) (client line : ℕ) (core core' : Course) (s s' : List En
     gains_nothing P (Ok a) e = tt
     gains_nothing P (Err f) e = (e.1, gained_none e.0)
 
-    pub book_commits : (c : Searched) (r : Result Commit F) → IfOk r (IsCommitted core core' client line c) → Grown core core'
+    pub book_commits : (c : Searched) (r : Result Commit F) →
+        IfOk r (IsCommitted core core' client line c) → Grown core core'
         → IfOk r (IsCommittedAt g client line c s s')
     book_commits c (Ok a) d grown = record {
       before = core.journal;
@@ -213,7 +224,8 @@ pub comes_home : (core core' : Course) (between : List Entry) → between ≡ co
 comes_home core core' between all grown = subst (λ (j : List Entry). IsPrefix j core'.journal) (sym all) grown.journal
 
 -- what was searched is a beginning of what the core has now
-pub is_for : (g : Setting) (c : Searched) (core : Course) (s : List Entry) → c.snap.setting ≡ g → IsPrefix c.snap.journal s
+pub is_for : (g : Setting) (c : Searched) (core : Course) (s : List Entry) →
+    c.snap.setting ≡ g → IsPrefix c.snap.journal s
     → core.setting ≡ g → IsPrefix s core.journal → IsFor core c
 is_for g c core s searched begins setting later =
     let all = prefix_trans c.snap.journal s core.journal begins later in record {

@@ -38,7 +38,8 @@ course g journal = record { setting = g; journal = journal }
 
 -- A command was decided as a core of the setting decides it, on a journal that begins with what the seat had seen: `at`
 -- is that journal's end. The seat has then seen the journal with the entry.
-pub record IsDecidedAt (g : Setting) (client line : ℕ) (command : Command) (seen seen' : List Entry) (at : ℕ) : Type 0 where
+pub record IsDecidedAt
+    (g : Setting) (client line : ℕ) (command : Command) (seen seen' : List Entry) (at : ℕ) : Type 0 where
   pub before : List Entry
   pub later : IsPrefix seen before
   pub place : at ≡ length before
@@ -46,7 +47,8 @@ pub record IsDecidedAt (g : Setting) (client line : ℕ) (command : Command) (se
 
 -- A candidate was committed as a core of the setting commits it, on a journal that begins with what the seat had seen.
 -- The seat has then seen the journal that the core has afterwards.
-pub record IsCommittedAt (g : Setting) (client line : ℕ) (c : Searched) (seen seen' : List Entry) (answer : Commit) : Type 0 where
+pub record IsCommittedAt
+    (g : Setting) (client line : ℕ) (c : Searched) (seen seen' : List Entry) (answer : Commit) : Type 0 where
   pub before : List Entry
   pub later : IsPrefix seen before
   pub committed : IsCommitted (course g before) (course g seen') client line c answer

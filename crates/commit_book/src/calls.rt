@@ -9,7 +9,8 @@ ghost use Rattle.sched_core.specs.Candidates.{IsFor, IsCommitted};
 ghost use Rattle.turn_table.specs.declared.view.TheConstants.{ALL_SHARES};
 ghost use Rattle.turn_table.specs.Positions.{times};
 ghost use Rattle.turn_table.specs.Seats.{seen, mine, share};
-ghost use Rattle.commit_book.specs.Books.{book_setting, course, IsSeatOf, IsDecidedAt, IsCommittedAt, gained, SeesAnswer};
+ghost use Rattle.commit_book.specs.Books.{book_setting, course, IsSeatOf, IsDecidedAt, IsCommittedAt, gained};
+ghost use Rattle.commit_book.specs.Books.{SeesAnswer};
 
 use crate::books::{Book, BookSeat};
 use crate::held::Held;
@@ -81,7 +82,8 @@ impl Book {
     }
 
     /// The core's answer to a candidate, on a journal that begins with what the seat had seen: its entry stands at the
-    /// end of the journal, or something overtook it, and it comes back with the cause. The seat has then seen the journal.
+    /// end of the journal, or something overtook it, and it comes back with the cause. The seat has then seen the
+    /// journal.
     /// It may wait.
     ///
     /// # Errors
@@ -99,7 +101,8 @@ impl Book {
         requires searched { IsPrefix candidate.snap.journal (seen seat.old) }
         ensures own { IsSeatOf self.now seat.new }
         ensures later { IsPrefix (seen seat.old) (seen seat.new) }
-        ensures ok { IfOk result (IsCommittedAt (book_setting self.now) client line candidate (seen seat.old) (seen seat.new)) }
+        ensures ok { IfOk result
+            (IsCommittedAt (book_setting self.now) client line candidate (seen seat.old) (seen seat.new)) }
         ensures seen { IfOk result (SeesAnswer client line candidate.command (seen seat.old) (seen seat.new)) }
         ensures mine { IfOk result (λ commit. mine seat.new ≡ mine seat.old ++ gained commit) }
         ensures err { IfErr result (λ e. (e.0 ≡ candidate) × (mine seat.new ≡ mine seat.old)) }
@@ -130,7 +133,8 @@ impl Book {
         requires proper { IsProper (book_setting self.now).graph.vertices command }
         ensures own { IsSeatOf self.now seat.new }
         ensures later { IsPrefix (seen seat.old) (seen seat.new) }
-        ensures ok { IfOk result (IsDecidedAt (book_setting self.now) client line command (seen seat.old) (seen seat.new)) }
+        ensures ok { IfOk result
+            (IsDecidedAt (book_setting self.now) client line command (seen seat.old) (seen seat.new)) }
         ensures mine { IfOk result (λ at. mine seat.new ≡ mine seat.old ++ at ∷ []) }
         ensures err { IfErr result (λ e. (e.0 ≡ command) × (mine seat.new ≡ mine seat.old)) }
         ensures legal { IsLegal (book_setting self.now) (seen seat.new) }
@@ -155,8 +159,8 @@ impl Book {
         self.turn.version(seat)
     }
 
-    /// Another seat, which has seen as much, has no position, and has one share of this seat's. It never waits and takes
-    /// no memory, so it always succeeds.
+    /// Another seat, which has seen as much, has no position, and has one share of this seat's. It never waits and
+    /// takes no memory, so it always succeeds.
     pub fn split(&self, seat: &mut BookSeat) -> Result<BookSeat, AllocError>
         requires own { IsSeatOf self.now seat.old }
         requires room { 2 ≤ share seat.old }
@@ -183,8 +187,8 @@ impl Book {
         self.turn.join(seat, other);
     }
 
-    /// The core, at the end: its journal is legal, and after each of its entries no vertex is oversubscribed. The seat is
-    /// the last one: all positions of the journal are its own.
+    /// The core, at the end: its journal is legal, and after each of its entries no vertex is oversubscribed. The seat
+    /// is the last one: all positions of the journal are its own.
     pub fn close(self, seat: BookSeat) -> Core
         requires own { IsSeatOf self seat }
         requires last { share seat ≡ ALL_SHARES }

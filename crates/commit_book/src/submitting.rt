@@ -82,7 +82,8 @@ impl Book {
         ensures own { IsSeatOf self.now seat.new }
         ensures share { share seat.new ≡ share seat.old }
         ensures later { IsPrefix (seen seat.old) (seen seat.new) }
-        ensures ok { IfOk result (IsTried client line command (seen seat.old) (mine seat.old) (seen seat.new) (mine seat.new)) }
+        ensures ok { IfOk result
+            (IsTried client line command (seen seat.old) (mine seat.old) (seen seat.new) (mine seat.new)) }
         ensures err { IfErr result (λ e. (e.0 ≡ command) × (mine seat.new ≡ mine seat.old)) }
     {
         let snap = match self.snapshot(rt, seat) {
@@ -107,7 +108,8 @@ impl Book {
         }
     }
 
-    // Places the entry of a command that is searched for: what was found is committed, unless it was overtaken too often.
+    // Places the entry of a command that is searched for: what was found is committed, unless it was overtaken too
+    // often.
     fn place_searched<R: Wait, G: Gate>(
         &self,
         rt: &R,

@@ -1,5 +1,6 @@
 -- A candidate is overtaken by one cause at most.
-use Rattle.std.proofs.Common.{◌≡◌, ℕ, zero, suc, ◌<◌, List, [], ◌∷◌, length, take, Some, slice_get, inl, inr, sym, ◌∙◌, ap, subst, arith}
+use Rattle.std.proofs.Common.{◌≡◌, ℕ, zero, suc, ◌<◌, List, [], ◌∷◌, length, take, Some, slice_get, inl, inr, sym, ◌∙◌}
+use Rattle.std.proofs.Common.{ap, subst, arith}
 use Rattle.std.specs.List.{AllByRecursion}
 use Rattle.std.proofs.lemmas.Bool.{cases_lt}
 use Rattle.std.proofs.lemmas.List.Elements.{recursion_from_All}
@@ -17,7 +18,8 @@ use Rattle.flux_defs.specs.Available.{IsAvailable}
 use Rattle.flux_defs.specs.Asks.{window_of}
 use Rattle.flux_defs.specs.Scheduler.{Setting}
 use Rattle.flux_defs.specs.Histories.{state_at}
-use Rattle.flux_defs.specs.Overtaken.{Candidate, Cause, Freed, Late, Taken, Frees, Delays, Blocks, IsFirstFrom, IsFirstTaken, IsTakenBy, IsTakenFor, IsOvertaken}
+use Rattle.flux_defs.specs.Overtaken.{Candidate, Cause, Freed, Late, Taken, Frees, Delays, Blocks, IsFirstFrom}
+use Rattle.flux_defs.specs.Overtaken.{IsFirstTaken, IsTakenBy, IsTakenFor, IsOvertaken}
 use Rattle.commit_laws.proofs.Firsts.{first_once}
 
 -- what holds of the first elements of a list holds of one of them

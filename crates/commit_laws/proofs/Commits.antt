@@ -1,5 +1,6 @@
 -- What nothing overtook is what a fresh decision gives.
-use Rattle.std.proofs.Common.{◌≡◌, ℕ, ◌+◌, ◌<◌, Bool, true, false, List, take, ◌⊎◌, inl, inr, refl, sym, subst, arith, IsTrue, true≢false}
+use Rattle.std.proofs.Common.{◌≡◌, ℕ, ◌+◌, ◌<◌, Bool, true, false, List, take, ◌⊎◌, inl, inr, refl, sym, subst, arith}
+use Rattle.std.proofs.Common.{IsTrue, true≢false}
 use Rattle.std.specs.List.{AllByRecursion}
 use Rattle.std.proofs.lemmas.List.Elements.{All-from_recursion}
 use Rattle.flux_defs.specs.declared.claims.Claim.{Claim}
@@ -18,7 +19,8 @@ use Rattle.flux_defs.specs.Asks.{window_of, CountsWithin, scene_of, IsLowestFirs
 use Rattle.flux_defs.specs.Scheduler.{Setting, State, Replies}
 use Rattle.flux_defs.specs.Histories.{state_after, state_at, IsLegal}
 use Rattle.flux_defs.specs.Verdicts.{Finds, Yields}
-use Rattle.flux_defs.specs.Overtaken.{Candidate, Freed, Late, Taken, Frees, Delays, Blocks, NoneFrom, IsTakenBy, IsTakenFor, IsAllocate, IsPastFor, CanBeOvertaken}
+use Rattle.flux_defs.specs.Overtaken.{Candidate, Freed, Late, Taken, Frees, Delays, Blocks, NoneFrom, IsTakenBy}
+use Rattle.flux_defs.specs.Overtaken.{IsTakenFor, IsAllocate, IsPastFor, CanBeOvertaken}
 use Rattle.graph_laws.proofs.Containment.{ParentsFirst}
 use Rattle.flux_laws.proofs.Determined.{lowest_fits}
 use Rattle.list_laws.proofs.Lists.{all_along, all_at}
@@ -26,7 +28,8 @@ use Rattle.commit_laws.specs.CommitLaws.{state_now, StillStands}
 use Rattle.commit_laws.proofs.Firsts.{none_from, all_unless_first}
 use Rattle.commit_laws.proofs.InTheWay.{unbarred}
 use Rattle.commit_laws.proofs.Claimed.{IsClaimed, fits_claimed}
-use Rattle.commit_laws.proofs.Fresh.{NoDelay, AllocateStands, ReserveStands, fresh_allocate, fresh_reserve, fresh_satisfy}
+use Rattle.commit_laws.proofs.Fresh.{NoDelay, AllocateStands, ReserveStands, fresh_allocate, fresh_reserve}
+use Rattle.commit_laws.proofs.Fresh.{fresh_satisfy}
 use Rattle.commit_laws.proofs.Stretch.{stretch, whole, legal_stretch, no_cancel, state_there, entry_there, still_there}
 
 test_stable : (b : Bool) → ((IsTrue b → ⊥) → ⊥) → IsTrue b

@@ -1,5 +1,6 @@
 -- A verdict that nothing overtook in a legal stretch of history yields the scheduler's reply where the stretch ends.
-use Rattle.std.proofs.Common.{◌≡◌, ℕ, ◌+◌, ◌<◌, ◌≤◌, List, ◌++◌, inl, inr, refl, sym, subst, arith, Some, slice_get, take, Contains}
+use Rattle.std.proofs.Common.{◌≡◌, ℕ, ◌+◌, ◌<◌, ◌≤◌, List, ◌++◌, inl, inr, refl, sym, subst, arith, Some, slice_get}
+use Rattle.std.proofs.Common.{take, Contains}
 use Rattle.std.specs.List.{AllByRecursion}
 use Rattle.std.proofs.lemmas.Bool.{cases_lt}
 use Rattle.flux_defs.specs.declared.claims.Claim.{Claim}

@@ -1,5 +1,6 @@
 -- What stands in the way of a claim: what the ask bars, or a job that was added and overlaps the window.
-use Rattle.std.proofs.Common.{◌≡◌, ℕ, ◌-◌, ◌<◌, ◌≤◌, ◌==◌, nat_le, nat_lt, if◌then◌else◌, Bool, true, false, not, ◌||◌, List, [], ◌∷◌, ◌++◌, inl, inr, refl, sym, ◌∙◌, ap, arith, IsTrue, true≢false}
+use Rattle.std.proofs.Common.{◌≡◌, ℕ, ◌-◌, ◌<◌, ◌≤◌, ◌==◌, nat_le, nat_lt, if◌then◌else◌, Bool, true, false, not, ◌||◌}
+use Rattle.std.proofs.Common.{List, [], ◌∷◌, ◌++◌, inl, inr, refl, sym, ◌∙◌, ap, arith, IsTrue, true≢false}
 use Rattle.std.specs.List.{AllByRecursion, list_any}
 use Rattle.std.proofs.lemmas.Bool.{and_parts, and_from, or_cases, or_left, or_right}
 use Rattle.std.proofs.lemmas.Bool.Decides.{nat_tests, eqb_tells}
@@ -14,7 +15,8 @@ use Rattle.flux_defs.specs.Closed.{Scene, no_bars, is_withheld, has_withheld, is
 use Rattle.flux_defs.specs.Free.{taken_at}
 use Rattle.flux_defs.specs.Available.{is_available_at, IsAvailable}
 use Rattle.flux_defs.specs.Overtaken.{conflicts}
-use Rattle.commit_laws.proofs.MoreJobs.{with_bars, or_along, not_along, had_along, Eases, eased, lives_with, live_append, taken_append, none_taken}
+use Rattle.commit_laws.proofs.MoreJobs.{with_bars, or_along, not_along, had_along, Eases, eased, lives_with}
+use Rattle.commit_laws.proofs.MoreJobs.{live_append, taken_append, none_taken}
 
 -- bars close what they closed before: a is closed by jobs now, c by jobs before, b by bars
 barred_take : (a b c : Bool) (q x y : ℕ) → IsTrue (nat_le q (if a || false then 0 else x)) →

@@ -49,7 +49,8 @@ fn raised(alloc: Global, stretches: &[Stretch]) -> Result<Vec<Stretch>, AllocErr
 impl Covered {
     /// The numbers of these stretches.
     pub fn of(alloc: Global, mut stretches: Vec<Stretch>) -> Result<Covered, AllocError>
-        ensures { IfOk result (λ covered. (number : ℕ) → is_covered covered number ≡ is_covered stretches.items number) }
+        ensures { IfOk result
+            (λ covered. (number : ℕ) → is_covered covered number ≡ is_covered stretches.items number) }
     {
         stretches.sort_unstable_by_key(|stretch| stretch.first);
         let longer = raised(alloc, stretches.as_slice())?;

@@ -1,5 +1,6 @@
 -- What counting keeps: how much a vertex serves, and how many copies each need leaves.
-use Rattle.std.proofs.Common.{◌≡◌, ℕ, zero, suc, ◌+◌, ◌*◌, ◌^◌, ◌<◌, ◌≤◌, ◌↔◌, inl, inr, Bool, true, false, List, [], ◌∷◌, length, drop, drop-cons, add-one, get_or, min, refl, sym, ◌∙◌, ap, subst, arith}
+use Rattle.std.proofs.Common.{◌≡◌, ℕ, zero, suc, ◌+◌, ◌*◌, ◌^◌, ◌<◌, ◌≤◌, ◌↔◌, inl, inr, Bool, true, false, List, []}
+use Rattle.std.proofs.Common.{◌∷◌, length, drop, drop-cons, add-one, get_or, min, refl, sym, ◌∙◌, ap, subst, arith}
 use Rattle.std.proofs.Math.Nat.{mul-le-mul_right}
 use Rattle.std.proofs.lemmas.Bool.{cases_lt}
 use Rattle.std.specs.List.{AllByRecursion}
@@ -13,7 +14,8 @@ use Rattle.flux_defs.specs.Lowest.{CanServe}
 use Rattle.flux_laws.proofs.FitLaws.{TakesLess}
 use Rattle.flux_laws.proofs.Rows.{valid_to_list, no_spread_to_list}
 use Rattle.match_laws.specs.Offers.{IsGreatest, SomeGroup, SomeFits, VertexClaims}
-use Rattle.match_laws.proofs.NeedLists.{AllFill, group_at, group_less, group_zero, alone_fits, serves_vertex, vertex_serves, serves_copies, copies_serve}
+use Rattle.match_laws.proofs.NeedLists.{AllFill, group_at, group_less, group_zero, alone_fits, serves_vertex}
+use Rattle.match_laws.proofs.NeedLists.{vertex_serves, serves_copies, copies_serve}
 use Rattle.dfu_match.specs.Searches.{claim_on, MayAsk, MayScale, MayScaleNeed}
 
 -- the list from an item on

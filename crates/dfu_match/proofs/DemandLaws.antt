@@ -1,5 +1,7 @@
 -- What needs demand, in numbers of 64 bits, and all needs in one list.
-use Rattle.std.proofs.Common.{◌≡◌, ◌≢◌, ℕ, zero, suc, ◌+◌, ◌*◌, ◌-◌, ◌^◌, ◌<◌, ◌≤◌, ◌==◌, ◌⊎◌, inl, inr, min, Bool, true, false, List, [], ◌∷◌, ◌++◌, length, take, get_or, slice_get, Some, append-nil, append_assoc, refl, sym, ◌∙◌, ap, subst, arith, IsTrue, true≢false}
+use Rattle.std.proofs.Common.{◌≡◌, ◌≢◌, ℕ, zero, suc, ◌+◌, ◌*◌, ◌-◌, ◌^◌, ◌<◌, ◌≤◌, ◌==◌, ◌⊎◌, inl, inr, min, Bool}
+use Rattle.std.proofs.Common.{true, false, List, [], ◌∷◌, ◌++◌, length, take, get_or, slice_get, Some, append-nil}
+use Rattle.std.proofs.Common.{append_assoc, refl, sym, ◌∙◌, ap, subst, arith, IsTrue, true≢false}
 use Rattle.std.proofs.lemmas.Bool.{cases_lt, or_cases, or_left, or_right}
 use Rattle.graph_laws.proofs.Containment.{equal_to, equal_from}
 use Rattle.std.specs.Prelude.{Any, Contains, map}
@@ -9,7 +11,8 @@ use Rattle.flux_defs.specs.declared.claims.Job.{Job}
 use Rattle.flux_defs.specs.declared.claims.Window.{Window}
 use Rattle.std.proofs.lemmas.List.{get_or-map, length-map, take_more}
 use Rattle.flux_defs.specs.declared.vertices.Vertex.{Vertex}
-use Rattle.flux_defs.specs.declared.requests.Need.{Need, Vert, Vert', Pool, Spread, Spread', Row_of-Need, end_of-Need, more_of-Need, items-the_row-Need, items_hidden-the_row-Need-0}
+use Rattle.flux_defs.specs.declared.requests.Need.{Need, Vert, Vert', Pool, Spread, Spread', Row_of-Need, end_of-Need}
+use Rattle.flux_defs.specs.declared.requests.Need.{more_of-Need, items-the_row-Need, items_hidden-the_row-Need-0}
 use Rattle.flux_defs.specs.declared.requests.Need.TheBlock.{hidden-the_row-Need-0}
 use Rattle.flux_defs.specs.Free.{IsTooLittle}
 use Rattle.flux_defs.specs.Needs.{amount_of}

@@ -1,5 +1,6 @@
 -- Where a vertex may be held: where the one above it isn't closed and it isn't touched.
-use Rattle.std.proofs.Common.{◌≡◌, ℕ, zero, suc, ◌<◌, ◌↔◌, ◌⊎◌, inl, inr, Bool, true, false, not, ◌&&◌, List, [], ◌∷◌, length, Option, Some, None, refl, sym, ◌∙◌, subst, arith, IsTrue, true≢false}
+use Rattle.std.proofs.Common.{◌≡◌, ℕ, zero, suc, ◌<◌, ◌↔◌, ◌⊎◌, inl, inr, Bool, true, false, not, ◌&&◌, List, [], ◌∷◌}
+use Rattle.std.proofs.Common.{length, Option, Some, None, refl, sym, ◌∙◌, subst, arith, IsTrue, true≢false}
 use Rattle.std.specs.Prelude.{if◌then◌else◌, ◌||◌}
 use Rattle.std.specs.List.{list_any}
 use Rattle.std.specs.Option.{IsSomeAnd}
@@ -13,36 +14,53 @@ use Rattle.flux_defs.specs.Graph.{parent_of, is_at_or_below}
 use Rattle.flux_defs.specs.Jobs.{is_live, some_live_claim, holds_over, is_on_or_below}
 use Rattle.flux_defs.specs.Closed.{Scene, is_touched, IsClosedIn, IsTouchedIn}
 use Rattle.flux_defs.specs.Available.{IsAvailable}
-use Rattle.graph_laws.proofs.Containment.{ParentsFirst, up, up-None, steps_of, at_or_below, below_self, below_parent, below_trans, not_to}
+use Rattle.graph_laws.proofs.Containment.{ParentsFirst, up, up-None, steps_of, at_or_below, below_self, below_parent}
+use Rattle.graph_laws.proofs.Containment.{below_trans, not_to}
 use Rattle.graph_laws.proofs.Preorder.{has_parent}
 use Rattle.match_laws.proofs.ViewLaws.{available_hold, admits_none, admits_pass}
 use Rattle.dfu_match.specs.Searches.{meets, claim_on}
 
 -- the vertex above is one of the graph
-pub above_inside : (vertices : List Vertex) → ParentsFirst vertices → (v p : ℕ) → parent_of vertices v ≡ Some p → p < length vertices
-above_inside vertices first v p e = let below = first v p e in let within = has_parent vertices v p e in omega (arith, below, within)
+pub above_inside : (vertices : List Vertex) →
+    ParentsFirst vertices → (v p : ℕ) → parent_of vertices v ≡ Some p → p < length vertices
+above_inside vertices first v p e = let below = first v p e in
+    let within = has_parent vertices v p e in omega (arith, below, within)
 
 -- one of two tests passes where a third does
-any_either : {X : Type 0} (f g h : X → Bool) → ((x : X) → IsTrue (f x) → IsTrue (g x) ⊎ IsTrue (h x)) → (xs : List X) → IsTrue (list_any f xs) →
+any_either : {X : Type 0} (f g h : X → Bool) →
+    ((x : X) → IsTrue (f x) → IsTrue (g x) ⊎ IsTrue (h x)) → (xs : List X) → IsTrue (list_any f xs) →
     IsTrue (list_any g xs) ⊎ IsTrue (list_any h xs)
 any_either f g h step [] t = absurd (true≢false (sym t))
 any_either f g h step (x ∷ xs) t = elim (or_cases (f x) (list_any f xs) t) [
-  | inl here ↦ elim (step x here) [ inl a ↦ inl (or_left (g x) (list_any g xs) a) | inr b ↦ inr (or_left (h x) (list_any h xs) b) ]
-  | inr later ↦ elim (any_either f g h step xs later) [ inl a ↦ inl (or_right (g x) (list_any g xs) a) | inr b ↦ inr (or_right (h x) (list_any h xs) b) ]
+  | inl here ↦ elim (step x here) [
+    | inl a ↦ inl (or_left (g x) (list_any g xs) a)
+    | inr b ↦ inr (or_left (h x) (list_any h xs) b)
+  ]
+  | inr later ↦ elim (any_either f g h step xs later) [
+    | inl a ↦ inl (or_right (g x) (list_any g xs) a)
+    | inr b ↦ inr (or_right (h x) (list_any h xs) b)
+  ]
 ]
 
-live_either : (f g h : Claim → Bool) → ((c : Claim) → IsTrue (f c) → IsTrue (g c) ⊎ IsTrue (h c)) → (jobs : List Job) (m : ℕ) → IsTrue (some_live_claim jobs m f) →
+live_either : (f g h : Claim → Bool) → ((c : Claim) → IsTrue (f c) → IsTrue (g c) ⊎ IsTrue (h c)) →
+    (jobs : List Job) (m : ℕ) → IsTrue (some_live_claim jobs m f) →
     IsTrue (some_live_claim jobs m g) ⊎ IsTrue (some_live_claim jobs m h)
 live_either f g h step jobs m =
-    any_either (λ job. is_live m job && list_any f job.claims) (λ job. is_live m job && list_any g job.claims) (λ job. is_live m job && list_any h job.claims) by_job jobs
+    any_either (λ job. is_live m job && list_any f job.claims)
+    (λ job. is_live m job && list_any g job.claims) (λ job. is_live m job && list_any h job.claims) by_job jobs
   where
-    by_job : (job : Job) → IsTrue (is_live m job && list_any f job.claims) → IsTrue (is_live m job && list_any g job.claims) ⊎ IsTrue (is_live m job && list_any h job.claims)
+    by_job : (job : Job) → IsTrue (is_live m job && list_any f job.claims) →
+        IsTrue (is_live m job && list_any g job.claims) ⊎ IsTrue (is_live m job && list_any h job.claims)
     by_job job t =
         let b = and_parts (is_live m job) (list_any f job.claims) t in
-        elim (any_either f g h step job.claims b.1) [ inl a ↦ inl (and_from _ _ b.0 a) | inr c ↦ inr (and_from _ _ b.0 c) ]
+        elim (any_either f g h step job.claims b.1) [
+          | inl a ↦ inl (and_from _ _ b.0 a)
+          | inr c ↦ inr (and_from _ _ b.0 c)
+        ]
 
 -- a vertex is passed where it isn't closed
-pub passes : (scene : Scene) (w : Window) (v : ℕ) (hold closed : Bool) → hold ≡ false → (IsTrue closed ↔ IsClosedIn scene w v) → (IsTrue (not closed) ↔ IsAvailable scene w (claim_on hold v))
+pub passes : (scene : Scene) (w : Window) (v : ℕ) (hold closed : Bool) → hold ≡ false →
+    (IsTrue closed ↔ IsClosedIn scene w v) → (IsTrue (not closed) ↔ IsAvailable scene w (claim_on hold v))
 passes scene w v hold true e h = admits_none scene w v hold true refl h
 passes scene w v hold false e h = admits_pass scene w v hold false e refl h
 
@@ -50,18 +68,23 @@ same_one : {A : Type 0} → A ⊎ A → A
 same_one (inl a) = a
 same_one (inr a) = a
 
-module _ (vertices : List Vertex) (first : ParentsFirst vertices) (v : ℕ) (inside : v < length vertices) (jobs : List Job) (barred : List ℕ) where
+module _ (vertices : List Vertex)
+    (first : ParentsFirst vertices) (v : ℕ) (inside : v < length vertices) (jobs : List Job) (barred : List ℕ) where
   -- what v is at or below is v itself, or the vertex above v is at or below it
-  own_or_above : (u : ℕ) → IsTrue (is_at_or_below vertices v u) → (u ≡ v) ⊎ ((p : ℕ) × (parent_of vertices v ≡ Some p) × IsTrue (is_at_or_below vertices p u))
+  own_or_above : (u : ℕ) → IsTrue (is_at_or_below vertices v u) →
+      (u ≡ v) ⊎ ((p : ℕ) × (parent_of vertices v ≡ Some p) × IsTrue (is_at_or_below vertices p u))
   own_or_above u h = let s = steps_of vertices first v u h in go s.0 s.1
     where
-      go : (n : ℕ) → up vertices n (Some v) ≡ Some u → (u ≡ v) ⊎ ((p : ℕ) × (parent_of vertices v ≡ Some p) × IsTrue (is_at_or_below vertices p u))
+      go : (n : ℕ) → up vertices n (Some v) ≡ Some u →
+          (u ≡ v) ⊎ ((p : ℕ) × (parent_of vertices v ≡ Some p) × IsTrue (is_at_or_below vertices p u))
       go zero e = inl (let same : v ≡ u = cc in sym same)
       go (suc n) e = by_parent (parent_of vertices v) refl e
         where
-          by_parent : (o : Option ℕ) → parent_of vertices v ≡ o → up vertices n o ≡ Some u → (u ≡ v) ⊎ ((p : ℕ) × (parent_of vertices v ≡ Some p) × IsTrue (is_at_or_below vertices p u))
+          by_parent : (o : Option ℕ) → parent_of vertices v ≡ o → up vertices n o ≡ Some u →
+              (u ≡ v) ⊎ ((p : ℕ) × (parent_of vertices v ≡ Some p) × IsTrue (is_at_or_below vertices p u))
           by_parent None q f = absurd (let none : None ≡ Some u = sym (up-None vertices n) ∙ f in cc)
-          by_parent (Some p) q f = inr (p, q, at_or_below vertices first p u n (let lt = first v p q in omega (arith, lt, inside)) f)
+          by_parent (Some p) q f =
+              inr (p, q, at_or_below vertices first p u n (let lt = first v p q in omega (arith, lt, inside)) f)
 
   -- what holds the vertex above holds v
   module _ (p : ℕ) (at : parent_of vertices v ≡ Some p) where
@@ -70,49 +93,89 @@ module _ (vertices : List Vertex) (first : ParentsFirst vertices) (v : ℕ) (ins
     holds_down (Hold u) h = below_trans vertices first v p u inside (below_parent vertices first v p inside at) h
     holds_down (Pass u) h = h
 
-    pub closed_down : (w : Window) → IsClosedIn (meets vertices jobs barred) w p → IsClosedIn (meets vertices jobs barred) w v
+    pub closed_down : (w : Window) →
+        IsClosedIn (meets vertices jobs barred) w p → IsClosedIn (meets vertices jobs barred) w v
     closed_down w (m, lo, hi, h) = (
       m,
       lo,
       hi,
       elim (or_cases (some_live_claim jobs m (holds_over vertices p)) (list_any (is_at_or_below vertices p) barred) h) [
-        | inl held ↦ or_left (some_live_claim jobs m (holds_over vertices v)) (list_any (is_at_or_below vertices v) barred)
-            (same_one (live_either (holds_over vertices p) (holds_over vertices v) (holds_over vertices v) (λ c t. inl (holds_down c t)) jobs m held))
-        | inr bars ↦ or_right (some_live_claim jobs m (holds_over vertices v)) (list_any (is_at_or_below vertices v) barred)
+        | inl held ↦
+            or_left (some_live_claim jobs m (holds_over vertices v)) (list_any (is_at_or_below vertices v) barred)
+            (same_one (live_either (holds_over vertices p)
+            (holds_over vertices v) (holds_over vertices v) (λ c t. inl (holds_down c t)) jobs m held))
+        | inr bars ↦
+            or_right (some_live_claim jobs m (holds_over vertices v)) (list_any (is_at_or_below vertices v) barred)
             (same_one (any_either (is_at_or_below vertices p) (is_at_or_below vertices v) (is_at_or_below vertices v)
-            (λ u t. inl (below_trans vertices first v p u inside (below_parent vertices first v p inside at) t)) barred bars))
+            (λ u t. inl (below_trans vertices first v p u inside (below_parent vertices first v p inside at) t))
+            barred bars))
       ],
     )
 
     -- what closes v closes the vertex above, or touches v
-    own_bar : (u : ℕ) → IsTrue (is_at_or_below vertices v u) → IsTrue (is_at_or_below vertices p u) ⊎ IsTrue (is_at_or_below vertices u v)
+    own_bar : (u : ℕ) → IsTrue (is_at_or_below vertices v u) →
+        IsTrue (is_at_or_below vertices p u) ⊎ IsTrue (is_at_or_below vertices u v)
     own_bar u h = elim (own_or_above u h) [
-      | inl same ↦ inr (subst (λ (x : ℕ). IsTrue (is_at_or_below vertices x v)) (sym same) (below_self vertices first v inside))
-      | inr (q, e, below) ↦ inl (let both : Some q ≡ Some p = sym e ∙ at in let same : q ≡ p = cc in subst (λ (x : ℕ). IsTrue (is_at_or_below vertices x u)) same below)
+      | inl same ↦
+          inr (subst (λ (x : ℕ). IsTrue (is_at_or_below vertices x v)) (sym same) (below_self vertices first v inside))
+      | inr (q, e, below) ↦ inl (let both : Some q ≡ Some p = sym e ∙ at in
+          let same : q ≡ p = cc in subst (λ (x : ℕ). IsTrue (is_at_or_below vertices x u)) same below)
     ]
 
-    own_hold : (c : Claim) → IsTrue (holds_over vertices v c) → IsTrue (holds_over vertices p c) ⊎ IsTrue (is_on_or_below vertices v c)
+    own_hold : (c : Claim) →
+        IsTrue (holds_over vertices v c) → IsTrue (holds_over vertices p c) ⊎ IsTrue (is_on_or_below vertices v c)
     own_hold (Take u q) h = absurd (true≢false (sym h))
     own_hold (Hold u) h = own_bar u h
     own_hold (Pass u) h = absurd (true≢false (sym h))
 
-    pub closed_up : (w : Window) → IsClosedIn (meets vertices jobs barred) w v → IsClosedIn (meets vertices jobs barred) w p ⊎ IsTouchedIn (meets vertices jobs barred) w v
-    closed_up w (m, lo, hi, h) = elim (or_cases (some_live_claim jobs m (holds_over vertices v)) (list_any (is_at_or_below vertices v) barred) h) [
-      | inl held ↦ elim (live_either (holds_over vertices v) (holds_over vertices p) (is_on_or_below vertices v) own_hold jobs m held) [
-        | inl a ↦ inl (m, lo, hi, or_left (some_live_claim jobs m (holds_over vertices p)) (list_any (is_at_or_below vertices p) barred) a)
-        | inr b ↦ inr (m, lo, hi, or_left (some_live_claim jobs m (is_on_or_below vertices v)) (list_any (λ u. is_at_or_below vertices u v) barred) b)
-      ]
-      | inr bars ↦ elim (any_either (is_at_or_below vertices v) (is_at_or_below vertices p) (λ u. is_at_or_below vertices u v) own_bar barred bars) [
-        | inl a ↦ inl (m, lo, hi, or_right (some_live_claim jobs m (holds_over vertices p)) (list_any (is_at_or_below vertices p) barred) a)
-        | inr b ↦ inr (m, lo, hi, or_right (some_live_claim jobs m (is_on_or_below vertices v)) (list_any (λ u. is_at_or_below vertices u v) barred) b)
-      ]
-    ]
+    pub closed_up : (w : Window) → IsClosedIn (meets vertices jobs barred) w v →
+        IsClosedIn (meets vertices jobs barred) w p ⊎ IsTouchedIn (meets vertices jobs barred) w v
+    closed_up w (m, lo, hi, h) = elim (or_cases
+        (some_live_claim jobs m (holds_over vertices v)) (list_any (is_at_or_below vertices v) barred) h) [
+          | inl held ↦ elim (live_either
+              (holds_over vertices v) (holds_over vertices p) (is_on_or_below vertices v) own_hold jobs m held) [
+                | inl a ↦ inl (
+                  m,
+                  lo,
+                  hi,
+                  or_left (some_live_claim jobs m (holds_over vertices p))
+                      (list_any (is_at_or_below vertices p) barred) a,
+                )
+                | inr b ↦ inr (
+                  m,
+                  lo,
+                  hi,
+                  or_left
+                      (some_live_claim jobs m (is_on_or_below vertices v))
+                      (list_any (λ u. is_at_or_below vertices u v) barred) b,
+                )
+              ]
+          | inr bars ↦ elim (any_either (is_at_or_below vertices v)
+              (is_at_or_below vertices p) (λ u. is_at_or_below vertices u v) own_bar barred bars) [
+                | inl a ↦ inl (
+                  m,
+                  lo,
+                  hi,
+                  or_right (some_live_claim jobs m (holds_over vertices p))
+                      (list_any (is_at_or_below vertices p) barred) a,
+                )
+                | inr b ↦ inr (
+                  m,
+                  lo,
+                  hi,
+                  or_right
+                      (some_live_claim jobs m (is_on_or_below vertices v))
+                      (list_any (λ u. is_at_or_below vertices u v) barred) b,
+                )
+              ]
+        ]
 
   -- where no vertex is above, what closes v touches it
   module _ (none : parent_of vertices v ≡ None) where
     root_bar : (u : ℕ) → IsTrue (is_at_or_below vertices v u) → IsTrue (is_at_or_below vertices u v)
     root_bar u h = elim (own_or_above u h) [
-      | inl same ↦ subst (λ (x : ℕ). IsTrue (is_at_or_below vertices x v)) (sym same) (below_self vertices first v inside)
+      | inl same ↦
+          subst (λ (x : ℕ). IsTrue (is_at_or_below vertices x v)) (sym same) (below_self vertices first v inside)
       | inr (q, e, below) ↦ absurd (let both : None ≡ Some q = sym none ∙ e in cc)
     ]
 
@@ -121,47 +184,63 @@ module _ (vertices : List Vertex) (first : ParentsFirst vertices) (v : ℕ) (ins
     root_hold (Hold u) h = root_bar u h
     root_hold (Pass u) h = absurd (true≢false (sym h))
 
-    pub closed_root : (w : Window) → IsClosedIn (meets vertices jobs barred) w v → IsTouchedIn (meets vertices jobs barred) w v
+    pub closed_root : (w : Window) →
+        IsClosedIn (meets vertices jobs barred) w v → IsTouchedIn (meets vertices jobs barred) w v
     closed_root w (m, lo, hi, h) = (
       m,
       lo,
       hi,
       elim (or_cases (some_live_claim jobs m (holds_over vertices v)) (list_any (is_at_or_below vertices v) barred) h) [
-        | inl held ↦ or_left (some_live_claim jobs m (is_on_or_below vertices v)) (list_any (λ u. is_at_or_below vertices u v) barred)
-            (same_one (live_either (holds_over vertices v) (is_on_or_below vertices v) (is_on_or_below vertices v) (λ c t. inl (root_hold c t)) jobs m held))
-        | inr bars ↦ or_right (some_live_claim jobs m (is_on_or_below vertices v)) (list_any (λ u. is_at_or_below vertices u v) barred)
-            (same_one (any_either (is_at_or_below vertices v) (λ u. is_at_or_below vertices u v) (λ u. is_at_or_below vertices u v) (λ u t. inl (root_bar u t)) barred bars))
+        | inl held ↦ or_left
+            (some_live_claim jobs m (is_on_or_below vertices v)) (list_any (λ u. is_at_or_below vertices u v) barred)
+            (same_one (live_either (holds_over vertices v)
+            (is_on_or_below vertices v) (is_on_or_below vertices v) (λ c t. inl (root_hold c t)) jobs m held))
+        | inr bars ↦ or_right
+            (some_live_claim jobs m (is_on_or_below vertices v)) (list_any (λ u. is_at_or_below vertices u v) barred)
+            (same_one (any_either (is_at_or_below vertices v) (λ u. is_at_or_below vertices u v)
+            (λ u. is_at_or_below vertices u v) (λ u t. inl (root_bar u t)) barred bars))
       ],
     )
 
-  module _ (w : Window) (hold : Bool) (holds : hold ≡ true) (above : Bool) (tells : IsTrue above ↔ IsSomeAnd (parent_of vertices v) (IsClosedIn (meets vertices jobs barred) w)) where
+  module _ (w : Window) (hold : Bool) (holds : hold ≡ true) (above : Bool)
+      (tells : IsTrue above ↔ IsSomeAnd (parent_of vertices v) (IsClosedIn (meets vertices jobs barred) w)) where
     -- a vertex below a closed one is not held
     pub none_held : above ≡ true → (IsTrue false ↔ IsAvailable (meets vertices jobs barred) w (claim_on hold v))
     none_held is =
         let closed = by_parent (parent_of vertices v) refl (tells.0 is) in
         admits_none (meets vertices jobs barred) w v hold true refl (λ t. closed, λ c. refl)
       where
-        by_parent : (o : Option ℕ) → parent_of vertices v ≡ o → IsSomeAnd o (IsClosedIn (meets vertices jobs barred) w) → IsClosedIn (meets vertices jobs barred) w v
+        by_parent : (o : Option ℕ) → parent_of vertices v ≡ o →
+            IsSomeAnd o (IsClosedIn (meets vertices jobs barred) w) → IsClosedIn (meets vertices jobs barred) w v
         by_parent None e h = absurd h
         by_parent (Some p) e h = closed_down p e w h
 
     -- below one that isn't closed, whether the vertex is touched decides
-    pub held_untouched : above ≡ false → (touched : Bool) → (IsTrue touched ↔ IsTouchedIn (meets vertices jobs barred) w v) →
+    pub held_untouched : above ≡ false →
+        (touched : Bool) → (IsTrue touched ↔ IsTouchedIn (meets vertices jobs barred) w v) →
         (IsTrue (not touched) ↔ IsAvailable (meets vertices jobs barred) w (claim_on hold v))
     held_untouched open_ touched k =
-        subst (λ (b : Bool). IsTrue (not touched) ↔ IsAvailable (meets vertices jobs barred) w (claim_on b v)) (sym holds) (by_test touched k)
+        subst (λ (b : Bool). IsTrue (not touched) ↔ IsAvailable (meets vertices jobs barred) w (claim_on b v))
+        (sym holds) (by_test touched k)
       where
         closed_touched : IsClosedIn (meets vertices jobs barred) w v → IsTouchedIn (meets vertices jobs barred) w v
         closed_touched c = by_parent (parent_of vertices v) refl (λ h. true≢false (sym (tells.1 h) ∙ open_))
           where
-            by_parent : (o : Option ℕ) → parent_of vertices v ≡ o → (IsSomeAnd o (IsClosedIn (meets vertices jobs barred) w) → ⊥) → IsTouchedIn (meets vertices jobs barred) w v
+            by_parent : (o : Option ℕ) →
+                parent_of vertices v ≡ o → (IsSomeAnd o (IsClosedIn (meets vertices jobs barred) w) → ⊥) →
+                IsTouchedIn (meets vertices jobs barred) w v
             by_parent None e never = closed_root e w c
-            by_parent (Some p) e never = elim (closed_up p e w c) [ inl up_closed ↦ absurd (never up_closed) | inr touch ↦ touch ]
+            by_parent (Some p) e never = elim (closed_up p e w c) [
+              | inl up_closed ↦ absurd (never up_closed)
+              | inr touch ↦ touch
+            ]
 
-        by_test : (t : Bool) → (IsTrue t ↔ IsTouchedIn (meets vertices jobs barred) w v) → (IsTrue (not t) ↔ IsAvailable (meets vertices jobs barred) w (Hold v))
+        by_test : (t : Bool) → (IsTrue t ↔ IsTouchedIn (meets vertices jobs barred) w v) →
+            (IsTrue (not t) ↔ IsAvailable (meets vertices jobs barred) w (Hold v))
         by_test true l = (
           λ t. absurd (true≢false (sym t)),
-          λ each. absurd (let s = l.0 refl in not_to (is_touched (meets vertices jobs barred) s.0 v) (and_parts _ _ (each s.0 s.1 s.2)).1 s.3),
+          λ each. absurd (let s = l.0 refl in
+              not_to (is_touched (meets vertices jobs barred) s.0 v) (and_parts _ _ (each s.0 s.1 s.2)).1 s.3),
         )
         by_test false l = available_hold (meets vertices jobs barred) w v false false
             (λ t. absurd (true≢false (sym t)), λ c. absurd (true≢false (sym (l.1 (closed_touched c))))) l

@@ -1,5 +1,6 @@
 -- Which vertices are open for a need: what a walk that looks from the top comes to.
-use Rattle.std.proofs.Common.{◌≡◌, ℕ, ◌+◌, ◌*◌, ◌<◌, ◌≤◌, ◌==◌, Bool, List, [], ◌∷◌, inl, inr, Option, Some, None, length, sym, ◌∙◌, subst, arith, IsTrue}
+use Rattle.std.proofs.Common.{◌≡◌, ℕ, ◌+◌, ◌*◌, ◌<◌, ◌≤◌, ◌==◌, Bool, List, [], ◌∷◌, inl, inr, Option, Some, None}
+use Rattle.std.proofs.Common.{length, sym, ◌∙◌, subst, arith, IsTrue}
 use Rattle.std.proofs.lemmas.Bool.{cases_lt}
 use Rattle.std.proofs.Math.Nat.{mul-le-mul_right}
 use Rattle.std.specs.List.{AllByRecursion}
@@ -11,7 +12,8 @@ use Rattle.flux_defs.specs.declared.requests.Need.{Need, Vert, Vert', Pool, Spre
 use Rattle.flux_defs.specs.Graph.{ResourceGraph, HasKind, parent_of, is_at_or_below}
 use Rattle.flux_defs.specs.ValidGraph.{IsValidGraph}
 use Rattle.flux_defs.specs.Needs.{amount_of, AreValidNeeds}
-use Rattle.graph_laws.proofs.Containment.{below_self, below_parent, below_trans, below_le, below_from, below_to, parent_below}
+use Rattle.graph_laws.proofs.Containment.{below_self, below_parent, below_trans, below_le, below_from, below_to}
+use Rattle.graph_laws.proofs.Containment.{parent_below}
 use Rattle.graph_laws.proofs.Preorder.{parents_first, between_below}
 use Rattle.resource_graph.specs.Tables.{IsPast}
 use Rattle.prune_filters.specs.Demands.{one_if, demand, row_demand, needs_demand, capped}

@@ -1,5 +1,7 @@
 -- How many steps a search takes: of a walk over the vertices of a need, and of the needs of a list.
-use Rattle.std.proofs.Common.{◌≡◌, ◌≢◌, ℕ, zero, suc, ◌+◌, ◌*◌, ◌<◌, ◌≤◌, Bool, List, [], ◌∷◌, append-nil, inl, inr, Option, Some, None, length, length-append, take, drop, get_or, slice_get, refl, sym, ap, subst, arith}
+use Rattle.std.proofs.Common.{◌≡◌, ◌≢◌, ℕ, zero, suc, ◌+◌, ◌*◌, ◌<◌, ◌≤◌, Bool, List, [], ◌∷◌, append-nil, inl, inr}
+use Rattle.std.proofs.Common.{Option, Some, None, length, length-append, take, drop, get_or, slice_get, refl, sym, ap}
+use Rattle.std.proofs.Common.{subst, arith}
 use Rattle.std.specs.Prelude.{Contains, IfSome, IfNone, MatchOption}
 use Rattle.std.specs.List.{AllByRecursion}
 use Rattle.std.proofs.Math.Nat.{mul-le-mul_right, mul-le-mul_left}
@@ -18,10 +20,13 @@ use Rattle.resource_graph.specs.Tables.{IsPast}
 use Rattle.prune_filters.specs.Shorts.{IsShortFor}
 use Rattle.dfu_match.specs.declared.wanting.Wanted.{Wanted}
 use Rattle.dfu_match.specs.Tables.{all_of, needs_all}
-use Rattle.dfu_match.specs.Pairs.{Pair, HasEachOpen, IsOpenFor, IsClear, IsClearScope, IsClearBetween, IsClearBefore, IsPlaceOf, IsPlaceOfAll, IsSpanOf, Looks, LooksAll, TakesEach, asked_totals, count_among}
+use Rattle.dfu_match.specs.Pairs.{Pair, HasEachOpen, IsOpenFor, IsClear, IsClearScope, IsClearBetween, IsClearBefore}
+use Rattle.dfu_match.specs.Pairs.{IsPlaceOf, IsPlaceOfAll, IsSpanOf, Looks, LooksAll, TakesEach, asked_totals}
+use Rattle.dfu_match.specs.Pairs.{count_among}
 use Rattle.dfu_match.proofs.DemandLaws.{all_Vert, all_Spread, all_next}
 use Rattle.dfu_match.proofs.CountLaws.{each_at, plain_copy, valid_copy, valid_inside}
-use Rattle.dfu_match.proofs.PairLaws.{count_here, count_most, count_split, count_within, takes_none, takes_one, takes_split, takes_upto, takes_visit, takes_within}
+use Rattle.dfu_match.proofs.PairLaws.{count_here, count_most, count_split, count_within, takes_none, takes_one}
+use Rattle.dfu_match.proofs.PairLaws.{takes_split, takes_upto, takes_visit, takes_within}
 use Rattle.dfu_match.proofs.TableLaws.{all_some, place_Spread, place_Vert, place_there, taken_few}
 use Rattle.dfu_match.proofs.OpenLaws.{clear_Spread, clear_Vert, clear_next, clear_start, past_within}
 

@@ -1,5 +1,6 @@
 -- The nodes that an ask bars, as a rising list.
-use Rattle.std.specs.Prelude.{◌≡◌, ℕ, ◌<◌, ◌≤◌, Bool, true, false, List, length, Option, MatchOption, slice_get, slice_index, is_some, IsTrue}
+use Rattle.std.specs.Prelude.{◌≡◌, ℕ, ◌<◌, ◌≤◌, Bool, true, false, List, length, Option, MatchOption, slice_get}
+use Rattle.std.specs.Prelude.{slice_index, is_some, IsTrue}
 use Rattle.std.specs.Option.{option_map_or}
 use Rattle.std.specs.List.{list_any}
 use Rattle.flux_defs.specs.declared.vertices.Vertex.{Vertex}

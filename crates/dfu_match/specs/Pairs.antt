@@ -1,5 +1,6 @@
 -- Pairs of a need of an ask and a vertex: which of them a search may look at, and how many steps that takes.
-use Rattle.std.specs.Prelude.{◌≡◌, ◌≢◌, ℕ, ◌+◌, ◌*◌, ◌<◌, ◌≤◌, ◌⊎◌, Bool, ◌&&◌, nat_le, nat_lt, List, [], ◌∷◌, ◌++◌, drop, length, Option, Some, MatchOption, slice_get, Contains, IsTrue, if◌then◌else◌}
+use Rattle.std.specs.Prelude.{◌≡◌, ◌≢◌, ℕ, ◌+◌, ◌*◌, ◌<◌, ◌≤◌, ◌⊎◌, Bool, ◌&&◌, nat_le, nat_lt, List, [], ◌∷◌, ◌++◌}
+use Rattle.std.specs.Prelude.{drop, length, Option, Some, MatchOption, slice_get, Contains, IsTrue, if◌then◌else◌}
 use Rattle.std.specs.List.{AllByRecursion}
 use Rattle.flux_defs.specs.declared.vertices.Vertex.{Vertex}
 use Rattle.flux_defs.specs.declared.claims.Job.{Job}

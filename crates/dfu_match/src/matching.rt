@@ -76,7 +76,8 @@ pub struct Matcher<'a> {
 pub enum Matched {
     /// The lowest-first claims.
     Fits(List<Claim>),
-    /// No claims fit: the root's total of this kind is below this amount, which the ask demands in full, at some moment.
+    /// No claims fit: the root's total of this kind is below this amount, which the ask demands in full, at some
+    /// moment.
     Short(Demand),
     /// No claims fit, though no total that is kept at the root is below what the ask demands.
     NoFit,
@@ -103,8 +104,8 @@ impl<'a> Matcher<'a> {
         })
     }
 
-    /// What the match comes to over the window, in seconds, where `view` tells what is free of the graph. The only error
-    /// is want of memory. It looks as often as `match_at`.
+    /// What the match comes to over the window, in seconds, where `view` tells what is free of the graph. The only
+    /// error is want of memory. It looks as often as `match_at`.
     pub fn over<F: FreeView, L: Ledger>(
         &self,
         alloc: Global,

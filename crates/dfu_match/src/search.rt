@@ -102,8 +102,8 @@ pub(crate) fn free<F: FreeView, L: Ledger>(s: &Search<F>, vertex: u32, steps: &m
     s.view.free_over(vertex, s.window, steps)
 }
 
-/// Whether the vertex may be held, or passed. A vertex that is held is touched too, so one may be held where the vertex above
-/// it isn't closed and it isn't touched: its own claims are looked at once.
+/// Whether the vertex may be held, or passed. A vertex that is held is touched too, so one may be held where the vertex
+/// above it isn't closed and it isn't touched: its own claims are looked at once.
 pub(crate) fn admits<F: FreeView, L: Ledger>(
     s: &Search<F>,
     hold: bool,

@@ -1,5 +1,6 @@
 //! The walk over the vertices of a need, which enters no subtree that is short for it.
-ghost use Rattle.std.specs.Prelude.{◌≡◌, ℕ, ◌+◌, ◌*◌, ◌⊎◌, ◌<◌, ◌≤◌, ◌↔◌, [], length, List, IfSome, IfNone, IsTrue, MatchOption};
+ghost use Rattle.std.specs.Prelude.{◌≡◌, ℕ, ◌+◌, ◌*◌, ◌⊎◌, ◌<◌, ◌≤◌, ◌↔◌, [], length, List, IfSome, IfNone, IsTrue};
+ghost use Rattle.std.specs.Prelude.{MatchOption};
 ghost use Rattle.flux_defs.specs.declared.vertices.Vertex.{Vertex};
 ghost use Rattle.flux_defs.specs.declared.claims.Job.{Job};
 ghost use Rattle.flux_defs.specs.declared.claims.Claim.{Claim};
@@ -10,7 +11,8 @@ ghost use Rattle.prune_filters.specs.Shorts.{IsShortFor};
 ghost use Rattle.dfu_match.specs.Searches.{open_to, IsKindOfNeed};
 ghost use Rattle.dfu_match.specs.Tables.{all_of, needs_all, StandsAt};
 ghost use Rattle.dfu_match.specs.Walks.{IsParentFrom, ServesNone};
-ghost use Rattle.dfu_match.specs.Pairs.{HasEachOpen, IsClear, IsClearBetween, IsClearBefore, IsPlaceOf, TakesEach, asked_totals};
+ghost use Rattle.dfu_match.specs.Pairs.{HasEachOpen, IsClear, IsClearBetween, IsClearBefore, IsPlaceOf, TakesEach};
+ghost use Rattle.dfu_match.specs.Pairs.{asked_totals};
 
 use crate::search::Search;
 use flux_defs::{FreeView, Need, Steps};

@@ -1,5 +1,6 @@
 //! Writes the lowest-first claims, each once, at the end of a list.
-ghost use Rattle.std.specs.Prelude.{◌≡◌, ℕ, ◌+◌, ◌*◌, ◌<◌, ◌≤◌, [], ◌∷◌, ◌++◌, false, length, List, IfOk, OnOk, MatchBool};
+ghost use Rattle.std.specs.Prelude.{◌≡◌, ℕ, ◌+◌, ◌*◌, ◌<◌, ◌≤◌, [], ◌∷◌, ◌++◌, false, length, List, IfOk, OnOk};
+ghost use Rattle.std.specs.Prelude.{MatchBool};
 ghost use Rattle.flux_defs.specs.declared.vertices.Vertex.{Vertex};
 ghost use Rattle.flux_defs.specs.declared.claims.Job.{Job};
 ghost use Rattle.flux_defs.specs.declared.claims.Claim.{Claim};
@@ -9,7 +10,8 @@ ghost use Rattle.flux_defs.specs.Lowest.{CanServe, FollowsPass, LowestPiece, Low
 ghost use Rattle.match_laws.specs.Offers.{Extends, Offers, SomeGroup, SomeFits, LowestGroup};
 ghost use Rattle.dfu_match.specs.Searches.{open_to, scope_of, IsScope, MayAsk, MayScale, MayScaleNeed};
 ghost use Rattle.dfu_match.specs.Tables.{all_of, needs_all, StandsAt, StandAt};
-ghost use Rattle.dfu_match.specs.Pairs.{HasEachOpen, IsClear, IsClearScope, IsPlaceOf, IsPlaceOfAll, IsSpanOf, Looks, LooksAll, TakesEach, asked_totals};
+ghost use Rattle.dfu_match.specs.Pairs.{HasEachOpen, IsClear, IsClearScope, IsPlaceOf, IsPlaceOfAll, IsSpanOf, Looks};
+ghost use Rattle.dfu_match.specs.Pairs.{LooksAll, TakesEach, asked_totals};
 ghost use Rattle.flux_defs.specs.declared.requests.Need.{Need};
 ghost use Rattle.resource_graph.specs.Tables.{IsPast};
 ghost use Rattle.std.specs.List.{AllByRecursion};

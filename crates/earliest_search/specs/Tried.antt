@@ -37,8 +37,8 @@ abbrev pub HasEachTried : List Job → ℕ → Ask → ℕ → ℕ → List ℕ 
 HasEachTried jobs horizon ask now last tried =
     (t : ℕ) → IsNowOrPoint jobs now t → CountsWithin horizon ask t → t ≤ last → Contains tried t
 
--- From `old` steps to `new` ones, at most these: at each of the moments up to a last one so many looks as are enough for
--- a match over the ask's window there, and one more for the next moment.
+-- From `old` steps to `new` ones, at most these: at each of the moments up to a last one so many looks as are enough
+-- for a match over the ask's window there, and one more for the next moment.
 abbrev pub TakesTries : List Vertex → List Job → (ℕ → ℕ → Type 0) → ℕ → ℕ → Ask → ℕ → ℕ → ℕ → ℕ → Type 0
 TakesTries vertices jobs keeps cost horizon ask now last old new =
     (tried : List ℕ) (looks : ℕ → ℕ) → HasEachTried jobs horizon ask now last tried →

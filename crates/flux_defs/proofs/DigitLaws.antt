@@ -22,7 +22,8 @@ below : (most n : ℕ) → n ≤ most → n < 2 ^ digits_within most n
 below zero n h = omega arith
 below (suc most) n h =
     elim (cases_lt 1 n) [
-      | inl many ↦ rw (large most n many) (omega (arith, below most (n / 2) (omega arith), pow-suc 2 (digits_within most (n / 2))))
+      | inl many ↦ rw (large most n many)
+          (omega (arith, below most (n / 2) (omega arith), pow-suc 2 (digits_within most (n / 2))))
       | inr few ↦ rw (small most n few) (omega arith)
     ]
 
@@ -36,7 +37,12 @@ mono zero most' n m b h = some most' m
 mono (suc most) zero n m b h = omega (arith, small most n (omega arith))
 mono (suc most) (suc most') n m b h =
     elim (cases_lt 1 n) [
-      | inl many ↦ omega (arith, large most n many, large most' m (omega arith), mono most most' (n / 2) (m / 2) (omega arith) (omega arith))
+      | inl many ↦ omega (
+        arith,
+        large most n many,
+        large most' m (omega arith),
+        mono most most' (n / 2) (m / 2) (omega arith) (omega arith),
+      )
       | inr few ↦ omega (arith, small most n few, some (suc most') m)
     ]
 

@@ -33,11 +33,13 @@ IsLowestOfAsk vertices ok ask claims = Lowest vertices ok 1 Everywhere ask.needs
 
 -- some claims fit the ask over the window
 abbrev pub SomeFit : List Vertex → List Job → Ask → Window → Type 0
-SomeFit vertices jobs ask w = (claims : List Claim) × FitsAsk vertices (IsAvailable (scene_of vertices jobs ask) w) ask claims
+SomeFit vertices jobs ask w =
+    (claims : List Claim) × FitsAsk vertices (IsAvailable (scene_of vertices jobs ask) w) ask claims
 
 -- the claims are the ask's lowest-first claims over the window
 abbrev pub IsLowestFirst : List Vertex → List Job → Ask → Window → List Claim → Type 0
-IsLowestFirst vertices jobs ask w claims = IsLowestOfAsk vertices (IsAvailable (scene_of vertices jobs ask) w) ask claims
+IsLowestFirst vertices jobs ask w claims =
+    IsLowestOfAsk vertices (IsAvailable (scene_of vertices jobs ask) w) ask claims
 
 -- the ask may start at t: its window there counts, and some claims fit it
 abbrev pub IsStart : List Vertex → List Job → ℕ → Ask → ℕ → Type 0

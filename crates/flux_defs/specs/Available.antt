@@ -7,7 +7,8 @@ use Rattle.flux_defs.specs.Jobs.{EachMoment}
 use Rattle.flux_defs.specs.Closed.{Scene, is_closed, is_touched}
 use Rattle.flux_defs.specs.Free.{free_at}
 
--- a take is, where so much is free; a hold, where the vertex is neither closed nor touched; a pass, where it isn't closed
+-- a take is, where so much is free; a hold, where the vertex is neither closed nor touched; a pass, where it isn't
+-- closed
 abbrev pub is_available_at : Scene → ℕ → Claim → Bool
 is_available_at s m (Take v q) = nat_le q (free_at s m v)
 is_available_at s m (Hold v) = not (is_closed s m v) && not (is_touched s m v)

@@ -29,7 +29,8 @@ AreDistinct (p ∷ ps) = NoneFor p.0 ps × AreDistinct ps
 -- the claims are one piece after another, one a pick
 abbrev pub Pieces : (ℕ → ℕ → List Claim → Type 0) → List Pick → List Claim → Type 0
 Pieces piece [] claims = claims ≡ []
-Pieces piece (p ∷ ps) claims = (first : List Claim) × (rest : List Claim) × (claims ≡ first ++ rest) × piece p.0 p.1 first × Pieces piece ps rest
+Pieces piece (p ∷ ps) claims =
+    (first : List Claim) × (rest : List Claim) × (claims ≡ first ++ rest) × piece p.0 p.1 first × Pieces piece ps rest
 
 -- a group: pieces of distinct vertices, each of which serves at least 1, and which serve the amount together
 abbrev pub Group : ℕ → (ℕ → ℕ → List Claim → Type 0) → List Claim → Type 0
@@ -53,7 +54,8 @@ module _ (vertices : List Vertex) (ok : Claim → Type 0) where
     pub Piece : Scope → Need → ℕ → ℕ → List Claim → Type 0
     Piece scope (Vert' kind count hold m needs) v q claims =
         (q ≡ 1) × IsIn vertices scope v × HasKind vertices kind v
-        × MatchBool hold (HeldPiece v (FitsRow 1 (Beneath v) needs) claims) (SharedPiece v (FitsRow 1 (Beneath v) needs) claims)
+        × MatchBool hold (HeldPiece v (FitsRow 1 (Beneath v) needs) claims)
+        (SharedPiece v (FitsRow 1 (Beneath v) needs) claims)
     Piece scope (Pool kind quantity) v q claims =
         IsIn vertices scope v × HasKind vertices kind v × (claims ≡ Take v q ∷ []) × ok (Take v q)
     Piece scope (Spread' count m needs) v q claims =

@@ -1,5 +1,6 @@
 -- The resource graph (RFC 4): vertices that contain one another, as a tree.
-use Rattle.std.specs.Prelude.{◌≡◌, ℕ, zero, suc, ◌<◌, Bool, true, false, not, ◌&&◌, ◌==◌, nat_eq, List, [], ◌∷◌, length, Option, Some, None, is_some, slice_get, option_and_then, IsTrue}
+use Rattle.std.specs.Prelude.{◌≡◌, ℕ, zero, suc, ◌<◌, Bool, true, false, not, ◌&&◌, ◌==◌, nat_eq, List, [], ◌∷◌, length}
+use Rattle.std.specs.Prelude.{Option, Some, None, is_some, slice_get, option_and_then, IsTrue}
 use Rattle.std.specs.Option.{IsSomeAnd, option_map_or}
 use Rattle.std.specs.List.{list_any}
 use Rattle.flux_defs.specs.declared.vertices.Vertex.{Vertex}

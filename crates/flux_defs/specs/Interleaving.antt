@@ -56,7 +56,8 @@ with_flight m c p flight = record m { clients = slice_set m.clients c (record p 
 pub record IsAnswered (g : Setting) (old : Machine) (c : ℕ) (p : Progress) (l : Line) (new : Machine) : Type 0 where
   pub reply : Reply
   pub replies : Replies g (state_after first_state old.history) l.command reply
-  pub history : new.history ≡ old.history ++ record { client = c; line = l.line; command = l.command; reply = reply } ∷ []
+  pub history : new.history
+      ≡ old.history ++ record { client = c; line = l.line; command = l.command; reply = reply } ∷ []
   pub clients : new.clients ≡ slice_set old.clients c (record { done = p.done + 1; flight = Idle })
 
 -- what was found of the line's command on the history that was searched
@@ -76,13 +77,16 @@ Searches g script old c new =
     × (verdict : Verdict) × Finds g (state_after first_state seen) l.command verdict
     × (new ≡ with_flight old c p (Searched seen verdict))
 
--- a client that searched is overtaken, and idle again with its line; or, where nothing overtook it, its line is answered
+-- a client that searched is overtaken, and idle again with its line; or, where nothing overtook it, its line is
+-- answered
 abbrev pub Commits : Setting → Script → Machine → ℕ → Machine → Type 0
 Commits g script old c new =
     (p : Progress) × (l : Line) × HasNext script old c p l
     × (seen : List Entry) × (verdict : Verdict) × (p.flight ≡ Searched seen verdict)
-    × (((cause : Cause) × IsOvertaken g old.history (candidate_on seen l verdict) cause × (new ≡ with_flight old c p Idle))
-    ⊎ (((cause : Cause) → IsOvertaken g old.history (candidate_on seen l verdict) cause → ⊥) × IsAnswered g old c p l new))
+    × (((cause : Cause)
+    × IsOvertaken g old.history (candidate_on seen l verdict) cause × (new ≡ with_flight old c p Idle))
+    ⊎ (((cause : Cause) → IsOvertaken g old.history (candidate_on seen l verdict) cause → ⊥)
+    × IsAnswered g old c p l new))
 
 -- an idle client has its next line answered at once
 abbrev pub Decides : Setting → Script → Machine → ℕ → Machine → Type 0
@@ -98,7 +102,8 @@ Happens g script old (Decide c) new = Decides g script old c new
 
 -- the event is one for its client as far as it has come
 abbrev pub IsOpen : Script → Machine → Event → Type 0
-IsOpen script m (Look c) = (p : Progress) × (l : Line) × HasNext script m c p l × (p.flight ≡ Idle) × IsSearchable l.command
+IsOpen script m (Look c) =
+    (p : Progress) × (l : Line) × HasNext script m c p l × (p.flight ≡ Idle) × IsSearchable l.command
 IsOpen script m (Search c) =
     (p : Progress) × (l : Line) × HasNext script m c p l × (seen : List Entry) × (p.flight ≡ Looked seen)
 IsOpen script m (Commit c) =
@@ -108,7 +113,8 @@ IsOpen script m (Decide c) = (p : Progress) × (l : Line) × HasNext script m c 
 
 -- an event happens where it is open, and changes nothing elsewhere
 abbrev pub Takes : Setting → Script → Machine → Event → Machine → Type 0
-Takes g script old event new = (IsOpen script old event × Happens g script old event new) ⊎ ((IsOpen script old event → ⊥) × (new ≡ old))
+Takes g script old event new =
+    (IsOpen script old event × Happens g script old event new) ⊎ ((IsOpen script old event → ⊥) × (new ≡ old))
 
 -- a list of events, one after another
 abbrev pub Runs : Setting → Script → Machine → List Event → Machine → Type 0

@@ -1,5 +1,6 @@
 -- Needs of a request (RFC 14), scaling, and which needs are valid.
--- The inner needs of a need appear here as a row (`end_of-Need`, `more_of-Need`), which is a list of needs within a need.
+-- The inner needs of a need appear here as a row (`end_of-Need`, `more_of-Need`), which is a list of needs within a
+-- need.
 use Rattle.std.specs.Prelude.{◌≡◌, ℕ, suc, ◌*◌, ◌≤◌, true, false, List, [], ◌∷◌, map, Option, Some, None, MatchOption}
 use Rattle.std.specs.List.{AllByRecursion}
 use Rattle.flux_defs.specs.declared.vertices.Vertex.{Vertex}
@@ -80,19 +81,23 @@ abbrev mutual
   -- A valid need: its count or quantity is at least 1; a pool need is of a pool type and a vertex need of none;
   -- a spread's needs are some and hold no spread; and inner needs are valid.
   pub IsValidNeed : List Vertex → Need → Type 0
-  IsValidNeed vertices (Vert' kind count hold m needs) = (1 ≤ count) × (is_pool_kind vertices kind ≡ false) × AreValidRow vertices needs
+  IsValidNeed vertices (Vert' kind count hold m needs) =
+      (1 ≤ count) × (is_pool_kind vertices kind ≡ false) × AreValidRow vertices needs
   IsValidNeed vertices (Pool kind quantity) = (1 ≤ quantity) × (is_pool_kind vertices kind ≡ true)
-  IsValidNeed vertices (Spread' count m needs) = (1 ≤ count) × IsSomeRow needs × HaveNoSpreadRow needs × AreValidRow vertices needs
+  IsValidNeed vertices (Spread' count m needs) =
+      (1 ≤ count) × IsSomeRow needs × HaveNoSpreadRow needs × AreValidRow vertices needs
 
   -- valid needs: each is valid, and any two are well apart
   pub AreValidRow : List Vertex → {m : _} → Row_of-Need m → Type 0
   AreValidRow vertices end_of-Need = Unit {0}
-  AreValidRow vertices (more_of-Need need rest) = IsValidNeed vertices need × AreApartKindsRow vertices need rest × AreValidRow vertices rest
+  AreValidRow vertices (more_of-Need need rest) =
+      IsValidNeed vertices need × AreApartKindsRow vertices need rest × AreValidRow vertices rest
 
 -- the same of a list of needs
 abbrev pub AreValidNeeds : List Vertex → List Need → Type 0
 AreValidNeeds vertices [] = Unit {0}
-AreValidNeeds vertices (need ∷ rest) = IsValidNeed vertices need × AllByRecursion (AreApartKinds vertices need) rest × AreValidNeeds vertices rest
+AreValidNeeds vertices (need ∷ rest) =
+    IsValidNeed vertices need × AllByRecursion (AreApartKinds vertices need) rest × AreValidNeeds vertices rest
 
 -- the numbers rise, each above the one before, from a least one on
 abbrev pub AreRisingFrom : ℕ → List ℕ → Type 0

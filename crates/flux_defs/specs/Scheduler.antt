@@ -1,5 +1,6 @@
 -- The scheduler of one thread: its state, and its reply to each command.
-use Rattle.std.specs.Prelude.{◌≡◌, ℕ, ◌+◌, ◌<◌, ◌≤◌, ◌==◌, not, nat_lt, if◌then◌else◌, ◌⊎◌, List, [], ◌∷◌, ◌++◌, length, filter, Contains, Option, IsSome, MatchOption}
+use Rattle.std.specs.Prelude.{◌≡◌, ℕ, ◌+◌, ◌<◌, ◌≤◌, ◌==◌, not, nat_lt, if◌then◌else◌, ◌⊎◌, List, [], ◌∷◌, ◌++◌, length}
+use Rattle.std.specs.Prelude.{filter, Contains, Option, IsSome, MatchOption}
 use Rattle.std.specs.List.{find}
 use Rattle.flux_defs.specs.declared.vertices.Vertex.{Vertex}
 use Rattle.flux_defs.specs.declared.claims.Job.{Job}
@@ -92,9 +93,11 @@ Replies g s (command.Reserve id ask) =
     (Unless (CountsWithin g.horizon ask s.moment) reply.TooLong
     (Unless ((t : ℕ) × (s.moment ≤ t) × IsStart g.graph.vertices s.jobs g.horizon ask t) reply.NoStart
     (λ r. (t : ℕ) × IsEarliest g.graph.vertices s.jobs g.horizon ask s.moment t × AcceptedOrFull g s id ask t r))))
-Replies g s (command.Satisfy ask) = Unless (IsSatisfiable g.graph.vertices ask) reply.Unsatisfiable (λ r. r ≡ reply.Satisfiable)
+Replies g s (command.Satisfy ask) =
+    Unless (IsSatisfiable g.graph.vertices ask) reply.Unsatisfiable (λ r. r ≡ reply.Satisfiable)
 Replies g s (command.Cancel id) = Unless (IsSome (job_with id s.jobs)) reply.Absent (λ r. r ≡ reply.Cancelled)
-Replies g s (command.Info id) = λ r. MatchOption (job_with id s.jobs) (r ≡ reply.Absent) (λ job. r ≡ info_at s.moment job)
+Replies g s (command.Info id) =
+    λ r. MatchOption (job_with id s.jobs) (r ≡ reply.Absent) (λ job. r ≡ info_at s.moment job)
 Replies g s (command.Advance to) =
     Where (to < s.moment) reply.Backwards
     (Where (g.horizon < to) reply.Beyond (λ r. r ≡ reply.Now to))

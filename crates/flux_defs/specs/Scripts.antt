@@ -24,15 +24,18 @@ HasLines script c lines = slice_get script.lines c ≡ Some lines
 abbrev pub has_number : List Line → ℕ → Bool
 has_number lines n = list_any (λ l. l.line == n) lines
 
--- An order is a list of line numbers. It interleaves the script: it has numbers of the script's lines alone, and of each
--- client's lines it has each once and in their order.
+-- An order is a list of line numbers. It interleaves the script: it has numbers of the script's lines alone, and of
+-- each client's lines it has each once and in their order.
 pub record Interleaves (script : Script) (order : List ℕ) : Type 0 where
-  pub known : All (λ n. (c : ℕ) × (lines : List Line) × HasLines script c lines × Contains (map (λ l. l.line) lines) n) order
-  pub each : (c : ℕ) (lines : List Line) → HasLines script c lines → filter (has_number lines) order ≡ map (λ l. l.line) lines
+  pub known : All
+      (λ n. (c : ℕ) × (lines : List Line) × HasLines script c lines × Contains (map (λ l. l.line) lines) n) order
+  pub each : (c : ℕ) (lines : List Line) →
+      HasLines script c lines → filter (has_number lines) order ≡ map (λ l. l.line) lines
 
 -- the entry answers a line of the script, as its client and number
 abbrev pub Answers : Script → Entry → Type 0
-Answers script e = (lines : List Line) × HasLines script e.client lines × Contains lines (record { line = e.line; command = e.command })
+Answers script e = (lines : List Line)
+    × HasLines script e.client lines × Contains lines (record { line = e.line; command = e.command })
 
 -- The history plays the order of the script: its entries answer the order's lines, one after another, and it is legal.
 pub record Plays (g : Setting) (script : Script) (order : List ℕ) (history : List Entry) : Type 0 where

@@ -1,5 +1,6 @@
 -- Which graphs are valid (RFC 4, in this project's profile): a conjunction over single vertices and pairs of them.
-use Rattle.std.specs.Prelude.{◌≡◌, ◌≢◌, ℕ, suc, ◌<◌, ◌≤◌, ◌⊎◌, ◌↔◌, false, List, length, Some, None, slice_get, codes, IsTrue, IsSome}
+use Rattle.std.specs.Prelude.{◌≡◌, ◌≢◌, ℕ, suc, ◌<◌, ◌≤◌, ◌⊎◌, ◌↔◌, false, List, length, Some, None, slice_get, codes}
+use Rattle.std.specs.Prelude.{IsTrue, IsSome}
 use Rattle.std.specs.Option.{IsSomeAnd}
 use Rattle.flux_defs.specs.declared.vertices.Vertex.{Vertex}
 use Rattle.flux_defs.specs.declared.limits.TheConstants.{GREATEST_NUMBER, MOST_TYPES, MOST_VERTICES}
@@ -28,11 +29,13 @@ pub record NumbersKinds (g : ResourceGraph) : Type 0 where
   pub used : (k : ℕ) → k < length g.kinds → (v : ℕ) × HasKind g.vertices k v
   pub rising : EachVertex g (λ v x. (k : ℕ) → k < x.kind → (u : ℕ) × (u < v) × HasKind g.vertices k u)
 
--- vertices stand in preorder: the first has no parent, and the parent of each other one is the vertex before it or one above that
+-- vertices stand in preorder: the first has no parent, and the parent of each other one is the vertex before it or one
+-- above that
 pub record StandsInPreorder (g : ResourceGraph) : Type 0 where
   pub some : 0 < length g.vertices
   pub root : parent_of g.vertices 0 ≡ None
-  pub next : (v : ℕ) → suc v < length g.vertices → (p : ℕ) × (parent_of g.vertices (suc v) ≡ Some p) × IsTrue (is_at_or_below g.vertices v p)
+  pub next : (v : ℕ) → suc v < length g.vertices →
+      (p : ℕ) × (parent_of g.vertices (suc v) ≡ Some p) × IsTrue (is_at_or_below g.vertices v p)
 
 -- v is a core or a gpu
 abbrev pub IsDevice : ResourceGraph → ℕ → Type 0
@@ -42,7 +45,8 @@ IsDevice g v = HasType g (codes "core") v ⊎ HasType g (codes "gpu") v
 pub record NumbersDevices (g : ResourceGraph) : Type 0 where
   pub housed : (v : ℕ) → IsDevice g v → (n : ℕ) × IsNode g.vertices n × IsTrue (is_below g.vertices v n)
   pub named : (v : ℕ) → IsDevice g v → (id : ℕ) × HasId g id v
-  pub apart : (v u n id kind : ℕ) → IsDevice g v → HasKind g.vertices kind v → HasKind g.vertices kind u → IsNode g.vertices n →
+  pub apart : (v u n id kind : ℕ) →
+      IsDevice g v → HasKind g.vertices kind v → HasKind g.vertices kind u → IsNode g.vertices n →
       IsTrue (is_below g.vertices v n) → IsTrue (is_below g.vertices u n) → HasId g id v → HasId g id u → v ≡ u
 
 -- sizes: a pool contains nothing, and nodes, cores and gpus are whole; no size is past the greatest number
@@ -60,7 +64,8 @@ pub record IsValidGraph (g : ResourceGraph) (names : List (List ℕ)) : Type 0 w
   -- at most 16 vertices from the root to each, both counted
   pub shallow : EachVertex g (λ v x. length (chain g.vertices (length g.vertices) (Some v)) ≤ 16)
   -- no vertex is below one of its own type
-  pub unnested : (v u kind : ℕ) → HasKind g.vertices kind v → HasKind g.vertices kind u → IsTrue (is_below g.vertices v u) → ⊥
+  pub unnested : (v u kind : ℕ) →
+      HasKind g.vertices kind v → HasKind g.vertices kind u → IsTrue (is_below g.vertices v u) → ⊥
   -- no type is called slot
   pub unreserved : EachVertex g (λ v x. slice_get g.kinds x.kind ≢ Some (codes "slot"))
   pub sizes : HasFairSizes g
@@ -70,5 +75,6 @@ pub record IsValidGraph (g : ResourceGraph) (names : List (List ℕ)) : Type 0 w
   pub ranks : (v u rank : ℕ) → HasRank g rank v → HasRank g rank u → v ≡ u
   -- each vertex has a name; siblings differ in theirs, and so do nodes
   pub named : length names ≡ length g.vertices
-  pub siblings : (v u : ℕ) → IsSome (parent_of g.vertices v) → parent_of g.vertices v ≡ parent_of g.vertices u → slice_get names v ≡ slice_get names u → v ≡ u
+  pub siblings : (v u : ℕ) → IsSome (parent_of g.vertices v) →
+      parent_of g.vertices v ≡ parent_of g.vertices u → slice_get names v ≡ slice_get names u → v ≡ u
   pub hosts : (v u : ℕ) → IsNode g.vertices v → IsNode g.vertices u → slice_get names v ≡ slice_get names u → v ≡ u

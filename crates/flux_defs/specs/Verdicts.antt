@@ -23,7 +23,8 @@ IsSearchable c = ⊥
 -- the lowest-first claims at the start
 abbrev pub FoundAt : Setting → State → Ask → ℕ → Verdict → Type 0
 FoundAt g s ask start v =
-    (claims : List Claim) × IsLowestFirst g.graph.vertices s.jobs ask (window_of g.horizon ask start) claims × (v ≡ Found start claims)
+    (claims : List Claim)
+    × IsLowestFirst g.graph.vertices s.jobs ask (window_of g.horizon ask start) claims × (v ≡ Found start claims)
 
 -- what is found of an ask at the present moment alone
 abbrev pub FindsNow : Setting → State → Ask → Verdict → Type 0
@@ -51,7 +52,8 @@ Finds g s c = λ v. ⊥
 
 -- the job with these claims at this start
 abbrev pub job_of : Setting → ℕ → Ask → ℕ → List Claim → Job
-job_of g id ask start claims = record { id = id; start = start; end = (window_of g.horizon ask start).to; claims = claims }
+job_of g id ask start claims =
+    record { id = id; start = start; end = (window_of g.horizon ask start).to; claims = claims }
 
 -- the reply to an allocate or a reserve whose id is new, by its verdict; `none` is the reply where nothing fits
 abbrev pub YieldsJob : Setting → State → ℕ → Ask → Reply → Verdict → Reply → Type 0

@@ -29,7 +29,8 @@ pub trait Desk {
     /// The seat's part of the right to close the desk.
     ghost share: { Self.Seat → ℕ };
 
-    /// Places one entry with this client, line and command, behind all that the seat had seen, and answers its position.
+    /// Places one entry with this client, line and command, behind all that the seat had seen, and answers its
+    /// position.
     /// The gate is told how far it has come. On want of memory, which is the only error, no entry was placed and the
     /// command comes back. It may wait.
     fn submit<R: Wait, G: Gate>(

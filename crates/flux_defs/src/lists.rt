@@ -1,5 +1,6 @@
 //! A list of items, over a `Vec`.
-ghost use Rattle.std.specs.Prelude.{◌≡◌, ◌<◌, ◌↔◌, IsTrue, Some, [], ◌∷◌, ◌++◌, length, slice_get, slice_set, IfErr, MatchOption, OnOk, OnSome};
+ghost use Rattle.std.specs.Prelude.{◌≡◌, ◌<◌, ◌↔◌, IsTrue, Some, [], ◌∷◌, ◌++◌, length, slice_get, slice_set, IfErr};
+ghost use Rattle.std.specs.Prelude.{MatchOption, OnOk, OnSome};
 ghost use Rattle.std.specs.Option.{option_copied};
 
 use std::alloc::{AllocError, AllocFailed, Global};

@@ -31,7 +31,8 @@ pub trait FreeView {
     fn closed_over<L: Ledger>(&self, vertex: u32, window: Window, steps: &mut Steps<L>) -> bool
         requires vertex { vertex < length (graph self.now) }
         requires window { window.from < window.to }
-        ensures answer { (jobs : List Job) → stands_for self.now jobs → (IsTrue result ↔ IsClosedOver (graph self.now) jobs window vertex) }
+        ensures answer { (jobs : List Job) →
+            stands_for self.now jobs → (IsTrue result ↔ IsClosedOver (graph self.now) jobs window vertex) }
         ensures some_work { steps.old < steps.new }
         ensures work { steps.new ≤ steps.old + cost self.now };
 
@@ -39,7 +40,8 @@ pub trait FreeView {
     fn touched_over<L: Ledger>(&self, vertex: u32, window: Window, steps: &mut Steps<L>) -> bool
         requires vertex { vertex < length (graph self.now) }
         requires window { window.from < window.to }
-        ensures answer { (jobs : List Job) → stands_for self.now jobs → (IsTrue result ↔ IsTouchedOver (graph self.now) jobs window vertex) }
+        ensures answer { (jobs : List Job) →
+            stands_for self.now jobs → (IsTrue result ↔ IsTouchedOver (graph self.now) jobs window vertex) }
         ensures some_work { steps.old < steps.new }
         ensures work { steps.new ≤ steps.old + cost self.now };
 
@@ -47,7 +49,8 @@ pub trait FreeView {
     fn free_over<L: Ledger>(&self, vertex: u32, window: Window, steps: &mut Steps<L>) -> u64
         requires vertex { vertex < length (graph self.now) }
         requires window { window.from < window.to }
-        ensures answer { (jobs : List Job) → stands_for self.now jobs → IsFreeOver (graph self.now) jobs window vertex result }
+        ensures answer { (jobs : List Job) →
+            stands_for self.now jobs → IsFreeOver (graph self.now) jobs window vertex result }
         ensures some_work { steps.old < steps.new }
         ensures work { steps.new ≤ steps.old + cost self.now };
 
@@ -62,7 +65,8 @@ pub trait FreeView {
     ) -> Option<u64>
         requires vertex { vertex < length (graph self.now) }
         requires window { window.from < window.to }
-        ensures answer { (jobs : List Job) → stands_for self.now jobs → IfSome result (IsTotalOver (graph self.now) jobs window kind vertex) }
+        ensures answer { (jobs : List Job) →
+            stands_for self.now jobs → IfSome result (IsTotalOver (graph self.now) jobs window kind vertex) }
         ensures kept { IfSome result (λ _. keeps self.now vertex kind) }
         ensures unkept { IfNone result (keeps self.now vertex kind → ⊥) }
         ensures some_work { steps.old < steps.new }
@@ -81,7 +85,8 @@ pub trait FreeView {
         requires vertex { vertex < length (graph self.now) }
         requires window { window.from < window.to }
         ensures answer { (jobs : List Job) → stands_for self.now jobs →
-            (IsTrue result ↔ (keeps self.now vertex kind × IsTooLittle (graph self.now) jobs window vertex kind amount)) }
+            (IsTrue result
+            ↔ (keeps self.now vertex kind × IsTooLittle (graph self.now) jobs window vertex kind amount)) }
         ensures kept { IsTrue result → keeps self.now vertex kind }
         ensures some_work { steps.old < steps.new }
         ensures work { steps.new ≤ steps.old + cost self.now };

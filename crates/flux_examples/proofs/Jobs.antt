@@ -1,5 +1,6 @@
 -- A job on a node, and an ask that bars one.
-use Rattle.std.proofs.Common.{◌≡◌, ℕ, ◌<◌, ◌≤◌, Bool, true, false, not, ◌&&◌, ◌||◌, List, [], ◌∷◌, refl, sym, arith, IsTrue, true≢false, lit<, lit≤}
+use Rattle.std.proofs.Common.{◌≡◌, ℕ, ◌<◌, ◌≤◌, Bool, true, false, not, ◌&&◌, ◌||◌, List, [], ◌∷◌, refl, sym, arith}
+use Rattle.std.proofs.Common.{IsTrue, true≢false, lit<, lit≤}
 use Rattle.std.proofs.lemmas.Bool.Decides.{nat_tests}
 use mathlib.Core.Path.{transport, transport⁻¹}
 use Rattle.flux_defs.specs.declared.claims.Claim.{Claim}
@@ -24,14 +25,16 @@ live_after : (m : ℕ) → 100 ≤ m → is_live m first_core ≡ false
 live_after m le = grind (arith, nat_tests)
 
 -- touched by a live job
-not_held : (closed live on below : Bool) → live ≡ true → on ≡ true → IsTrue (not closed && not ((live && (on || (below || false))) || false || false)) → ⊥
+not_held : (closed live on below : Bool) →
+    live ≡ true → on ≡ true → IsTrue (not closed && not ((live && (on || (below || false))) || false || false)) → ⊥
 not_held true live on below e f h = true≢false (sym h)
 not_held false true true below e f h = true≢false (sym h)
 not_held false false on below e f h = true≢false (sym e)
 not_held false true false below e f h = true≢false (sym f)
 
 -- with no live job
-held_after : (live closes touches : Bool) → live ≡ false → IsTrue (not ((live && closes) || false || false) && not ((live && touches) || false || false))
+held_after : (live closes touches : Bool) →
+    live ≡ false → IsTrue (not ((live && closes) || false || false) && not ((live && touches) || false || false))
 held_after true closes touches e = absurd (true≢false e)
 held_after false closes touches e = refl
 
@@ -49,7 +52,8 @@ module _ (w : Window) where
   pub node_waits : w.from < w.to → w.from < 100 → CanServe two_nodes ok Everywhere whole_node 1 1 → ⊥
   node_waits opens before c =
       let p = transport (piece_Vert two_nodes ok Everywhere 1 1 true (cores 4 ∷ []) 1 1 c.0) c.1 in
-      not_held _ (is_live w.from first_core) (is_at_or_below two_nodes 1 1) (is_at_or_below two_nodes 2 1) (live_before w.from before) nodes_at.0 (p.3.1 w.from (omega arith) opens)
+      not_held _ (is_live w.from first_core) (is_at_or_below two_nodes 1 1)
+      (is_at_or_below two_nodes 2 1) (live_before w.from before) nodes_at.0 (p.3.1 w.from (omega arith) opens)
 
   module _ (late : 100 ≤ w.from) where
     held_late : (v : ℕ) → ok (Hold v)
@@ -63,7 +67,10 @@ module _ (w : Window) where
           refl,
           (
             run 2 4,
-            ((λ e. omega arith, (λ e. omega arith, (λ e. omega arith, tt))), ((λ e. omega arith, (λ e. omega arith, tt)), ((λ e. omega arith, tt), (tt, tt)))),
+            (
+              (λ e. omega arith, (λ e. omega arith, (λ e. omega arith, tt))),
+              ((λ e. omega arith, (λ e. omega arith, tt)), ((λ e. omega arith, tt), (tt, tt))),
+            ),
             (lit≤ tt, (lit≤ tt, (lit≤ tt, (lit≤ tt, tt)))),
             refl,
             (
@@ -97,4 +104,5 @@ module _ (w : Window) where
     )
 
 pub not_over_node0 : (jobs : List Job) (w : Window) → w.from < w.to → IsAvailable (without_node0 jobs) w (Hold 0) → ⊥
-not_over_node0 jobs w opens h = not_over_bar _ _ (is_at_or_below two_nodes 1 0) nodes_at.1 (h w.from (omega arith) opens)
+not_over_node0 jobs w opens h =
+    not_over_bar _ _ (is_at_or_below two_nodes 1 0) nodes_at.1 (h w.from (omega arith) opens)

@@ -55,10 +55,12 @@ abbrev pub beside_first_core : Scene
 beside_first_core = record { vertices = two_nodes; jobs = first_core ∷ []; barred = [] }
 
 abbrev pub WholeNodeWaits : Type 0
-WholeNodeWaits = (w : Window) → w.from < w.to → w.from < 100 → CanServe two_nodes (IsAvailable beside_first_core w) Everywhere whole_node 1 1 → ⊥
+WholeNodeWaits = (w : Window) →
+    w.from < w.to → w.from < 100 → CanServe two_nodes (IsAvailable beside_first_core w) Everywhere whole_node 1 1 → ⊥
 
 abbrev pub WholeNodeFitsLater : Type 0
-WholeNodeFitsLater = (w : Window) → 100 ≤ w.from → CanServe two_nodes (IsAvailable beside_first_core w) Everywhere whole_node 1 1
+WholeNodeFitsLater =
+    (w : Window) → 100 ≤ w.from → CanServe two_nodes (IsAvailable beside_first_core w) Everywhere whole_node 1 1
 
 -- an ask that bars node 0
 abbrev pub without_node0 : List Job → Scene

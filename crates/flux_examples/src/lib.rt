@@ -1,7 +1,8 @@
 //! Worked examples of the definitions, each the contract of a public function that does nothing.
 #![tactic(auto)]
 
-ghost use Rattle.flux_examples.specs.Examples.{TwoSlotsAreLowest, ThreeSlotsNeverFit, WholeNodeWaits, WholeNodeFitsLater, BarredBelowIsNotHeld};
+ghost use Rattle.flux_examples.specs.Examples.{TwoSlotsAreLowest, ThreeSlotsNeverFit, WholeNodeWaits};
+ghost use Rattle.flux_examples.specs.Examples.{WholeNodeFitsLater, BarredBelowIsNotHeld};
 
 /// Two slots of three cores are served by the first three cores of each node.
 pub fn two_slots_of_three_cores()

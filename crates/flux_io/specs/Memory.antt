@@ -1,5 +1,6 @@
 -- The objects in memory and the adapters as contracts see them, and what their calls do.
-use Rattle.std.specs.Prelude.{◌≡◌, ◌-◌, ◌<◌, ◌++◌, ◌↔◌, ℕ, List, length, min, take, drop, Result, IfOk, IsErr, MatchResult, refl}
+use Rattle.std.specs.Prelude.{◌≡◌, ◌-◌, ◌<◌, ◌++◌, ◌↔◌, ℕ, List, length, min, take, drop, Result, IfOk, IsErr}
+use Rattle.std.specs.Prelude.{MatchResult, refl}
 use Rattle.std.specs.Coded.{Coded, code_by, coded×, coded_ℕ}
 use Rattle.flux_io.specs.Counts.{next_count}
 use Rattle.flux_io.specs.Stores.{Stored}

@@ -1,5 +1,6 @@
 -- What a read of a whole file answers.
-use Rattle.std.specs.Prelude.{◌≡◌, ◌⊎◌, ◌<◌, ◌≤◌, ◌++◌, ℕ, List, [], ◌∷◌, length, if◌then◌else◌, Option, Some, None, IfSome, MatchOption, Result, Ok, Err}
+use Rattle.std.specs.Prelude.{◌≡◌, ◌⊎◌, ◌<◌, ◌≤◌, ◌++◌, ℕ, List, [], ◌∷◌, length, if◌then◌else◌, Option, Some, None}
+use Rattle.std.specs.Prelude.{IfSome, MatchOption, Result, Ok, Err}
 use Rattle.std.specs.Str.{bytes_eq}
 use Rattle.flux_io.specs.Counts.{Rose, next_count}
 use Rattle.flux_io.specs.declared.stores.Got.{Got}
@@ -17,7 +18,8 @@ file_of [] name = None
 file_of (file ∷ files) name = if bytes_eq file.0 name then Some file.1 else file_of files name
 
 -- `Whole` appends at most `most` bytes, and any other answer none;
--- where the store tells its files, `Whole` appends the file's bytes, `Absent` means no file and `Long` one of more bytes
+-- where the store tells its files, `Whole` appends the file's bytes, `Absent` means no file and `Long` one of more
+-- bytes
 pub record ReadsFile (told : Option Stored) (name : List ℕ) (most : ℕ) (old new : List ℕ)
     (result : Result Got FileFail) : Type 0 where
   pub whole : result ≡ Ok Whole → IfSome told (λ files. (bytes : List ℕ) × (file_of files name ≡ Some bytes)

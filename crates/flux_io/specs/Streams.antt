@@ -1,5 +1,6 @@
 -- What pushes and pulls do to the bytes and the room that a stream tells.
-use Rattle.std.specs.Prelude.{◌≡◌, ◌-◌, ◌<◌, ◌≤◌, ◌++◌, ℕ, List, length, Option, IfSome, Some, Result, IfOk, OnErr, IsOk}
+use Rattle.std.specs.Prelude.{◌≡◌, ◌-◌, ◌<◌, ◌≤◌, ◌++◌, ℕ, List, length, Option, IfSome, Some, Result, IfOk, OnErr}
+use Rattle.std.specs.Prelude.{IsOk}
 use Rattle.std.specs.Io.KnownBytes.{Appends, Consumes}
 
 -- a push takes at most all bytes, and at least one of a piece that isn't empty

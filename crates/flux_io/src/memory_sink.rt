@@ -1,5 +1,6 @@
 //! Sinks over memory that was reserved before.
-ghost use Rattle.std.specs.Prelude.{◌≡◌, ◌<◌, ◌≤◌, ◌↔◌, [], ℕ, Contains, IfOk, IsErr, MatchResult, None, OnErr, OnOk, Some, length, max, min};
+ghost use Rattle.std.specs.Prelude.{◌≡◌, ◌<◌, ◌≤◌, ◌↔◌, [], ℕ, Contains, IfOk, IsErr, MatchResult, None, OnErr, OnOk};
+ghost use Rattle.std.specs.Prelude.{Some, length, max, min};
 ghost use Rattle.std.specs.Io.KnownBytes.{WriteAppends};
 ghost use Rattle.flux_io.specs.Counts.{HasCause, next_count};
 ghost use Rattle.flux_io.specs.Memory.{TakesPiece, next_call};

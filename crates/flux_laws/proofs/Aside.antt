@@ -1,5 +1,6 @@
 -- Claims under disjoint vertices are aside of each other.
-use Rattle.std.proofs.Common.{◌≡◌, ◌≢◌, ℕ, zero, suc, ◌<◌, List, [], ◌∷◌, Some, slice_get, inl, inr, ap, subst, arith, IsTrue, Contains}
+use Rattle.std.proofs.Common.{◌≡◌, ◌≢◌, ℕ, zero, suc, ◌<◌, List, [], ◌∷◌, Some, slice_get, inl, inr, ap, subst, arith}
+use Rattle.std.proofs.Common.{IsTrue, Contains}
 use mathlib.Core.Path.{transport⁻¹}
 use Rattle.std.proofs.lemmas.Bool.{cases_lt}
 use Rattle.std.specs.List.{AllByRecursion}
@@ -28,15 +29,18 @@ pub of_member : {X : Type 0} (P : X → Type 0) (xs : List X) (x : X) → AllByR
 of_member P xs x all (k, lt, is) = subst P is (All-from_recursion P xs all k x lt)
 
 module _ (vertices : List Vertex) (first : ParentsFirst vertices) (unnested : NoneNested vertices) where
-  aside : (a b : ℕ) (c d : Claim) → groups.AreDisjoint vertices first unnested a b → groups.Under vertices first unnested a c → groups.Under vertices first unnested b d →
-      (IsTrue (is_at_or_below vertices (vertex_of c) (vertex_of d)) → ⊥) × (IsTrue (is_at_or_below vertices (vertex_of d) (vertex_of c)) → ⊥)
+  aside : (a b : ℕ) (c d : Claim) → groups.AreDisjoint vertices first unnested a b →
+      groups.Under vertices first unnested a c → groups.Under vertices first unnested b d →
+      (IsTrue (is_at_or_below vertices (vertex_of c) (vertex_of d)) → ⊥)
+      × (IsTrue (is_at_or_below vertices (vertex_of d) (vertex_of c)) → ⊥)
   aside a b c d apart hc hd = (
     λ h. apart (vertex_of c) hc (hc.0, below_trans vertices first (vertex_of c) (vertex_of d) b hc.0 h hd.1),
     λ h. apart (vertex_of d) (hd.0, below_trans vertices first (vertex_of d) (vertex_of c) a hd.0 h hc.1) hd,
   )
 
   -- of two valid siblings
-  pub siblings_aside : (a b : Need) → ((v u : ℕ) → IsOfNeed vertices a v → IsOfNeed vertices b u → groups.AreDisjoint vertices first unnested v u) →
+  pub siblings_aside : (a b : Need) →
+      ((v u : ℕ) → IsOfNeed vertices a v → IsOfNeed vertices b u → groups.AreDisjoint vertices first unnested v u) →
       IsValidNeed vertices a → IsValidNeed vertices b →
       (ok : Claim → Type 0) (scope : Scope) (n m : ℕ) (cs ds : List Claim) →
       Group n (Piece vertices ok scope a) cs → Group m (Piece vertices ok scope b) ds → AreAside vertices cs ds
@@ -73,16 +77,19 @@ module _ (vertices : List Vertex) (first : ParentsFirst vertices) (unnested : No
       (transport⁻¹ (ap (λ (h : List Claim → Type 0). h claims) (fits_list vertices ok needs k scope)) fit)).0
 
 -- two needs of a valid list are well apart, in one order or the other
-pub valid_pair : (vertices : List Vertex) (needs : List Need) (i j : ℕ) (a b : Need) → AreValidNeeds vertices needs → i < j → slice_get needs i ≡ Some a → slice_get needs j ≡ Some b →
+pub valid_pair : (vertices : List Vertex) (needs : List Need) (i j : ℕ) (a b : Need) →
+    AreValidNeeds vertices needs → i < j → slice_get needs i ≡ Some a → slice_get needs j ≡ Some b →
     AreApartKinds vertices a b
 valid_pair vertices [] i j a b valid lt ea eb = absurd (cc)
 valid_pair vertices (need ∷ rest) i zero a b valid lt ea eb = absurd (omega arith)
 valid_pair vertices (need ∷ rest) zero (suc j) a b valid lt ea eb =
     let same : need ≡ a = cc in subst (λ (n : Need). AreApartKinds vertices n b) same
     (all_at (AreApartKinds vertices need) rest j b valid.1 eb)
-valid_pair vertices (need ∷ rest) (suc i) (suc j) a b valid lt ea eb = valid_pair vertices rest i j a b valid.2 (omega arith) ea eb
+valid_pair vertices (need ∷ rest) (suc i) (suc j) a b valid lt ea eb =
+    valid_pair vertices rest i j a b valid.2 (omega arith) ea eb
 
-pub valid_at : (vertices : List Vertex) (needs : List Need) (i : ℕ) (a : Need) → AreValidNeeds vertices needs → slice_get needs i ≡ Some a → IsValidNeed vertices a
+pub valid_at : (vertices : List Vertex) (needs : List Need) (i : ℕ) (a : Need) →
+    AreValidNeeds vertices needs → slice_get needs i ≡ Some a → IsValidNeed vertices a
 valid_at vertices [] i a valid e = absurd (cc)
 valid_at vertices (need ∷ rest) zero a valid e = let same : need ≡ a = cc in subst (IsValidNeed vertices) same valid.0
 valid_at vertices (need ∷ rest) (suc i) a valid e = valid_at vertices rest i a valid.2 e
@@ -94,15 +101,19 @@ module _ (g : ResourceGraph) (names : List (List ℕ)) (valid : IsValidGraph g n
   unnested' : NoneNested g.vertices
   unnested' = none_nested g names valid
 
-  disjoint : (needs : List Need) (i j : ℕ) (a b : Need) → AreValidNeeds g.vertices needs → i ≢ j → slice_get needs i ≡ Some a → slice_get needs j ≡ Some b →
+  disjoint : (needs : List Need) (i j : ℕ) (a b : Need) →
+      AreValidNeeds g.vertices needs → i ≢ j → slice_get needs i ≡ Some a → slice_get needs j ≡ Some b →
       (v u : ℕ) → IsOfNeed g.vertices a v → IsOfNeed g.vertices b u → groups.AreDisjoint g.vertices first' unnested' v u
   disjoint needs i j a b vs ne ea eb v u hv hu =
       elim (cases_lt i j) [
-        | inl lt ↦ groups.siblings_disjoint g.vertices first' unnested' a b v u (valid_pair g.vertices needs i j a b vs lt ea eb) hv hu
-        | inr ge ↦ groups.disjoint_sym g.vertices first' unnested' u v (groups.siblings_disjoint g.vertices first' unnested' b a u v (valid_pair g.vertices needs j i b a vs (omega arith) eb ea) hu hv)
+        | inl lt ↦ groups.siblings_disjoint g.vertices first' unnested' a b v u
+            (valid_pair g.vertices needs i j a b vs lt ea eb) hv hu
+        | inr ge ↦ groups.disjoint_sym g.vertices first' unnested' u v (groups.siblings_disjoint
+            g.vertices first' unnested' b a u v (valid_pair g.vertices needs j i b a vs (omega arith) eb ea) hu hv)
       ]
 
-  pub groups_aside : (needs : List Need) → AreValidNeeds g.vertices needs → (i j : ℕ) (a b : Need) → i ≢ j → slice_get needs i ≡ Some a → slice_get needs j ≡ Some b →
+  pub groups_aside : (needs : List Need) → AreValidNeeds g.vertices needs →
+      (i j : ℕ) (a b : Need) → i ≢ j → slice_get needs i ≡ Some a → slice_get needs j ≡ Some b →
       (ok : Claim → Type 0) (scope : Scope) (n m : ℕ) (cs ds : List Claim) → Group n (Piece g.vertices ok scope a) cs →
       Group m (Piece g.vertices ok scope b) ds → AreAside g.vertices cs ds
   groups_aside needs vs i j a b ne ea eb ok scope n m cs ds =

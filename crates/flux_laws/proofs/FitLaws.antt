@@ -9,7 +9,8 @@ use Rattle.flux_defs.specs.Graph.{Scope, Beneath}
 use Rattle.flux_defs.specs.Needs.{amount_of}
 use Rattle.flux_defs.specs.Fits.{Pick, Pieces, Group, Piece, FitsRow}
 use Rattle.flux_defs.specs.Lowest.{CanServe, LowestPiece, LowestRow}
-use Rattle.flux_laws.proofs.Filling.{CanFill, IsPickFrom, IsDownward, can_fill_less, fills_parts, fills_once, serve_some}
+use Rattle.flux_laws.proofs.Filling.{CanFill, IsPickFrom, IsDownward, can_fill_less, fills_parts, fills_once}
+use Rattle.flux_laws.proofs.Filling.{serve_some}
 
 -- a take of less is available where one of more is
 abbrev pub TakesLess : (Claim → Type 0) → Type 0
@@ -19,37 +20,44 @@ TakesLess ok = (v q : ℕ) → ok (Take v (q + 1)) → ok (Take v q)
 abbrev pub SomePiece : (ℕ → ℕ → List Claim → Type 0) → ℕ → ℕ → Type 0
 SomePiece piece v q = (claims : List Claim) × piece v q claims
 
-picks_serve : (piece : ℕ → ℕ → List Claim → Type 0) (ps : List Pick) (claims : List Claim) → AllByRecursion (λ p. 1 ≤ p.1) ps → Pieces piece ps claims →
+picks_serve : (piece : ℕ → ℕ → List Claim → Type 0) (ps : List Pick) (claims : List Claim) →
+    AllByRecursion (λ p. 1 ≤ p.1) ps → Pieces piece ps claims →
     AllByRecursion (IsPickFrom (SomePiece piece) 0) ps
 picks_serve piece [] claims some g = tt
 picks_serve piece (p ∷ ps) claims some g = ((omega arith, some.0, (g.0, g.3)), picks_serve piece ps g.1 some.1 g.4)
 
 -- a group shows that its amount can be filled
-pub group_fills : (piece : ℕ → ℕ → List Claim → Type 0) (amount : ℕ) (claims : List Claim) → Group amount piece claims → CanFill (SomePiece piece) 0 amount
+pub group_fills : (piece : ℕ → ℕ → List Claim → Type 0) (amount : ℕ) (claims : List Claim) →
+    Group amount piece claims → CanFill (SomePiece piece) 0 amount
 group_fills piece amount claims g =
     record { picks = g.0; distinct = g.1; each = picks_serve piece g.0 claims g.2 g.4; serves = g.3 }
 
-some_pieces : (piece : ℕ → ℕ → List Claim → Type 0) (ps : List Pick) → AllByRecursion (IsPickFrom (SomePiece piece) 0) ps → (claims : List Claim) × Pieces piece ps claims
+some_pieces : (piece : ℕ → ℕ → List Claim → Type 0) (ps : List Pick) →
+    AllByRecursion (IsPickFrom (SomePiece piece) 0) ps → (claims : List Claim) × Pieces piece ps claims
 some_pieces piece [] each = ([], refl)
 some_pieces piece (p ∷ ps) each =
     let r = some_pieces piece ps each.1 in
     (each.0.2.0 ++ r.0, (each.0.2.0, r.0, refl, each.0.2.1, r.1))
 
 -- and what can be filled has a group
-pub filled_group : (piece : ℕ → ℕ → List Claim → Type 0) (amount : ℕ) → CanFill (SomePiece piece) 0 amount → (claims : List Claim) × Group amount piece claims
+pub filled_group : (piece : ℕ → ℕ → List Claim → Type 0) (amount : ℕ) →
+    CanFill (SomePiece piece) 0 amount → (claims : List Claim) × Group amount piece claims
 filled_group piece amount f =
     let r = some_pieces piece f.picks f.each in
     (r.0, (f.picks, f.distinct, serve_some (SomePiece piece) 0 f.picks f.each, f.serves, r.1))
 
 -- pieces of one kind are pieces of another, of picks that can serve so
-pub pieces_along : (low : ℕ) (piece other : ℕ → ℕ → List Claim → Type 0) → ((v q : ℕ) (claims : List Claim) → SomePiece other v q → piece v q claims → other v q claims) →
-    (ps : List Pick) (claims : List Claim) → AllByRecursion (IsPickFrom (SomePiece other) low) ps → Pieces piece ps claims → Pieces other ps claims
+pub pieces_along : (low : ℕ) (piece other : ℕ → ℕ → List Claim → Type 0) →
+    ((v q : ℕ) (claims : List Claim) → SomePiece other v q → piece v q claims → other v q claims) →
+    (ps : List Pick) (claims : List Claim) →
+    AllByRecursion (IsPickFrom (SomePiece other) low) ps → Pieces piece ps claims → Pieces other ps claims
 pieces_along low piece other along [] claims each g = g
 pieces_along low piece other along (p ∷ ps) claims each g =
     (g.0, g.1, g.2, along p.0 p.1 g.0 each.0.2 g.3, pieces_along low piece other along ps g.1 each.1 g.4)
 
 -- picks have one list of pieces, where a pick has one piece
-pub pieces_once : (piece : ℕ → ℕ → List Claim → Type 0) → ((v q : ℕ) (a b : List Claim) → piece v q a → piece v q b → a ≡ b) →
+pub pieces_once : (piece : ℕ → ℕ → List Claim → Type 0) →
+    ((v q : ℕ) (a b : List Claim) → piece v q a → piece v q b → a ≡ b) →
     (ps : List Pick) (a b : List Claim) → Pieces piece ps a → Pieces piece ps b → a ≡ b
 pieces_once piece once [] a b g h = g ∙ sym h
 pieces_once piece once (p ∷ ps) a b g h =
@@ -119,7 +127,8 @@ module _ (vertices : List Vertex) (ok : Claim → Type 0) where
 
     -- lowest-first claims are determined
     mutual
-      pub piece_once : (need : Need) (v q : ℕ) (a b : List Claim) → LowestPiece vertices ok need v q a → LowestPiece vertices ok need v q b → a ≡ b
+      pub piece_once : (need : Need) (v q : ℕ) (a b : List Claim) →
+          LowestPiece vertices ok need v q a → LowestPiece vertices ok need v q b → a ≡ b
       piece_once (Vert' kind count true m needs) v q a b g h = g ∙ sym h
       piece_once (Vert' kind count false m needs) v q a b g h =
           g.1 ∙ ap (λ x. Pass v ∷ x) (lowest_row_once 1 (Beneath v) needs g.0 h.0 g.2 h.2) ∙ sym h.1

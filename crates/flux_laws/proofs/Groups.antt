@@ -1,5 +1,7 @@
--- The claims of different groups are apart: valid siblings lie in disjoint subtrees, and so do two vertices of one need.
-use Rattle.std.proofs.Common.{◌≡◌, ◌≢◌, ℕ, ◌<◌, ◌≤◌, true, false, List, [], ◌∷◌, ◌++◌, length, Option, Some, None, slice_get, inl, inr, refl, sym, ◌∙◌, subst, arith, IsTrue, true≢false}
+-- The claims of different groups are apart: valid siblings lie in disjoint subtrees, and so do two vertices of one
+-- need.
+use Rattle.std.proofs.Common.{◌≡◌, ◌≢◌, ℕ, ◌<◌, ◌≤◌, true, false, List, [], ◌∷◌, ◌++◌, length, Option, Some, None}
+use Rattle.std.proofs.Common.{slice_get, inl, inr, refl, sym, ◌∙◌, subst, arith, IsTrue, true≢false}
 use Rattle.std.specs.List.{AllByRecursion}
 use Rattle.std.specs.Option.{IsSomeAnd}
 use Rattle.flux_defs.specs.declared.vertices.Vertex.{Vertex}
@@ -20,7 +22,8 @@ same_kind k j (Some x) a b = sym a ∙ b
 
 -- no vertex of a need is below another of it
 abbrev pub NoneNested : List Vertex → Type 0
-NoneNested vertices = (need : Need) (v u : ℕ) → IsOfNeed vertices need v → IsOfNeed vertices need u → IsTrue (is_below vertices v u) → ⊥
+NoneNested vertices =
+    (need : Need) (v u : ℕ) → IsOfNeed vertices need v → IsOfNeed vertices need u → IsTrue (is_below vertices v u) → ⊥
 
 module _ (vertices : List Vertex) (first : ParentsFirst vertices) (unnested : NoneNested vertices) where
   abbrev pub AtOrBelow : ℕ → ℕ → Type 0
@@ -30,23 +33,29 @@ module _ (vertices : List Vertex) (first : ParentsFirst vertices) (unnested : No
   abbrev pub AreDisjoint : ℕ → ℕ → Type 0
   AreDisjoint a b = (w : ℕ) → AtOrBelow w a → AtOrBelow w b → ⊥
 
-  from_line : (a b : ℕ) → (IsTrue (is_at_or_below vertices a b) → ⊥) → (IsTrue (is_at_or_below vertices b a) → ⊥) → AreDisjoint a b
+  from_line : (a b : ℕ) →
+      (IsTrue (is_at_or_below vertices a b) → ⊥) → (IsTrue (is_at_or_below vertices b a) → ⊥) → AreDisjoint a b
   from_line a b p q w ha hb = elim (line vertices first w a b ha.0 ha.1 hb.1) [ inl x ↦ p x | inr y ↦ q y ]
 
   pub disjoint_sym : (a b : ℕ) → AreDisjoint a b → AreDisjoint b a
   disjoint_sym a b d w hb ha = d w ha hb
 
   -- two vertices of one need
-  pub picks_disjoint : (need : Need) (a b : ℕ) → a ≢ b → IsOfNeed vertices need a → IsOfNeed vertices need b → AreDisjoint a b
+  pub picks_disjoint : (need : Need) (a b : ℕ) →
+      a ≢ b → IsOfNeed vertices need a → IsOfNeed vertices need b → AreDisjoint a b
   picks_disjoint need a b ne ha hb =
-      from_line a b (λ h. unnested need a b ha hb (below_from vertices first a b ne h)) (λ h. unnested need b a hb ha (below_from vertices first b a (λ e. ne (sym e)) h))
+      from_line a b (λ h. unnested need a b ha hb (below_from vertices first a b ne h))
+      (λ h. unnested need b a hb ha (below_from vertices first b a (λ e. ne (sym e)) h))
 
   -- a vertex of two needs gives them a kind in common
   kinds_meet : (a b : Need) (v : ℕ) → AreApartKinds vertices a b → IsOfNeed vertices a v → IsOfNeed vertices b v → ⊥
-  kinds_meet (Vert' k c h m n) (Vert' j d i l o) v apart ha hb = apart.kinds k refl (same_kind j k (slice_get vertices v) hb ha)
-  kinds_meet (Vert' k c h m n) (Pool j d) v apart ha hb = apart.kinds k refl (same_kind j k (slice_get vertices v) hb ha)
+  kinds_meet (Vert' k c h m n) (Vert' j d i l o) v apart ha hb =
+      apart.kinds k refl (same_kind j k (slice_get vertices v) hb ha)
+  kinds_meet (Vert' k c h m n) (Pool j d) v apart ha hb =
+      apart.kinds k refl (same_kind j k (slice_get vertices v) hb ha)
   kinds_meet (Vert' k c h m n) (Spread' d l o) v apart ha hb = apart.kinds k refl (v, hb, ha)
-  kinds_meet (Pool k c) (Vert' j d i l o) v apart ha hb = apart.kinds k refl (same_kind j k (slice_get vertices v) hb ha)
+  kinds_meet (Pool k c) (Vert' j d i l o) v apart ha hb =
+      apart.kinds k refl (same_kind j k (slice_get vertices v) hb ha)
   kinds_meet (Pool k c) (Pool j d) v apart ha hb = apart.kinds k refl (same_kind j k (slice_get vertices v) hb ha)
   kinds_meet (Pool k c) (Spread' d l o) v apart ha hb = apart.kinds k refl (v, hb, ha)
   kinds_meet (Spread' c m n) (Vert' j d i l o) v apart ha hb = apart.kinds j (v, ha, hb) refl
@@ -54,7 +63,8 @@ module _ (vertices : List Vertex) (first : ParentsFirst vertices) (unnested : No
   kinds_meet (Spread' c m n) (Spread' d l o) v apart ha hb = apart.spreads tt tt
 
   -- vertices of two siblings
-  pub siblings_disjoint : (n m : Need) (a b : ℕ) → AreApartKinds vertices n m → IsOfNeed vertices n a → IsOfNeed vertices m b → AreDisjoint a b
+  pub siblings_disjoint : (n m : Need) (a b : ℕ) →
+      AreApartKinds vertices n m → IsOfNeed vertices n a → IsOfNeed vertices m b → AreDisjoint a b
   siblings_disjoint n m a b apart ha hb =
       let ne : a ≢ b = λ e. kinds_meet n m b apart (subst (IsOfNeed vertices n) e ha) hb in
       from_line a b (λ h. apart.nested (b, a, hb, ha, below_from vertices first a b ne h))
@@ -64,10 +74,12 @@ module _ (vertices : List Vertex) (first : ParentsFirst vertices) (unnested : No
   abbrev pub Under : ℕ → Claim → Type 0
   Under v c = AtOrBelow (vertex_of c) v
 
-  holder : (c d : Claim) (a b : ℕ) → AreDisjoint a b → Under a c → Under b d → IsTrue (holds_over vertices (vertex_of d) c) → ⊥
+  holder : (c d : Claim) (a b : ℕ) →
+      AreDisjoint a b → Under a c → Under b d → IsTrue (holds_over vertices (vertex_of d) c) → ⊥
   holder (Take u q) d a b apart hc hd h = true≢false (sym h)
   holder (Pass u) d a b apart hc hd h = true≢false (sym h)
-  holder (Hold u) d a b apart hc hd h = apart (vertex_of d) (hd.0, below_trans vertices first (vertex_of d) u a hd.0 h hc.1) hd
+  holder (Hold u) d a b apart hc hd h =
+      apart (vertex_of d) (hd.0, below_trans vertices first (vertex_of d) u a hd.0 h hc.1) hd
 
   -- claims under disjoint vertices are separate
   pub separate : (a b : ℕ) (c d : Claim) → AreDisjoint a b → Under a c → Under b d → AreSeparate vertices c d
@@ -80,14 +92,18 @@ module _ (vertices : List Vertex) (first : ParentsFirst vertices) (unnested : No
   abbrev pub UnderSome : (ℕ → Type 0) → Claim → Type 0
   UnderSome P c = (a : ℕ) × P a × Under a c
 
-  separate_all : (a : ℕ) (c : Claim) (ds : List Claim) (Q : ℕ → Type 0) → ((b : ℕ) → Q b → AreDisjoint a b) → Under a c →
+  separate_all : (a : ℕ) (c : Claim) (ds : List Claim) (Q : ℕ → Type 0) →
+      ((b : ℕ) → Q b → AreDisjoint a b) → Under a c →
       AllByRecursion (UnderSome Q) ds → AllByRecursion (AreSeparate vertices c) ds
   separate_all a c [] Q apart hc h = tt
-  separate_all a c (d ∷ ds) Q apart hc h = (separate a h.0.0 c d (apart h.0.0 h.0.1) hc h.0.2, separate_all a c ds Q apart hc h.1)
+  separate_all a c (d ∷ ds) Q apart hc h =
+      (separate a h.0.0 c d (apart h.0.0 h.0.1) hc h.0.2, separate_all a c ds Q apart hc h.1)
 
   -- two lists of claims, each separate, under vertices that are disjoint
-  separate_append : (cs ds : List Claim) (P Q : ℕ → Type 0) → ((a b : ℕ) → P a → Q b → AreDisjoint a b) → AllByRecursion (UnderSome P) cs →
-      AllByRecursion (UnderSome Q) ds → AreAllSeparate vertices cs → AreAllSeparate vertices ds → AreAllSeparate vertices (cs ++ ds)
+  separate_append : (cs ds : List Claim) (P Q : ℕ → Type 0) →
+      ((a b : ℕ) → P a → Q b → AreDisjoint a b) → AllByRecursion (UnderSome P) cs →
+      AllByRecursion (UnderSome Q) ds →
+      AreAllSeparate vertices cs → AreAllSeparate vertices ds → AreAllSeparate vertices (cs ++ ds)
   separate_append [] ds P Q apart hc hd ac ad = ad
   separate_append (c ∷ cs) ds P Q apart hc hd ac ad = (
     all_append (AreSeparate vertices c) cs ds ac.0 (separate_all hc.0.0 c ds Q (λ b. apart hc.0.0 b hc.0.1) hc.0.2 hd),
@@ -95,13 +111,17 @@ module _ (vertices : List Vertex) (first : ParentsFirst vertices) (unnested : No
   )
 
   -- what lies below a shared vertex is separate from its pass
-  below_pass : (v u : ℕ) (c : Claim) → IsIn vertices (Beneath v) u → Under u c → AreSeparate vertices (Pass v) c × Under v c
+  below_pass : (v u : ℕ) (c : Claim) →
+      IsIn vertices (Beneath v) u → Under u c → AreSeparate vertices (Pass v) c × Under v c
   below_pass v u c within hc =
       let b = below_to vertices first u v within.1 in
       let lo : v ≤ u = below_le vertices first u v b.0 in
       let ne : u ≢ v = b.1 in
       let le : u ≤ vertex_of c = below_le vertices first (vertex_of c) u hc.1 in (
-        (λ e. (let same : v ≡ vertex_of c = e in omega arith), record { first = λ h. true≢false (sym h); second = above c v u lo ne le }),
+        (
+          λ e. (let same : v ≡ vertex_of c = e in omega arith),
+          record { first = λ h. true≢false (sym h); second = above c v u lo ne le },
+        ),
         (hc.0, below_trans vertices first (vertex_of c) u v hc.0 hc.1 b.0),
       )
     where
@@ -120,7 +140,8 @@ module _ (vertices : List Vertex) (first : ParentsFirst vertices) (unnested : No
 
   -- such a vertex is disjoint from every vertex of a need that is well apart from the row's
   abbrev pub IsRootOf : {m : _} → Row_of-Need m → ℕ → Type 0
-  IsRootOf row u = (need : Need) (v : ℕ) → AreApartKindsRow vertices need row → IsOfNeed vertices need v → AreDisjoint v u
+  IsRootOf row u = (need : Need) (v : ℕ) →
+      AreApartKindsRow vertices need row → IsOfNeed vertices need v → AreDisjoint v u
 
   module _ (ok : Claim → Type 0) where
     pub piece_vertex : (scope : Scope) (need : Need) (v q : ℕ) (cs : List Claim) → Piece vertices ok scope need v q cs →
@@ -134,13 +155,22 @@ module _ (vertices : List Vertex) (first : ParentsFirst vertices) (unnested : No
     IsPieceOf v cs = AreAllSeparate vertices cs × AllByRecursion (Under v) cs
 
     one : (v : ℕ) (c : Claim) (cs : List Claim) → vertex_of c ≡ v → cs ≡ c ∷ [] → v < length vertices → IsPieceOf v cs
-    one v c cs e f lt = subst (IsPieceOf v) (sym f) ((tt, tt), ((subst (λ (x : ℕ). AtOrBelow x v) (sym e) (lt, below_self vertices first v lt)), tt))
+    one v c cs e f lt = subst (IsPieceOf v)
+        (sym f) ((tt, tt), ((subst (λ (x : ℕ). AtOrBelow x v) (sym e) (lt, below_self vertices first v lt)), tt))
 
-    passed : (v : ℕ) (within cs : List Claim) (P : ℕ → Type 0) → cs ≡ Pass v ∷ within → v < length vertices → AreAllSeparate vertices within → AllByRecursion (RootedIn (Beneath v) P) within → IsPieceOf v cs
+    passed : (v : ℕ) (within cs : List Claim) (P : ℕ → Type 0) → cs ≡ Pass v ∷ within → v < length vertices →
+        AreAllSeparate vertices within → AllByRecursion (RootedIn (Beneath v) P) within → IsPieceOf v cs
     passed v within cs P f lt apart roots =
         subst (IsPieceOf v) (sym f) (
-          (all_along (RootedIn (Beneath v) P) (AreSeparate vertices (Pass v)) (λ c r. (below_pass v r.0 c r.1.1 r.2).0) within roots, apart),
-          ((lt, below_self vertices first v lt), all_along (RootedIn (Beneath v) P) (Under v) (λ c r. (below_pass v r.0 c r.1.1 r.2).1) within roots),
+          (
+            all_along (RootedIn (Beneath v) P)
+                (AreSeparate vertices (Pass v)) (λ c r. (below_pass v r.0 c r.1.1 r.2).0) within roots,
+            apart,
+          ),
+          (
+            (lt, below_self vertices first v lt),
+            all_along (RootedIn (Beneath v) P) (Under v) (λ c r. (below_pass v r.0 c r.1.1 r.2).1) within roots,
+          ),
         )
 
     abbrev pub IsOfPicks : Need → List Pick → ℕ → Type 0
@@ -161,7 +191,8 @@ module _ (vertices : List Vertex) (first : ParentsFirst vertices) (unnested : No
         subst (λ (xs : List Claim). AreAllSeparate vertices xs
         × AllByRecursion (RootedIn scope (IsOfPicks need (p ∷ ps))) xs) (sym g.2) (
           separate_append g.0 g.1 (λ u. u ≡ p.0) (IsOfPicks need ps)
-              (λ u w e h. subst (λ (x : ℕ). AreDisjoint x w) (sym e) (picks_disjoint need p.0 w (λ same. h.1 p.0 d.0 (sym same)) k.0 h.0))
+              (λ u w e h. subst (λ (x : ℕ). AreDisjoint x w)
+              (sym e) (picks_disjoint need p.0 w (λ same. h.1 p.0 d.0 (sym same)) k.0 h.0))
               (all_along (Under p.0) (UnderSome (λ u. u ≡ p.0)) (λ c h. (p.0, refl, h)) g.0 a.1)
               (all_along (RootedIn scope (IsOfPicks need ps)) (UnderSome (IsOfPicks need ps))
               (λ c h. (h.0, h.1.0, h.2)) g.1 r.1)
@@ -205,7 +236,8 @@ module _ (vertices : List Vertex) (first : ParentsFirst vertices) (unnested : No
                 g.0 r.0,
             all_append (RootedIn scope (IsRootOf (more_of-Need need rest))) f.0 f.1
                 (all_along (RootedIn scope (IsOfPicks need f.3.0)) (RootedIn scope (IsRootOf (more_of-Need need rest)))
-                (λ c h. (h.0, (λ other v apart is. siblings_disjoint other need v h.0 apart.0 is h.1.0.0, h.1.1), h.2)) f.0 g.1)
+                (λ c h. (h.0, (λ other v apart is. siblings_disjoint other need v h.0 apart.0 is h.1.0.0, h.1.1), h.2))
+                f.0 g.1)
                 (all_along (RootedIn scope (IsRootOf rest)) (RootedIn scope (IsRootOf (more_of-Need need rest)))
                 (λ c h. (h.0, (λ other v apart is. h.1.0 other v apart.1 is, h.1.1), h.2)) f.1 r.1),
           )

@@ -14,7 +14,8 @@ module _ (g : ResourceGraph) (names : List (List ℕ)) (valid : IsValidGraph g n
   there P None h = elim h [ ]
   there P (Some y) h = (y, refl, h)
 
-  kind_named : (x : Option Vertex) (name : List ℕ) → IsSomeAnd x (λ y. slice_get g.kinds y.kind ≡ Some name) → (k : ℕ) × IsSomeAnd x (λ y. y.kind ≡ k) × (slice_get g.kinds k ≡ Some name)
+  kind_named : (x : Option Vertex) (name : List ℕ) → IsSomeAnd x (λ y. slice_get g.kinds y.kind ≡ Some name) →
+      (k : ℕ) × IsSomeAnd x (λ y. y.kind ≡ k) × (slice_get g.kinds k ≡ Some name)
   kind_named None name h = elim h [ ]
   kind_named (Some y) name h = (y.kind, refl, h)
 
@@ -28,11 +29,13 @@ module _ (g : ResourceGraph) (names : List (List ℕ)) (valid : IsValidGraph g n
   named_is_some (Some n) name e = search
 
   -- nodes have one kind
-  pub nodes_alike : (v u : ℕ) → IsNode g.vertices v → IsNode g.vertices u → (k : ℕ) × HasKind g.vertices k v × HasKind g.vertices k u
+  pub nodes_alike : (v u : ℕ) →
+      IsNode g.vertices v → IsNode g.vertices u → (k : ℕ) × HasKind g.vertices k v × HasKind g.vertices k u
   nodes_alike v u hv hu =
       let a = kind_named (slice_get g.vertices v) (codes "node") (is_node_type v hv) in
       let b = kind_named (slice_get g.vertices u) (codes "node") (is_node_type u hu) in
-      let same : b.0 ≡ a.0 = valid.kinds.apart b.0 a.0 (named_is_some (slice_get g.kinds b.0) (codes "node") b.2) (b.2 ∙ sym a.2) in
+      let same : b.0 ≡ a.0 =
+      valid.kinds.apart b.0 a.0 (named_is_some (slice_get g.kinds b.0) (codes "node") b.2) (b.2 ∙ sym a.2) in
       (a.0, a.1, subst (λ (k : ℕ). HasKind g.vertices k u) same b.1)
 
   -- no vertex of a need is below another of it

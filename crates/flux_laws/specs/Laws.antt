@@ -49,11 +49,13 @@ FewerCopiesFit = (s : Scene) (w : Window) (k : ℕ) (scope : Scope) (needs : Lis
 -- none of the first claims is on a vertex at or below one of the others, nor the other way round
 abbrev pub AreAside : List Vertex → List Claim → List Claim → Type 0
 AreAside vertices cs ds = (c d : Claim) → Contains cs c → Contains ds d →
-    (IsTrue (is_at_or_below vertices (vertex_of c) (vertex_of d)) → ⊥) × (IsTrue (is_at_or_below vertices (vertex_of d) (vertex_of c)) → ⊥)
+    (IsTrue (is_at_or_below vertices (vertex_of c) (vertex_of d)) → ⊥)
+    × (IsTrue (is_at_or_below vertices (vertex_of d) (vertex_of c)) → ⊥)
 
 -- The groups of two different needs of a valid list are aside of each other.
 abbrev pub GroupsAreAside : Type 0
-GroupsAreAside = (g : ResourceGraph) (names : List (List ℕ)) → IsValidGraph g names → (needs : List Need) → AreValidNeeds g.vertices needs →
+GroupsAreAside = (g : ResourceGraph) (names : List (List ℕ)) →
+    IsValidGraph g names → (needs : List Need) → AreValidNeeds g.vertices needs →
     (i j : ℕ) (a b : Need) → i ≢ j → slice_get needs i ≡ Some a → slice_get needs j ≡ Some b →
     (s : Scene) (w : Window) (scope : Scope) (n m : ℕ) (cs ds : List Claim) →
     Group n (Piece g.vertices (IsAvailable s w) scope a) cs → Group m (Piece g.vertices (IsAvailable s w) scope b) ds →
@@ -61,13 +63,15 @@ GroupsAreAside = (g : ResourceGraph) (names : List (List ℕ)) → IsValidGraph 
 
 -- The pieces of two different vertices of one valid need are aside of each other.
 abbrev pub PiecesAreAside : Type 0
-PiecesAreAside = (g : ResourceGraph) (names : List (List ℕ)) → IsValidGraph g names → (need : Need) → IsValidNeed g.vertices need →
+PiecesAreAside = (g : ResourceGraph) (names : List (List ℕ)) →
+    IsValidGraph g names → (need : Need) → IsValidNeed g.vertices need →
     (s : Scene) (w : Window) (scope : Scope) (v u q r : ℕ) (cs ds : List Claim) → v ≢ u →
     Piece g.vertices (IsAvailable s w) scope need v q cs → Piece g.vertices (IsAvailable s w) scope need u r ds →
     AreAside g.vertices cs ds
 
 -- So no vertex has two claims of a fit, and none lies below what another holds.
 abbrev pub FitsAreSeparate : Type 0
-FitsAreSeparate = (g : ResourceGraph) (names : List (List ℕ)) → IsValidGraph g names → (ask : Ask) → AreValidNeeds g.vertices ask.needs →
+FitsAreSeparate = (g : ResourceGraph) (names : List (List ℕ)) →
+    IsValidGraph g names → (ask : Ask) → AreValidNeeds g.vertices ask.needs →
     (jobs : List Job) (w : Window) (claims : List Claim) →
     FitsAsk g.vertices (IsAvailable (scene_of g.vertices jobs ask) w) ask claims → AreAllSeparate g.vertices claims

@@ -1,7 +1,8 @@
 //! Laws of the definitions, each the contract of a public function that does nothing.
 #![tactic(auto)]
 
-ghost use Rattle.flux_laws.specs.Laws.{LowestIsDetermined, ReplyIsDetermined, LowestFits, MultiplyingIsScaling, FewerCopiesFit, GroupsAreAside, PiecesAreAside, FitsAreSeparate};
+ghost use Rattle.flux_laws.specs.Laws.{LowestIsDetermined, ReplyIsDetermined, LowestFits, MultiplyingIsScaling};
+ghost use Rattle.flux_laws.specs.Laws.{FewerCopiesFit, GroupsAreAside, PiecesAreAside, FitsAreSeparate};
 
 /// At most one list of claims is lowest-first.
 pub fn lowest_is_determined()

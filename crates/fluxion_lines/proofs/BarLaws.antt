@@ -1,5 +1,6 @@
 -- How many nodes a line bars: no more than the graph has vertices.
-use Rattle.std.proofs.Common.{◌≡◌, ℕ, ◌≤◌, ◌||◌, if◌then◌else◌, Bool, true, false, List, length, codes, Option, Some, None, Result, Ok, Err, refl, arith}
+use Rattle.std.proofs.Common.{◌≡◌, ℕ, ◌≤◌, ◌||◌, if◌then◌else◌, Bool, true, false, List, length, codes, Option, Some}
+use Rattle.std.proofs.Common.{None, Result, Ok, Err, refl, arith}
 use Rattle.std.specs.List.{range_with_len}
 use Rattle.std.specs.Result.{result_map_both}
 use Rattle.std.proofs.lemmas.List.FromFn.{length-range_with_len}
@@ -33,7 +34,8 @@ use Rattle.fluxion_lines.specs.Lines.{read_of}
 use Rattle.fluxion_lines.specs.Inputs.{bars_in}
 use Rattle.fluxion_lines.specs.Reasons.{spec_reason}
 use Rattle.fluxion_lines.specs.Words.{skipped, first_word, after_word}
-use Rattle.fluxion_lines.specs.Commands.{is_none, is_client, verb_of, invalid, asked, with_job, job_and_ask, ask_alone, number_alone, made, command_by, command_or, command_of, bars_of_command}
+use Rattle.fluxion_lines.specs.Commands.{is_none, is_client, verb_of, invalid, asked, with_job, job_and_ask, ask_alone}
+use Rattle.fluxion_lines.specs.Commands.{number_alone, made, command_by, command_or, command_of, bars_of_command}
 
 -- what holds of a result, if there is one
 abbrev Of : {A E : Type 0} → Result A E → (A → Type 0) → Type 0

@@ -1,5 +1,6 @@
 -- Clients of an input: no line number is of two of them, and they are no more than the limits allow.
-use Rattle.std.proofs.Common.{◌≡◌, ℕ, ◌+◌, ◌≤◌, ◌==◌, ◌||◌, nat_lt, if◌then◌else◌, Bool, true, false, cond, List, [], ◌∷◌, map, length, Option, Some, None, inl, inr, refl, sym, ◌∙◌, ap, arith}
+use Rattle.std.proofs.Common.{◌≡◌, ℕ, ◌+◌, ◌≤◌, ◌==◌, ◌||◌, nat_lt, if◌then◌else◌, Bool, true, false, cond, List, []}
+use Rattle.std.proofs.Common.{◌∷◌, map, length, Option, Some, None, inl, inr, refl, sym, ◌∙◌, ap, arith}
 use Rattle.std.specs.List.{AllByRecursion}
 use Rattle.std.specs.Option.{option_or}
 use Rattle.std.proofs.lemmas.Bool.{eqb-true}
@@ -14,14 +15,16 @@ use Rattle.text_table.specs.Tables.{with_text, with_texts}
 use Rattle.fluxion_lines.specs.declared.commands.Form.{Form}
 use Rattle.fluxion_lines.specs.declared.input.Over.TheVariants as over
 use Rattle.fluxion_lines.specs.Lines.{lines_of}
-use Rattle.fluxion_lines.specs.Inputs.{bars_in, client_in, clients_of, line_over_size, numbered_lines, over_bars, over_from, over_in}
+use Rattle.fluxion_lines.specs.Inputs.{bars_in, client_in, clients_of, line_over_size, numbered_lines, over_bars}
+use Rattle.fluxion_lines.specs.Inputs.{over_from, over_in}
 use Rattle.fluxion_lines.specs.Scripts.{line_held, lines_by, script_of}
 use Rattle.fluxion_lines.proofs.ScriptLaws.{by_more, lines_are, numbers_are_own}
 
 -- ---- numbers
 
 -- the line of the client that has this number
-found_line : (P : ClientLine → Type 0) (c n : ℕ) (ls : List ClientLine) → AllByRecursion P ls → has_number (lines_by c ls) n ≡ true
+found_line : (P : ClientLine → Type 0) (c n : ℕ) (ls : List ClientLine) →
+    AllByRecursion P ls → has_number (lines_by c ls) n ≡ true
     → (l : ClientLine) × P l × (l.client ≡ c) × (l.line ≡ n)
 found_line P c n [] all has = absurd cc
 found_line P c n (l ∷ ls) all has = elim (eqb_tells l.client c) [
@@ -45,10 +48,14 @@ module _ (g : NamedGraph) (form : Form) (bytes : List ℕ) where
       → HasLines (script_of g form bytes) c' ls' → has_number ls n ≡ true → has_number ls' n ≡ true → c ≡ c'
   numbers_apart c c' ls ls' n own own' has has' =
       let all = numbered_lines g form bytes in
-      let first : has_number (lines_by c all) n ≡ true = ap (λ h. has_number h n) (lines_are g form bytes c ls own) ∙ has in
-      let second : has_number (lines_by c' all) n ≡ true = ap (λ h. has_number h n) (lines_are g form bytes c' ls' own') ∙ has' in
-      let found = found_line (λ l. has_number (lines_by c' all) l.line ≡ (l.client == c')) c n all (numbers_are_own g form bytes c') first in
-      eqb-true c c' (ap (λ d. d == c') (sym found.2) ∙ (sym found.1 ∙ (ap (has_number (lines_by c' all)) found.3 ∙ second)))
+      let first : has_number (lines_by c all) n ≡ true =
+      ap (λ h. has_number h n) (lines_are g form bytes c ls own) ∙ has in
+      let second : has_number (lines_by c' all) n ≡ true =
+      ap (λ h. has_number h n) (lines_are g form bytes c' ls' own') ∙ has' in
+      let found = found_line (λ l. has_number (lines_by c' all) l.line ≡ (l.client == c')) c n all
+      (numbers_are_own g form bytes c') first in
+      eqb-true c c'
+      (ap (λ d. d == c') (sym found.2) ∙ (sym found.1 ∙ (ap (has_number (lines_by c' all)) found.3 ∙ second)))
 
 -- ---- limits
 
@@ -61,14 +68,16 @@ rest_none None b h = h
 rest_none (Some x) b h = absurd cc
 
 few_here : (limits : Limits) (at bytes clients : ℕ) (many long late : Bool) → nat_lt limits.clients clients ≡ many
-    → (if late then Some (over.Lines at) else if long then Some (over.LineBytes at) else if many then Some (over.Clients at) else None) ≡ None
+    → (if late then Some (over.Lines at)
+    else if long then Some (over.LineBytes at) else if many then Some (over.Clients at) else None) ≡ None
     → clients ≤ limits.clients
 few_here limits at bytes clients many long true is h = absurd cc
 few_here limits at bytes clients many true false is h = absurd cc
 few_here limits at bytes clients true false false is h = absurd cc
 few_here limits at bytes clients false false false is h = grind (arith, nat_tests)
 
-few_from : (limits : Limits) (g : NamedGraph) (form : Form) (clients : List (List ℕ)) (bars at : ℕ) (raws : List (List ℕ))
+few_from : (limits : Limits)
+    (g : NamedGraph) (form : Form) (clients : List (List ℕ)) (bars at : ℕ) (raws : List (List ℕ))
     → length clients ≤ limits.clients → over_from limits g form clients bars at raws ≡ None
     → length (with_texts clients (map client_in raws)) ≤ limits.clients
 few_from limits g form clients bars at [] few h = few
@@ -78,12 +87,14 @@ few_from limits g form clients bars at (raw ∷ raws) few h =
     let barred = over_bars limits at (bars + bars_in g form raw) in
     let rest = over_from limits g form next (bars + bars_in g form raw) (at + 1) raws in
     few_from limits g form next (bars + bars_in g form raw) (at + 1) raws
-    (few_here limits at (length raw) (length next) (nat_lt limits.clients (length next)) (nat_lt limits.line_bytes (length raw))
+    (few_here limits at
+    (length raw) (length next) (nat_lt limits.clients (length next)) (nat_lt limits.line_bytes (length raw))
     (nat_lt limits.lines at) refl (first_none size barred (first_none (option_or size barred) rest h)))
     (rest_none (option_or size barred) rest h)
 
 -- a script within the limits has no more clients than they allow
-pub few_clients_within : (limits : Limits) (g : NamedGraph) (form : Form) (bytes : List ℕ) → over_in limits g form bytes ≡ None
+pub few_clients_within : (limits : Limits) (g : NamedGraph) (form : Form) (bytes : List ℕ) →
+    over_in limits g form bytes ≡ None
     → length ((script_of g form bytes).lines) ≤ limits.clients
 few_clients_within limits g form bytes h =
     let n = length-map-range_with_len (λ c. lines_by c (numbered_lines g form bytes)) 0 (length (clients_of bytes)) in

@@ -1,5 +1,6 @@
 -- The column LINE of a history's text.
-use Rattle.std.proofs.Common.{◌≡◌, ℕ, suc, ◌+◌, ◌^◌, ◌<◌, ◌≤◌, ◌==◌, not, cond, List, [], ◌∷◌, ◌++◌, map, length, take, drop, unwrap_or, decimal, codes, refl, sym, ◌∙◌, ap, subst, arith, append_assoc}
+use Rattle.std.proofs.Common.{◌≡◌, ℕ, suc, ◌+◌, ◌^◌, ◌<◌, ◌≤◌, ◌==◌, not, cond, List, [], ◌∷◌, ◌++◌, map, length, take}
+use Rattle.std.proofs.Common.{drop, unwrap_or, decimal, codes, refl, sym, ◌∙◌, ap, subst, arith, append_assoc}
 use Rattle.std.specs.List.{AllByRecursion, position_or_len}
 use Rattle.std.proofs.lemmas.Bool.{ne_eqb}
 use Rattle.std.proofs.lemmas.List.Sums.{sum_by-append}
@@ -166,7 +167,8 @@ rows_from g clients at (e ∷ es) =
 
 -- an output line is the row of its entry
 line_is : (at line : List ℕ) (client reply : List ℕ) →
-    at ++ codes " " ++ line ++ codes " " ++ client ++ codes " " ++ reply ++ codes "\n" ≡ (at ++ (32 ∷ (line ++ (32 ∷ (client ++ (32 ∷ reply)))))) ++ 10 ∷ []
+    at ++ codes " " ++ line ++ codes " " ++ client ++ codes " " ++ reply ++ codes "\n"
+    ≡ (at ++ (32 ∷ (line ++ (32 ∷ (client ++ (32 ∷ reply)))))) ++ 10 ∷ []
 line_is at line client reply = ap (λ xs. xs ++ 10 ∷ []) (simp append_assoc)
 
 text_is : (g : NamedGraph) (clients : List (List ℕ)) (at : ℕ) (history : List Entry) →

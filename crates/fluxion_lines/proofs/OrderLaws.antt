@@ -1,5 +1,7 @@
 -- What an order of a script's lines determines.
-use Rattle.std.proofs.Common.{◌≡◌, ◌⊎◌, ℕ, zero, suc, ◌+◌, ◌<◌, ◌≤◌, ◌==◌, ◌||◌, nat_lt, Bool, true, false, cond, if◌then◌else◌, Option, Some, None, List, [], ◌∷◌, map, filter, length, All, Contains, inl, inr, refl, sym, ◌∙◌, ap, subst, arith, true≢false}
+use Rattle.std.proofs.Common.{◌≡◌, ◌⊎◌, ℕ, zero, suc, ◌+◌, ◌<◌, ◌≤◌, ◌==◌, ◌||◌, nat_lt, Bool, true, false, cond}
+use Rattle.std.proofs.Common.{if◌then◌else◌, Option, Some, None, List, [], ◌∷◌, map, filter, length, All, Contains, inl}
+use Rattle.std.proofs.Common.{inr, refl, sym, ◌∙◌, ap, subst, arith, true≢false}
 use Rattle.std.specs.List.{AllByRecursion}
 use Rattle.std.specs.Option.{option_or}
 use Rattle.std.proofs.lemmas.Bool.{ltb-false}
@@ -21,7 +23,8 @@ use Rattle.text_table.specs.Tables.{with_text}
 use Rattle.list_laws.proofs.Lists.{all_filter}
 use Rattle.fluxion_lines.specs.declared.input.Over.{Over}
 use Rattle.fluxion_lines.specs.declared.input.Over.TheVariants as over
-use Rattle.fluxion_lines.specs.Inputs.{client_in, clients_of, lines_from, numbered_lines, line_over_size, bars_in, over_bars, line_over, over_from, over_in}
+use Rattle.fluxion_lines.specs.Inputs.{client_in, clients_of, lines_from, numbered_lines, line_over_size, bars_in}
+use Rattle.fluxion_lines.specs.Inputs.{over_bars, line_over, over_from, over_in}
 use Rattle.fluxion_lines.specs.Scripts.{line_held, lines_by, script_of, input_order}
 use Rattle.fluxion_lines.proofs.ScriptLaws.{RiseFrom, rises, has_lines, lines_are, is_client, few_clients, all_mapped}
 

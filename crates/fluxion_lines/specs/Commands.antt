@@ -1,5 +1,6 @@
 -- What a line commands.
-use Rattle.std.specs.Prelude.{ℕ, ◌&&◌, ◌||◌, nat_lt, nat_le, List, [], ◌∷◌, length, Bool, true, false, not, Option, Some, None, Result, Ok, Err, if◌then◌else◌, codes, bytes_eq}
+use Rattle.std.specs.Prelude.{ℕ, ◌&&◌, ◌||◌, nat_lt, nat_le, List, [], ◌∷◌, length, Bool, true, false, not, Option}
+use Rattle.std.specs.Prelude.{Some, None, Result, Ok, Err, if◌then◌else◌, codes, bytes_eq}
 use Rattle.std.specs.List.{list_all}
 use Rattle.std.specs.Result.{result_map_both}
 use Rattle.std.specs.Char.{is_ascii_digit, is_ascii_lowercase}
@@ -25,7 +26,8 @@ is_none (b ∷ bytes) = false
 
 -- a client's name: 1 to 16 small letters and digits of ASCII
 abbrev pub is_client : List ℕ → Bool
-is_client word = nat_lt 0 (length word) && nat_le (length word) 16 && list_all (λ b. is_ascii_lowercase b || is_ascii_digit b) word
+is_client word =
+    nat_lt 0 (length word) && nat_le (length word) 16 && list_all (λ b. is_ascii_lowercase b || is_ascii_digit b) word
 
 -- the client that a line belongs to; one whose first word is no name belongs to `-`
 abbrev pub client_of : List ℕ → List ℕ
@@ -75,7 +77,8 @@ number_or fault (Some n) = Ok n
 -- one number and nothing more
 abbrev pub number_alone : List ℕ → List ℕ → Result ℕ (List ℕ)
 number_alone fault words =
-    if is_none (first_word words) || not (is_none (skipped (after_word words))) then Err (codes "words") else number_or fault (number_in (first_word words))
+    if is_none (first_word words) || not (is_none (skipped (after_word words)))
+    then Err (codes "words") else number_or fault (number_in (first_word words))
 
 -- the command made of what was read, or why nothing was
 abbrev pub made : {A : Type 0} → (A → Command) → Result A (List ℕ) → Command
@@ -98,7 +101,8 @@ command_or g form (Some v) words = command_by g form v words
 -- what a line commands, over a graph, where jobspecs have this form: the client's name, a verb, and the verb's words
 abbrev pub command_of : NamedGraph → Form → List ℕ → Command
 command_of g form line =
-    if is_client (first_word line) then command_or g form (verb_of (first_word (after_word line))) (after_word (after_word line))
+    if is_client (first_word line)
+    then command_or g form (verb_of (first_word (after_word line))) (after_word (after_word line))
     else invalid (codes "client")
 
 -- how many nodes the ask of a command bars; a command without an ask bars none

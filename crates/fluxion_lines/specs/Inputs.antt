@@ -1,5 +1,6 @@
 -- The commands of an input, line by line, and the first line that is past a limit.
-use Rattle.std.specs.Prelude.{ℕ, ◌+◌, nat_lt, Bool, true, false, List, [], ◌∷◌, map, length, Option, Some, None, if◌then◌else◌}
+use Rattle.std.specs.Prelude.{ℕ, ◌+◌, nat_lt, Bool, true, false, List, [], ◌∷◌, map, length, Option, Some, None}
+use Rattle.std.specs.Prelude.{if◌then◌else◌}
 use Rattle.std.specs.Option.{option_or}
 use Rattle.flux_defs.specs.declared.limits.Limits.{Limits}
 use Rattle.resource_graph.specs.NamedGraph.{NamedGraph}
@@ -21,12 +22,14 @@ clients_of bytes = with_texts [] (map client_in (lines_of bytes))
 
 -- the line at a number, where these are the clients of the lines before it
 abbrev pub line_at : NamedGraph → Form → List (List ℕ) → ℕ → List ℕ → ClientLine
-line_at g form clients at raw = record { client = index_of clients (client_in raw); line = at; command = command_of g form (read_of raw) }
+line_at g form clients at raw =
+    record { client = index_of clients (client_in raw); line = at; command = command_of g form (read_of raw) }
 
 -- the lines from a number on, behind lines of these clients
 abbrev pub lines_from : NamedGraph → Form → List (List ℕ) → ℕ → List (List ℕ) → List ClientLine
 lines_from g form clients at [] = []
-lines_from g form clients at (raw ∷ raws) = line_at g form clients at raw ∷ lines_from g form (with_text clients (client_in raw)) (at + 1) raws
+lines_from g form clients at (raw ∷ raws) =
+    line_at g form clients at raw ∷ lines_from g form (with_text clients (client_in raw)) (at + 1) raws
 
 -- all lines, numbered from 1
 abbrev pub numbered_lines : NamedGraph → Form → List ℕ → List ClientLine
@@ -56,9 +59,11 @@ line_over_size limits clients at raw = over_size limits at (length raw) (length 
 -- the first line from a number on that is past one of these limits
 abbrev pub over_size_from : Limits → List (List ℕ) → ℕ → List (List ℕ) → Option Over
 over_size_from limits clients at [] = None
-over_size_from limits clients at (raw ∷ raws) = option_or (line_over_size limits clients at raw) (over_size_from limits (with_text clients (client_in raw)) (at + 1) raws)
+over_size_from limits clients at (raw ∷ raws) = option_or
+    (line_over_size limits clients at raw) (over_size_from limits (with_text clients (client_in raw)) (at + 1) raws)
 
--- the first line of an input that is past a limit that the text alone tells: on lines, on bytes of a line, or on clients
+-- the first line of an input that is past a limit that the text alone tells: on lines, on bytes of a line, or on
+-- clients
 abbrev pub over_size_in : Limits → List ℕ → Option Over
 over_size_in limits bytes = over_size_from limits [] 1 (lines_of bytes)
 
@@ -74,13 +79,15 @@ over_bars limits at bars = if nat_lt limits.barred bars then Some (over.Barred a
 
 -- the limit that a line passes, behind lines of these clients that bar so many nodes
 abbrev pub line_over : Limits → NamedGraph → Form → List (List ℕ) → ℕ → ℕ → List ℕ → Option Over
-line_over limits g form clients bars at raw = option_or (line_over_size limits clients at raw) (over_bars limits at (bars + bars_in g form raw))
+line_over limits g form clients bars at raw =
+    option_or (line_over_size limits clients at raw) (over_bars limits at (bars + bars_in g form raw))
 
 -- the first line from a number on that is past a limit: on lines, on bytes of a line, on clients, or on barred nodes
 abbrev pub over_from : Limits → NamedGraph → Form → List (List ℕ) → ℕ → ℕ → List (List ℕ) → Option Over
 over_from limits g form clients bars at [] = None
 over_from limits g form clients bars at (raw ∷ raws) =
-    option_or (line_over limits g form clients bars at raw) (over_from limits g form (with_text clients (client_in raw)) (bars + bars_in g form raw) (at + 1) raws)
+    option_or (line_over limits g form clients bars at raw)
+    (over_from limits g form (with_text clients (client_in raw)) (bars + bars_in g form raw) (at + 1) raws)
 
 -- the first line of an input that is past a limit
 abbrev pub over_in : Limits → NamedGraph → Form → List ℕ → Option Over

@@ -46,7 +46,8 @@ reply_text g c reply.Invalid = codes "invalid " ++ why_of c
 -- the line of an entry at a position of the history
 abbrev pub line_text : NamedGraph → ℕ → Entry → List ℕ → List ℕ
 line_text g at e client =
-    decimal at ++ codes " " ++ decimal e.line ++ codes " " ++ client ++ codes " " ++ reply_text g e.command e.reply ++ codes "\n"
+    decimal at ++ codes " "
+    ++ decimal e.line ++ codes " " ++ client ++ codes " " ++ reply_text g e.command e.reply ++ codes "\n"
 
 -- the name of a client of this number
 abbrev pub name_of : List (List ℕ) → ℕ → List ℕ
@@ -55,7 +56,8 @@ name_of clients number = unwrap_or (slice_get clients number) []
 -- the lines of the entries, from a position on
 abbrev pub history_text_from : NamedGraph → List (List ℕ) → ℕ → List Entry → List ℕ
 history_text_from g clients at [] = []
-history_text_from g clients at (e ∷ es) = line_text g at e (name_of clients e.client) ++ history_text_from g clients (at + 1) es
+history_text_from g clients at (e ∷ es) =
+    line_text g at e (name_of clients e.client) ++ history_text_from g clients (at + 1) es
 
 -- the text of a history
 abbrev pub history_text : NamedGraph → List (List ℕ) → List Entry → List ℕ

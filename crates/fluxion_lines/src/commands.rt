@@ -7,7 +7,8 @@ ghost use Rattle.flux_defs.specs.declared.journal.Command.TheVariants as command
 ghost use Rattle.flux_defs.specs.Needs.{IsProperAsk};
 ghost use Rattle.flux_defs.specs.Scheduler.{IsProper};
 ghost use Rattle.jobspec_v1.specs.Faults.{IsFirstFault};
-ghost use Rattle.fluxion_lines.specs.Commands.{is_client, client_of, verb_of, invalid, spec_of, asked, job_and_ask, ask_alone, number_alone, made, command_by, command_of, bars_of_command};
+ghost use Rattle.fluxion_lines.specs.Commands.{is_client, client_of, verb_of, invalid, spec_of, asked, job_and_ask};
+ghost use Rattle.fluxion_lines.specs.Commands.{ask_alone, number_alone, made, command_by, command_of, bars_of_command};
 
 use crate::reasons::spec_reason;
 use crate::words::{first_word, skipped};

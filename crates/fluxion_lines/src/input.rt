@@ -1,11 +1,13 @@
 //! All lines of an input.
-ghost use Rattle.std.specs.Prelude.{◌≡◌, ◌⊎◌, ◌^◌, ◌+◌, ◌<◌, ◌≤◌, ◌++◌, ◌∷◌, [], Some, None, IsOk, length, IfOk, IfErr, OnOk};
+ghost use Rattle.std.specs.Prelude.{◌≡◌, ◌⊎◌, ◌^◌, ◌+◌, ◌<◌, ◌≤◌, ◌++◌, ◌∷◌, [], Some, None, IsOk, length, IfOk, IfErr};
+ghost use Rattle.std.specs.Prelude.{OnOk};
 ghost use Rattle.std.specs.List.{AllByRecursion};
 ghost use Rattle.flux_defs.specs.Scheduler.{IsProper};
 ghost use Rattle.text_table.specs.Tables.{with_text};
 ghost use Rattle.fluxion_lines.specs.declared.input.Over.{Over};
 ghost use Rattle.fluxion_lines.specs.Commands.{bars_of_command};
-ghost use Rattle.fluxion_lines.specs.Inputs.{client_in, line_at, clients_of, numbered_lines, over_size, line_over_size, over_bars, over_in};
+ghost use Rattle.fluxion_lines.specs.Inputs.{client_in, line_at, clients_of, numbered_lines, over_size, line_over_size};
+ghost use Rattle.fluxion_lines.specs.Inputs.{over_bars, over_in};
 
 use crate::commands::{Form, bars_of_command, client_of, command_of};
 use crate::lines::{cut_line, without_return};
@@ -93,8 +95,8 @@ fn over_size(limits: &Limits, at: u64, bytes: usize, clients: usize) -> Option<O
     None
 }
 
-/// The line of a number, from its bytes; the table of clients gains its client. A jobspec is read only where the line is
-/// past no limit that its text tells.
+/// The line of a number, from its bytes; the table of clients gains its client. A jobspec is read only where the line
+/// is past no limit that its text tells.
 fn read_line(
     alloc: Global,
     graph: &Graph,
@@ -140,10 +142,10 @@ fn with_bars(limits: &Limits, at: u64, bars: u64, command: &Command) -> Result<u
     Ok(bars + own)
 }
 
-/// The lines of an input, over a graph: each of what a client commands, or why it can't be read. Over comes exactly where
-/// a line is past a limit, and tells of the first such line: of more lines than the limit, of more bytes of a line (before
-/// its line feed), of more clients, or of more nodes that the asks of the lines up to it bar, looked at in this order. Each
-/// command is proper for the graph.
+/// The lines of an input, over a graph: each of what a client commands, or why it can't be read. Over comes exactly
+/// where a line is past a limit, and tells of the first such line: of more lines than the limit, of more bytes of a
+/// line (before its line feed), of more clients, or of more nodes that the asks of the lines up to it bar, looked at in
+/// this order. Each command is proper for the graph.
 pub fn read_lines(
     alloc: Global,
     graph: &Graph,
@@ -155,9 +157,11 @@ pub fn read_lines(
     requires clients { limits.now.clients < 2 ^ 32 }
     ensures clients { IfOk result (λ input. input.clients ≡ clients_of bytes.now) }
     ensures lines { IfOk result (λ input. input.lines ≡ numbered_lines graph.now form bytes.now) }
-    ensures proper { IfOk result (λ input. AllByRecursion (λ l. IsProper graph.now.resources.vertices l.command) input.lines) }
+    ensures proper { IfOk result
+        (λ input. AllByRecursion (λ l. IsProper graph.now.resources.vertices l.command) input.lines) }
     ensures within { IsOk result → over_in limits.now graph.now form bytes.now ≡ None }
-    ensures over { IfErr result (λ fault. (fault ≡ InputFault.Memory) ⊎ ((over : Over) × (fault ≡ InputFault.Over over) × (over_in limits.now graph.now form bytes.now ≡ Some over))) }
+    ensures over { IfErr result (λ fault. (fault ≡ InputFault.Memory) ⊎ ((over : Over)
+        × (fault ≡ InputFault.Over over) × (over_in limits.now graph.now form bytes.now ≡ Some over))) }
 {
     let mut table = TextTable::new(alloc);
     let mut lines = Vec::new(alloc);

@@ -49,7 +49,8 @@ pub(crate) fn add_info(
     start: u64,
     end: u64,
 ) -> Result<(), AllocError>
-    ensures { OnOk result (text.new.items ≡ text.old.items ++ (phase_text phase ++ decimal start ++ codes " " ++ decimal end)) }
+    ensures { OnOk result
+        (text.new.items ≡ text.old.items ++ (phase_text phase ++ decimal start ++ codes " " ++ decimal end)) }
 {
     push_bytes(text, phase_word(phase))?;
     push_decimal(text, start)?;

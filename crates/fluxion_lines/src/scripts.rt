@@ -1,5 +1,6 @@
 //! An input as a script: each client's lines by themselves.
-ghost use Rattle.std.specs.Prelude.{◌≡◌, ◌⊎◌, ◌^◌, ◌<◌, ◌++◌, ◌∷◌, [], Some, None, IsOk, length, map, slice_get, slice_set, unwrap_or, IfOk, IfErr, OnOk};
+ghost use Rattle.std.specs.Prelude.{◌≡◌, ◌⊎◌, ◌^◌, ◌<◌, ◌++◌, ◌∷◌, [], Some, None, IsOk, length, map, slice_get};
+ghost use Rattle.std.specs.Prelude.{slice_set, unwrap_or, IfOk, IfErr, OnOk};
 ghost use Rattle.std.specs.List.{AllByRecursion, range_with_len};
 ghost use Rattle.flux_defs.specs.Scheduler.{IsProper};
 ghost use Rattle.fluxion_lines.specs.declared.input.Over.{Over};
@@ -33,7 +34,8 @@ fn add_line(
     line: Line,
 ) -> Result<(), AllocError>
     requires { client < length lists.old }
-    ensures { OnOk result (lists.new ≡ slice_set lists.old client (unwrap_or (slice_get lists.old client) [] ++ line ∷ [])) }
+    ensures { OnOk result
+        (lists.new ≡ slice_set lists.old client (unwrap_or (slice_get lists.old client) [] ++ line ∷ [])) }
 {
     let mut own = lists.put(client as usize, List::new(alloc));
     match own.push(line) {
@@ -78,9 +80,11 @@ pub fn read_input(
     requires lines { limits.now.lines < 2 ^ 32 }
     requires clients { limits.now.clients < 2 ^ 32 }
     ensures script { IfOk result (λ script. script ≡ script_of graph.now form bytes.now) }
-    ensures proper { IfOk result (λ script. AllByRecursion (λ lines. AllByRecursion (λ l. IsProper graph.now.resources.vertices l.command) lines) script.lines) }
+    ensures proper { IfOk result (λ script. AllByRecursion
+        (λ lines. AllByRecursion (λ l. IsProper graph.now.resources.vertices l.command) lines) script.lines) }
     ensures within { IsOk result → over_in limits.now graph.now form bytes.now ≡ None }
-    ensures over { IfErr result (λ fault. (fault ≡ InputFault.Memory) ⊎ ((over : Over) × (fault ≡ InputFault.Over over) × (over_in limits.now graph.now form bytes.now ≡ Some over))) }
+    ensures over { IfErr result (λ fault. (fault ≡ InputFault.Memory) ⊎ ((over : Over)
+        × (fault ≡ InputFault.Over over) × (over_in limits.now graph.now form bytes.now ≡ Some over))) }
 {
     let Input { clients, lines } = match read_lines(alloc, graph, form, bytes, limits) {
         Ok(read) => read,

@@ -1,5 +1,6 @@
 -- A history that was played and its text are an output; what an order determines of it.
-use Rattle.std.proofs.Common.{◌≡◌, ℕ, ◌^◌, ◌<◌, ◌≤◌, ◌++◌, List, [], ◌∷◌, length, Result, Err, inl, inr, ◌⊎◌, codes, sym, ◌∙◌, ap, subst, arith, None, lit<}
+use Rattle.std.proofs.Common.{◌≡◌, ℕ, ◌^◌, ◌<◌, ◌≤◌, ◌++◌, List, [], ◌∷◌, length, Result, Err, inl, inr, ◌⊎◌, codes}
+use Rattle.std.proofs.Common.{sym, ◌∙◌, ap, subst, arith, None, lit<}
 use Rattle.std.specs.List.{AllByRecursion}
 use Rattle.flux_defs.specs.declared.journal.Entry.{Entry}
 use Rattle.flux_defs.specs.declared.limits.TheConstants.{SHIPPED}
@@ -76,7 +77,8 @@ pub held_output : (served : Served) (g h k : NamedGraph) (input : List ℕ) (scr
     names ≡ script.clients → history ≡ core.journal → text ≡ history_text k names history →
     line_feeds text ≡ length history → length history < 2 ^ 64 →
     over_in SHIPPED g served.form input ≡ None → IsOutput served g input text
-held_output served g h k input script core names history text same_h same_k together script-is names-are history-is is feeds few within =
+held_output served g
+    h k input script core names history text same_h same_k together script-is names-are history-is is feeds few within =
     let setting = ap (λ (x : NamedGraph). served_setting x served) same_h in
     let played = played_together served g input
     (empty_course h.resources served.rules served.horizon SHIPPED.claims) core script setting script-is together in
@@ -106,7 +108,8 @@ one_text served g input a b one two order =
 -- the counts of a load are determined by its number of commands
 pub one_summary : (commands : ℕ) (a b : List ℕ) → IsSummary commands a → IsSummary commands b → a ≡ b
 one_summary commands a b one two =
-    let graph : two.graph ≡ one.graph = one_graph load_kinds load_vertices two.graph one.graph two.graph-is one.graph-is in
+    let graph : two.graph ≡ one.graph =
+    one_graph load_kinds load_vertices two.graph one.graph two.graph-is one.graph-is in
     let served : two.served ≡ one.served = serving_once (only_name []) two.served one.served two.plainly one.plainly in
     let input = load_text commands in
     let moved : Plays (served_setting one.graph one.served) (script_of one.graph one.served.form input)

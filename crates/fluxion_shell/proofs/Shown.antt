@@ -1,5 +1,6 @@
 -- What a told graph file and a told input show of an answer, and what it rests on.
-use Rattle.std.proofs.Common.{◌≡◌, ℕ, ◌<◌, ◌≤◌, ◌⊎◌, IsTrue, List, [], ◌++◌, length, Option, Some, None, IfSome, MatchOption, inl, inr, refl, sym, ◌∙◌, ap, subst, arith}
+use Rattle.std.proofs.Common.{◌≡◌, ℕ, ◌<◌, ◌≤◌, ◌⊎◌, IsTrue, List, [], ◌++◌, length, Option, Some, None, IfSome}
+use Rattle.std.proofs.Common.{MatchOption, inl, inr, refl, sym, ◌∙◌, ap, subst, arith}
 use Rattle.flux_io.specs.Stores.{Stored, file_of}
 use Rattle.flux_io.specs.Streams.{TakesFront}
 use Rattle.resource_graph.specs.NamedGraph.{NamedGraph}
@@ -14,7 +15,10 @@ use Rattle.flux_defs.specs.declared.limits.TheConstants.{SHIPPED, MOST_FILE_BYTE
 use Rattle.fluxion_shell.specs.declared.status.Status.{Status}
 use Rattle.fluxion_shell.specs.declared.status.Status.TheVariants as status
 use Rattle.asked_calls.specs.Calls.{Served, Call, serve, print, load}
-use Rattle.fluxion_shell.specs.Causes.{past_graph, long_input, told_file, IsOfFile, OfServing, OfNaming, AppendsFrontOfSome, IsPastLimit, limit_of, HasCause, OrEarlier, IsWritten, ShowsLines, ShowsInput, ShowsFile, ShowsStore, IsFirstShown, HasGraphFile, IsInOrder, Known, FailsWith}
+use Rattle.fluxion_shell.specs.Causes.{past_graph, long_input, told_file, IsOfFile, OfServing, OfNaming}
+use Rattle.fluxion_shell.specs.Causes.{AppendsFrontOfSome, IsPastLimit, limit_of, HasCause, OrEarlier, IsWritten}
+use Rattle.fluxion_shell.specs.Causes.{ShowsLines, ShowsInput, ShowsFile, ShowsStore, IsFirstShown, HasGraphFile}
+use Rattle.fluxion_shell.specs.Causes.{IsInOrder, Known, FailsWith}
 
 pub known : (told : Option Stored) (name old new : List ℕ) → old ≡ [] →
     IfSome told (λ files. (bytes : List ℕ) × (file_of files name ≡ Some bytes) × (length bytes ≤ MOST_FILE_BYTES)
@@ -64,7 +68,11 @@ earlier_store {Failed} s told name Then early then_shown = by told
     of_file : (o : Option (List ℕ)) → MatchOption o (OrEarlier Failed s (s ≡ status.NoGraphFile))
         (λ file. ShowsFile Failed s file Then)
     of_file None = earlier s early
-    of_file (Some file) = record { long = λ many. earlier s early; faulty = λ short fault has. earlier s early; graph = λ short g text. then_shown g }
+    of_file (Some file) = record {
+      long = λ many. earlier s early;
+      faulty = λ short fault has. earlier s early;
+      graph = λ short g text. then_shown g;
+    }
 
     by : (files : Option Stored) → ShowsStore Failed s files name Then
     by None = tt

@@ -43,7 +43,8 @@ only_memory g commands form input told graph few form-is input-is (inr (over, is
     absurd (let clash : None ≡ Some over = sym none ∙ past in cc)
 
 -- the script has one client
-pub few_clients : (g : NamedGraph) (commands : ℕ) (form : Form) (input : List ℕ) (script : Script) → commands ≤ MOST_COMMANDS →
+pub few_clients : (g : NamedGraph) (commands : ℕ) (form : Form) (input : List ℕ) (script : Script) →
+    commands ≤ MOST_COMMANDS →
     input ≡ load_text commands → script ≡ script_of g form input → length script.lines ≤ 1
 few_clients g commands form input script few input-is script-is =
     let lines : length script.lines ≡ length (clients_of input) =
@@ -69,7 +70,8 @@ counts_fit graph rules horizon played script entries together entries-is =
 
 -- what was played is the load's history, and its counts are the summary
 pub summed : (commands : ℕ) (served : Served) (g h : NamedGraph) (input : List ℕ) (script : Script) (core : Course)
-    (entries : List Entry) (text : List ℕ) → commands ≤ MOST_COMMANDS → IsServing (only_name []) served → IsLoadGraph g →
+    (entries : List Entry) (text : List ℕ) →
+    commands ≤ MOST_COMMANDS → IsServing (only_name []) served → IsLoadGraph g →
     h ≡ g →
     input ≡ load_text commands → IsPlayedTogether
     (empty_course h.resources served.rules served.horizon SHIPPED.claims) core script →

@@ -1,5 +1,6 @@
 -- Which answers a call may have, and what shows them.
-use Rattle.std.specs.Prelude.{◌≡◌, ◌≢◌, ◌⊎◌, ℕ, ◌+◌, ◌<◌, ◌≤◌, ◌++◌, IsTrue, List, [], length, Option, Some, None, IfSome, MatchOption, option_and_then}
+use Rattle.std.specs.Prelude.{◌≡◌, ◌≢◌, ◌⊎◌, ℕ, ◌+◌, ◌<◌, ◌≤◌, ◌++◌, IsTrue, List, [], length, Option, Some, None}
+use Rattle.std.specs.Prelude.{IfSome, MatchOption, option_and_then}
 use Rattle.std.specs.Io.KnownBytes.{Appends, IsAtEnd}
 use Rattle.flux_io.specs.Stores.{Stored, file_of}
 use Rattle.resource_graph.specs.NamedGraph.{NamedGraph}
@@ -15,7 +16,8 @@ use Rattle.flux_defs.specs.declared.limits.TheConstants.{MOST_FILE_BYTES, SHIPPE
 use Rattle.fluxion_shell.specs.declared.status.Status.{Status}
 use Rattle.fluxion_shell.specs.declared.status.Status.TheVariants as status
 use Rattle.fluxion_shell.specs.declared.status.Limited.{Limited}
-use Rattle.fluxion_shell.specs.declared.status.Which.TheVariants.{GraphBytes, InputBytes, Lines, LineBytes, Clients, Barred}
+use Rattle.fluxion_shell.specs.declared.status.Which.TheVariants.{GraphBytes, InputBytes, Lines, LineBytes, Clients}
+use Rattle.fluxion_shell.specs.declared.status.Which.TheVariants.{Barred}
 use Rattle.asked_calls.specs.Calls.{Served, Call, serve, print, load}
 
 -- ---- what was written

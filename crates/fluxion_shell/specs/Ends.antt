@@ -8,7 +8,8 @@ use Rattle.graph_json.specs.declared.faults.ReadFault.TheVariants as fault
 use Rattle.fluxion_shell.specs.declared.status.Status.{Status}
 use Rattle.fluxion_shell.specs.declared.status.Status.TheVariants as status
 use Rattle.fluxion_shell.specs.declared.status.Which.{Which}
-use Rattle.fluxion_shell.specs.declared.status.Which.TheVariants.{GraphBytes, InputBytes, Lines, LineBytes, Clients, Barred}
+use Rattle.fluxion_shell.specs.declared.status.Which.TheVariants.{GraphBytes, InputBytes, Lines, LineBytes, Clients}
+use Rattle.fluxion_shell.specs.declared.status.Which.TheVariants.{Barred}
 
 abbrev pub code_of : Status → ℕ
 code_of status.Ok = 0
@@ -62,10 +63,12 @@ fault_words fault.Memory = codes "memory"
 -- the line on standard error, with its line feed; none for a run that went well
 abbrev pub line_of : Status → List ℕ
 line_of status.Ok = []
-line_of status.Usage = codes "usage: fluxion serve GRAPH [--horizon N] [--filters LIST] [--jobspec FORM] | fluxion graph GRAPH | fluxion load N\n"
+line_of status.Usage = codes
+    "usage: fluxion serve GRAPH [--horizon N] [--filters LIST] [--jobspec FORM] | fluxion graph GRAPH | fluxion load N\n"
 line_of (status.Graph fault) = codes "fluxion: graph: " ++ fault_words fault ++ codes "\n"
 line_of status.Read = codes "fluxion: read fault\n"
 line_of status.Write = codes "fluxion: write fault\n"
 line_of status.Memory = codes "fluxion: out of memory\n"
-line_of (status.Limit limited) = codes "fluxion: limit: " ++ word_of limited.which ++ decimal limited.found ++ codes "\n"
+line_of (status.Limit limited) =
+    codes "fluxion: limit: " ++ word_of limited.which ++ decimal limited.found ++ codes "\n"
 line_of status.NoGraphFile = codes "fluxion: no such file\n"

@@ -1,5 +1,6 @@
 //! Laws of answers to calls, each the contract of a function that does nothing.
-ghost use Rattle.fluxion_shell.specs.Laws.{InOrderIsAnswered, OneClientKeepsInputOrder, OneLoadHasOneSummary, OneOrderHasOneOutput, OneClientHasOneOutput};
+ghost use Rattle.fluxion_shell.specs.Laws.{InOrderIsAnswered, OneClientKeepsInputOrder, OneLoadHasOneSummary};
+ghost use Rattle.fluxion_shell.specs.Laws.{OneOrderHasOneOutput, OneClientHasOneOutput};
 
 /// Where all that a call reads is told and in order and nothing failed, all was answered, or memory was wanting.
 pub fn in_order_is_answered()

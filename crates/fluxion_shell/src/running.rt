@@ -146,7 +146,8 @@ fn print_summary<R: Threads + Wait + Sync, O: Sink, G: Gate + Sync>(
 ///
 /// `serve GRAPH` answers each line of the input over the graph of that file, and writes the answers. `--horizon N` sets
 /// the second at which time ends, `--filters LIST` which totals are kept, and `--jobspec FORM` how the jobspecs are
-/// written. `graph GRAPH` writes the graph of that file, and reads no input. `load N` plays a script of N commands, from
+/// written. `graph GRAPH` writes the graph of that file, and reads no input. `load N` plays a script of N commands,
+/// from
 /// 1 to 20,000, over a graph of its own, and writes how often each reply came; it reads no file and no input, and what
 /// it writes is a function of N.
 ///

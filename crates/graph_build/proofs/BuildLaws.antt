@@ -1,5 +1,6 @@
 -- What the steps of building make together.
-use Rattle.std.proofs.Common.{◌≡◌, ℕ, ◌<◌, ◌≤◌, List, length, get_or, map, Option, Some, None, inl, inr, refl, sym, ◌∙◌, ap, subst, arith, MatchOption, option_and_then}
+use Rattle.std.proofs.Common.{◌≡◌, ℕ, ◌<◌, ◌≤◌, List, length, get_or, map, Option, Some, None, inl, inr, refl, sym, ◌∙◌}
+use Rattle.std.proofs.Common.{ap, subst, arith, MatchOption, option_and_then}
 use Rattle.std.specs.Prelude.{slice_get, IsSome}
 use Rattle.std.specs.Option.{IsSomeAnd, option_map}
 use Rattle.std.proofs.lemmas.Bool.{cases_lt}
@@ -14,8 +15,10 @@ use Rattle.graph_build.specs.Orders.{IsOrderOf, IsPreorderOf, IsRooted}
 use Rattle.resource_graph.specs.Preorder.{KnowsKinds}
 use Rattle.graph_build.proofs.Facts.{Facts}
 use Rattle.resource_graph.specs.Made.{named_graph}
-use Rattle.graph_build.specs.Raw.{shape_of, raw_graph, raw_names, KindsApart, IsArranged, KeepsSiblings, KeepsTexts, IsBuiltFrom}
-use Rattle.graph_build.specs.Arranged.{HasNumbers, IsArrangedList, HasTexts, HasKindAt, IsNumbered, IsKindNumbering, HasKindNumbers, HasMadeTo}
+use Rattle.graph_build.specs.Raw.{shape_of, raw_graph, raw_names, KindsApart, IsArranged, KeepsSiblings, KeepsTexts}
+use Rattle.graph_build.specs.Raw.{IsBuiltFrom}
+use Rattle.graph_build.specs.Arranged.{HasNumbers, IsArrangedList, HasTexts, HasKindAt, IsNumbered, IsKindNumbering}
+use Rattle.graph_build.specs.Arranged.{HasKindNumbers, HasMadeTo}
 use Rattle.graph_build.specs.declared.raw.RawVertex.{RawVertex}
 use Rattle.resource_graph.specs.declared.graph.Texts.{Texts}
 use Rattle.graph_build.specs.declared.arrange.KindNumbering.{KindNumbering}

@@ -1,5 +1,6 @@
 -- From what a search finds to the first bad vertex.
-use Rattle.std.proofs.Common.{◌≡◌, ◌↔◌, IsTrue, ℕ, ◌<◌, not, Bool, true, false, List, length, get_or, Option, Some, None, inl, inr, refl, sym, ◌∙◌, ap, arith, true≢false, option_and_then, leb}
+use Rattle.std.proofs.Common.{◌≡◌, ◌↔◌, IsTrue, ℕ, ◌<◌, not, Bool, true, false, List, length, get_or, Option, Some}
+use Rattle.std.proofs.Common.{None, inl, inr, refl, sym, ◌∙◌, ap, arith, true≢false, option_and_then, leb}
 use Rattle.std.specs.Prelude.{slice_get, is_some, position}
 use Rattle.std.specs.Option.{option_map_or}
 use Rattle.std.proofs.lemmas.Bool.{cases_lt, leb-true, le-leb}

@@ -1,5 +1,6 @@
 -- The table of faults as one fact a row, where none of them holds.
-use Rattle.std.proofs.Common.{◌≡◌, ℕ, zero, suc, ◌<◌, ◌≤◌, ◌⊎◌, true, false, List, length, Option, Some, None, inl, inr, refl, sym, ◌∙◌, ap, subst, arith, IsTrue, true≢false}
+use Rattle.std.proofs.Common.{◌≡◌, ℕ, zero, suc, ◌<◌, ◌≤◌, ◌⊎◌, true, false, List, length, Option, Some, None, inl, inr}
+use Rattle.std.proofs.Common.{refl, sym, ◌∙◌, ap, subst, arith, IsTrue, true≢false}
 use Rattle.std.specs.Prelude.{slice_get, codes}
 use Rattle.std.specs.Option.{option_map_or}
 use Rattle.std.specs.Str.{bytes_eq}
@@ -12,8 +13,10 @@ use Rattle.flux_defs.specs.Graph.{ResourceGraph, parent_of, is_below}
 use Rattle.flux_defs.specs.ValidGraph.{IsDevice}
 use Rattle.resource_graph.specs.Finds.{Nowhere}
 use Rattle.resource_graph.proofs.Values.{value_of, from_value}
-use Rattle.graph_build.specs.Faults.{IsNodeType, HasUnknownParent, HasUnknownKind, IsRoot, IsSecondRoot, NeverEnds, IsDeep, IsNestedInKind, IsReserved}
-use Rattle.graph_build.specs.Faults.{IsPoolWithChild, IsSized, IsLarge, IsHoused, HasNoId, HasDoubleId, HasDoubleName, HasBadRank}
+use Rattle.graph_build.specs.Faults.{IsNodeType, HasUnknownParent, HasUnknownKind, IsRoot, IsSecondRoot, NeverEnds}
+use Rattle.graph_build.specs.Faults.{IsDeep, IsNestedInKind, IsReserved}
+use Rattle.graph_build.specs.Faults.{IsPoolWithChild, IsSized, IsLarge, IsHoused, HasNoId, HasDoubleId, HasDoubleName}
+use Rattle.graph_build.specs.Faults.{HasBadRank}
 use Rattle.graph_build.specs.Table.{IsFaultless}
 use Rattle.graph_build.specs.Raw.{is_node_of}
 

@@ -1,5 +1,7 @@
 -- Repeated keys are what two vertices may not share.
-use Rattle.std.proofs.Common.{◌≡◌, ℕ, zero, suc, ◌+◌, ◌-◌, ◌<◌, ◌≤◌, ◌⊎◌, nat_eq, not, ◌&&◌, min, false, true≢false, List, [], ◌∷◌, ◌++◌, length, map, get_or, Option, Some, None, IsTrue, inl, inr, refl, sym, ◌∙◌, ap, subst, arith}
+use Rattle.std.proofs.Common.{◌≡◌, ℕ, zero, suc, ◌+◌, ◌-◌, ◌<◌, ◌≤◌, ◌⊎◌, nat_eq, not, ◌&&◌, min, false, true≢false}
+use Rattle.std.proofs.Common.{List, [], ◌∷◌, ◌++◌, length, map, get_or, Option, Some, None, IsTrue, inl, inr, refl, sym}
+use Rattle.std.proofs.Common.{◌∙◌, ap, subst, arith}
 use Rattle.std.specs.Prelude.{slice_get, is_some, codes, IsSome}
 use Rattle.std.specs.Borrow.{Bor}
 use Rattle.std.proofs.lemmas.Bool.{cases_lt, cases_eq, and_from, ne_eqb, not_from_false}
@@ -18,7 +20,8 @@ use Rattle.graph_build.specs.Faults.{IsNodeType, IsNestedInKind, HasDoubleId, Ha
 use Rattle.graph_build.specs.Checks.{graph_in, HasHouses}
 use Rattle.resource_graph.specs.Finds.{IsFirstOf}
 use Rattle.graph_build.specs.Raw.{shape_of, raw_graph, raw_names, KindsApart, is_node_of, some_ranked}
-use Rattle.graph_build.specs.Keys.{IsRepeated, HasEach, IsDeviceKey, IsSiblingKey, IsNodeName, IsNodeRank, IsUnranked, lesser}
+use Rattle.graph_build.specs.Keys.{IsRepeated, HasEach, IsDeviceKey, IsSiblingKey, IsNodeName, IsNodeRank, IsUnranked}
+use Rattle.graph_build.specs.Keys.{lesser}
 use Rattle.graph_build.specs.declared.raw.RawVertex.{RawVertex}
 use Rattle.graph_build.specs.declared.doubles.DeviceKey.{DeviceKey}
 use Rattle.graph_build.specs.declared.doubles.SiblingKey.{SiblingKey}

@@ -1,5 +1,6 @@
 -- A list of vertices has at most one graph.
-use Rattle.std.proofs.Common.{◌≡◌, ◌≢◌, ℕ, zero, suc, ◌<◌, ◌≤◌, ◌⊎◌, List, [], ◌∷◌, length, get_or, Option, Some, None, inl, inr, refl, sym, ◌∙◌, ap, ap₂, subst, arith, MatchOption, IsTrue}
+use Rattle.std.proofs.Common.{◌≡◌, ◌≢◌, ℕ, zero, suc, ◌<◌, ◌≤◌, ◌⊎◌, List, [], ◌∷◌, length, get_or, Option, Some, None}
+use Rattle.std.proofs.Common.{inl, inr, refl, sym, ◌∙◌, ap, ap₂, subst, arith, MatchOption, IsTrue}
 use Rattle.std.specs.Prelude.{slice_get, is_some, IsSome, map}
 use Rattle.std.specs.Option.{IsSomeAnd, option_map}
 use Rattle.std.proofs.lemmas.Bool.{cases_lt, cases_order}
@@ -12,7 +13,8 @@ use Rattle.graph_laws.proofs.Preorder.{parents_first, between_below}
 use Rattle.resource_graph.specs.NamedGraph.{NamedGraph}
 use Rattle.graph_build.specs.Raw.{IsArranged, IsRenumbered, KeepsSiblings, KeepsTexts, IsBuiltFrom, shape_of, rank_of}
 use Rattle.graph_build.specs.declared.raw.RawVertex.{RawVertex}
-use Rattle.graph_build.proofs.ArrangeLaws.{index_at, index_in, index_past, same_index, number_of, parent_back, parent_forth, parent_index}
+use Rattle.graph_build.proofs.ArrangeLaws.{index_at, index_in, index_past, same_index, number_of, parent_back}
+use Rattle.graph_build.proofs.ArrangeLaws.{parent_forth, parent_index}
 use Rattle.resource_graph.proofs.LineLaws.{no_vertex}
 use Rattle.resource_graph.proofs.Values.{value_of, at_value}
 

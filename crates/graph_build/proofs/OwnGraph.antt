@@ -1,10 +1,13 @@
 -- A graph is built from its own vertices, and nothing is wrong with them.
-use Rattle.std.proofs.Common.{◌≡◌, ◌≢◌, ℕ, zero, suc, ◌+◌, ◌^◌, ◌<◌, ◌≤◌, ◌&&◌, Bool, true, false, cond, List, [], ◌∷◌, length, map, get_or, take, Option, Some, None, inl, inr, refl, sym, ◌∙◌, ap, subst, arith, option_and_then, MatchOption, true≢false}
+use Rattle.std.proofs.Common.{◌≡◌, ◌≢◌, ℕ, zero, suc, ◌+◌, ◌^◌, ◌<◌, ◌≤◌, ◌&&◌, Bool, true, false, cond, List, [], ◌∷◌}
+use Rattle.std.proofs.Common.{length, map, get_or, take, Option, Some, None, inl, inr, refl, sym, ◌∙◌, ap, subst, arith}
+use Rattle.std.proofs.Common.{option_and_then, MatchOption, true≢false}
 use Rattle.std.specs.Prelude.{slice_get, is_some, unwrap_or, codes}
 use Rattle.std.specs.Option.{IsSomeAnd, option_map}
 use Rattle.std.proofs.lemmas.Bool.{cases_lt, and_from}
 use Rattle.std.proofs.lemmas.List.Folds.{list_any_at}
-use Rattle.std.proofs.lemmas.Option.{slice_get-get_or, slice_get_within, slice_get_past, slice_get-map, get_or_from_slice_get, same_Some, unwrap_or-slice_get}
+use Rattle.std.proofs.lemmas.Option.{slice_get-get_or, slice_get_within, slice_get_past, slice_get-map}
+use Rattle.std.proofs.lemmas.Option.{get_or_from_slice_get, same_Some, unwrap_or-slice_get}
 use Rattle.flux_defs.specs.declared.vertices.Vertex.{Vertex}
 use Rattle.flux_defs.specs.Graph.{ResourceGraph, parent_of, chain, IsNode}
 use Rattle.flux_defs.specs.ValidGraph.{IsValidGraph}
@@ -15,7 +18,8 @@ use Rattle.graph_build.specs.Orders.{IsOrderOf}
 use Rattle.graph_build.specs.Faults.{IsNodeType, HasDoubleName}
 use Rattle.graph_build.specs.Table.{IsFaultless}
 use Rattle.graph_build.proofs.Facts.{Facts, faultless}
-use Rattle.graph_build.specs.Raw.{IsArranged, IsRenumbered, IsBuiltFrom, shape_of, rank_of, raw_graph, raw_names, is_node_of, some_ranked, nodes_among}
+use Rattle.graph_build.specs.Raw.{IsArranged, IsRenumbered, IsBuiltFrom, shape_of, rank_of, raw_graph, raw_names}
+use Rattle.graph_build.specs.Raw.{is_node_of, some_ranked, nodes_among}
 use Rattle.graph_build.specs.OwnList.{own_vertex, own_list_from, own_list}
 use Rattle.graph_build.specs.declared.raw.RawVertex.{RawVertex}
 use Rattle.resource_graph.proofs.LineLaws.{no_vertex, parent_read}

@@ -1,5 +1,6 @@
 -- What is wrong with a vertex is wrong with one of the list.
-use Rattle.std.proofs.Common.{◌≡◌, ℕ, ◌<◌, List, length, get_or, Some, None, Option, inl, inr, refl, sym, ◌∙◌, ap, IsTrue, Bool, true≢false, true, false}
+use Rattle.std.proofs.Common.{◌≡◌, ℕ, ◌<◌, List, length, get_or, Some, None, Option, inl, inr, refl, sym, ◌∙◌, ap}
+use Rattle.std.proofs.Common.{IsTrue, Bool, true≢false, true, false}
 use Rattle.std.specs.Prelude.{slice_get, codes}
 use Rattle.std.specs.Option.{IsSomeAnd, option_map_or}
 use Rattle.std.proofs.lemmas.Option.{slice_get_within, slice_get-get_or, same_Some}

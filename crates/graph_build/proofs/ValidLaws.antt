@@ -1,23 +1,29 @@
 -- A list of vertices with which nothing is wrong gives a valid graph.
-use Rattle.std.proofs.Common.{◌≡◌, ◌≢◌, ℕ, zero, suc, ◌+◌, ◌-◌, ◌^◌, ◌<◌, ◌≤◌, ◌⊎◌, ◌&&◌, ◌==◌, not, Bool, true, false, cond, List, [], length, get_or, take, Option, Some, None, inl, inr, refl, sym, ◌∙◌, ap, subst, arith, IsTrue, true≢false, option_and_then}
+use Rattle.std.proofs.Common.{◌≡◌, ◌≢◌, ℕ, zero, suc, ◌+◌, ◌-◌, ◌^◌, ◌<◌, ◌≤◌, ◌⊎◌, ◌&&◌, ◌==◌, not, Bool, true, false}
+use Rattle.std.proofs.Common.{cond, List, [], length, get_or, take, Option, Some, None, inl, inr, refl, sym, ◌∙◌, ap}
+use Rattle.std.proofs.Common.{subst, arith, IsTrue, true≢false, option_and_then}
 use Rattle.std.specs.Prelude.{slice_get, is_some, count_by, codes, IsSome}
 use Rattle.std.specs.Option.{option_map_or}
-use Rattle.std.proofs.lemmas.Bool.{cases_lt, cases_eq, cases_order, cases_Bool, false_from_ne_true, and_parts, and_from, eqb-true, eq-eqb}
+use Rattle.std.proofs.lemmas.Bool.{cases_lt, cases_eq, cases_order, cases_Bool, false_from_ne_true, and_parts, and_from}
+use Rattle.std.proofs.lemmas.Bool.{eqb-true, eq-eqb}
 use Rattle.std.proofs.lemmas.List.{take_all}
 use Rattle.std.proofs.lemmas.List.Sums.{count_by_more_yes, count_by_more_no}
 use Rattle.std.proofs.lemmas.List.Folds.{Any-from_list_any, list_any_at}
-use Rattle.std.proofs.lemmas.Option.{slice_get-get_or, slice_get_within, slice_get_past, get_or_from_slice_get, same_Some}
+use Rattle.std.proofs.lemmas.Option.{slice_get-get_or, slice_get_within, slice_get_past, get_or_from_slice_get}
+use Rattle.std.proofs.lemmas.Option.{same_Some}
 use Rattle.flux_defs.specs.declared.limits.TheConstants.{MOST_VERTICES, MOST_TYPES}
 use Rattle.flux_defs.specs.declared.vertices.Vertex.{Vertex}
 use Rattle.flux_defs.specs.Graph.{ResourceGraph, parent_of, chain, is_below, HasKind, IsNode, is_pool, is_pool_kind}
-use Rattle.flux_defs.specs.ValidGraph.{IsValidGraph, HasType, HasId, HasRank, IsDevice, NumbersKinds, HasFairSizes, NumbersDevices}
+use Rattle.flux_defs.specs.ValidGraph.{IsValidGraph, HasType, HasId, HasRank, IsDevice, NumbersKinds, HasFairSizes}
+use Rattle.flux_defs.specs.ValidGraph.{NumbersDevices}
 use Rattle.resource_graph.specs.Lines.{line_of}
 use Rattle.graph_build.specs.Orders.{IsPreorderOf, IsRooted}
 use Rattle.graph_build.specs.Faults.{IsNodeType, HasDoubleName}
 use Rattle.graph_build.specs.Raw.{IsArranged, IsRenumbered, KindsApart, is_node_of, some_ranked, nodes_among, rank_of}
 use Rattle.resource_graph.proofs.Values.{value_of, at_value, from_value}
 use Rattle.graph_build.proofs.Facts.{Facts, node_test, node_tested}
-use Rattle.graph_build.proofs.ArrangeLaws.{index_of, index_at, index_in, same_index, number_of, both_of, same_below, same_line_length, parent_back, preorder_arranged}
+use Rattle.graph_build.proofs.ArrangeLaws.{index_of, index_at, index_in, same_index, number_of, both_of, same_below}
+use Rattle.graph_build.proofs.ArrangeLaws.{same_line_length, parent_back, preorder_arranged}
 
 -- a list with which nothing is wrong hangs on one root
 pub rooted_of_faultless : (g : ResourceGraph) (names : List (List ℕ)) → Facts g names → IsRooted g.vertices

@@ -1,5 +1,6 @@
 -- The steps in which a list of vertices is arranged.
-use Rattle.std.specs.Prelude.{◌≡◌, ℕ, ◌<◌, ◌≤◌, ◌⊎◌, ◌++◌, [], ◌∷◌, List, length, map, Option, Some, None, slice_get, slice_set, slice_index}
+use Rattle.std.specs.Prelude.{◌≡◌, ℕ, ◌<◌, ◌≤◌, ◌⊎◌, ◌++◌, [], ◌∷◌, List, length, map, Option, Some, None, slice_get}
+use Rattle.std.specs.Prelude.{slice_set, slice_index}
 use Rattle.std.specs.Option.{option_map}
 use Rattle.flux_defs.specs.declared.vertices.Vertex.{Vertex}
 use Rattle.graph_build.specs.Raw.{rank_of}

@@ -1,5 +1,6 @@
 -- The tests by which a list of vertices is checked, and what a search for the first bad vertex finds.
-use Rattle.std.specs.Prelude.{◌≡◌, ℕ, zero, suc, ◌<◌, ◌≤◌, ◌↔◌, Bool, true, false, nat_le, List, length, Option, Some, None, slice_get, slice_index_or, MatchOption, IsTrue}
+use Rattle.std.specs.Prelude.{◌≡◌, ℕ, zero, suc, ◌<◌, ◌≤◌, ◌↔◌, Bool, true, false, nat_le, List, length, Option, Some}
+use Rattle.std.specs.Prelude.{None, slice_get, slice_index_or, MatchOption, IsTrue}
 use Rattle.std.specs.Option.{option_map_or}
 use Rattle.flux_defs.specs.declared.vertices.Vertex.{Vertex}
 use Rattle.flux_defs.specs.Graph.{ResourceGraph, parent_of, is_below}

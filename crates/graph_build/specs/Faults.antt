@@ -1,5 +1,6 @@
 -- What may be wrong with a list of vertices, one vertex at a time. The vertices stand in any order; `names` are theirs.
-use Rattle.std.specs.Prelude.{◌≡◌, ◌≢◌, ℕ, suc, ◌<◌, ◌≤◌, ◌⊎◌, List, length, Some, None, slice_get, codes, IsTrue, IsSome}
+use Rattle.std.specs.Prelude.{◌≡◌, ◌≢◌, ℕ, suc, ◌<◌, ◌≤◌, ◌⊎◌, List, length, Some, None, slice_get, codes, IsTrue}
+use Rattle.std.specs.Prelude.{IsSome}
 use Rattle.std.specs.Option.{IsSomeAnd}
 use Rattle.flux_defs.specs.declared.limits.TheConstants.{GREATEST_NUMBER}
 use Rattle.flux_defs.specs.Graph.{ResourceGraph, parent_of, chain, is_below, HasKind, is_pool}

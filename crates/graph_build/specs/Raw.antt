@@ -1,5 +1,6 @@
 -- The list of vertices that a graph is built from, and what is built.
-use Rattle.std.specs.Prelude.{◌≡◌, ℕ, ◌<◌, Bool, false, ◌&&◌, cond, List, map, length, Option, Some, None, is_some, slice_get, take, count_by, codes, IsSome, MatchOption, option_and_then}
+use Rattle.std.specs.Prelude.{◌≡◌, ℕ, ◌<◌, Bool, false, ◌&&◌, cond, List, map, length, Option, Some, None, is_some}
+use Rattle.std.specs.Prelude.{slice_get, take, count_by, codes, IsSome, MatchOption, option_and_then}
 use Rattle.std.specs.Option.{IsSomeAnd, option_map, option_map_or}
 use Rattle.std.specs.List.{list_any}
 use Rattle.std.specs.Str.{bytes_eq}
@@ -35,7 +36,8 @@ some_ranked kinds vertices = list_any (λ x. is_node_of kinds x && is_some x.ran
 
 -- how many of these vertices are nodes
 abbrev pub nodes_among : List (List ℕ) → List Vertex → List ℕ → ℕ
-nodes_among kinds vertices indices = count_by (λ i. option_map_or (is_node_of kinds) (slice_get vertices i) false) indices
+nodes_among kinds vertices indices =
+    count_by (λ i. option_map_or (is_node_of kinds) (slice_get vertices i) false) indices
 
 -- The rank of the vertex x with this number: none where it is no node; its own where some node has one; and else the
 -- number of nodes before it.

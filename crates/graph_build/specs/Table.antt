@@ -3,11 +3,15 @@ use Rattle.std.specs.Prelude.{◌≡◌, ℕ, ◌<◌, ◌⊎◌, ◌++◌, List
 use Rattle.flux_defs.specs.declared.limits.TheConstants.{MOST_VERTICES, MOST_TYPES}
 use Rattle.flux_defs.specs.Graph.{ResourceGraph}
 use Rattle.resource_graph.specs.Finds.{Nowhere, IsLeast}
-use Rattle.graph_build.specs.Faults.{HasUnknownParent, HasUnknownKind, IsRoot, IsSecondRoot, NeverEnds, IsDeep, IsNestedInKind}
-use Rattle.graph_build.specs.Faults.{IsReserved, IsPoolWithChild, IsSized, IsLarge, IsLoose, HasNoId, HasDoubleId, HasDoubleName, HasBadRank}
+use Rattle.graph_build.specs.Faults.{HasUnknownParent, HasUnknownKind, IsRoot, IsSecondRoot, NeverEnds, IsDeep}
+use Rattle.graph_build.specs.Faults.{IsNestedInKind}
+use Rattle.graph_build.specs.Faults.{IsReserved, IsPoolWithChild, IsSized, IsLarge, IsLoose, HasNoId, HasDoubleId}
+use Rattle.graph_build.specs.Faults.{HasDoubleName, HasBadRank}
 use Rattle.graph_build.specs.declared.raw.GraphFault.{GraphFault}
-use Rattle.graph_build.specs.declared.raw.GraphFault.TheVariants.{Vertices, Kinds, UnknownParent, UnknownKind, NoRoot, ManyRoots, Cycle, Depth, NestedKind}
-use Rattle.graph_build.specs.declared.raw.GraphFault.TheVariants.{ReservedKind, PoolWithChild, Sized, Large, Loose, NoId, DuplicateId, DuplicateName, Ranks, Memory}
+use Rattle.graph_build.specs.declared.raw.GraphFault.TheVariants.{Vertices, Kinds, UnknownParent, UnknownKind, NoRoot}
+use Rattle.graph_build.specs.declared.raw.GraphFault.TheVariants.{ManyRoots, Cycle, Depth, NestedKind}
+use Rattle.graph_build.specs.declared.raw.GraphFault.TheVariants.{ReservedKind, PoolWithChild, Sized, Large, Loose}
+use Rattle.graph_build.specs.declared.raw.GraphFault.TheVariants.{NoId, DuplicateId, DuplicateName, Ranks, Memory}
 
 -- a row of the table: the fault with a number, mostly a vertex, and the numbers at which it holds
 pub record Row : Type 1 where

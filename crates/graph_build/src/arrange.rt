@@ -6,7 +6,8 @@ ghost use Rattle.resource_graph.specs.Lines.{KnowsParents};
 ghost use Rattle.graph_build.specs.Orders.{IsOrderOf};
 ghost use Rattle.resource_graph.specs.Preorder.{KnowsKinds};
 ghost use Rattle.graph_build.specs.Raw.{shape_of, is_node_of, some_ranked};
-ghost use Rattle.graph_build.specs.Arranged.{HasNumbers, IsArrangedList, HasTexts, IsMadeFrom, HasMadeTo, IsKindNumbering, AreUnused, AddsKind, HasKindNumbers};
+ghost use Rattle.graph_build.specs.Arranged.{HasNumbers, IsArrangedList, HasTexts, IsMadeFrom, HasMadeTo};
+ghost use Rattle.graph_build.specs.Arranged.{IsKindNumbering, AreUnused, AddsKind, HasKindNumbers};
 
 use crate::raw::RawVertex;
 use flux_defs::{List, Text, Vertex};

@@ -3,7 +3,8 @@ ghost use Rattle.std.specs.Prelude.{◌≡◌, ◌≤◌, length, map, OnOk, IfE
 ghost use Rattle.flux_defs.specs.declared.limits.TheConstants.{MOST_VERTICES};
 ghost use Rattle.graph_build.specs.Checks.{graph_in};
 ghost use Rattle.graph_build.specs.Raw.{KindsApart, raw_graph, raw_names, shape_of};
-ghost use Rattle.graph_build.specs.Table.{link_rows, line_rows, size_rows, device_rows, vertex_rows, name_rows, rank_rows, table};
+ghost use Rattle.graph_build.specs.Table.{link_rows, line_rows, size_rows, device_rows, vertex_rows, name_rows};
+ghost use Rattle.graph_build.specs.Table.{rank_rows, table};
 ghost use Rattle.graph_build.specs.Table.{NoneHolds, IsFirstIn};
 
 use crate::above::{first_loose, first_nested, first_parent_pool, house_table};

@@ -1,5 +1,6 @@
 //! Climbs of many steps from all vertices at once.
-ghost use Rattle.std.specs.Prelude.{◌≡◌, ℕ, ◌+◌, ◌<◌, ◌≤◌, List, cond, length, slice_index_or, option_and_then, IfOk, Some, None};
+ghost use Rattle.std.specs.Prelude.{◌≡◌, ℕ, ◌+◌, ◌<◌, ◌≤◌, List, cond, length, slice_index_or, option_and_then, IfOk};
+ghost use Rattle.std.specs.Prelude.{Some, None};
 ghost use Rattle.flux_defs.specs.declared.limits.TheConstants.{MOST_VERTICES};
 ghost use Rattle.flux_defs.specs.declared.vertices.Vertex.{Vertex};
 ghost use Rattle.resource_graph.specs.Lines.{KnowsParents};

@@ -1,5 +1,7 @@
 -- Texts without repeats, in the order in which they were added.
-use Rattle.std.proofs.Common.{◌≡◌, refl, sym, ap, subst, ◌∙◌, ℕ, suc, List, [], ◌∷◌, ◌++◌, map, Bool, true, false, not, ◌||◌, true≢false, Some, arith, ◌+◌, cond, position, nat_lt, length, None, option_map, if◌then◌else◌, Bor, string_bytes, ◌==◌}
+use Rattle.std.proofs.Common.{◌≡◌, refl, sym, ap, subst, ◌∙◌, ℕ, suc, List, [], ◌∷◌, ◌++◌, map, Bool, true, false, not}
+use Rattle.std.proofs.Common.{◌||◌, true≢false, Some, arith, ◌+◌, cond, position, nat_lt, length, None, option_map}
+use Rattle.std.proofs.Common.{if◌then◌else◌, Bor, string_bytes, ◌==◌}
 use Rattle.std.proofs.lemmas.Bool.{ne_eqb}
 use Rattle.std.proofs.lemmas.Bool.Decides.{nat_tests}
 use Rattle.std.proofs.lemmas.Map.Keys.{IsDistinct-push}
@@ -16,7 +18,8 @@ use Rattle.json_fields.specs.Values.{keys_of}
 use Rattle.graph_json.specs.Edges.{is_among}
 use Rattle.text_table.specs.Tables.{with_text, number_of}
 
-all_at_middle : {X : Type 0} (P : X → Type 0) (xs : List X) (x : X) (rest : List X) → AllByRecursion P (xs ++ x ∷ rest) → P x
+all_at_middle : {X : Type 0} (P : X → Type 0) (xs : List X) (x : X) (rest : List X) →
+    AllByRecursion P (xs ++ x ∷ rest) → P x
 all_at_middle P [] x rest h = h.0
 all_at_middle P (y ∷ xs) x rest h = all_at_middle P xs x rest h.1
 
@@ -25,14 +28,17 @@ either true b h left right = left refl
 either false b h left right = right h
 
 -- a text that stands twice
-pub doubled_at : (xs : List (List ℕ)) (x : List ℕ) (rest : List (List ℕ)) → list_any (bytes_eq x) xs ≡ true → IsDistinct bytes_eq (xs ++ x ∷ rest) → ⊥
+pub doubled_at : (xs : List (List ℕ)) (x : List ℕ) (rest : List (List ℕ)) →
+    list_any (bytes_eq x) xs ≡ true → IsDistinct bytes_eq (xs ++ x ∷ rest) → ⊥
 unfolding IsDistinct
 doubled_at [] x rest any d = true≢false (sym any)
 doubled_at (y ∷ xs) x rest any d =
-    either (bytes_eq x y) _ any (λ same. true≢false (sym same ∙ (nat_list_eq_equiv.symm x y ∙ all_at_middle (λ z. bytes_eq y z ≡ false) xs x rest d.0)))
+    either (bytes_eq x y) _ any (λ same.
+    true≢false (sym same ∙ (nat_list_eq_equiv.symm x y ∙ all_at_middle (λ z. bytes_eq y z ≡ false) xs x rest d.0)))
     (λ h. doubled_at xs x rest h d.1)
 
-pub distinct-more : (old new : List (List ℕ)) (x : List ℕ) → new ≡ old ++ x ∷ [] → list_any (bytes_eq x) old ≡ false → IsDistinct bytes_eq old → IsDistinct bytes_eq new
+pub distinct-more : (old new : List (List ℕ)) (x : List ℕ) →
+    new ≡ old ++ x ∷ [] → list_any (bytes_eq x) old ≡ false → IsDistinct bytes_eq old → IsDistinct bytes_eq new
 distinct-more old new x more absent d =
     let P : List (List ℕ) → Type 0 = λ ys. IsDistinct bytes_eq ys in
     subst P (sym more) (IsDistinct-push nat_list_eq_equiv old x d absent)
@@ -55,9 +61,11 @@ found_or_not : (b : Bool) (n : ℕ) → cond b (Some (1 + n)) None ≡ option_ma
 found_or_not true n = ap Some (omega arith)
 found_or_not false n = refl
 
-next_number : (b : Bool) (n m : ℕ) → cond (nat_lt (cond (not b) (1 + n) 0) (suc m)) (Some (cond (not b) (1 + n) 0)) None ≡ (if b then Some 0 else option_map suc (cond (nat_lt n m) (Some n) None))
+next_number : (b : Bool) (n m : ℕ) → cond (nat_lt (cond (not b) (1 + n) 0) (suc m)) (Some (cond (not b) (1 + n) 0)) None
+    ≡ (if b then Some 0 else option_map suc (cond (nat_lt n m) (Some n) None))
 next_number true n m = let e : nat_lt 0 (suc m) ≡ true = grind (arith, nat_tests) in rw e refl
-next_number false n m = let e : nat_lt (1 + n) (suc m) ≡ nat_lt n m = grind (arith, nat_tests) in rw e (found_or_not (nat_lt n m) n)
+next_number false n m = let e : nat_lt (1 + n) (suc m) ≡ nat_lt n m = grind (arith, nat_tests) in
+    rw e (found_or_not (nat_lt n m) n)
 
 -- its number is 0 where the first one is the text, and else one more than among the others
 pub number_step : (q x : List ℕ) (xs : List (List ℕ)) →
@@ -66,16 +74,21 @@ number_step q x xs = next_number (bytes_eq q x) (position_or_len (bytes_eq q) xs
 
 -- ---- texts in byte order
 
-ordered : (o : Ordering) (k x : List ℕ) (xs ys : List (Bor (List ℕ))) (zs : List (List ℕ)) (b y : Bor (List ℕ)) → k ≡ b.now → x ≡ y.now → map (λ s. s.now) ys ≡ zs
-    → map (λ s. s.now) (match_ordering o (b ∷ y ∷ xs) (y ∷ xs) (y ∷ ys)) ≡ match_ordering o (k ∷ x ∷ map (λ s. s.now) xs) (x ∷ map (λ s. s.now) xs) (x ∷ zs)
+ordered : (o : Ordering) (k x : List ℕ) (xs ys : List (Bor (List ℕ))) (zs : List (List ℕ)) (b y : Bor (List ℕ)) →
+    k ≡ b.now → x ≡ y.now → map (λ s. s.now) ys ≡ zs
+    → map (λ s. s.now) (match_ordering o (b ∷ y ∷ xs) (y ∷ xs) (y ∷ ys))
+    ≡ match_ordering o (k ∷ x ∷ map (λ s. s.now) xs) (x ∷ map (λ s. s.now) xs) (x ∷ zs)
 ordered Less k x xs ys zs b y e f g = rw (e, f) refl
 ordered Equal k x xs ys zs b y e f g = rw f refl
 ordered Greater k x xs ys zs b y e f g = rw (f, ← g) refl
 
 -- a reference to a text is put among others as the text among texts
-pub insert_key-now : (xs : List (Bor (List ℕ))) (k : Bor (List ℕ)) → map (λ s. s.now) (insert_key (λ a b. slice_cmp nat_cmp a.now b.now) xs k) ≡ insert_key (slice_cmp nat_cmp) (map (λ s. s.now) xs) k.now
+pub insert_key-now : (xs : List (Bor (List ℕ))) (k : Bor (List ℕ)) →
+    map (λ s. s.now) (insert_key (λ a b. slice_cmp nat_cmp a.now b.now) xs k)
+    ≡ insert_key (slice_cmp nat_cmp) (map (λ s. s.now) xs) k.now
 insert_key-now [] k = refl
-insert_key-now (x ∷ xs) k = ordered (slice_cmp nat_cmp k.now x.now) k.now x.now xs _ _ k x refl refl (insert_key-now xs k)
+insert_key-now (x ∷ xs) k =
+    ordered (slice_cmp nat_cmp k.now x.now) k.now x.now xs _ _ k x refl refl (insert_key-now xs k)
 
 -- ---- keys of an object
 
@@ -85,11 +98,14 @@ keys_of-entries (e ∷ es) = ap (λ ks. string_bytes e.0 ∷ ks) (keys_of-entrie
 
 -- ---- the index past the last
 
-end_by : (b : Bool) (n len : ℕ) (any : Bool) → (n == len) ≡ not any → (cond (not b) (1 + n) 0 == suc len) ≡ not (b || any)
+end_by : (b : Bool) (n len : ℕ) (any : Bool) →
+    (n == len) ≡ not any → (cond (not b) (1 + n) 0 == suc len) ≡ not (b || any)
 end_by true n len any same = ne_eqb 0 (suc len) (λ e. omega arith)
 end_by false n len any same = let one : (1 + n == suc len) ≡ (n == len) = grind (arith, nat_tests) in one ∙ same
 
 -- a text that would stand past the last is not among them
-pub at_the_end : (q : List ℕ) (xs : List (List ℕ)) → (position_or_len (bytes_eq q) xs == length xs) ≡ not (list_any (bytes_eq q) xs)
+pub at_the_end : (q : List ℕ) (xs : List (List ℕ)) →
+    (position_or_len (bytes_eq q) xs == length xs) ≡ not (list_any (bytes_eq q) xs)
 at_the_end q [] = refl
-at_the_end q (x ∷ xs) = end_by (bytes_eq q x) (position_or_len (bytes_eq q) xs) (length xs) (list_any (bytes_eq q) xs) (at_the_end q xs)
+at_the_end q (x ∷ xs) =
+    end_by (bytes_eq q x) (position_or_len (bytes_eq q) xs) (length xs) (list_any (bytes_eq q) xs) (at_the_end q xs)

@@ -1,5 +1,6 @@
 -- What was found of a file, as what the bytes tell.
-use Rattle.std.proofs.Common.{◌≡◌, sym, ap, subst, refl, ◌∙◌, ℕ, List, Some, None, Ok, Err, Result, IfOk, IfErr, MatchResult, ◌⊎◌, inl, inr}
+use Rattle.std.proofs.Common.{◌≡◌, sym, ap, subst, refl, ◌∙◌, ℕ, List, Some, None, Ok, Err, Result, IfOk, IfErr}
+use Rattle.std.proofs.Common.{MatchResult, ◌⊎◌, inl, inr}
 use Rattle.serde_json.specs.Data.{Data}
 use Rattle.resource_graph.specs.NamedGraph.{NamedGraph}
 use Rattle.graph_build.specs.Raw.{IsBuiltFrom, raw_graph, raw_names}
@@ -11,7 +12,8 @@ use Rattle.graph_json.specs.Edges.{edges_of, IsWrongEdge, IsFirstWrong}
 use Rattle.graph_json.specs.Ids.{ids_of, IsRepeated}
 use Rattle.graph_json.specs.RawLists.{kinds_of}
 use Rattle.graph_json.specs.GraphFile.{FileLists, GraphFile, lists_of, file_of}
-use Rattle.graph_json.specs.GraphText.{IsValueOf, IsGraphText, Says, HasDistinctIds, HasRightEdges, HasMisfit, HasUnfitEdge, IsFirstFault, IsToldAs, IsEdgeToldAs, IsFirstRawFault, raw_of}
+use Rattle.graph_json.specs.GraphText.{IsValueOf, IsGraphText, Says, HasDistinctIds, HasRightEdges, HasMisfit}
+use Rattle.graph_json.specs.GraphText.{HasUnfitEdge, IsFirstFault, IsToldAs, IsEdgeToldAs, IsFirstRawFault, raw_of}
 use Rattle.graph_json.specs.FieldPaths.{FileMisfit}
 use Rattle.graph_json.specs.declared.edges.EdgeFault.{EdgeFault}
 use Rattle.graph_json.specs.declared.edges.EdgeFault.TheVariants.{Unfit, Wrong}
@@ -19,17 +21,20 @@ use Rattle.graph_json.specs.declared.faults.ReadFault.{ReadFault}
 use Rattle.graph_json.specs.declared.faults.ReadFault.TheVariants.{NotJson, Field, DuplicateNode, Edge, Graph, Memory}
 
 -- a case that is known
-pub matched_ok : {A B : Type 0} (P : A → Type 0) (Q : B → Type 0) (r : Result A B) (x : A) → r ≡ Ok x → MatchResult r P Q → P x
+pub matched_ok : {A B : Type 0} (P : A → Type 0) (Q : B → Type 0) (r : Result A B) (x : A) →
+    r ≡ Ok x → MatchResult r P Q → P x
 matched_ok P Q r x e h = subst (λ s. MatchResult s P Q) e h
 
-pub matched_err : {A B : Type 0} (P : A → Type 0) (Q : B → Type 0) (r : Result A B) (x : B) → r ≡ Err x → MatchResult r P Q → Q x
+pub matched_err : {A B : Type 0} (P : A → Type 0) (Q : B → Type 0) (r : Result A B) (x : B) →
+    r ≡ Err x → MatchResult r P Q → Q x
 matched_err P Q r x e h = subst (λ s. MatchResult s P Q) e h
 
 -- the file with these lists and nodes
 abbrev pub file_with : FileLists → List FileNode → GraphFile
 file_with lists nodes = record { nodes = nodes; edges = edges_of 0 lists.edges }
 
-pub file-read : (d : Data) (lists : FileLists) (nodes : List FileNode) → Ok lists ≡ lists_of d → Ok nodes ≡ nodes_of 0 lists.nodes → file_of d ≡ Ok (file_with lists nodes)
+pub file-read : (d : Data) (lists : FileLists) (nodes : List FileNode) →
+    Ok lists ≡ lists_of d → Ok nodes ≡ nodes_of 0 lists.nodes → file_of d ≡ Ok (file_with lists nodes)
 file-read d lists nodes listed read = rw (← listed, ← read) refl
 
 module _ (bytes : List ℕ) where
@@ -69,22 +74,28 @@ same_file bytes a b (c, value, file) (d, other, again) =
 -- bytes are a graph file of at most one graph
 pub one_graph_told : (bytes : List ℕ) (g h : NamedGraph) → IsGraphText bytes g → IsGraphText bytes h → g ≡ h
 one_graph_told bytes g h (file, says, right, built, fine) (other, said, right-too, built-too, fine-too) =
-    one_graph (kinds_of file.nodes) (raw_of file) g h built (subst (λ (f : GraphFile). IsBuiltFrom (kinds_of f.nodes) (raw_of f) h) (same_file bytes other file said says) built-too)
+    one_graph (kinds_of file.nodes) (raw_of file) g h built (subst (λ (f : GraphFile).
+    IsBuiltFrom (kinds_of f.nodes) (raw_of f) h) (same_file bytes other file said says) built-too)
 
 -- a graph file has no fault
 pub no_fault_told : (bytes : List ℕ) (g : NamedGraph) (fault : ReadFault) → IsGraphText bytes g →
     IsFirstFault bytes fault → fault ≡ Memory
-no_fault_told bytes g NotJson (file, says, right, built, fine) told = absurd (let none : None ≡ Some says.0 = sym told ∙ says.1 in cc)
+no_fault_told bytes g NotJson (file, says, right, built, fine) told =
+    absurd (let none : None ≡ Some says.0 = sym told ∙ says.1 in cc)
 no_fault_told bytes g (Field path fault) (file, says, right, built, fine) (m, path-is, fault-is, has) = absurd (by has)
   where
     by : HasMisfit bytes m ⊎ HasUnfitEdge bytes m → ⊥
-    by (inl (d, value, misfit)) = let same : Ok file ≡ Err m = sym says.2 ∙ (ap file_of (same_value bytes says.0 d says.1 value) ∙ misfit) in cc
+    by (inl (d, value, misfit)) =
+        let same : Ok file ≡ Err m = sym says.2 ∙ (ap file_of (same_value bytes says.0 d says.1 value) ∙ misfit) in cc
     by (inr (other, said, distinct, first)) =
-        right.1 first.at (subst (λ (f : GraphFile). IsWrongEdge (ids_of f.nodes) f.edges first.at) (same_file bytes other file said says) first.wrong)
+        right.1 first.at (subst (λ (f : GraphFile). IsWrongEdge (ids_of f.nodes) f.edges first.at)
+        (same_file bytes other file said says) first.wrong)
 no_fault_told bytes g (DuplicateNode at) (file, says, right, built, fine) (other, said, least) =
-    absurd (right.0 at (subst (λ (f : GraphFile). IsRepeated (ids_of f.nodes) at) (same_file bytes other file said says) least.0))
+    absurd (right.0 at
+    (subst (λ (f : GraphFile). IsRepeated (ids_of f.nodes) at) (same_file bytes other file said says) least.0))
 no_fault_told bytes g (Edge at) (file, says, right, built, fine) (other, said, distinct, first) =
-    absurd (right.1 first.at (subst (λ (f : GraphFile). IsWrongEdge (ids_of f.nodes) f.edges first.at) (same_file bytes other file said says) first.wrong))
+    absurd (right.1 first.at (subst (λ (f : GraphFile). IsWrongEdge (ids_of f.nodes) f.edges first.at)
+    (same_file bytes other file said says) first.wrong))
 no_fault_told bytes g (Graph fault) (file, says, right, built, fine) (other, said, right-too, told, not) =
     absurd (not (nothing_told (raw_graph (kinds_of file.nodes) (raw_of file)) (raw_names (raw_of file)) fault fine
     (subst (λ (f : GraphFile). IsFirstGraphFault (raw_graph (kinds_of f.nodes) (raw_of f)) (raw_names (raw_of f)) fault)

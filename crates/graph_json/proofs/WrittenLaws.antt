@@ -1,5 +1,6 @@
 -- What is written of a graph is read as the value of the graph.
-use Rattle.std.proofs.Common.{◌≡◌, refl, sym, ap, ◌∙◌, ℕ, suc, ◌<◌, ◌^◌, List, [], ◌∷◌, map, Bool, true, ◌&&◌, Option, Some, None, IfSome, unwrap_or, slice_get, arith}
+use Rattle.std.proofs.Common.{◌≡◌, refl, sym, ap, ◌∙◌, ℕ, suc, ◌<◌, ◌^◌, List, [], ◌∷◌, map, Bool, true, ◌&&◌, Option}
+use Rattle.std.proofs.Common.{Some, None, IfSome, unwrap_or, slice_get, arith}
 use Rattle.std.specs.List.{AllByRecursion, fold}
 use Rattle.std.specs.Ordering.{nat_cmp, match_ordering, is_lt, ordering_reverse}
 use Rattle.std.specs.declared.cmp.Ordering.{Ordering}
@@ -10,7 +11,8 @@ use Rattle.serde_json.specs.Read.{read}
 use Rattle.json_whole.proofs.Words.{and_left, and_right}
 use Rattle.flux_defs.specs.declared.vertices.Vertex.{Vertex}
 use Rattle.resource_graph.specs.NamedGraph.{NamedGraph}
-use Rattle.graph_json.specs.WrittenGraph.{or_none, keys_object, edges_data, with_edge, nodes_data, node_data, edge_data, properties_at, graph_data, graph_text, HasSmallNumbers, HasAllSmallNumbers}
+use Rattle.graph_json.specs.WrittenGraph.{or_none, keys_object, edges_data, with_edge, nodes_data, node_data, edge_data}
+use Rattle.graph_json.specs.WrittenGraph.{properties_at, graph_data, graph_text, HasSmallNumbers, HasAllSmallNumbers}
 use Rattle.json_written.specs.Texts.{readable}
 use Rattle.json_written.proofs.PlainLaws.{IsWhole, IsPlain, ArePlain, HasPlain, is_below, read_compact}
 
@@ -36,46 +38,61 @@ is_less Equal e = absurd (cc)
 is_less Greater e = absurd (cc)
 
 less_then : (k l m : List ℕ) → less k l ≡ true → less l m ≡ true → less k m ≡ true
-less_then k l m p q = ap is_lt (nat_list_cmp_total.trans k l m (is_less (slice_cmp nat_cmp k l) p) (is_less (slice_cmp nat_cmp l m) q))
+less_then k l m p q =
+    ap is_lt (nat_list_cmp_total.trans k l m (is_less (slice_cmp nat_cmp k l) p) (is_less (slice_cmp nat_cmp l m) q))
 
 below_then : (k l : List ℕ) (ks : List (List ℕ)) → less k l ≡ true → below l ks ≡ true → below k ks ≡ true
 below_then k l [] p h = refl
-below_then k l (m ∷ ks) p h = both (less k m) (below k ks) (less_then k l m p (and_left (less l m) (below l ks) h)) (below_then k l ks p (and_right (less l m) (below l ks) h))
+below_then k l (m ∷ ks) p h = both (less k m) (below k ks)
+    (less_then k l m p (and_left (less l m) (below l ks) h)) (below_then k l ks p (and_right (less l m) (below l ks) h))
 
-below_insert : (x k : List ℕ) (ks : List (List ℕ)) → less x k ≡ true → below x ks ≡ true → below x (insert_key (slice_cmp nat_cmp) ks k) ≡ true
+below_insert : (x k : List ℕ) (ks : List (List ℕ)) →
+    less x k ≡ true → below x ks ≡ true → below x (insert_key (slice_cmp nat_cmp) ks k) ≡ true
 below_insert x k [] p h = both (less x k) true p refl
 below_insert x k (y ∷ ys) p h = by (slice_cmp nat_cmp k y) (below_insert x k ys p (and_right (less x y) (below x ys) h))
   where
-    by : (o : Ordering) → below x (insert_key (slice_cmp nat_cmp) ys k) ≡ true → below x (match_ordering o (k ∷ y ∷ ys) (y ∷ ys) (y ∷ insert_key (slice_cmp nat_cmp) ys k)) ≡ true
+    by : (o : Ordering) → below x (insert_key (slice_cmp nat_cmp) ys k) ≡ true →
+        below x (match_ordering o (k ∷ y ∷ ys) (y ∷ ys) (y ∷ insert_key (slice_cmp nat_cmp) ys k)) ≡ true
     by Less ih = both (less x k) (below x (y ∷ ys)) p h
     by Equal ih = h
     by Greater ih = both (less x y) _ (and_left (less x y) (below x ys) h) ih
 
-pub ordered_insert : (k : List ℕ) (ks : List (List ℕ)) → ordered ks ≡ true → ordered (insert_key (slice_cmp nat_cmp) ks k) ≡ true
+pub ordered_insert : (k : List ℕ) (ks : List (List ℕ)) →
+    ordered ks ≡ true → ordered (insert_key (slice_cmp nat_cmp) ks k) ≡ true
 ordered_insert k [] h = refl
-ordered_insert k (x ∷ xs) h = by (slice_cmp nat_cmp k x) refl (ordered_insert k xs (and_right (below x xs) (ordered xs) h))
+ordered_insert k (x ∷ xs) h =
+    by (slice_cmp nat_cmp k x) refl (ordered_insert k xs (and_right (below x xs) (ordered xs) h))
   where
     after : Greater ≡ slice_cmp nat_cmp k x → less x k ≡ true
     after e = ap is_lt (nat_list_cmp_total.antisymm x k) ∙ ap (λ o. is_lt (ordering_reverse o)) (sym e)
 
-    by : (o : Ordering) → o ≡ slice_cmp nat_cmp k x → ordered (insert_key (slice_cmp nat_cmp) xs k) ≡ true → ordered (match_ordering o (k ∷ x ∷ xs) (x ∷ xs) (x ∷ insert_key (slice_cmp nat_cmp) xs k)) ≡ true
+    by : (o : Ordering) → o ≡ slice_cmp nat_cmp k x → ordered (insert_key (slice_cmp nat_cmp) xs k) ≡ true →
+        ordered (match_ordering o (k ∷ x ∷ xs) (x ∷ xs) (x ∷ insert_key (slice_cmp nat_cmp) xs k)) ≡ true
     by Less e ih =
         let first : less k x ≡ true = ap is_lt (sym e) in
-        both (below k (x ∷ xs)) (ordered (x ∷ xs)) (both (less k x) (below k xs) first (below_then k x xs first (and_left (below x xs) (ordered xs) h))) h
+        both (below k (x ∷ xs)) (ordered (x ∷ xs))
+        (both (less k x) (below k xs) first (below_then k x xs first (and_left (below x xs) (ordered xs) h))) h
     by Equal e ih = h
-    by Greater e ih = both (below x (insert_key (slice_cmp nat_cmp) xs k)) _ (below_insert x k xs (after e) (and_left (below x xs) (ordered xs) h)) ih
+    by Greater e ih = both (below x (insert_key (slice_cmp nat_cmp) xs k)) _
+        (below_insert x k xs (after e) (and_left (below x xs) (ordered xs) h)) ih
 
-pub ordered_all : (ks more : List (List ℕ)) → ordered ks ≡ true → ordered (fold (insert_key (slice_cmp nat_cmp)) ks more) ≡ true
+pub ordered_all : (ks more : List (List ℕ)) →
+    ordered ks ≡ true → ordered (fold (insert_key (slice_cmp nat_cmp)) ks more) ≡ true
 ordered_all ks [] h = h
 ordered_all ks (k ∷ more) h = ordered_all (insert_key (slice_cmp nat_cmp) ks k) more (ordered_insert k ks h)
 
 below_keys : (k : List ℕ) (ks : List (List ℕ)) → below k ks ≡ true → is_below k (keys_object ks) ≡ true
 below_keys k [] h = refl
-below_keys k (l ∷ ls) h = both (less k l) _ (and_left (less k l) (below k ls) h) (below_keys k ls (and_right (less k l) (below k ls) h))
+below_keys k (l ∷ ls) h =
+    both (less k l) _ (and_left (less k l) (below k ls) h) (below_keys k ls (and_right (less k l) (below k ls) h))
 
 plain_keys : (n : ℕ) (ks : List (List ℕ)) → ordered ks ≡ true → HasPlain n (keys_object ks)
 plain_keys n [] h = tt
-plain_keys n (k ∷ ks) h = (tt, below_keys k ks (and_left (below k ks) (ordered ks) h), plain_keys n ks (and_right (below k ks) (ordered ks) h))
+plain_keys n (k ∷ ks) h = (
+  tt,
+  below_keys k ks (and_left (below k ks) (ordered ks) h),
+  plain_keys n ks (and_right (below k ks) (ordered ks) h),
+)
 
 -- ---- a graph's value
 
@@ -101,7 +118,8 @@ plain_node g v x small = (
             (tt, refl, tt),
             refl,
             (
-              plain_keys 0 (properties_at g v) (ordered_all [] (map readable (unwrap_or (slice_get g.properties v) [])) refl),
+              plain_keys 0 (properties_at g v)
+                  (ordered_all [] (map readable (unwrap_or (slice_get g.properties v) [])) refl),
               refl,
               (whole_or_none x.rank small.2, refl, (small.0, refl, (tt, refl, (tt, refl, tt)))),
             ),
@@ -114,7 +132,8 @@ plain_node g v x small = (
   ),
 )
 
-plain_nodes : (g : NamedGraph) (v : ℕ) (xs : List Vertex) → AllByRecursion HasSmallNumbers xs → ArePlain 3 (nodes_data g v xs)
+plain_nodes : (g : NamedGraph) (v : ℕ) (xs : List Vertex) →
+    AllByRecursion HasSmallNumbers xs → ArePlain 3 (nodes_data g v xs)
 plain_nodes g v [] all = tt
 plain_nodes g v (x ∷ xs) all = (plain_node g v x all.0, plain_nodes g (suc v) xs all.1)
 
@@ -130,7 +149,8 @@ plain_edges v (x ∷ xs) = by x.parent (plain_edges (suc v) xs)
     by (Some p) ih = (plain_edge p v, ih)
 
 pub plain_graph : (g : NamedGraph) → HasAllSmallNumbers g → IsPlain 6 (graph_data g)
-plain_graph g small = ((plain_edges 0 g.resources.vertices, refl, (plain_nodes g 0 g.resources.vertices small, refl, tt)), refl, tt)
+plain_graph g small =
+    ((plain_edges 0 g.resources.vertices, refl, (plain_nodes g 0 g.resources.vertices small, refl, tt)), refl, tt)
 
 pub read-graph_text : (g : NamedGraph) → HasAllSmallNumbers g → read (graph_text g) ≡ Some (graph_data g)
 unfolding graph_text

@@ -1,5 +1,7 @@
 -- The edges of a graph file, and whom they make the parent of whom.
-use Rattle.std.specs.Prelude.{◌≡◌, ℕ, suc, ◌<◌, List, [], ◌∷◌, map, take, Bool, true, false, not, ◌&&◌, ◌||◌, if◌then◌else◌, Option, Some, None, is_some, unwrap_or, slice_get, slice_set, option_map, option_and_then, IsTrue, Result, Ok, Err, codes}
+use Rattle.std.specs.Prelude.{◌≡◌, ℕ, suc, ◌<◌, List, [], ◌∷◌, map, take, Bool, true, false, not, ◌&&◌, ◌||◌}
+use Rattle.std.specs.Prelude.{if◌then◌else◌, Option, Some, None, is_some, unwrap_or, slice_get, slice_set, option_map}
+use Rattle.std.specs.Prelude.{option_and_then, IsTrue, Result, Ok, Err, codes}
 use Rattle.std.specs.List.{AllByRecursion, filter_map, find, list_any}
 use Rattle.std.specs.Option.{option_map_or}
 use Rattle.std.specs.Str.{bytes_eq}
@@ -35,11 +37,13 @@ direction_role text = if bytes_eq text (codes "in") then Skipped else Counted
 
 -- by the text at `name.containment`, where there is one
 abbrev pub name_role : Data → Option Role
-name_role d = option_map direction_role (option_and_then as_str (option_and_then (get (codes "containment")) (get (codes "name") d)))
+name_role d = option_map direction_role
+    (option_and_then as_str (option_and_then (get (codes "containment")) (get (codes "name") d)))
 
 -- its subsystem is called containment
 abbrev pub is_contained : Data → Bool
-is_contained d = option_map_or (λ text. bytes_eq text (codes "containment")) (option_and_then as_str (get (codes "subsystem") d)) false
+is_contained d = option_map_or
+    (λ text. bytes_eq text (codes "containment")) (option_and_then as_str (get (codes "subsystem") d)) false
 
 -- it has neither a name nor a subsystem
 abbrev pub is_plain : Data → Bool
@@ -90,9 +94,11 @@ counted edges = filter_map counts edges
 abbrev pub is_among : List (List ℕ) → List ℕ → Bool
 is_among texts text = list_any (bytes_eq text) texts
 
--- an edge with this role, after these that count, is wrong: refused, or between what are no nodes, or a second one to its target
+-- an edge with this role, after these that count, is wrong: refused, or between what are no nodes, or a second one to
+-- its target
 abbrev pub is_wrong_as : List (List ℕ) → List FileEdge → Role → FileEdge → Bool
-is_wrong_as ids earlier Counted e = not (is_among ids e.source) || not (is_among ids e.target) || is_among (map (λ f. f.target) earlier) e.target
+is_wrong_as ids earlier Counted e =
+    not (is_among ids e.source) || not (is_among ids e.target) || is_among (map (λ f. f.target) earlier) e.target
 is_wrong_as ids earlier Skipped e = false
 is_wrong_as ids earlier Refused e = true
 
@@ -113,7 +119,8 @@ TellsEdge (Err m) at (Wrong k) = ⊥
 TellsEdge (Err m) at (Unfit n) = n ≡ m
 
 -- the fault is that of the first wrong edge
-pub record IsFirstWrong (ids : List (List ℕ)) (edges : List (Result FileEdge FileMisfit)) (fault : EdgeFault) : Type 0 where
+pub record IsFirstWrong
+    (ids : List (List ℕ)) (edges : List (Result FileEdge FileMisfit)) (fault : EdgeFault) : Type 0 where
   pub at : ℕ
   pub read : Result FileEdge FileMisfit
   pub here : slice_get edges at ≡ Some read
@@ -138,10 +145,12 @@ edge_held e = record { source = id_bytes e.source; target = id_bytes e.target; r
 
 -- the parents with one more, unless there is one already
 abbrev pub with_parent : List (Option ℕ) → ℕ → ℕ → Option (List (Option ℕ))
-with_parent parents child parent = if is_some (unwrap_or (slice_get parents child) None) then None else Some (slice_set parents child (Some parent))
+with_parent parents child parent =
+    if is_some (unwrap_or (slice_get parents child) None) then None else Some (slice_set parents child (Some parent))
 
 abbrev pub joined_as : List (List ℕ) → List (Option ℕ) → Role → FileEdge → Option (List (Option ℕ))
-joined_as ids parents Counted e = option_and_then (λ parent. option_and_then (λ child. with_parent parents child parent) (number_of ids e.target)) (number_of ids e.source)
+joined_as ids parents Counted e = option_and_then (λ parent.
+    option_and_then (λ child. with_parent parents child parent) (number_of ids e.target)) (number_of ids e.source)
 joined_as ids parents Skipped e = Some parents
 joined_as ids parents Refused e = None
 
@@ -150,7 +159,8 @@ abbrev pub joined : List (List ℕ) → List (Option ℕ) → FileEdge → Optio
 joined ids parents e = joined_as ids parents e.role e
 
 -- the first so many edges are right, and these are the parents that they give
-pub record HasJoined (ids : List (List ℕ)) (edges : List (Result FileEdge FileMisfit)) (most : ℕ) (parents : List (Option ℕ)) : Type 0 where
+pub record HasJoined (ids : List (List ℕ))
+    (edges : List (Result FileEdge FileMisfit)) (most : ℕ) (parents : List (Option ℕ)) : Type 0 where
   pub parents_are : parents ≡ parents_of ids (counted (take most edges))
   pub right : (k : ℕ) → k < most → IsWrongEdge ids edges k → ⊥
   pub known : AllByRecursion (λ e. is_among ids e.source ≡ true) (counted (take most edges))

@@ -5,11 +5,13 @@ use Rattle.json_fields.specs.Paths.{index}
 use Rattle.json_fields.specs.Misfits.{at_field}
 use Rattle.json_fields.specs.declared.misfits.Misfit.{Misfit}
 use Rattle.graph_json.specs.declared.field_paths.NodeKey.{NodeKey}
-use Rattle.graph_json.specs.declared.field_paths.NodeKey.TheVariants.{Id, Metadata, TypeName, Basename, Number, Name, Rank, Size, Unit, Properties}
+use Rattle.graph_json.specs.declared.field_paths.NodeKey.TheVariants.{Id, Metadata, TypeName, Basename, Number, Name}
+use Rattle.graph_json.specs.declared.field_paths.NodeKey.TheVariants.{Rank, Size, Unit, Properties}
 use Rattle.graph_json.specs.declared.field_paths.EdgeKey.{EdgeKey}
 use Rattle.graph_json.specs.declared.field_paths.EdgeKey.TheVariants.{Source, Target, EdgeMetadata}
 use Rattle.graph_json.specs.declared.field_paths.FieldPath.{FieldPath}
-use Rattle.graph_json.specs.declared.field_paths.FieldPath.TheVariants.{Whole, Graph, Nodes, Edges, Node, NodeField, Property, PropertyKey, Edge, EdgeField}
+use Rattle.graph_json.specs.declared.field_paths.FieldPath.TheVariants.{Whole, Graph, Nodes, Edges, Node, NodeField}
+use Rattle.graph_json.specs.declared.field_paths.FieldPath.TheVariants.{Property, PropertyKey, Edge, EdgeField}
 
 -- where a key stands, behind its node
 abbrev pub node_key : NodeKey → List ℕ

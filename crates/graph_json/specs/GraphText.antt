@@ -45,7 +45,8 @@ HasFaultlessVertices file = IsFaultless (raw_graph (kinds_of file.nodes) (raw_of
 
 -- the bytes are a graph file, and this is its graph
 abbrev pub IsGraphText : List ℕ → NamedGraph → Type 0
-IsGraphText bytes graph = (file : GraphFile) × Says bytes file × HasRightEdges file × IsBuiltFrom (kinds_of file.nodes) (raw_of file) graph × HasFaultlessVertices file
+IsGraphText bytes graph = (file : GraphFile) × Says bytes file
+    × HasRightEdges file × IsBuiltFrom (kinds_of file.nodes) (raw_of file) graph × HasFaultlessVertices file
 
 -- a field of the file's lists or nodes breaks its rule, and it is the first
 abbrev pub HasMisfit : List ℕ → FileMisfit → Type 0
@@ -53,7 +54,8 @@ HasMisfit bytes m = (d : Data) × IsValueOf bytes d × (file_of d ≡ Err m)
 
 -- the first edge that is wrong is one with a field that breaks its rule
 abbrev pub HasUnfitEdge : List ℕ → FileMisfit → Type 0
-HasUnfitEdge bytes m = (file : GraphFile) × Says bytes file × HasDistinctIds file × IsFirstWrong (ids_of file.nodes) file.edges (Unfit m)
+HasUnfitEdge bytes m =
+    (file : GraphFile) × Says bytes file × HasDistinctIds file × IsFirstWrong (ids_of file.nodes) file.edges (Unfit m)
 
 -- Which fault the bytes have: what is looked at first is told first. Of want of memory nothing is said.
 abbrev pub IsFirstFault : List ℕ → ReadFault → Type 0

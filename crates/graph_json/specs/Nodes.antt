@@ -1,5 +1,6 @@
 -- The nodes of a graph file.
-use Rattle.std.specs.Prelude.{ℕ, suc, nat_le, List, [], ◌∷◌, ◌++◌, length, if◌then◌else◌, Option, Some, None, Result, Ok, Err, codes, decimal}
+use Rattle.std.specs.Prelude.{ℕ, suc, nat_le, List, [], ◌∷◌, ◌++◌, length, if◌then◌else◌, Option, Some, None, Result}
+use Rattle.std.specs.Prelude.{Ok, Err, codes, decimal}
 use Rattle.std.specs.List.{fold, list_all}
 use Rattle.std.specs.Option.{option_map_or, option_or}
 use Rattle.std.specs.Ordering.{nat_cmp}
@@ -7,7 +8,8 @@ use Rattle.std.specs.Cmp.Lexicographic.{slice_cmp}
 use Rattle.std.specs.BTreeSet.{insert_key}
 use Rattle.std.specs.Result.{result_err, result_map_both}
 use Rattle.flux_defs.specs.declared.limits.TheConstants.{MOST_NAME_BYTES, MOST_TYPE_BYTES}
-use Rattle.serde_json.specs.Data.{Data, null, boolean, number, string, array, object, Items, no_items, item, Members, no_members, member}
+use Rattle.serde_json.specs.Data.{Data, null, boolean, number, string, array, object, Items, no_items, item, Members}
+use Rattle.serde_json.specs.Data.{no_members, member}
 use Rattle.serde_json.specs.Find.{as_str}
 use Rattle.serde_json.specs.View.{items_view, members_view}
 use Rattle.json_whole.specs.declared.fields.FieldFault.{FieldFault}
@@ -18,7 +20,8 @@ use Rattle.text_forms.specs.Names.{is_name}
 use Rattle.json_fields.specs.Names.{ruled_value, ruled_field, ruled_given}
 use Rattle.graph_json.specs.FieldPaths.{at_key, FileMisfit}
 use Rattle.json_fields.specs.Misfits.{at_field}
-use Rattle.graph_json.specs.declared.field_paths.NodeKey.TheVariants.{Id, Metadata, TypeName, Basename, Number, Name, Rank, Size, Unit, Properties}
+use Rattle.graph_json.specs.declared.field_paths.NodeKey.TheVariants.{Id, Metadata, TypeName, Basename, Number, Name}
+use Rattle.graph_json.specs.declared.field_paths.NodeKey.TheVariants.{Rank, Size, Unit, Properties}
 use Rattle.graph_json.specs.declared.field_paths.FieldPath.TheVariants.{Node, NodeField, Property, PropertyKey}
 use Rattle.graph_json.specs.declared.fields.NodeId.{NodeId}
 use Rattle.graph_json.specs.declared.fields.NodeId.TheVariants.{Written, Numbered}
@@ -69,7 +72,8 @@ in_order texts = fold (insert_key (slice_cmp nat_cmp)) [] texts
 -- the first of a list's members from `member` on that is no name
 abbrev pub first_misfit : ℕ → ℕ → Items → Option FileMisfit
 first_misfit at m no_items = None
-first_misfit at m (item d ds) = option_or (result_err (at_field (Property at m) (ruled_value (is_name MOST_NAME_BYTES) d)))
+first_misfit at m (item d ds) =
+    option_or (result_err (at_field (Property at m) (ruled_value (is_name MOST_NAME_BYTES) d)))
     (first_misfit at (suc m) ds)
 
 abbrev pub unless_misfit : {A : Type 0} → Option FileMisfit → A → Result A FileMisfit
@@ -105,7 +109,17 @@ node_with at id d =
     result_and_then (at_key at Rank (small_given (codes "rank") d)) (λ rank.
     result_and_then (at_key at Size (size_given (codes "size") d)) (λ size.
     result_and_then (at_key at Unit (ruled_given is_unit [] (codes "unit") d)) (λ unit.
-    result_map_both (λ properties. record { id = id; kind = kind; base = base; number = n; name = name; rank = rank; size = size; unit = unit; properties = properties }) (λ m. m)
+    result_map_both (λ properties. record {
+      id = id;
+      kind = kind;
+      base = base;
+      number = n;
+      name = name;
+      rank = rank;
+      size = size;
+      unit = unit;
+      properties = properties;
+    }) (λ m. m)
     (properties_given at d))))))))
 
 -- the node that the value with this index is
@@ -118,7 +132,8 @@ node_of at d =
 -- the nodes of a list from this index on, and the first misfit where one can't be read
 abbrev pub nodes_of : ℕ → Items → Result (List FileNode) FileMisfit
 nodes_of at no_items = Ok []
-nodes_of at (item d ds) = result_and_then (node_of at d) (λ x. result_map_both (λ xs. x ∷ xs) (λ m. m) (nodes_of (suc at) ds))
+nodes_of at (item d ds) =
+    result_and_then (node_of at d) (λ x. result_map_both (λ xs. x ∷ xs) (λ m. m) (nodes_of (suc at) ds))
 
 -- ---- what the code holds of a node
 
@@ -136,4 +151,14 @@ abbrev pub name_held : NodeFields → List ℕ
 name_held x = option_map_or (λ s. s.now) x.name (default_name x.base.now x.number)
 
 abbrev pub node_held : NodeFields → FileNode
-node_held x = record { id = id_bytes x.id; kind = x.kind.now; base = x.base.now; number = x.number; name = name_held x; rank = x.rank; size = x.size; unit = x.unit.now; properties = properties_held x.properties }
+node_held x = record {
+  id = id_bytes x.id;
+  kind = x.kind.now;
+  base = x.base.now;
+  number = x.number;
+  name = name_held x;
+  rank = x.rank;
+  size = x.size;
+  unit = x.unit.now;
+  properties = properties_held x.properties;
+}

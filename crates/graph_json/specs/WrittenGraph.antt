@@ -1,7 +1,9 @@
 -- What is written of a graph.
-use Rattle.std.specs.Prelude.{ℕ, ◌<◌, ◌^◌, suc, IfSome, negsuc, zero, List, [], ◌∷◌, map, if◌then◌else◌, Option, Some, None, unwrap_or, slice_get, codes, decimal}
+use Rattle.std.specs.Prelude.{ℕ, ◌<◌, ◌^◌, suc, IfSome, negsuc, zero, List, [], ◌∷◌, map, if◌then◌else◌, Option, Some}
+use Rattle.std.specs.Prelude.{None, unwrap_or, slice_get, codes, decimal}
 use Rattle.std.specs.List.{AllByRecursion}
-use Rattle.serde_json.specs.Data.{Num, Data, number, string, array, object, unsigned, negative, Items, no_items, item, Members, no_members, member}
+use Rattle.serde_json.specs.Data.{Num, Data, number, string, array, object, unsigned, negative, Items, no_items, item}
+use Rattle.serde_json.specs.Data.{Members, no_members, member}
 use Rattle.serde_json.specs.Written.{compact_text}
 use Rattle.flux_defs.specs.declared.vertices.Vertex.{Vertex}
 use Rattle.resource_graph.specs.NamedGraph.{NamedGraph, path_text}
@@ -48,7 +50,8 @@ metadata_data g v x = object (
 
 -- the node that vertex v, which is x, is written as
 abbrev pub node_data : NamedGraph → ℕ → Vertex → Data
-node_data g v x = object (member (codes "id") (string (decimal v)) (member (codes "metadata") (metadata_data g v x) no_members))
+node_data g v x =
+    object (member (codes "id") (string (decimal v)) (member (codes "metadata") (metadata_data g v x) no_members))
 
 -- the nodes of the vertices from v on
 abbrev pub nodes_data : NamedGraph → ℕ → List Vertex → Items
@@ -57,7 +60,8 @@ nodes_data g v (x ∷ xs) = item (node_data g v x) (nodes_data g (suc v) xs)
 
 -- the metadata of every edge
 abbrev pub contains_data : Data
-contains_data = object (member (codes "name") (object (member (codes "containment") (string (codes "contains")) no_members)) no_members)
+contains_data = object
+    (member (codes "name") (object (member (codes "containment") (string (codes "contains")) no_members)) no_members)
 
 -- the edge to vertex v from its parent
 abbrev pub edge_data : ℕ → ℕ → Data

@@ -1,5 +1,6 @@
 //! The edges of a graph file, and whom they make the parent of whom.
-ghost use Rattle.std.specs.Prelude.{◌≡◌, ◌<◌, [], ℕ, codes, IsSome, None, Some, Option, List, if◌then◌else◌, length, map, option_map, IfErr, IfSome, OnOk};
+ghost use Rattle.std.specs.Prelude.{◌≡◌, ◌<◌, [], ℕ, codes, IsSome, None, Some, Option, List, if◌then◌else◌, length};
+ghost use Rattle.std.specs.Prelude.{map, option_map, IfErr, IfSome, OnOk};
 ghost use Rattle.std.specs.List.{IsDistinct};
 ghost use Rattle.std.specs.Str.{bytes_eq};
 ghost use Rattle.std.specs.Result.{result_map_both};
@@ -8,7 +9,8 @@ ghost use Rattle.serde_json.specs.View.{view, items_view};
 ghost use Rattle.json_fields.specs.Values.{given, object_or_none};
 ghost use Rattle.text_table.specs.Tables.{number_of};
 ghost use Rattle.graph_json.specs.Nodes.{id_bytes};
-ghost use Rattle.graph_json.specs.Edges.{role_in, role_of, name_role, is_contained, is_plain, edge_with, edge_of, edges_of, edge_held, joined, counted, parents_of, IsWrongEdge, IsFirstWrong};
+ghost use Rattle.graph_json.specs.Edges.{role_in, role_of, name_role, is_contained, is_plain, edge_with, edge_of};
+ghost use Rattle.graph_json.specs.Edges.{edges_of, edge_held, joined, counted, parents_of, IsWrongEdge, IsFirstWrong};
 
 use crate::field_paths::{EdgeKey, FieldPath, FileMisfit};
 use crate::fields::{NodeId, id_field};

@@ -40,7 +40,8 @@ pub(crate) fn id_table(
     alloc: Global,
     nodes: &[NodeFields],
 ) -> Result<Result<TextTable, u64>, AllocError>
-    ensures { IfOk result (λ table. MatchResult table (IsSetOf (ids_of (map node_held nodes.now))) (IsLeast (IsRepeated (ids_of (map node_held nodes.now))))) }
+    ensures { IfOk result (λ table. MatchResult table
+        (IsSetOf (ids_of (map node_held nodes.now))) (IsLeast (IsRepeated (ids_of (map node_held nodes.now))))) }
 {
     let mut table = TextTable::with_capacity(alloc, nodes.len())?;
     'nodes: for (at, node) in nodes.iter().enumerate() {

@@ -9,7 +9,8 @@ ghost use Rattle.serde_json.specs.View.{view, items_view, members_view};
 ghost use Rattle.text_forms.specs.Names.{is_name};
 ghost use Rattle.json_fields.specs.Values.{object_value, object_field, keys_of};
 ghost use Rattle.graph_json.specs.FieldPaths.{at_key, FileMisfit};
-ghost use Rattle.graph_json.specs.Nodes.{id_bytes, node_held, default_name, name_given, first_misfit, properties_given, properties_held, node_with, node_of, nodes_of};
+ghost use Rattle.graph_json.specs.Nodes.{id_bytes, node_held, default_name, name_given, first_misfit, properties_given};
+ghost use Rattle.graph_json.specs.Nodes.{properties_held, node_with, node_of, nodes_of};
 
 use crate::field_paths::{FieldPath, FileMisfit, NodeKey};
 use crate::fields::{NodeId, id_field, size_or_one, small_or_none, unit_or_empty};
@@ -71,7 +72,8 @@ fn name_of<'a>(
     base: &str,
     number: Option<u32>,
 ) -> Result<Option<&'a str>, FieldFault>
-    ensures { result_map_both (λ name. option_map_or (λ s. s.now) name (default_name base.now number)) (λ e. e) result ≡ name_given base.now number (view metadata.now) }
+    ensures { result_map_both (λ name. option_map_or (λ s. s.now) name (default_name base.now number)) (λ e. e) result
+        ≡ name_given base.now number (view metadata.now) }
 {
     if let Some(found) = given(metadata, "name") {
         let name = name_value(found, MOST_NAME_BYTES)?;

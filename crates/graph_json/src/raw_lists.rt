@@ -35,7 +35,8 @@ fn keys_of(alloc: Global, members: &Map<String, Value>) -> Result<List<Text>, Al
 
 /// Adds a text to an ordered set, unless it is there.
 pub(crate) fn add_text<'a>(set: &mut BTreeSet<&'a str>, text: &'a str) -> Result<(), AllocError>
-    ensures { OnOk result (map (λ s. s.now) set.new.keys ≡ insert_key (slice_cmp nat_cmp) (map (λ s. s.now) set.old.keys) text.now) }
+    ensures { OnOk result
+        (map (λ s. s.now) set.new.keys ≡ insert_key (slice_cmp nat_cmp) (map (λ s. s.now) set.old.keys) text.now) }
 {
     set.insert(text)?;
     Ok(())

@@ -14,7 +14,8 @@ ghost use Rattle.graph_json.specs.Edges.{FileEdge, parents_of};
 ghost use Rattle.graph_json.specs.Ids.{ids_of};
 ghost use Rattle.graph_json.specs.RawLists.{kinds_of, vertices_of};
 ghost use Rattle.graph_json.specs.GraphFile.{lists_in, lists_of, lists_held};
-ghost use Rattle.graph_json.specs.GraphText.{IsValueOf, IsGraphText, IsFirstFault, IsToldAs, IsEdgeToldAs, IsFirstRawFault};
+ghost use Rattle.graph_json.specs.GraphText.{IsValueOf, IsGraphText, IsFirstFault, IsToldAs, IsEdgeToldAs};
+ghost use Rattle.graph_json.specs.GraphText.{IsFirstRawFault};
 
 use crate::edges::{EdgeFault, join_edges};
 use crate::faults::ReadFault;
@@ -103,10 +104,13 @@ fn graph_from(
     parents: &[Option<usize>],
 ) -> Result<Graph, ReadFault>
     requires { (edges : List FileEdge) × (parents.now ≡ parents_of (ids_of (map node_held nodes.now)) edges) }
-    ensures built { IfOk result (λ graph. (edges : List FileEdge) → parents.now ≡ parents_of (ids_of (map node_held nodes.now)) edges
+    ensures built { IfOk result
+        (λ graph. (edges : List FileEdge) → parents.now ≡ parents_of (ids_of (map node_held nodes.now)) edges
         → IsBuiltFrom (kinds_of (map node_held nodes.now)) (vertices_of (map node_held nodes.now) edges) graph
-        × IsFaultless (raw_graph (kinds_of (map node_held nodes.now)) (vertices_of (map node_held nodes.now) edges)) (raw_names (vertices_of (map node_held nodes.now) edges))) }
-    ensures told { IfErr result (λ fault. (edges : List FileEdge) → parents.now ≡ parents_of (ids_of (map node_held nodes.now)) edges
+        × IsFaultless (raw_graph (kinds_of (map node_held nodes.now))
+        (vertices_of (map node_held nodes.now) edges)) (raw_names (vertices_of (map node_held nodes.now) edges))) }
+    ensures told { IfErr result
+        (λ fault. (edges : List FileEdge) → parents.now ≡ parents_of (ids_of (map node_held nodes.now)) edges
         → IsFirstRawFault (kinds_of (map node_held nodes.now)) (vertices_of (map node_held nodes.now) edges) fault) }
 {
     if nodes.len() > MOST_VERTICES {
@@ -130,7 +134,8 @@ fn graph_from(
 
 /// The graph of a JSON value.
 fn graph_of(alloc: Global, value: &Value) -> Result<Graph, ReadFault>
-    ensures graph { IfOk result (λ graph. (bytes : List ℕ) → IsValueOf bytes (view value.now) → IsGraphText bytes graph) }
+    ensures graph { IfOk result
+        (λ graph. (bytes : List ℕ) → IsValueOf bytes (view value.now) → IsGraphText bytes graph) }
     ensures fault { IfErr result (λ fault. (bytes : List ℕ) → IsValueOf bytes (view value.now) →
         IsFirstFault bytes fault) }
 {
@@ -161,7 +166,8 @@ fn graph_of(alloc: Global, value: &Value) -> Result<Graph, ReadFault>
 /// some graph, as what `write_graph` writes of a graph of a file, give that graph or the answer that no memory is left.
 pub fn read_graph(alloc: Global, bytes: &[u8]) -> Result<Graph, ReadFault>
     ensures graph { IfOk result (IsGraphText bytes.now) }
-    ensures only { (graph : NamedGraph) → IsGraphText bytes.now graph → (result ≡ Ok graph) ⊎ (result ≡ Err ReadFault.Memory) }
+    ensures only { (graph : NamedGraph) →
+        IsGraphText bytes.now graph → (result ≡ Ok graph) ⊎ (result ≡ Err ReadFault.Memory) }
     ensures fault { IfErr result (IsFirstFault bytes.now) }
 {
     match read_value(alloc, bytes) {

@@ -1,9 +1,13 @@
 //! The text of a graph.
-ghost use Rattle.std.specs.Prelude.{◌≡◌, ◌<◌, codes, [], ◌∷◌, ◌++◌, length, map, Some, unwrap_or, slice_get, decimal, IfOk, OnOk};
+ghost use Rattle.std.specs.Prelude.{◌≡◌, ◌<◌, codes, [], ◌∷◌, ◌++◌, length, map, Some, unwrap_or, slice_get, decimal};
+ghost use Rattle.std.specs.Prelude.{IfOk, OnOk};
 ghost use Rattle.json.specs.Token.{begin_object, end_object, key, string, number};
-ghost use Rattle.serde_json.specs.Data.{member, no_members, object, unsigned, number as number_data, string as string_data};
+ghost use Rattle.serde_json.specs.Data.{member, no_members, object, unsigned, number as number_data};
+ghost use Rattle.serde_json.specs.Data.{string as string_data};
 ghost use Rattle.graph_json.specs.Nodes.{in_order};
-ghost use Rattle.graph_json.specs.WrittenGraph.{text_at, number_or_none, keys_object, properties_at, paths_data, metadata_data, node_data, nodes_data, contains_data, edge_data, edges_data, graph_data, graph_text, HasAllSmallNumbers};
+ghost use Rattle.graph_json.specs.WrittenGraph.{text_at, number_or_none, keys_object, properties_at, paths_data};
+ghost use Rattle.graph_json.specs.WrittenGraph.{metadata_data, node_data, nodes_data, contains_data, edge_data};
+ghost use Rattle.graph_json.specs.WrittenGraph.{edges_data, graph_data, graph_text, HasAllSmallNumbers};
 ghost use Rattle.json_written.specs.Texts.{readable};
 ghost use Rattle.serde_json.specs.Read.{read};
 ghost use Rattle.resource_graph.specs.NamedGraph.{NamedGraph};
@@ -39,7 +43,8 @@ fn put_digits(writer: &mut Writer, name: &str, n: u64) -> Result<(), AllocError>
 
 /// Writes a text as the only member of an object, at a key.
 fn put_containment(writer: &mut Writer, name: &str, text: &str) -> Result<(), AllocError>
-    ensures { OnOk result (Adds writer.old writer.new (key name.now ∷ value_tokens (object (member (codes "containment") (string_data text.now) no_members)))) }
+    ensures { OnOk result (Adds writer.old writer.new
+        (key name.now ∷ value_tokens (object (member (codes "containment") (string_data text.now) no_members)))) }
 {
     writer.key(name)?;
     writer.begin_object()?;
@@ -64,7 +69,8 @@ fn ordered_properties<'a>(
 
 /// Writes the properties of a vertex as the keys of an object.
 fn put_properties(alloc: Global, writer: &mut Writer, properties: &[Text]) -> Result<(), AllocError>
-    ensures { OnOk result (Adds writer.old writer.new (key (codes "properties") ∷ value_tokens (object (keys_object (in_order (map readable properties.now)))))) }
+    ensures { OnOk result (Adds writer.old writer.new
+        (key (codes "properties") ∷ value_tokens (object (keys_object (in_order (map readable properties.now)))))) }
 {
     writer.key("properties")?;
     writer.begin_object()?;
@@ -213,7 +219,8 @@ fn put_node_at(alloc: Global, writer: &mut Writer, graph: &Graph, at: u32) -> Re
 
 /// Writes the vertices as nodes, and closes their list.
 fn put_nodes(alloc: Global, writer: &mut Writer, graph: &Graph) -> Result<(), AllocError>
-    ensures { OnOk result (Adds writer.old writer.new (rest_tokens (nodes_data graph.now 0 graph.now.resources.vertices))) }
+    ensures { OnOk result
+        (Adds writer.old writer.new (rest_tokens (nodes_data graph.now 0 graph.now.resources.vertices))) }
 {
     'nodes: for at in 0..graph.len() {
         put_node_at(alloc, writer, graph, at)?;

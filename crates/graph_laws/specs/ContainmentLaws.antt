@@ -8,7 +8,8 @@ ParentsStandFirst = (g : ResourceGraph) → StandsInPreorder g → (v p : ℕ) �
 
 abbrev pub IsTransitive : Type 0
 IsTransitive = (g : ResourceGraph) → StandsInPreorder g → (w v u : ℕ) → w < length g.vertices →
-    IsTrue (is_at_or_below g.vertices w v) → IsTrue (is_at_or_below g.vertices v u) → IsTrue (is_at_or_below g.vertices w u)
+    IsTrue (is_at_or_below g.vertices w v) →
+    IsTrue (is_at_or_below g.vertices v u) → IsTrue (is_at_or_below g.vertices w u)
 
 abbrev pub IsLine : Type 0
 IsLine = (g : ResourceGraph) → StandsInPreorder g → (w a b : ℕ) → w < length g.vertices →

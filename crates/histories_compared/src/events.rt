@@ -1,5 +1,5 @@
-//! Events of several clients on one history, beside a plain account of what each client has done, and beside a scheduler of
-//! one thread that plays the same lines in the same order.
+//! Events of several clients on one history, beside a plain account of what each client has done, and beside a
+//! scheduler of one thread that plays the same lines in the same order.
 ghost use Rattle.std.specs.Prelude.{◌≡◌, [], IfOk};
 ghost use Rattle.std.specs.Arc.{arc_value};
 ghost use Rattle.sched_core.specs.Played.{AreProper};

@@ -1,6 +1,6 @@
 //! Plays histories of the scheduler: some whose answers are known, and random ones beside plain answers. A candidate is
-//! searched at one place and committed at a later one; and events of several clients happen in any order. It writes what
-//! came, and how many answers differ. The numbers are the same in each run, by a fixed seed.
+//! searched at one place and committed at a later one; and events of several clients happen in any order. It writes
+//! what came, and how many answers differ. The numbers are the same in each run, by a fixed seed.
 #![tactic(auto)]
 
 ghost use Rattle.std.specs.Prelude.{◌≡◌, ◌<◌};

@@ -37,8 +37,8 @@ fn row<L: Ledger>(
     )
 }
 
-/// What another client does while a whole node is searched for: it cancels the job that has both nodes, reserves a node,
-/// moves time past the start, reserves the other node and moves time to the start, and only asks.
+/// What another client does while a whole node is searched for: it cancels the job that has both nodes, reserves a
+/// node, moves time past the start, reserves the other node and moves time to the start, and only asks.
 fn between(alloc: Global) -> Result<[String; 5], AllocError> {
     let job = spec(alloc, ONE_WHOLE, 10, "")?;
     let on_second = spec(alloc, ONE_WHOLE, 10, ON_SECOND)?;

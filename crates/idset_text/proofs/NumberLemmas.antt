@@ -1,13 +1,16 @@
 -- Digits and the number that they write.
-use Rattle.std.proofs.Common.{◌≡◌, ℕ, ◌+◌, ◌*◌, ◌-◌, ◌<◌, ◌≤◌, ◌^◌, Bool, true, false, cond, List, [], ◌∷◌, length, take, get_or, Some, None, refl, sym, ap, ◌∙◌, inl, inr, arith, rules}
+use Rattle.std.proofs.Common.{◌≡◌, ℕ, ◌+◌, ◌*◌, ◌-◌, ◌<◌, ◌≤◌, ◌^◌, Bool, true, false, cond, List, [], ◌∷◌, length}
+use Rattle.std.proofs.Common.{take, get_or, Some, None, refl, sym, ap, ◌∙◌, inl, inr, arith, rules}
 use Rattle.std.specs.Char.{is_ascii_digit, digit_value}
 use Rattle.std.specs.Fmt.{decimal}
-use Rattle.std.proofs.lemmas.Bool.{and_right, and_from, and_parts, lt-ltb, le-ltb, leb-true, ltb-true, ne_eqb, eqb-false, cases_lt}
+use Rattle.std.proofs.lemmas.Bool.{and_right, and_from, and_parts, lt-ltb, le-ltb, leb-true, ltb-true, ne_eqb}
+use Rattle.std.proofs.lemmas.Bool.{eqb-false, cases_lt}
 use Rattle.std.proofs.lemmas.Option.{cond_some}
 use Rattle.std.proofs.lemmas.List.Folds.{list_all_more}
 use Rattle.std.proofs.lemmas.List.Sums.{AllPass-from_list_all}
 use Rattle.std.proofs.lemmas.Str.Parse.{IsNumeralModel, numerals_by_value, digits_value-take-le}
-use Rattle.std.proofs.lemmas.Fmt.{digits_decimal, digits_value-decimal, decimal-digits_value, decimal_digit, decimal_nonempty, first_decimal}
+use Rattle.std.proofs.lemmas.Fmt.{digits_decimal, digits_value-decimal, decimal-digits_value, decimal_digit}
+use Rattle.std.proofs.lemmas.Fmt.{decimal_nonempty, first_decimal}
 use Rattle.std.proofs.lemmas.Int.Digits.{digits_value_more}
 use Rattle.std.proofs.lemmas.Str.{digit_value_digit}
 use Rattle.idset_text.specs.Numbers.{value_of, are_digits, has_leading_zero, number_of}
@@ -18,17 +21,22 @@ none_of b x e = ap (λ (t : Bool). cond t (Some x) None) e
 -- a front of 2 ^ 32 or more does too
 pub number_too_large : (bytes : List ℕ) (i : ℕ) → 4294967296 ≤ value_of (take i bytes) → number_of bytes ≡ None
 number_too_large bytes i large =
-    none_of _ (value_of bytes) (and_right _ _ (le-ltb (value_of bytes) 4294967296 (omega (arith, digits_value-take-le 10 bytes i (omega arith)))))
+    none_of _ (value_of bytes) (and_right _ _
+    (le-ltb (value_of bytes) 4294967296 (omega (arith, digits_value-take-le 10 bytes i (omega arith)))))
 
 -- what all digits write
-pub number_of_digits : (bytes : List ℕ) → 0 < length bytes → are_digits bytes ≡ true → value_of bytes < 4294967296 → number_of bytes ≡ Some (value_of bytes)
+pub number_of_digits : (bytes : List ℕ) →
+    0 < length bytes → are_digits bytes ≡ true → value_of bytes < 4294967296 → number_of bytes ≡ Some (value_of bytes)
 number_of_digits bytes some digits small =
-    ap (λ (t : Bool). cond t (Some (value_of bytes)) None) (and_from _ _ (and_from _ _ (lt-ltb _ _ some) digits) (lt-ltb _ _ small))
+    ap (λ (t : Bool). cond t (Some (value_of bytes)) None)
+    (and_from _ _ (and_from _ _ (lt-ltb _ _ some) digits) (lt-ltb _ _ small))
 
 -- one more digit
-pub value_more : (bytes : List ℕ) (i byte : ℕ) → i < length bytes → get_or bytes i 0 ≡ byte → 48 ≤ byte → byte ≤ 57 → value_of (take (i + 1) bytes) ≡ value_of (take i bytes) * 10 + (byte - 48)
+pub value_more : (bytes : List ℕ) (i byte : ℕ) → i < length bytes → get_or bytes i 0 ≡ byte →
+    48 ≤ byte → byte ≤ 57 → value_of (take (i + 1) bytes) ≡ value_of (take i bytes) * 10 + (byte - 48)
 value_more bytes i byte lt is low high =
-    let read : value_of (take (i + 1) bytes) ≡ value_of (take i bytes) * 10 + digit_value byte = digits_value_more 10 bytes i lt ∙ ap (λ (b : ℕ). value_of (take i bytes) * 10 + digit_value b) is in
+    let read : value_of (take (i + 1) bytes) ≡ value_of (take i bytes) * 10 + digit_value byte =
+    digits_value_more 10 bytes i lt ∙ ap (λ (b : ℕ). value_of (take i bytes) * 10 + digit_value b) is in
     omega (arith, read, digit_value_digit byte (low, high))
 
 -- a digit lies from '0' to '9'
@@ -36,7 +44,8 @@ pub digit_bounds : (byte : ℕ) → is_ascii_digit byte ≡ true → (48 ≤ byt
 digit_bounds byte e = let parts = and_parts _ _ e in (leb-true _ _ parts.0, leb-true _ _ parts.1)
 
 -- one more digit, after digits
-pub digits_more : (bytes : List ℕ) (i : ℕ) → i < length bytes → is_ascii_digit (get_or bytes i 0) ≡ true → are_digits (take i bytes) ≡ true → are_digits (take (i + 1) bytes) ≡ true
+pub digits_more : (bytes : List ℕ) (i : ℕ) → i < length bytes →
+    is_ascii_digit (get_or bytes i 0) ≡ true → are_digits (take i bytes) ≡ true → are_digits (take (i + 1) bytes) ≡ true
 digits_more bytes i lt here before = list_all_more is_ascii_digit bytes i 0 lt ∙ and_from _ _ before here
 
 -- ---- what `decimal` writes
@@ -64,7 +73,8 @@ are_digits-decimal n lt = digits_decimal own_digits n lt
 pub number_of-decimal : (n : ℕ) → n < 4294967296 → number_of (decimal n) ≡ Some n
 number_of-decimal n lt =
     let value : value_of (decimal n) ≡ n = digits_value-decimal own_digits n (omega arith) in
-    number_of_digits (decimal n) (decimal_nonempty n (omega arith)) (are_digits-decimal n (omega arith)) (omega arith) ∙ ap (λ (v : ℕ). Some v) value
+    number_of_digits (decimal n) (decimal_nonempty n (omega arith)) (are_digits-decimal n (omega arith)) (omega arith)
+    ∙ ap (λ (v : ℕ). Some v) value
 
 -- what a number was read from
 pub record WritesNumber (bytes : List ℕ) (n : ℕ) : Type 0 where
@@ -86,17 +96,21 @@ number_was_written bytes n e =
       small = omega (arith, test.1);
     }
 
-zero_is_lone : (bytes : List ℕ) → has_leading_zero bytes ≡ false → 0 < length bytes → get_or bytes 0 0 ≡ 48 → length bytes ≡ 1
+zero_is_lone : (bytes : List ℕ) →
+    has_leading_zero bytes ≡ false → 0 < length bytes → get_or bytes 0 0 ≡ 48 → length bytes ≡ 1
 zero_is_lone [] none some first = absurd (omega arith)
 zero_is_lone (byte ∷ []) none some first = refl
 zero_is_lone (byte ∷ next ∷ bytes) none some first = absurd (eqb-false byte 48 none first)
 
 -- digits without a leading zero are what `decimal` writes
-pub digits_are_decimal : (bytes : List ℕ) (n : ℕ) → has_leading_zero bytes ≡ false → WritesNumber bytes n → bytes ≡ decimal n
+pub digits_are_decimal : (bytes : List ℕ) (n : ℕ) →
+    has_leading_zero bytes ≡ false → WritesNumber bytes n → bytes ≡ decimal n
 digits_are_decimal bytes n none written =
-    sym (decimal-digits_value own_digits bytes written.digits written.some (zero_is_lone bytes none written.some) (omega (arith, written.value, written.small)))
+    sym (decimal-digits_value own_digits bytes written.digits written.some
+    (zero_is_lone bytes none written.some) (omega (arith, written.value, written.small)))
     ∙ ap decimal written.value
 
 -- each digit is one
-pub digit_at_place : (bytes : List ℕ) (k : ℕ) → are_digits bytes ≡ true → k < length bytes → is_ascii_digit (get_or bytes k 0) ≡ true
+pub digit_at_place : (bytes : List ℕ) (k : ℕ) →
+    are_digits bytes ≡ true → k < length bytes → is_ascii_digit (get_or bytes k 0) ≡ true
 digit_at_place bytes k digits lt = AllPass-from_list_all is_ascii_digit bytes digits k 0 lt

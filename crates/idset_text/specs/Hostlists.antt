@@ -1,5 +1,7 @@
 -- Hostlists (RFC 29): which texts are hostlists, and which names they stand for.
-use Rattle.std.specs.Prelude.{◌≡◌, ◌<◌, ◌≤◌, ◌⊎◌, All, IsTrue, ℕ, ◌+◌, ◌-◌, ◌==◌, nat_lt, nat_le, Bool, true, false, not, ◌&&◌, ◌||◌, if◌then◌else◌, List, [], ◌∷◌, ◌++◌, length, take, drop, replicate, slice_index, Option, Some, None, Result, Ok, Err, map, decimal, MatchOption}
+use Rattle.std.specs.Prelude.{◌≡◌, ◌<◌, ◌≤◌, ◌⊎◌, All, IsTrue, ℕ, ◌+◌, ◌-◌, ◌==◌, nat_lt, nat_le, Bool, true, false}
+use Rattle.std.specs.Prelude.{not, ◌&&◌, ◌||◌, if◌then◌else◌, List, [], ◌∷◌, ◌++◌, length, take, drop, replicate}
+use Rattle.std.specs.Prelude.{slice_index, Option, Some, None, Result, Ok, Err, map, decimal, MatchOption}
 use Rattle.std.specs.List.{flat_map, list_all, join_with_byte, position, suffix_len, AllZip}
 use Rattle.std.specs.Option.{option_and_then, option_map}
 use Rattle.std.specs.Char.{is_ascii_alphanumeric, is_ascii_digit}
@@ -35,12 +37,14 @@ width_of digits = if has_leading_zero digits then length digits else 0
 
 -- the ends don't fall, a padded first end has as many digits as the last, and the longest name isn't too long
 abbrev pub fits : ℕ → List ℕ → List ℕ → ℕ → ℕ → Bool
-fits prefix_len first last lo hi = nat_le lo hi && (not (has_leading_zero first) || (length last == length first)) && nat_le (prefix_len + length (padded (width_of first) hi)) MOST_NAME_BYTES
+fits prefix_len first last lo hi = nat_le lo hi && (not (has_leading_zero first) || (length last == length first))
+    && nat_le (prefix_len + length (padded (width_of first) hi)) MOST_NAME_BYTES
 
 -- numbers behind a prefix of some length: `N` or `LO-HI`
 abbrev pub numbers_between : ℕ → List ℕ × List ℕ → Option Numbers
 numbers_between prefix_len ends =
-    option_and_then (λ lo. option_and_then (λ hi. if fits prefix_len ends.0 ends.1 lo hi then Some (record { lo = lo; hi = hi; width = width_of ends.0 }) else None) (host_number ends.1)) (host_number ends.0)
+    option_and_then (λ lo. option_and_then (λ hi. if fits prefix_len ends.0 ends.1 lo hi then Some
+    (record { lo = lo; hi = hi; width = width_of ends.0 }) else None) (host_number ends.1)) (host_number ends.0)
 
 abbrev pub numbers_of : ℕ → List ℕ → Option Numbers
 numbers_of prefix_len piece = numbers_between prefix_len (ends_of piece)
@@ -49,7 +53,8 @@ numbers_of prefix_len piece = numbers_between prefix_len (ends_of piece)
 abbrev pub hosts_of_pieces : List ℕ → List (List ℕ) → Option (List Hosts)
 hosts_of_pieces prefix [] = Some []
 hosts_of_pieces prefix (piece ∷ others) =
-    option_and_then (λ numbers. option_map (λ hosts. Many prefix numbers.lo numbers.hi numbers.width ∷ hosts) (hosts_of_pieces prefix others)) (numbers_of (length prefix) piece)
+    option_and_then (λ numbers. option_map (λ hosts. Many prefix numbers.lo numbers.hi numbers.width ∷ hosts)
+    (hosts_of_pieces prefix others)) (numbers_of (length prefix) piece)
 
 -- a prefix is a name or nothing
 abbrev pub hosts_of_list : List ℕ → List ℕ → Option (List Hosts)
@@ -64,7 +69,8 @@ list_place item = if slice_index item (length item - 1) == 93 then position (λ 
 abbrev pub hosts_of_item : List ℕ → Option (List Hosts)
 hosts_of_item item =
     if is_host_name item then Some (One item ∷ [])
-    else option_and_then (λ place. hosts_of_list (take place item) (take (length item - 1 - (place + 1)) (drop (place + 1) item))) (list_place item)
+    else option_and_then (λ place. hosts_of_list
+    (take place item) (take (length item - 1 - (place + 1)) (drop (place + 1) item))) (list_place item)
 
 -- an item's hosts and those behind them; where it has none, its place
 abbrev pub with_hosts : ℕ → Option (List Hosts) → Result (List Hosts) ℕ → Result (List Hosts) ℕ
@@ -129,7 +135,8 @@ pub record Lists (prefix piece first last : List ℕ) (lo hi width : ℕ) : Type
 
 abbrev pub IsPiece : List ℕ → List ℕ → Hosts → Type 0
 IsPiece prefix piece (One name) = ⊥
-IsPiece prefix piece (Many own lo hi width) = (own ≡ prefix) × (first : List ℕ) × (last : List ℕ) × Lists prefix piece first last lo hi width
+IsPiece prefix piece (Many own lo hi width) =
+    (own ≡ prefix) × (first : List ℕ) × (last : List ℕ) × Lists prefix piece first last lo hi width
 
 -- an item is a name, or a name or nothing with a list of pieces between '[' (91) and ']' (93), commas (44) between them
 abbrev pub IsHostItem : List ℕ → List Hosts → Type 0
@@ -141,11 +148,13 @@ IsHostItem item hosts = (IsTrue (is_host_name item) × (hosts ≡ One item ∷ [
 -- the hosts are those of the items, in order
 abbrev pub AreHostItems : List (List ℕ) → List Hosts → Type 0
 AreHostItems [] hosts = hosts ≡ []
-AreHostItems (item ∷ items) hosts = (own : List Hosts) × (others : List Hosts) × IsHostItem item own × AreHostItems items others × (hosts ≡ own ++ others)
+AreHostItems (item ∷ items) hosts = (own : List Hosts)
+    × (others : List Hosts) × IsHostItem item own × AreHostItems items others × (hosts ≡ own ++ others)
 
 -- a hostlist is empty, or items with commas between
 abbrev pub IsHostlist : List ℕ → List Hosts → Type 0
-IsHostlist text hosts = ((text ≡ []) × (hosts ≡ [])) ⊎ ((item : List ℕ) × (items : List (List ℕ)) × AreHostItems (item ∷ items) hosts × (text ≡ join_with_byte 44 (item ∷ items)))
+IsHostlist text hosts = ((text ≡ []) × (hosts ≡ [])) ⊎ ((item : List ℕ)
+    × (items : List (List ℕ)) × AreHostItems (item ∷ items) hosts × (text ≡ join_with_byte 44 (item ∷ items)))
 
 -- ---- the texts
 
@@ -171,16 +180,19 @@ is_alike first next = (length next == length first) || (not (has_leading_zero fi
 
 -- whether a name continues the run from `first` to `last`
 abbrev pub continues : List ℕ → List ℕ → List ℕ → Bool
-continues first last next = bytes_eq (prefix_of last) (prefix_of next) && follows (host_number (digits_of last)) (host_number (digits_of next)) && is_alike (digits_of first) (digits_of next)
+continues first last next = bytes_eq (prefix_of last) (prefix_of next) && follows
+    (host_number (digits_of last)) (host_number (digits_of next)) && is_alike (digits_of first) (digits_of next)
 
 -- a run of one is its name, a longer one has the digits of its ends in brackets (91, 93) with a dash (45) between
 abbrev pub run_text : Bool → List ℕ → List ℕ → List ℕ
-run_text many first last = if many then (prefix_of first ++ 91 ∷ digits_of first ++ 45 ∷ digits_of last ++ 93 ∷ []) else first
+run_text many first last =
+    if many then (prefix_of first ++ 91 ∷ digits_of first ++ 45 ∷ digits_of last ++ 93 ∷ []) else first
 
 -- the texts of a run that goes from `first` to `last` so far, and of the names behind it
 abbrev pub texts_from : Bool → List ℕ → List ℕ → List (List ℕ) → List (List ℕ)
 texts_from many first last [] = run_text many first last ∷ []
-texts_from many first last (next ∷ names) = if continues first last next then texts_from true first next names else (run_text many first last ∷ texts_from false next next names)
+texts_from many first last (next ∷ names) = if continues first last next
+    then texts_from true first next names else (run_text many first last ∷ texts_from false next next names)
 
 abbrev pub hostlist_texts : List (List ℕ) → List (List ℕ)
 hostlist_texts [] = []
@@ -189,7 +201,8 @@ hostlist_texts (name ∷ names) = texts_from false name name names
 -- each text is a hostlist, and their hosts' names in order are the names
 abbrev pub AreHostlistsOf : List (List ℕ) → List (List ℕ) → Type 0
 AreHostlistsOf [] names = names ≡ []
-AreHostlistsOf (text ∷ texts) names = (hosts : List Hosts) × (others : List (List ℕ)) × (hostlist_of text ≡ Ok hosts) × (names ≡ names_of hosts ++ others) × AreHostlistsOf texts others
+AreHostlistsOf (text ∷ texts) names = (hosts : List Hosts) × (others : List (List ℕ))
+    × (hostlist_of text ≡ Ok hosts) × (names ≡ names_of hosts ++ others) × AreHostlistsOf texts others
 
 -- an item that is read adds its hosts, another has none
 abbrev pub Adds : Bool → List Hosts → List Hosts → Option (List Hosts) → Type 0

@@ -1,5 +1,7 @@
 -- Idsets (RFC 22): which texts are idsets, and which ids they stand for.
-use Rattle.std.specs.Prelude.{◌≡◌, ◌<◌, ◌≤◌, ◌⊎◌, ⊤, ℕ, zero, suc, ◌+◌, ◌-◌, ◌==◌, nat_lt, nat_le, Bool, ◌&&◌, if◌then◌else◌, List, [], ◌∷◌, ◌++◌, length, take, slice_index, Option, Some, None, Result, Ok, Err, map, decimal}
+use Rattle.std.specs.Prelude.{◌≡◌, ◌<◌, ◌≤◌, ◌⊎◌, ⊤, ℕ, zero, suc, ◌+◌, ◌-◌, ◌==◌, nat_lt, nat_le, Bool, ◌&&◌}
+use Rattle.std.specs.Prelude.{if◌then◌else◌, List, [], ◌∷◌, ◌++◌, length, take, slice_index, Option, Some, None, Result}
+use Rattle.std.specs.Prelude.{Ok, Err, map, decimal}
 use Rattle.std.specs.List.{flat_map, join_with_byte}
 use Rattle.std.specs.Option.{option_and_then}
 use Rattle.idset_text.specs.declared.idsets.TheConstants.{NO_ID}
@@ -21,28 +23,33 @@ Rises least (range ∷ ranges) = (least ≤ range.lo) × IsRange range × Rises 
 
 -- an item is an id in decimal digits, or two with a dash (45) between
 abbrev pub IsItem : List ℕ → Range → Type 0
-IsItem item range = IsRange range × (((item ≡ decimal range.lo) × (range.lo ≡ range.hi)) ⊎ (item ≡ decimal range.lo ++ 45 ∷ decimal range.hi))
+IsItem item range = IsRange range
+    × (((item ≡ decimal range.lo) × (range.lo ≡ range.hi)) ⊎ (item ≡ decimal range.lo ++ 45 ∷ decimal range.hi))
 
 -- the items are those of rising ranges
 abbrev pub AreItems : ℕ → List (List ℕ) → List Range → Type 0
 AreItems least [] [] = ⊤
 AreItems least [] (range ∷ ranges) = ⊥
 AreItems least (item ∷ items) [] = ⊥
-AreItems least (item ∷ items) (range ∷ ranges) = (least ≤ range.lo) × IsItem item range × AreItems (range.hi + 1) items ranges
+AreItems least (item ∷ items) (range ∷ ranges) =
+    (least ≤ range.lo) × IsItem item range × AreItems (range.hi + 1) items ranges
 
 -- a list of items with commas (44) between
 abbrev pub IsCommaList : List ℕ → List Range → Type 0
-IsCommaList text ranges = (item : List ℕ) × (items : List (List ℕ)) × AreItems 0 (item ∷ items) ranges × (text ≡ join_with_byte 44 (item ∷ items))
+IsCommaList text ranges = (item : List ℕ)
+    × (items : List (List ℕ)) × AreItems 0 (item ∷ items) ranges × (text ≡ join_with_byte 44 (item ∷ items))
 
 -- an idset is empty, or such a list, maybe between one '[' (91) and one ']' (93)
 abbrev pub IsIdset : List ℕ → List Range → Type 0
-IsIdset text ranges = ((text ≡ []) × (ranges ≡ [])) ⊎ (IsCommaList text ranges ⊎ ((inner : List ℕ) × IsCommaList inner ranges × (text ≡ 91 ∷ (inner ++ 93 ∷ []))))
+IsIdset text ranges = ((text ≡ []) × (ranges ≡ []))
+    ⊎ (IsCommaList text ranges ⊎ ((inner : List ℕ) × IsCommaList inner ranges × (text ≡ 91 ∷ (inner ++ 93 ∷ []))))
 
 -- ---- the grammar, item by item
 
 -- an id: digits without a leading zero, below the number that is none
 abbrev pub id_of : List ℕ → Option ℕ
-id_of bytes = if has_leading_zero bytes then None else option_and_then (λ number. if nat_lt number NO_ID then Some number else None) (number_of bytes)
+id_of bytes = if has_leading_zero bytes
+    then None else option_and_then (λ number. if nat_lt number NO_ID then Some number else None) (number_of bytes)
 
 -- the ids from one on and up to another that isn't below it
 abbrev pub range_between : Option ℕ → Option ℕ → Option Range
@@ -63,10 +70,12 @@ abbrev pub with_range : ℕ → Option Range → (Range → Result (List Range) 
 with_range at None others = Err at
 with_range at (Some range) others = with_first (range ∷ []) (others range)
 
--- the items' ranges, each above the one before, the first at `least` or above; else the place of the first item that breaks this
+-- the items' ranges, each above the one before, the first at `least` or above; else the place of the first item that
+-- breaks this
 abbrev pub ranges_of : ℕ → List Item → Result (List Range) ℕ
 ranges_of least [] = Ok []
-ranges_of least (item ∷ items) = with_range item.at (range_from least item.bytes) (λ range. ranges_of (range.hi + 1) items)
+ranges_of least (item ∷ items) =
+    with_range item.at (range_from least item.bytes) (λ range. ranges_of (range.hi + 1) items)
 
 -- a text from '[' (91) to ']' (93)
 abbrev pub is_bracketed : List ℕ → Bool
@@ -101,7 +110,8 @@ ids_of ranges = flat_map ids_between ranges
 -- a run before others: it goes on as the first of these where that begins with the next id
 abbrev pub with_run : Range → List Range → List Range
 with_run run [] = run ∷ []
-with_run run (next ∷ runs) = if next.lo == run.hi + 1 then (record { lo = run.lo; hi = next.hi } ∷ runs) else (run ∷ next ∷ runs)
+with_run run (next ∷ runs) =
+    if next.lo == run.hi + 1 then (record { lo = run.lo; hi = next.hi } ∷ runs) else (run ∷ next ∷ runs)
 
 -- one id as a run
 abbrev pub run_of : ℕ → Range

@@ -1,5 +1,6 @@
 -- How a text is cut into items.
-use Rattle.std.specs.Prelude.{ℕ, ◌+◌, ◌==◌, Bool, true, false, not, ◌&&◌, if◌then◌else◌, List, [], ◌∷◌, ◌++◌, length, take, drop, Option, Some, None, Result, Ok, Err}
+use Rattle.std.specs.Prelude.{ℕ, ◌+◌, ◌==◌, Bool, true, false, not, ◌&&◌, if◌then◌else◌, List, [], ◌∷◌, ◌++◌, length}
+use Rattle.std.specs.Prelude.{take, drop, Option, Some, None, Result, Ok, Err}
 use Rattle.std.specs.List.{position}
 
 -- whether what follows the byte stands inside brackets: 91 is '[', and 93 is ']'
@@ -14,7 +15,8 @@ with_front front (piece ∷ pieces) = (front ++ piece) ∷ pieces
 -- what stands between the commas; a comma (44) inside brackets parts nothing
 abbrev pub pieces : Bool → List ℕ → List (List ℕ)
 pieces inside [] = [] ∷ []
-pieces inside (byte ∷ bytes) = if ((byte == 44) && not inside) then ([] ∷ pieces false bytes) else with_front (byte ∷ []) (pieces (is_inside inside byte) bytes)
+pieces inside (byte ∷ bytes) = if ((byte == 44) && not inside)
+    then ([] ∷ pieces false bytes) else with_front (byte ∷ []) (pieces (is_inside inside byte) bytes)
 
 -- the pieces behind an item, which begin behind a comma
 abbrev pub pieces_after : List ℕ → List (List ℕ)

@@ -1,12 +1,18 @@
 //! Hostlists: texts of host names (RFC 29).
-ghost use Rattle.std.specs.Prelude.{◌≡◌, ℕ, Ok, MatchOption, ◌+◌, ◌≤◌, ◌↔◌, ◌∷◌, ◌++◌, ◌==◌, ◌||◌, not, nat_le, nat_lt, ◌&&◌, ◌<◌, false, length, decimal, position, All, Contains, IsTrue, IfOk, IfSome, OnOk};
+ghost use Rattle.std.specs.Prelude.{◌≡◌, ℕ, Ok, MatchOption, ◌+◌, ◌≤◌, ◌↔◌, ◌∷◌, ◌++◌, ◌==◌, ◌||◌, not, nat_le, nat_lt};
+ghost use Rattle.std.specs.Prelude.{◌&&◌, ◌<◌, false, length, decimal, position, All, Contains, IsTrue, IfOk, IfSome};
+ghost use Rattle.std.specs.Prelude.{OnOk};
 ghost use Rattle.flux_defs.specs.declared.limits.TheConstants.{MOST_NAME_BYTES};
 ghost use Rattle.std.specs.List.{list_all, suffix_len};
 ghost use Rattle.std.specs.Char.{is_ascii_digit};
 ghost use Rattle.idset_text.specs.Faults.{IsResultOf};
 ghost use Rattle.idset_text.specs.Items.{items_of};
 ghost use Rattle.idset_text.specs.Numbers.{has_leading_zero, number_of};
-ghost use Rattle.idset_text.specs.Hostlists.{is_host_name, host_number, padded, width_of, numbers_of, list_place, hosts_of_list, hosts_of_item, hosts_of, hostlist_of, IsHostlist, has_width, is_one_of, IsOneOf, own_names, names_of, digits_place, prefix_of, digits_of, follows, is_alike, continues, run_text, texts_from, hostlist_texts, AreHostlistsOf, Adds};
+ghost use Rattle.idset_text.specs.Hostlists.{is_host_name, host_number, padded, width_of, numbers_of, list_place};
+ghost use Rattle.idset_text.specs.Hostlists.{hosts_of_list, hosts_of_item, hosts_of, hostlist_of, IsHostlist};
+ghost use Rattle.idset_text.specs.Hostlists.{has_width, is_one_of, IsOneOf, own_names, names_of, digits_place};
+ghost use Rattle.idset_text.specs.Hostlists.{prefix_of, digits_of, follows, is_alike, continues, run_text, texts_from};
+ghost use Rattle.idset_text.specs.Hostlists.{hostlist_texts, AreHostlistsOf, Adds};
 ghost use Rattle.text_forms.specs.Names.{is_name_byte};
 
 use crate::faults::TextFault;
@@ -215,10 +221,12 @@ fn read(alloc: Global, text: &[u8]) -> Result<List<Hosts>, TextFault>
 }
 
 /// The hosts of a hostlist, in order: nothing, or a comma list of names and of a prefix with a comma list of `N` and
-/// `LO-HI` in brackets. A name has 1 to 255 letters, digits, `_`, `-` and `.`; a prefix is a name or empty; numbers have
-/// 1 to 9 digits, and where a zero leads `N` or `LO`, `HI` has as many digits and the names' numbers are padded to them.
-/// No host's name is longer than 255 bytes (RFC 29). The fault `Form` names the first byte of the first item that breaks
-/// this; commas in brackets part no items.
+/// `LO-HI` in brackets. A name has 1 to 255 letters, digits, `_`, `-` and `.`; a prefix is a name or empty; numbers
+/// have
+/// 1 to 9 digits, and where a zero leads `N` or `LO`, `HI` has as many digits and the names' numbers are padded to
+/// them.
+/// No host's name is longer than 255 bytes (RFC 29). The fault `Form` names the first byte of the first item that
+/// breaks this; commas in brackets part no items.
 pub fn read_hostlist(alloc: Global, text: &[u8]) -> Result<List<Hosts>, TextFault>
     // What is read is in the grammar, and what is in the grammar is read, unless memory runs out.
     ensures found { IfOk result (λ hosts. IsHostlist text.now hosts) }
@@ -256,7 +264,8 @@ fn is_number_within(lo: u32, hi: u32, width: usize, digits: &[u8]) -> bool
 
 /// What stands behind a prefix; `None` where the name doesn't begin with it.
 fn behind<'a>(name: &'a [u8], prefix: &[u8]) -> Option<&'a [u8]>
-    ensures { MatchOption result ((rest : List ℕ) → name.now ≡ prefix.now ++ rest → ⊥) (λ rest. name.now ≡ prefix.now ++ rest.now) }
+    ensures { MatchOption result
+        ((rest : List ℕ) → name.now ≡ prefix.now ++ rest → ⊥) (λ rest. name.now ≡ prefix.now ++ rest.now) }
 {
     name.strip_prefix(prefix)
 }

@@ -1,11 +1,13 @@
 //! Idsets: texts of ids (RFC 22).
-ghost use Rattle.std.specs.Prelude.{◌≡◌, Ok, ℕ, ◌+◌, ◌<◌, ◌^◌, ◌↔◌, ◌∷◌, ◌++◌, length, decimal, All, Contains, IsTrue, IfOk, IfSome, OnOk};
+ghost use Rattle.std.specs.Prelude.{◌≡◌, Ok, ℕ, ◌+◌, ◌<◌, ◌^◌, ◌↔◌, ◌∷◌, ◌++◌, length, decimal, All, Contains, IsTrue};
+ghost use Rattle.std.specs.Prelude.{IfOk, IfSome, OnOk};
 ghost use Rattle.std.specs.List.{list_any};
 ghost use Rattle.std.specs.List.Sorted.{IsStrictlyIncreasing};
 ghost use Rattle.idset_text.specs.declared.idsets.TheConstants.{NO_ID};
 ghost use Rattle.idset_text.specs.Faults.{IsResultOf};
 ghost use Rattle.idset_text.specs.Items.{items_of};
-ghost use Rattle.idset_text.specs.Idsets.{id_of, range_of, range_from, ranges_of, idset_of, IsIdset, Rises, is_within, ids_of, range_text, idset_text, IsIdsetOf, IsShortestOf};
+ghost use Rattle.idset_text.specs.Idsets.{id_of, range_of, range_from, ranges_of, idset_of, IsIdset, Rises, is_within};
+ghost use Rattle.idset_text.specs.Idsets.{ids_of, range_text, idset_text, IsIdsetOf, IsShortestOf};
 
 use crate::faults::TextFault;
 use crate::items::{ends, first_item};
@@ -108,9 +110,10 @@ fn read(alloc: Global, text: &[u8]) -> Result<List<Range>, TextFault>
     }
 }
 
-/// The ranges of an idset, rising and apart: nothing, or a comma list of `ID` and `LO-HI`, maybe in one pair of brackets,
-/// with ids up to 4294967294 and without leading zeros, each item above the one before (RFC 22). The fault `Form` names
-/// the first byte of the first item that breaks this; brackets that stand round the whole text belong to no item.
+/// The ranges of an idset, rising and apart: nothing, or a comma list of `ID` and `LO-HI`, maybe in one pair of
+/// brackets, with ids up to 4294967294 and without leading zeros, each item above the one before (RFC 22). The fault
+/// `Form` names the first byte of the first item that breaks this; brackets that stand round the whole text belong to
+/// no item.
 pub fn read_idset(alloc: Global, text: &[u8]) -> Result<List<Range>, TextFault>
     // What is read is in the grammar, and what is in the grammar is read, unless memory runs out.
     ensures found { IfOk result (λ ranges. IsIdset text.now ranges) }

@@ -1,5 +1,6 @@
 //! How a text is cut into items.
-ghost use Rattle.std.specs.Prelude.{◌≡◌, ◌+◌, ◌<◌, ◌≤◌, [], ◌∷◌, ◌++◌, false, length, take, drop, slice_index, position, MatchOption};
+ghost use Rattle.std.specs.Prelude.{◌≡◌, ◌+◌, ◌<◌, ◌≤◌, [], ◌∷◌, ◌++◌, false, length, take, drop, slice_index};
+ghost use Rattle.std.specs.Prelude.{position, MatchOption};
 ghost use Rattle.idset_text.specs.Items.{pieces, pieces_after, is_dash, ends_of};
 
 /// How many bytes the first item of a text has: it ends before the first comma outside brackets.
@@ -22,7 +23,8 @@ fn item_len(text: &[u8]) -> usize
 
 /// The first item of a text, and what stands behind its comma, if there is one.
 pub fn first_item(text: &[u8]) -> (&[u8], Option<&[u8]>)
-    ensures only { MatchOption result.1 (pieces false text.now ≡ result.0.now ∷ []) (λ rest. pieces false text.now ≡ result.0.now ∷ pieces false rest.now) }
+    ensures only { MatchOption result.1 (pieces false text.now ≡ result.0.now ∷ [])
+        (λ rest. pieces false text.now ≡ result.0.now ∷ pieces false rest.now) }
     ensures parts { MatchOption result.1 (text.now ≡ result.0.now) (λ rest. text.now ≡ result.0.now ++ 44 ∷ rest.now) }
 {
     let len = item_len(text);

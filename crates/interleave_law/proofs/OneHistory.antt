@@ -1,5 +1,6 @@
 -- Each event keeps the history one.
-use Rattle.std.proofs.Common.{◌≡◌, ◌≢◌, ℕ, zero, suc, Bool, if◌then◌else◌, ◌+◌, ◌==◌, List, [], ◌∷◌, ◌++◌, map, take, slice_get, slice_set, Some, inl, inr, ◌⊎◌, refl, sym, ◌∙◌, ap, subst, arith, append_assoc}
+use Rattle.std.proofs.Common.{◌≡◌, ◌≢◌, ℕ, zero, suc, Bool, if◌then◌else◌, ◌+◌, ◌==◌, List, [], ◌∷◌, ◌++◌, map, take}
+use Rattle.std.proofs.Common.{slice_get, slice_set, Some, inl, inr, ◌⊎◌, refl, sym, ◌∙◌, ap, subst, arith, append_assoc}
 use Rattle.std.proofs.Common.{add-one}
 use Rattle.std.proofs.Math.Seq.{take-suc}
 use Rattle.std.proofs.lemmas.Bool.Decides.{eqb_tells}
@@ -16,9 +17,12 @@ use Rattle.flux_defs.specs.declared.journal.Script.{Script}
 use Rattle.flux_defs.specs.Scheduler.{Setting, State, first_state, Replies, after}
 use Rattle.flux_defs.specs.Histories.{state_after, IsLegalFrom, IsLegal, of_client}
 use Rattle.flux_defs.specs.Scripts.{HasLines, line_of, client_line}
-use Rattle.flux_defs.specs.Interleaving.{Flight, Idle, Looked, Searched, Progress, at_rest, Machine, first_machine, HasNext, with_flight, IsAnswered, Happens, Takes, Runs, HasLookedAt, IsOneHistory}
+use Rattle.flux_defs.specs.Interleaving.{Flight, Idle, Looked, Searched, Progress, at_rest, Machine, first_machine}
+use Rattle.flux_defs.specs.Interleaving.{HasNext, with_flight, IsAnswered, Happens, Takes, Runs, HasLookedAt}
+use Rattle.flux_defs.specs.Interleaving.{IsOneHistory}
 
-legal_snoc : (g : Setting) (s : State) (journal : List Entry) (e : Entry) → IsLegalFrom g s journal → Replies g (state_after s journal) e.command e.reply → IsLegalFrom g s (journal ++ e ∷ [])
+legal_snoc : (g : Setting) (s : State) (journal : List Entry) (e : Entry) →
+    IsLegalFrom g s journal → Replies g (state_after s journal) e.command e.reply → IsLegalFrom g s (journal ++ e ∷ [])
 legal_snoc g s [] e legal reply = (reply, tt)
 legal_snoc g s (x ∷ xs) e legal reply = (legal.0, legal_snoc g (after s x.command x.reply) xs e legal.1 reply)
 
@@ -38,7 +42,8 @@ set_cases (z ∷ xs) (suc i) (suc j) y x at = elim (set_cases xs i j y x at) [
 ]
 
 -- one more item of a list is taken
-take_one : (lines : List Line) (k : ℕ) (l : Line) → slice_get lines k ≡ Some l → take (k + 1) lines ≡ take k lines ++ l ∷ []
+take_one : (lines : List Line) (k : ℕ) (l : Line) →
+    slice_get lines k ≡ Some l → take (k + 1) lines ≡ take k lines ++ l ∷ []
 take_one lines k l at =
     rw add-one (take-suc lines k l (slice_get_within lines k l at)
     ∙ ap (λ (x : Line). take k lines ++ x ∷ []) (get_or_from_slice_get lines k l l at))
@@ -48,7 +53,8 @@ begins_itself : (h : List Entry) → IsPrefix h h
 begins_itself h = ([], append-nil h)
 
 begins_more : (seen h : List Entry) (e : Entry) → IsPrefix seen h → IsPrefix seen (h ++ e ∷ [])
-begins_more seen h e p = (p.0 ++ e ∷ [], sym (append_assoc seen p.0 (e ∷ [])) ∙ ap (λ (x : List Entry). x ++ e ∷ []) p.1)
+begins_more seen h e p =
+    (p.0 ++ e ∷ [], sym (append_assoc seen p.0 (e ∷ [])) ∙ ap (λ (x : List Entry). x ++ e ∷ []) p.1)
 
 -- a client's part of a history with one entry more: of its own, and of another's
 own_more : (c : ℕ) (h : List Entry) (e : Entry) → e.client ≡ c → of_client c (h ++ e ∷ []) ≡ of_client c h ++ e ∷ []
@@ -68,7 +74,8 @@ others_more c h e is =
     ]
 
 -- nobody has done anything, and nobody looked
-rests : (lines : List (List Line)) (c : ℕ) (p : Progress) → slice_get (map (λ ls. at_rest) lines) c ≡ Some p → p ≡ at_rest
+rests : (lines : List (List Line)) (c : ℕ) (p : Progress) →
+    slice_get (map (λ ls. at_rest) lines) c ≡ Some p → p ≡ at_rest
 rests [] c p at = absurd cc
 rests (ls ∷ lines) zero p at = cc
 rests (ls ∷ lines) (suc c) p at = rests lines c p at
@@ -78,13 +85,15 @@ module _ (g : Setting) (script : Script) where
   pub one_first : IsOneHistory g script (first_machine script)
   one_first = record {
     legal = tt;
-    begins = λ c p seen at looked. elim (subst (λ (q : Progress). HasLookedAt q.flight seen) (rests script.lines c p at) looked) [ ];
+    begins = λ c p seen at looked.
+        elim (subst (λ (q : Progress). HasLookedAt q.flight seen) (rests script.lines c p at) looked) [ ];
     parts = λ c p lines at of.
         ap (λ (q : Progress). map (client_line c) (take q.done lines)) (sym (rests script.lines c p at));
   }
 
   -- a client came further with its line, and the history stayed
-  pub one_moved : (m : Machine) (c : ℕ) (p : Progress) (f : Flight) → IsOneHistory g script m → slice_get m.clients c ≡ Some p →
+  pub one_moved : (m : Machine) (c : ℕ) (p : Progress) (f : Flight) →
+      IsOneHistory g script m → slice_get m.clients c ≡ Some p →
       ((seen : List Entry) → HasLookedAt f seen → IsPrefix seen m.history) → IsOneHistory g script (with_flight m c p f)
   one_moved m c p f one at sees = record {
     legal = one.legal;
@@ -108,20 +117,24 @@ module _ (g : Setting) (script : Script) where
   one_answered m c p l new one next answered =
       let e : Entry = record { client = c; line = l.line; command = l.command; reply = answered.reply } in
       let idle : Progress = record { done = p.done + 1; flight = Idle } in record {
-        legal = subst (IsLegal g) (sym answered.history) (legal_snoc g first_state m.history e one.legal answered.replies);
+        legal =
+            subst (IsLegal g) (sym answered.history) (legal_snoc g first_state m.history e one.legal answered.replies);
         begins = λ d q seen there looked.
             subst (IsPrefix seen) (sym answered.history) (begins_more seen m.history e (
-            elim (set_cases m.clients c d idle q (subst (λ (cs : List Progress). slice_get cs d ≡ Some q) answered.clients there)) [
+            elim (set_cases m.clients c d idle q
+            (subst (λ (cs : List Progress). slice_get cs d ≡ Some q) answered.clients there)) [
               | inl y ↦ elim (subst (λ (q : Progress). HasLookedAt q.flight seen) y.1 looked) [ ]
               | inr n ↦ one.begins d q seen n.1 looked
             ]));
         parts = λ d q lines there of.
             ap (λ (h : List Entry). map line_of (of_client d h)) answered.history ∙
-            elim (set_cases m.clients c d idle q (subst (λ (cs : List Progress). slice_get cs d ≡ Some q) answered.clients there)) [
+            elim (set_cases m.clients c d idle q
+            (subst (λ (cs : List Progress). slice_get cs d ≡ Some q) answered.clients there)) [
               | inl y ↦
                   let mine : HasLines script c lines = subst (λ (d : ℕ). HasLines script d lines) y.0 of in
                   let lines-are : next.lines ≡ lines = some_same next.lines lines (sym next.lines-are ∙ mine) in
-                  let at : slice_get lines p.done ≡ Some l = subst (λ (ls : List Line). slice_get ls p.done ≡ Some l) lines-are next.next in
+                  let at : slice_get lines p.done ≡ Some l =
+                  subst (λ (ls : List Line). slice_get ls p.done ≡ Some l) lines-are next.next in
                   let old : map line_of (of_client c m.history) ≡ map (client_line c) (take p.done lines) =
                   one.parts c p lines next.progress mine in
                   ap (map line_of) (ap (λ (d : ℕ). of_client d (m.history ++ e ∷ [])) y.0 ∙ own_more c m.history e refl)
@@ -136,14 +149,16 @@ module _ (g : Setting) (script : Script) where
       }
 
   -- each event keeps it
-  pub one_happens : (m : Machine) (event : Event) (new : Machine) → IsOneHistory g script m → Happens g script m event new →
+  pub one_happens : (m : Machine) (event : Event) (new : Machine) →
+      IsOneHistory g script m → Happens g script m event new →
       IsOneHistory g script new
   one_happens m (Look c) new one (p, l, next, idle, searchable, is) =
       subst (IsOneHistory g script) (sym is) (one_moved m c p (Looked m.history) one next.progress
       (λ seen looked. subst (λ (h : List Entry). IsPrefix h m.history) looked (begins_itself m.history)))
   one_happens m (Search c) new one (p, l, next, seen, flight, verdict, finds, is) =
       subst (IsOneHistory g script) (sym is) (one_moved m c p (Searched seen verdict) one next.progress
-      (λ other looked. one.begins c p other next.progress (subst (λ (f : Flight). HasLookedAt f other) (sym flight) looked)))
+      (λ other looked. one.begins c p other next.progress
+      (subst (λ (f : Flight). HasLookedAt f other) (sym flight) looked)))
   one_happens m (Commit c) new one (p, l, next, seen, verdict, flight, inl (cause, overtaken, is)) =
       subst (IsOneHistory g script) (sym is) (one_moved m c p Idle one next.progress (λ other looked. elim looked [ ]))
   one_happens m (Commit c) new one (p, l, next, seen, verdict, flight, inr (stands, answered)) =
@@ -158,4 +173,5 @@ module _ (g : Setting) (script : Script) where
   pub one_runs : (events : List Event) (m new : Machine) → IsOneHistory g script m → Runs g script m events new →
       IsOneHistory g script new
   one_runs [] m new one is = subst (IsOneHistory g script) (sym is) one
-  one_runs (event ∷ events) m new one (mid, takes, runs) = one_runs events mid new (one_takes m event mid one takes) runs
+  one_runs (event ∷ events) m new one (mid, takes, runs) =
+      one_runs events mid new (one_takes m event mid one takes) runs

@@ -46,11 +46,13 @@ machine_of history clients = record { history = history; clients = map progress_
 
 -- what a machine that keeps these is seen as
 abbrev pub seen_as : Course → Script → List Progress → Interleaved
-seen_as course script clients = record { setting = course.setting; script = script; machine = machine_of course.journal clients }
+seen_as course script clients =
+    record { setting = course.setting; script = script; machine = machine_of course.journal clients }
 
 -- each command of the script is proper for the graph
 abbrev pub HasProperLines : List Vertex → Script → Type 0
-HasProperLines vertices script = AllByRecursion (λ lines. AllByRecursion (λ l. IsProper vertices l.command) lines) script.lines
+HasProperLines vertices script =
+    AllByRecursion (λ lines. AllByRecursion (λ l. IsProper vertices l.command) lines) script.lines
 
 -- client c has come so far, and this is its next line
 pub record IsNext (script : Script) (clients : List Progress) (c : ℕ) (p : Progress) (l : Line) : Type 0 where
@@ -79,8 +81,10 @@ IsStepOf old event true new =
     × (new.setting ≡ old.setting) × (new.script ≡ old.script)
 IsStepOf old event false new = (IsOpen old.script old.machine event → ⊥) × (new ≡ old)
 
--- What came of a commit: `true` where nothing overtook the candidate, and its entry was appended; `false` where something
--- did, and then nothing changed.
+-- What came of a commit: `true` where nothing overtook the candidate, and its entry was appended; `false` where
+-- something did, and then nothing changed.
 abbrev pub IsTried : Course → Course → ℕ → ℕ → core.Searched → Bool → Type 0
-IsTried old new client line c true = StillStands old.setting old.journal (candidate_in c) × IsDecided old new client line c.command
-IsTried old new client line c false = (new ≡ old) × ((cause : Cause) × IsOvertaken old.setting old.journal (candidate_in c) cause)
+IsTried old new client line c true =
+    StillStands old.setting old.journal (candidate_in c) × IsDecided old new client line c.command
+IsTried old new client line c false =
+    (new ≡ old) × ((cause : Cause) × IsOvertaken old.setting old.journal (candidate_in c) cause)

@@ -1,5 +1,6 @@
 //! How far a client has come with its next line.
-ghost use Rattle.std.specs.Prelude.{◌≡◌, ◌<◌, ◌+◌, ◌^◌, ◌↔◌, All, IsTrue, IfOk, IfSome, IfNone, length, slice_get, slice_set, Some};
+ghost use Rattle.std.specs.Prelude.{◌≡◌, ◌<◌, ◌+◌, ◌^◌, ◌↔◌, All, IsTrue, IfOk, IfSome, IfNone, length, slice_get};
+ghost use Rattle.std.specs.Prelude.{slice_set, Some};
 ghost use Rattle.flux_defs.specs.declared.journal.Line.{Line};
 ghost use Rattle.flux_defs.specs.Interleaving as over;
 ghost use Rattle.interleave_law.specs.declared.flights.Progress.{Progress};

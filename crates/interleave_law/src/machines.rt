@@ -64,18 +64,18 @@ impl Machine {
         &self.core
     }
 
-    /// A law: the history is legal, each history that a client looked at begins it, and each client's part of it answers
-    /// the lines that the client has done, in their order. It does nothing.
+    /// A law: the history is legal, each history that a client looked at begins it, and each client's part of it
+    /// answers the lines that the client has done, in their order. It does nothing.
     pub fn is_one_history(&self)
         ensures { IsOneHistory self.now.setting self.now.script self.now.machine }
     {
         let _ = &self.alloc;
     }
 
-    /// Plays an event. The answer is whether it is open to its client; where it isn't, nothing changed. A look is open to
-    /// an idle client whose next line is searched for, a search after a look, a commit after a search, and a decision to
-    /// an idle client with a line left. A commit that was overtaken leaves its client idle with its line. On want of
-    /// memory, which is the only error, nothing changed.
+    /// Plays an event. The answer is whether it is open to its client; where it isn't, nothing changed. A look is open
+    /// to an idle client whose next line is searched for, a search after a look, a commit after a search, and a
+    /// decision to an idle client with a line left. A commit that was overtaken leaves its client idle with its line.
+    /// On want of memory, which is the only error, nothing changed.
     pub fn step(&mut self, event: Event) -> Result<bool, AllocError>
         ensures ok { IfOk result (λ is_open. IsStepOf self.old event is_open self.new) }
         ensures err { IfErr result (λ _. self.new ≡ self.old) }

@@ -1,5 +1,7 @@
 -- Rows by their keys: which of sixteen parts has a key, and what a change of that part makes of all.
-use Rattle.std.proofs.Common.{◌≡◌, ◌≢◌, ℕ, zero, suc, ◌+◌, ◌*◌, ◌/◌, ◌%◌, ◌^◌, ◌<◌, ◌≤◌, List, [], ◌∷◌, ◌++◌, length, map, replicate, cond, Some, None, refl, ap, sym, ◌∙◌, ◌⊎◌, inl, inr, arith, slice_get, slice_set, subst}
+use Rattle.std.proofs.Common.{◌≡◌, ◌≢◌, ℕ, zero, suc, ◌+◌, ◌*◌, ◌/◌, ◌%◌, ◌^◌, ◌<◌, ◌≤◌, List, [], ◌∷◌, ◌++◌, length}
+use Rattle.std.proofs.Common.{map, replicate, cond, Some, None, refl, ap, sym, ◌∙◌, ◌⊎◌, inl, inr, arith, slice_get}
+use Rattle.std.proofs.Common.{slice_set, subst}
 use Rattle.std.proofs.Math.Nat.{pow-suc}
 use Rattle.std.proofs.lemmas.Bool.{cases_lt}
 use Rattle.std.specs.Ordering.{nat_cmp}
@@ -11,7 +13,8 @@ use Rattle.job_table.specs.declared.tables.Row.{Row}
 use Rattle.job_table.specs.declared.parts.Branch.{Branch}
 use Rattle.job_table.specs.declared.parts.Body.{Body}
 use Rattle.job_table.specs.declared.parts.Body.TheVariants.{Entry, Fork}
-use Rattle.job_table.specs.Parts.{parts_in, with_digit, entries_from, entries_of, height_of, AreBelow, IsPart, AreParts, IsBranch, Sets}
+use Rattle.job_table.specs.Parts.{parts_in, with_digit, entries_from, entries_of, height_of, AreBelow, IsPart, AreParts}
+use Rattle.job_table.specs.Parts.{IsBranch, Sets}
 use Rattle.job_table.proofs.RowLaws.{unequal}
 
 pub same_or_not : (a b : ℕ) → (a ≡ b) ⊎ (a ≢ b)

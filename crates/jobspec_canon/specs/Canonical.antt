@@ -1,4 +1,5 @@
--- What a jobspec in the canonical form (RFC 14) asks for, or the first fault of it, in the order in which faults are told.
+-- What a jobspec in the canonical form (RFC 14) asks for, or the first fault of it, in the order in which faults are
+-- told.
 use Rattle.std.specs.Prelude.{ℕ, List, Bool, Option, Some, None, Result, Err, codes}
 use Rattle.serde_json.specs.Data.{Data}
 use Rattle.json_whole.specs.Whole.{value_of}

@@ -45,15 +45,16 @@ fn canon_in(alloc: Global, graph: &Graph, value: &Value) -> Result<Ask, SpecFaul
 }
 
 /// What a jobspec in the canonical form (RFC 14) asks for over a graph, from its bytes: any version from 1 on, request
-/// vertices of any types in any nesting, with counts, and quantities of pools, and one task or more. The fault is the first
-/// one, in this order: no JSON, the version, the request vertices, the tasks, the attributes, the constraint, the shape. What
-/// is asked for is proper for the graph, and what `jobspec_v1::read_v1` accepts is read as the same ask.
+/// vertices of any types in any nesting, with counts, and quantities of pools, and one task or more. The fault is the
+/// first one, in this order: no JSON, the version, the request vertices, the tasks, the attributes, the constraint, the
+/// shape. What is asked for is proper for the graph, and what `jobspec_v1::read_v1` accepts is read as the same ask.
 pub fn read_canon(alloc: Global, graph: &Graph, bytes: &[u8]) -> Result<Ask, SpecFault>
     ensures ask { IfOk result (λ ask. canon_of graph.now bytes.now ≡ Ok ask) }
     ensures proper { IfOk result (IsProperAsk graph.now.resources.vertices) }
     ensures told { IfErr result (IsFirstFault (canon_of graph.now bytes.now)) }
     ensures same { IfOk result (λ ask. (v1 : Ask) → v1_of graph.now bytes.now ≡ Ok v1 → ask ≡ v1) }
-    ensures accepts { IfErr result (λ fault. (v1 : Ask) → v1_of graph.now bytes.now ≡ Ok v1 → fault ≡ SpecFault.Memory) }
+    ensures accepts { IfErr result
+        (λ fault. (v1 : Ask) → v1_of graph.now bytes.now ≡ Ok v1 → fault ≡ SpecFault.Memory) }
 {
     match read_value(alloc, bytes) {
         Ok(value) => canon_in(alloc, graph, &value),

@@ -1,10 +1,13 @@
 -- What a request vertex that has no fault says of itself.
-use Rattle.std.proofs.Common.{◌≡◌, refl, sym, ◌∙◌, ap, subst, ℕ, suc, ◌^◌, ◌<◌, ◌≤◌, ◌&&◌, max, Bool, true, false, Option, Some, None, List, Ok, Err, Result, nat_lt, codes, arith, if◌then◌else◌, Ordering, Less, Equal, Greater}
+use Rattle.std.proofs.Common.{◌≡◌, refl, sym, ◌∙◌, ap, subst, ℕ, suc, ◌^◌, ◌<◌, ◌≤◌, ◌&&◌, max, Bool, true, false}
+use Rattle.std.proofs.Common.{Option, Some, None, List, Ok, Err, Result, nat_lt, codes, arith, if◌then◌else◌, Ordering}
+use Rattle.std.proofs.Common.{Less, Equal, Greater}
 use Rattle.std.proofs.lemmas.Bool.{ltb-false}
 use Rattle.std.specs.Option.{option_map_or}
 use Rattle.std.specs.Ordering.{nat_cmp, match_ordering}
 use Rattle.std.specs.Cmp.Lexicographic.{slice_cmp}
-use Rattle.serde_json.specs.Data.{Num, unsigned, negative, float, Data, null, boolean, number, string, array, object, Items, no_items, item, Members, no_members, member, depth, items_depth, members_depth}
+use Rattle.serde_json.specs.Data.{Num, unsigned, negative, float, Data, null, boolean, number, string, array, object}
+use Rattle.serde_json.specs.Data.{Items, no_items, item, Members, no_members, member, depth, items_depth, members_depth}
 use Rattle.serde_json.specs.Find.{get, get_member, as_number}
 use Rattle.json_whole.specs.Field.{in_range, number_or_kind, u64_of, u64_field}
 use Rattle.json_fields.specs.Values.{result_and_then, list_value, some_value, some_items}
@@ -13,7 +16,9 @@ use Rattle.text_forms.specs.Names.{is_name}
 use Rattle.need_shape.specs.Requests.{is_slot}
 use Rattle.jobspec_v1.specs.declared.headers.KeyFault.{KeyFault}
 use Rattle.jobspec_v1.specs.declared.headers.KeyFault.TheVariants as of_key
-use Rattle.jobspec_v1.specs.Requests.{Said, said_by, keys_given, type_given, count_given, is_other_count, of_field, unit_given, exclusive_given, label_given, with_or, with_given, listed, inner_of, inner_in, requests_of, nothing}
+use Rattle.jobspec_v1.specs.Requests.{Said, said_by, keys_given, type_given, count_given, is_other_count, of_field}
+use Rattle.jobspec_v1.specs.Requests.{unit_given, exclusive_given, label_given, with_or, with_given, listed, inner_of}
+use Rattle.jobspec_v1.specs.Requests.{inner_in, requests_of, nothing}
 use Rattle.flux_defs.specs.declared.limits.TheConstants.{GREATEST_NUMBER, MOST_TYPE_BYTES}
 use Rattle.json_fields.proofs.Results.{ok_is, no_ok, then_ok, same_ok, else_ok}
 
@@ -81,7 +86,8 @@ with_value true d ds h =
     list_ok d some.0 some.1 ∙ ap array (some_ok some.0 ds some.2)
 with_value false d ds h = list_ok d ds (same_ok _ (list_value d) ds h)
 
-with_reads : (slot : Bool) (o : Option Data) (ds : Items) → with_or slot o ≡ Ok ds → option_map_or listed o nothing ≡ requests_of ds
+with_reads : (slot : Bool) (o : Option Data) (ds : Items) →
+    with_or slot o ≡ Ok ds → option_map_or listed o nothing ≡ requests_of ds
 with_reads true None ds h = absurd (no_ok _ ds h)
 with_reads false None ds h = ap requests_of (ok_is no_items ds h)
 with_reads slot (Some d) ds h = ap listed (with_value slot d ds h)
@@ -89,10 +95,13 @@ with_reads slot (Some d) ds h = ap listed (with_value slot d ds h)
 -- a slot's list holds something
 with_some : (o : Option Data) (ds : Items) → with_or true o ≡ Ok ds → (e : Data) × (rest : Items) × (ds ≡ item e rest)
 with_some None ds h = absurd (no_ok _ ds h)
-with_some (Some d) ds h = let some = then_ok (list_value d) some_items ds (same_ok _ (some_value d) ds h) in some_is_some some.0 ds some.2
+with_some (Some d) ds h = let some = then_ok (list_value d) some_items ds (same_ok _ (some_value d) ds h) in
+    some_is_some some.0 ds some.2
 
-by_order : (o : Ordering) (d : Data) (ms : Members) → inner_in ms ≡ option_map_or listed (get_member (codes "with") ms) nothing →
-    match_ordering o (inner_in ms) (listed d) (inner_in ms) ≡ option_map_or listed (match_ordering o (get_member (codes "with") ms) (Some d) (get_member (codes "with") ms)) nothing
+by_order : (o : Ordering) (d : Data) (ms : Members) →
+    inner_in ms ≡ option_map_or listed (get_member (codes "with") ms) nothing →
+    match_ordering o (inner_in ms) (listed d) (inner_in ms) ≡ option_map_or listed
+    (match_ordering o (get_member (codes "with") ms) (Some d) (get_member (codes "with") ms)) nothing
 by_order Less d ms h = h
 by_order Equal d ms h = refl
 by_order Greater d ms h = h
@@ -111,19 +120,23 @@ inner_is (object ms) = inner_in_is ms
 
 -- ---- depths
 
-deeper : (o : Ordering) (k : List ℕ) (d e : Data) (ms : Members) → (get_member k ms ≡ Some e → depth e ≤ members_depth ms) →
+deeper : (o : Ordering) (k : List ℕ) (d e : Data) (ms : Members) →
+    (get_member k ms ≡ Some e → depth e ≤ members_depth ms) →
     match_ordering o (get_member k ms) (Some d) (get_member k ms) ≡ Some e → depth e ≤ max (depth d) (members_depth ms)
 deeper Less k d e ms ih h = let below = ih h in omega (arith, below)
-deeper Equal k d e ms ih h = let same : d ≡ e = cc in let below : depth d ≡ depth e = ap depth same in omega (arith, below)
+deeper Equal k d e ms ih h = let same : d ≡ e = cc in
+    let below : depth d ≡ depth e = ap depth same in omega (arith, below)
 deeper Greater k d e ms ih h = let below = ih h in omega (arith, below)
 
 member_depth : (k : List ℕ) (ms : Members) (e : Data) → get_member k ms ≡ Some e → depth e ≤ members_depth ms
 member_depth k no_members e h = absurd (cc)
 member_depth k (member l d ms) e h = deeper (slice_cmp nat_cmp k l) k d e ms (member_depth k ms e) h
 
-with_depth : (slot : Bool) (o : Option Data) (ds : Items) (most : ℕ) → ((e : Data) → o ≡ Some e → depth e ≤ most) → with_or slot o ≡ Ok ds → items_depth ds ≤ most
+with_depth : (slot : Bool) (o : Option Data) (ds : Items) (most : ℕ) →
+    ((e : Data) → o ≡ Some e → depth e ≤ most) → with_or slot o ≡ Ok ds → items_depth ds ≤ most
 with_depth true None ds most below h = absurd (no_ok _ ds h)
-with_depth false None ds most below h = let none : 0 ≡ items_depth ds = ap items_depth (ok_is no_items ds h) in omega (arith, none)
+with_depth false None ds most below h = let none : 0 ≡ items_depth ds = ap items_depth (ok_is no_items ds h) in
+    omega (arith, none)
 with_depth slot (Some d) ds most below h =
     let list : depth d ≡ suc (items_depth ds) = ap depth (with_value slot d ds h) in
     let least = below d refl in omega (arith, list, least)
@@ -145,7 +158,8 @@ keys_ok (string x) b h = absurd (no_ok _ b h)
 keys_ok (array x) b h = absurd (no_ok _ b h)
 keys_ok (object ms) b h = (ms, refl)
 
-pub said_is : (s : Bool) (labels : List (List ℕ)) (d : Data) (said : Said) → said_by s labels d ≡ Ok said → IsSaid s labels d said
+pub said_is : (s : Bool) (labels : List (List ℕ)) (d : Data) (said : Said) →
+    said_by s labels d ≡ Ok said → IsSaid s labels d said
 said_is s labels d said h =
     let a = then_ok (keys_given d) _ said h in
     let b = then_ok (type_given s d) _ said a.2 in
@@ -159,7 +173,8 @@ said_is s labels d said h =
     let count : c.0 ≡ said.count = ap (λ (t : Said). t.count) all in
     let with : w.0 ≡ said.with = ap (λ (t : Said). t.with) all in
     let found : with_or (is_slot said.kind) (get (codes "with") d) ≡ Ok said.with =
-    ap (λ k. with_or (is_slot k) (get (codes "with") d)) (sym kind) ∙ (same_ok _ (with_or (is_slot b.0) (get (codes "with") d)) w.0 w.1 ∙ ap Ok with) in
+    ap (λ k. with_or (is_slot k) (get (codes "with") d)) (sym kind)
+    ∙ (same_ok _ (with_or (is_slot b.0) (get (codes "with") d)) w.0 w.1 ∙ ap Ok with) in
     let keys = keys_ok d a.0 a.1 in
     let bound : (e : Data) → get (codes "with") d ≡ Some e → depth e ≤ members_depth keys.0 =
     λ e here. member_depth (codes "with") keys.0 e (ap (get (codes "with")) (sym keys.1) ∙ here) in
@@ -168,7 +183,8 @@ said_is s labels d said h =
     record {
       count = subst (λ n. (1 ≤ n) × (n ≤ 2 ^ 46)) count (count_ok d c.0 c.1);
       slot = subst (λ k. (is_slot k && s) ≡ false) kind (type_ok s d b.0 b.1);
-      some = λ slot. with_some (get (codes "with") d) said.with (ap (λ t. with_or t (get (codes "with") d)) (sym slot) ∙ found);
+      some = λ slot. with_some
+          (get (codes "with") d) said.with (ap (λ t. with_or t (get (codes "with") d)) (sym slot) ∙ found);
       inner = inner_is d ∙ with_reads (is_slot said.kind) (get (codes "with") d) said.with found;
       less = omega (arith, low, top);
     }

@@ -1,5 +1,6 @@
 -- The tasks of V1, by how many there are.
-use Rattle.std.proofs.Common.{ℕ, ◌≡◌, ◌⊎◌, inl, inr, refl, ◌∙◌, ap, true, false, not, Some, None, List, [], ◌∷◌, length, ◌==◌, Result, Ok, Err, IfErr, codes, arith}
+use Rattle.std.proofs.Common.{ℕ, ◌≡◌, ◌⊎◌, inl, inr, refl, ◌∙◌, ap, true, false, not, Some, None, List, [], ◌∷◌, length}
+use Rattle.std.proofs.Common.{◌==◌, Result, Ok, Err, IfErr, codes, arith}
 use Rattle.std.proofs.lemmas.Bool.{ne_eqb}
 use Rattle.json_fields.specs.Values.{result_and_then}
 use Rattle.serde_json.specs.declared.value.Value.{Value}
@@ -22,14 +23,18 @@ if_err (Ok x) h f = tt
 if_err (Err e) h f = f e h
 
 module _ (labels : List (List ℕ)) (d : Data) (ds : Items) (read : task_list d ≡ Ok ds) where
-  by_list : v1_tasks labels d ≡ result_and_then (unless (not (is_one ds)) (Task (codes "tasks"))) (λ b. unless_fault (tasks_fault labels 0 ds))
-  by_list = ap (λ r. result_and_then r (λ (tasks : Items). result_and_then (unless (not (is_one tasks)) (Task (codes "tasks"))) (λ b. unless_fault (tasks_fault labels 0 tasks)))) read
+  by_list : v1_tasks labels d
+      ≡ result_and_then (unless (not (is_one ds)) (Task (codes "tasks"))) (λ b. unless_fault (tasks_fault labels 0 ds))
+  by_list = ap (λ r. result_and_then r (λ (tasks : Items). result_and_then
+      (unless (not (is_one tasks)) (Task (codes "tasks"))) (λ b. unless_fault (tasks_fault labels 0 tasks)))) read
 
   pub not_one : is_one ds ≡ false → v1_tasks labels d ≡ Err (Task (codes "tasks"))
-  not_one many = by_list ∙ ap (λ b. result_and_then (unless (not b) (Task (codes "tasks"))) (λ c. unless_fault (tasks_fault labels 0 ds))) many
+  not_one many = by_list ∙ ap
+      (λ b. result_and_then (unless (not b) (Task (codes "tasks"))) (λ c. unless_fault (tasks_fault labels 0 ds))) many
 
   pub of_one : is_one ds ≡ true → v1_tasks labels d ≡ unless_fault (tasks_fault labels 0 ds)
-  of_one one = by_list ∙ ap (λ b. result_and_then (unless (not b) (Task (codes "tasks"))) (λ c. unless_fault (tasks_fault labels 0 ds))) one
+  of_one one = by_list ∙ ap
+      (λ b. result_and_then (unless (not b) (Task (codes "tasks"))) (λ c. unless_fault (tasks_fault labels 0 ds))) one
 
   pub one_fine : is_one ds ≡ true → tasks_fault labels 0 ds ≡ None → v1_tasks labels d ≡ Ok true
   one_fine one none = of_one one ∙ ap unless_fault none

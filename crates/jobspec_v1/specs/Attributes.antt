@@ -1,5 +1,6 @@
 -- The attributes of a jobspec (RFC 14).
-use Rattle.std.specs.Prelude.{ℕ, List, if◌then◌else◌, Option, Some, None, is_some, option_map, option_and_then, Result, Ok, codes}
+use Rattle.std.specs.Prelude.{ℕ, List, if◌then◌else◌, Option, Some, None, is_some, option_map, option_and_then, Result}
+use Rattle.std.specs.Prelude.{Ok, codes}
 use Rattle.serde_json.specs.Data.{Data}
 use Rattle.serde_json.specs.Find.{get}
 use Rattle.serde_json.specs.View.{view}
@@ -30,7 +31,8 @@ duration_in (Some d) = if is_some (get (codes "duration") d) then u64_field
 abbrev pub terms_of : Data → Result Terms SpecFault
 terms_of d =
     result_and_then (at_path (codes "attributes") (object_or_none (given (codes "attributes") d))) (λ attributes.
-    result_and_then (at_path (codes "attributes.system") (object_or_none (given_in (codes "system") attributes))) (λ system.
+    result_and_then
+    (at_path (codes "attributes.system") (object_or_none (given_in (codes "system") attributes))) (λ system.
     result_and_then (at_path (codes "attributes.system.duration") (duration_in system)) (λ duration.
     Ok (record { duration = duration; constraint = given_in (codes "constraints") system }))))
 

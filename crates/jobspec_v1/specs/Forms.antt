@@ -1,4 +1,5 @@
--- The four forms of RFC 25: one slot, or one request for nodes with one slot in each; and cores, or cores and gpus, in the slot.
+-- The four forms of RFC 25: one slot, or one request for nodes with one slot in each; and cores, or cores and gpus, in
+-- the slot.
 use Rattle.std.specs.Prelude.{ℕ, ◌&&◌, ◌||◌, List, [], ◌∷◌, Bool, true, false, codes, bytes_eq}
 use Rattle.need_shape.specs.declared.raw.RawNeed.{RawNeed, out-RawNeed}
 use Rattle.need_shape.specs.Requests.{is_slot}
@@ -15,7 +16,8 @@ is_leaf kind raw = bytes_eq (out-RawNeed raw).kind kind && is_bare (out-RawNeed 
 abbrev pub are_cores : List RawNeed → Bool
 are_cores [] = false
 are_cores (a ∷ []) = is_leaf (codes "core") a
-are_cores (a ∷ b ∷ []) = (is_leaf (codes "core") a && is_leaf (codes "gpu") b) || (is_leaf (codes "gpu") a && is_leaf (codes "core") b)
+are_cores (a ∷ b ∷ []) =
+    (is_leaf (codes "core") a && is_leaf (codes "gpu") b) || (is_leaf (codes "gpu") a && is_leaf (codes "core") b)
 are_cores (a ∷ b ∷ c ∷ rest) = false
 
 abbrev pub is_core_slot : RawNeed → Bool

@@ -1,5 +1,6 @@
 -- What a jobspec V1 (RFC 25) asks for, or the first fault of it, in the order in which faults are told.
-use Rattle.std.specs.Prelude.{ℕ, ◌==◌, List, [], if◌then◌else◌, Bool, false, true, not, Option, Some, None, Result, Ok, Err, codes}
+use Rattle.std.specs.Prelude.{ℕ, ◌==◌, List, [], if◌then◌else◌, Bool, false, true, not, Option, Some, None, Result, Ok}
+use Rattle.std.specs.Prelude.{Err, codes}
 use Rattle.std.specs.Result.{result_map_both}
 use Rattle.serde_json.specs.Data.{Data, Items, no_items, item}
 use Rattle.json_whole.specs.Whole.{value_of}
@@ -41,7 +42,8 @@ version_of d = at_path (codes "version") (u64_field (codes "version") 1 GREATEST
 -- its request vertices, and the labels of its slots
 abbrev pub resources_of : Data → Result Requested SpecFault
 resources_of d =
-    result_and_then (at_path (codes "resources") (some_field (codes "resources") d)) (λ ds. requests_of ds false (codes "resources") 0 [])
+    result_and_then (at_path (codes "resources") (some_field (codes "resources") d))
+    (λ ds. requests_of ds false (codes "resources") 0 [])
 
 -- the nodes that a constraint bars: none where there is none
 abbrev pub bars_in : NamedGraph → Option Data → Result (List ℕ) SpecFault
@@ -49,12 +51,14 @@ bars_in g None = Ok []
 bars_in g (Some d) = result_map_both (λ bars. bars) (λ path. Constraint path) (bars_of g d)
 
 abbrev pub unless_shape : ResourceGraph → ℕ → List ℕ → List RawNeed → Option ShapeFault → Result Ask SpecFault
-unless_shape g duration barred request None = Ok (record { needs = needs_in (types_for g request) outside request; duration = duration; barred = barred })
+unless_shape g duration barred request None =
+    Ok (record { needs = needs_in (types_for g request) outside request; duration = duration; barred = barred })
 unless_shape g duration barred request (Some fault) = Err (Shape fault)
 
 -- the ask of request vertices over a graph, for so many seconds and without the barred nodes
 abbrev pub ask_for : ResourceGraph → ℕ → List ℕ → List RawNeed → Result Ask SpecFault
-ask_for g duration barred request = unless_shape g duration barred request (list_fault (types_for g request) outside request)
+ask_for g duration barred request =
+    unless_shape g duration barred request (list_fault (types_for g request) outside request)
 
 -- what a jobspec with these request vertices asks for, by its attributes
 abbrev pub ask_by : NamedGraph → List RawNeed → Data → Result Ask SpecFault

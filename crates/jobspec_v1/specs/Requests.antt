@@ -1,12 +1,14 @@
 -- Request vertices (RFC 14) as a jobspec writes them: what each says, and the first fault of them.
 use Rattle.flux_defs.specs.declared.limits.TheConstants.{GREATEST_NUMBER, MOST_TYPE_BYTES}
-use Rattle.std.specs.Prelude.{ℕ, ◌^◌, ◌&&◌, ◌||◌, List, [], ◌∷◌, ◌++◌, ◌+◌, Bool, true, false, not, if◌then◌else◌, Option, Some, None, is_some, option_map, Result, Ok, Err, codes, bytes_eq, position}
+use Rattle.std.specs.Prelude.{ℕ, ◌^◌, ◌&&◌, ◌||◌, List, [], ◌∷◌, ◌++◌, ◌+◌, Bool, true, false, not, if◌then◌else◌}
+use Rattle.std.specs.Prelude.{Option, Some, None, is_some, option_map, Result, Ok, Err, codes, bytes_eq, position}
 use Rattle.std.specs.List.{list_all}
 use Rattle.std.specs.Option.{option_map_or}
 use Rattle.std.specs.Ordering.{nat_cmp, match_ordering}
 use Rattle.std.specs.Cmp.Lexicographic.{slice_cmp}
 use Rattle.std.specs.Result.{result_map_both}
-use Rattle.serde_json.specs.Data.{Data, null, boolean, number, string, array, object, Items, no_items, item, Members, no_members, member}
+use Rattle.serde_json.specs.Data.{Data, null, boolean, number, string, array, object, Items, no_items, item, Members}
+use Rattle.serde_json.specs.Data.{no_members, member}
 use Rattle.serde_json.specs.Find.{get, as_bool, as_str, as_object}
 use Rattle.serde_json.specs.View.{items_view}
 use Rattle.json_whole.specs.Field.{u64_field, text_field}
@@ -28,8 +30,8 @@ use Rattle.json_fields.specs.Misfits.{at_field}
 use Rattle.jobspec_v1.specs.declared.headers.Header.{Header}
 use Rattle.jobspec_v1.specs.Faults.{at_vertex, vertex_path, KeyMisfit}
 
--- What a request vertex says of itself: its type, its count, whether it is asked for exclusively, its label where it is a
--- slot, and the values of the list in it.
+-- What a request vertex says of itself: its type, its count, whether it is asked for exclusively, its label where it is
+-- a slot, and the values of the list in it.
 pub record Said : Type 0 where
   pub kind : List ℕ
   pub count : ℕ
@@ -99,7 +101,8 @@ is_among texts text = is_some (position (bytes_eq text) texts)
 abbrev pub label_given : List (List ℕ) → Bool → Data → Result (Option (List ℕ)) KeyMisfit
 label_given labels false d = Ok None
 label_given labels true d = at_field key.Label
-    (result_and_then (of_field (text_field (codes "label") d)) (λ label. if bytes_eq label [] || is_among labels label then Err of_key.Label else Ok (Some label)))
+    (result_and_then (of_field (text_field (codes "label") d))
+    (λ label. if bytes_eq label [] || is_among labels label then Err of_key.Label else Ok (Some label)))
 
 abbrev pub with_or : Bool → Option Data → Result Items KeyFault
 with_or true None = Err (of_key.Field Missing)
@@ -135,7 +138,8 @@ labels_with labels label = option_map_or (with_text labels) label labels
 
 -- the request vertex that says this, with what is in it
 abbrev pub need_of : Said → List RawNeed → RawNeed
-need_of said needs = roll-RawNeed (record { kind = said.kind; count = said.count; exclusive = said.exclusive; with = needs })
+need_of said needs =
+    roll-RawNeed (record { kind = said.kind; count = said.count; exclusive = said.exclusive; with = needs })
 
 -- no request vertices
 abbrev pub nothing : Reading
@@ -149,7 +153,8 @@ around said r = record { needs = need_of said r.needs ∷ []; labels = r.labels 
 abbrev pub one_with : Reading → Data → Reading
 one_with inner d in_slot list at labels =
     result_and_then (at_vertex list at (said_by in_slot labels d)) (λ said.
-    result_map_both (around said) (λ fault. fault) (inner (is_slot said.kind || in_slot) (vertex_path list at key.With) 0 (labels_with labels said.label)))
+    result_map_both (around said) (λ fault. fault)
+    (inner (is_slot said.kind || in_slot) (vertex_path list at key.With) 0 (labels_with labels said.label)))
 
 -- with these before them
 abbrev pub behind : List RawNeed → Requested → Requested
@@ -158,7 +163,8 @@ behind needs r = record { needs = needs ++ r.needs; labels = r.labels }
 -- these, and then those
 abbrev pub and_then : Reading → Reading → Reading
 and_then first others in_slot list at labels =
-    result_and_then (first in_slot list at labels) (λ a. result_map_both (behind a.needs) (λ fault. fault) (others in_slot list (at + 1) a.labels))
+    result_and_then (first in_slot list at labels)
+    (λ a. result_map_both (behind a.needs) (λ fault. fault) (others in_slot list (at + 1) a.labels))
 
 -- Request vertices, in the order of the file, each before those in it.
 abbrev mutual
@@ -195,4 +201,10 @@ request_of d = one_with (inner_of d) d
 -- ---- what the code holds
 
 abbrev pub said_held : Header → Said
-said_held h = record { kind = h.kind.now; count = h.count; exclusive = h.exclusive; label = option_map (λ s. s.now) h.label; with = items_view h.with.now }
+said_held h = record {
+  kind = h.kind.now;
+  count = h.count;
+  exclusive = h.exclusive;
+  label = option_map (λ s. s.now) h.label;
+  with = items_view h.with.now;
+}

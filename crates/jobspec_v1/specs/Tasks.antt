@@ -1,5 +1,6 @@
 -- The tasks of a jobspec (RFC 14): which are well formed, and the first fault of them.
-use Rattle.std.specs.Prelude.{ℕ, suc, ◌&&◌, ◌||◌, List, ◌++◌, Bool, true, false, if◌then◌else◌, Option, Some, None, is_some, Result, Ok, Err, codes}
+use Rattle.std.specs.Prelude.{ℕ, suc, ◌&&◌, ◌||◌, List, ◌++◌, Bool, true, false, if◌then◌else◌, Option, Some, None}
+use Rattle.std.specs.Prelude.{is_some, Result, Ok, Err, codes}
 use Rattle.std.specs.Option.{option_map_or, option_or}
 use Rattle.serde_json.specs.Data.{Data, Items, no_items, item}
 use Rattle.serde_json.specs.Find.{get, as_str, as_array, as_object}
@@ -48,7 +49,8 @@ is_task_count d =
 abbrev pub is_task : List (List ℕ) → Data → Bool
 is_task labels d =
     option_map_or is_command (get (codes "command") d) false
-    && (option_map_or (is_label labels) (get (codes "slot") d) false && option_map_or is_task_count (get (codes "count") d) false)
+    && (option_map_or (is_label labels) (get (codes "slot") d) false
+    && option_map_or is_task_count (get (codes "count") d) false)
 
 abbrev pub task_path : ℕ → List ℕ
 task_path at = codes "tasks" ++ index at
@@ -56,7 +58,8 @@ task_path at = codes "tasks" ++ index at
 -- what is wrong with the task at an index
 abbrev pub task_fault : List (List ℕ) → ℕ → Data → Option SpecFault
 task_fault labels at d =
-    if is_some (as_object d) then (if is_task labels d then None else Some (Task (task_path at))) else Some (Field (task_path at) Kind)
+    if is_some (as_object d)
+    then (if is_task labels d then None else Some (Task (task_path at))) else Some (Field (task_path at) Kind)
 
 -- the first fault of tasks from an index on
 abbrev pub tasks_fault : List (List ℕ) → ℕ → Items → Option SpecFault

@@ -31,8 +31,8 @@ fn duration_in(value: &Value) -> Result<u64, FieldFault>
     need_u64(value, "duration", 0, GREATEST_NUMBER)
 }
 
-/// What the attributes of a jobspec say: each of `attributes`, `attributes.system` and its `constraints` may be absent or
-/// null, `duration` may be absent. Field at the path of the first that breaks its rule.
+/// What the attributes of a jobspec say: each of `attributes`, `attributes.system` and its `constraints` may be absent
+/// or null, `duration` may be absent. Field at the path of the first that breaks its rule.
 pub fn read_attributes(alloc: Global, value: &Value) -> Result<Attributes<'_>, SpecFault>
     ensures read { IfOk result (λ attributes. terms_of (view value.now) ≡ Ok (terms_held attributes)) }
     ensures told { IfErr result (IsFirstFault (terms_of (view value.now))) }

@@ -9,8 +9,8 @@ use need_shape::ShapeFault;
 use std::alloc::{AllocError, AllocFailed, Global};
 
 /// Why bytes are no jobspec: the first of these that holds, in the order in which faults are told. A path begins at the
-/// whole text, as `resources[0].with[1].count`; that of the whole text is `.`, and a key that is none of a request vertex
-/// is written `*`.
+/// whole text, as `resources[0].with[1].count`; that of the whole text is `.`, and a key that is none of a request
+/// vertex is written `*`.
 #[derive(Debug, Drop)]
 pub enum SpecFault {
     /// The bytes are no JSON text (RFC 8259).

@@ -42,8 +42,8 @@ fn is_node_of_slot(raw: &RawNeed) -> bool
     }
 }
 
-/// Whether the request vertices have one of the four forms: one slot, or one request for nodes with one slot in it; with
-/// cores, or cores and gpus, in the slot.
+/// Whether the request vertices have one of the four forms: one slot, or one request for nodes with one slot in it;
+/// with cores, or cores and gpus, in the slot.
 pub(crate) fn is_v1(requests: &[RawNeed]) -> bool
     ensures { result ≡ is_v1 requests.now }
 {

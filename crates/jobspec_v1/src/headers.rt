@@ -7,7 +7,9 @@ ghost use Rattle.serde_json.specs.View.{view, items_view, members_view};
 ghost use Rattle.need_shape.specs.Requests.{is_slot};
 ghost use Rattle.jobspec_v1.specs.Faults.{key_path, vertex_path, fault_at};
 ghost use Rattle.json_fields.specs.Misfits.{at_field};
-ghost use Rattle.jobspec_v1.specs.Requests.{is_vertex_key, has_own_keys, keys_given, type_given, count_given, unit_given, exclusive_given, is_among, label_given, with_given, said_by, said_held, of_field};
+ghost use Rattle.jobspec_v1.specs.Requests.{is_vertex_key, has_own_keys, keys_given, type_given, count_given};
+ghost use Rattle.jobspec_v1.specs.Requests.{unit_given, exclusive_given, is_among, label_given, with_given, said_by};
+ghost use Rattle.jobspec_v1.specs.Requests.{said_held, of_field};
 
 use crate::faults::SpecFault;
 use flux_defs::{GREATEST_NUMBER, MOST_TYPE_BYTES};

@@ -1,5 +1,6 @@
 //! A jobspec of version 1 from its bytes.
-ghost use Rattle.std.specs.Prelude.{◌≡◌, ◌⊎◌, Ok, Err, Some, None, [], true, false, IsSome, IsOk, IfOk, IfErr, option_map};
+ghost use Rattle.std.specs.Prelude.{◌≡◌, ◌⊎◌, Ok, Err, Some, None, [], true, false, IsSome, IsOk, IfOk, IfErr};
+ghost use Rattle.std.specs.Prelude.{option_map};
 ghost use Rattle.std.specs.List.{AllByRecursion};
 ghost use Rattle.serde_json.specs.Find.{as_object};
 ghost use Rattle.serde_json.specs.View.{view, items_view};
@@ -8,7 +9,8 @@ ghost use Rattle.flux_defs.specs.Needs.{IsProperAsk, AreRisingFrom};
 ghost use Rattle.need_shape.specs.Requests.{AreRequests};
 ghost use Rattle.jobspec_v1.specs.Faults.{IsFirstFault};
 ghost use Rattle.jobspec_v1.specs.Forms.{is_v1};
-ghost use Rattle.jobspec_v1.specs.Jobspecs.{version_of, resources_of, bars_in, is_one, ask_for, ask_by, v1_tasks, v1_in, v1_of};
+ghost use Rattle.jobspec_v1.specs.Jobspecs.{version_of, resources_of, bars_in, is_one, ask_for, ask_by, v1_tasks};
+ghost use Rattle.jobspec_v1.specs.Jobspecs.{v1_in, v1_of};
 
 use crate::attributes::read_attributes;
 use crate::faults::{SpecFault, behind, field_at};
@@ -72,8 +74,8 @@ fn bars_in(alloc: Global, graph: &Graph, constraint: Option<&Value>) -> Result<L
     }
 }
 
-/// What request vertices ask for over a graph, for so many seconds and without the barred nodes; or the first fault of their
-/// shape.
+/// What request vertices ask for over a graph, for so many seconds and without the barred nodes; or the first fault of
+/// their shape.
 fn ask_for(
     alloc: Global,
     graph: &Graph,
@@ -99,8 +101,8 @@ fn ask_for(
     }
 }
 
-/// What a jobspec with these request vertices asks for over a graph, by its attributes. The fault is the first one, of the
-/// attributes, then of the constraint, then of the shape. What is asked for is proper for the graph.
+/// What a jobspec with these request vertices asks for over a graph, by its attributes. The fault is the first one, of
+/// the attributes, then of the constraint, then of the shape. What is asked for is proper for the graph.
 pub fn ask_by(
     alloc: Global,
     graph: &Graph,
@@ -158,9 +160,9 @@ fn v1_in(alloc: Global, graph: &Graph, value: &Value) -> Result<Ask, SpecFault>
     ask_by(alloc, graph, value, &needs)
 }
 
-/// What a jobspec V1 (RFC 25) asks for over a graph, from its bytes. The fault is the first one, in this order: no JSON,
-/// the version, the request vertices, the form, the tasks, the attributes, the constraint, the shape. What is asked for is
-/// proper for the graph.
+/// What a jobspec V1 (RFC 25) asks for over a graph, from its bytes. The fault is the first one, in this order: no
+/// JSON, the version, the request vertices, the form, the tasks, the attributes, the constraint, the shape. What is
+/// asked for is proper for the graph.
 pub fn read_v1(alloc: Global, graph: &Graph, bytes: &[u8]) -> Result<Ask, SpecFault>
     ensures ask { IfOk result (λ ask. v1_of graph.now bytes.now ≡ Ok ask) }
     ensures proper { IfOk result (IsProperAsk graph.now.resources.vertices) }

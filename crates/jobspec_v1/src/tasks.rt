@@ -4,7 +4,8 @@ ghost use Rattle.std.specs.Option.{option_map_or};
 ghost use Rattle.serde_json.specs.Find.{as_object};
 ghost use Rattle.serde_json.specs.View.{view, items_view};
 ghost use Rattle.jobspec_v1.specs.Faults.{IsFirstFault};
-ghost use Rattle.jobspec_v1.specs.Tasks.{are_texts, is_command, is_label, is_count_or_absent, is_task_count, is_task, tasks_fault, task_fault, task_list};
+ghost use Rattle.jobspec_v1.specs.Tasks.{are_texts, is_command, is_label, is_count_or_absent, is_task_count, is_task};
+ghost use Rattle.jobspec_v1.specs.Tasks.{tasks_fault, task_fault, task_list};
 
 use crate::faults::{SpecFault, field_at};
 use crate::headers::is_among;
@@ -83,7 +84,8 @@ fn is_task(labels: &TextTable, value: &Value) -> bool
 /// Refuses a value that is no task.
 fn check_task(alloc: Global, labels: &TextTable, at: u64, value: &Value) -> Result<(), SpecFault>
     ensures fine { IsOk result → task_fault labels.now at (view value.now) ≡ None }
-    ensures told { IfErr result (λ fault. (fault ≡ SpecFault.Memory) ⊎ (task_fault labels.now at (view value.now) ≡ Some fault)) }
+    ensures told { IfErr result
+        (λ fault. (fault ≡ SpecFault.Memory) ⊎ (task_fault labels.now at (view value.now) ≡ Some fault)) }
 {
     if value.is_object() && is_task(labels, value) {
         return Ok(());
@@ -102,7 +104,8 @@ fn check_task(alloc: Global, labels: &TextTable, at: u64, value: &Value) -> Resu
 /// else Field, at its path.
 pub fn check_tasks(alloc: Global, labels: &TextTable, values: &[Value]) -> Result<(), SpecFault>
     ensures fine { IsOk result → tasks_fault labels.now 0 (items_view values.now) ≡ None }
-    ensures told { IfErr result (λ fault. (fault ≡ SpecFault.Memory) ⊎ (tasks_fault labels.now 0 (items_view values.now) ≡ Some fault)) }
+    ensures told { IfErr result
+        (λ fault. (fault ≡ SpecFault.Memory) ⊎ (tasks_fault labels.now 0 (items_view values.now) ≡ Some fault)) }
 {
     'values: for (at, value) in values.iter().enumerate() {
         check_task(alloc, labels, at as u64, value)?;

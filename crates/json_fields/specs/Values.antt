@@ -1,5 +1,6 @@
 -- What stands at a key of an object.
-use Rattle.std.specs.Prelude.{ℕ, List, [], ◌∷◌, if◌then◌else◌, Option, Some, None, is_some, option_and_then, Result, Ok, Err}
+use Rattle.std.specs.Prelude.{ℕ, List, [], ◌∷◌, if◌then◌else◌, Option, Some, None, is_some, option_and_then, Result, Ok}
+use Rattle.std.specs.Prelude.{Err}
 use Rattle.serde_json.specs.Data.{Data, Items, no_items, item, Members, no_members, member}
 use Rattle.serde_json.specs.Find.{get, as_null, as_array, as_object}
 use Rattle.json_whole.specs.declared.fields.FieldFault.{FieldFault}

@@ -2,7 +2,8 @@
 ghost use Rattle.std.specs.Prelude.{◌≡◌, option_map};
 ghost use Rattle.std.specs.Result.{result_map_both};
 ghost use Rattle.serde_json.specs.View.{view, items_view};
-ghost use Rattle.json_fields.specs.Values.{given, object_value, object_or_none, object_field, list_value, list_field, some_items, some_value, some_field};
+ghost use Rattle.json_fields.specs.Values.{given, object_value, object_or_none, object_field, list_value, list_field};
+ghost use Rattle.json_fields.specs.Values.{some_items, some_value, some_field};
 
 use json_whole::FieldFault;
 use serde_json::Value;
@@ -20,7 +21,8 @@ pub fn given<'a>(value: &'a Value, key: &str) -> Option<&'a Value>
 
 /// The object at a key that has a default: Kind where another value stands there.
 pub fn object_or_none<'a>(value: &'a Value, key: &str) -> Result<Option<&'a Value>, FieldFault>
-    ensures { result_map_both (λ found. option_map (λ v. view v.now) found) (λ e. e) result ≡ object_or_none (given key.now (view value.now)) }
+    ensures { result_map_both (λ found. option_map (λ v. view v.now) found) (λ e. e) result
+        ≡ object_or_none (given key.now (view value.now)) }
 {
     let Some(found) = given(value, key) else {
         return Ok(None);

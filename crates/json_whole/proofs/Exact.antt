@@ -1,5 +1,7 @@
 -- What is written of a run is exact, or a list of its text.
-use Rattle.std.proofs.Common.{◌≡◌, ℕ, ◌-◌, ◌^◌, List, [], ◌∷◌, length, take, drop, get_or, Bool, true, false, cond, not, ◌==◌, nat_lt, nat_le, Some, ◌⊎◌, inl, inr, refl, sym, ◌∙◌, arith, zero-add, append-nil, take_all}
+use Rattle.std.proofs.Common.{◌≡◌, ℕ, ◌-◌, ◌^◌, List, [], ◌∷◌, length, take, drop, get_or, Bool, true, false, cond, not}
+use Rattle.std.proofs.Common.{◌==◌, nat_lt, nat_le, Some, ◌⊎◌, inl, inr, refl, sym, ◌∙◌, arith, zero-add, append-nil}
+use Rattle.std.proofs.Common.{take_all}
 use Rattle.std.specs.List.{prefix_len, list_all}
 use Rattle.std.specs.Char.{is_ascii_digit}
 use Rattle.std.specs.Str.Parse.{digits_value}
@@ -12,7 +14,8 @@ use Rattle.json.specs.Word.{after_number}
 use Rattle.serde_json.specs.Data.{unsigned, negative}
 use Rattle.serde_json.specs.Read.{number_from, number_of}
 use Rattle.fast_float.specs.Text.{with_sign}
-use Rattle.json_whole.specs.Run.{is_run_byte, digit_count, is_number, is_whole, has_zero_fraction, is_negative, listed, written}
+use Rattle.json_whole.specs.Run.{is_run_byte, digit_count, is_number, is_whole, has_zero_fraction, is_negative, listed}
+use Rattle.json_whole.specs.Run.{written}
 use Rattle.json_whole.proofs.Tokens.{IsExact}
 use Rattle.json_whole.proofs.Words.{IsRun, and_left, and_right}
 
@@ -27,7 +30,8 @@ digits_all (d ∷ ds) h =
 
 -- digits alone
 abbrev parts_of : List ℕ → Parts
-parts_of ds = record { whole = ds; point = false; fraction = []; exponent_negative = false; exponent = []; len = length ds }
+parts_of ds =
+    record { whole = ds; point = false; fraction = []; exponent_negative = false; exponent = []; len = length ds }
 
 scan_digits : (ds : List ℕ) → list_all is_ascii_digit ds ≡ true → scan_numeral ds ≡ parts_of ds
 unfolding scan_numeral
@@ -36,10 +40,13 @@ scan_digits ds h =
     let whole : take (length ds - 0) ds ≡ ds = take_all (length ds - 0) ds (omega arith) in
     rw (zero-add (prefix_len is_ascii_digit ds), digits_all ds h, past, whole, past) refl
 
-number_digits : (ds : List ℕ) → nat_lt 0 (length ds) ≡ true → nat_lt (digits_value 10 ds) (2 ^ 64) ≡ true → number_from false (parts_of ds) ≡ Some (unsigned (digits_value 10 ds))
+number_digits : (ds : List ℕ) → nat_lt 0 (length ds) ≡ true →
+    nat_lt (digits_value 10 ds) (2 ^ 64) ≡ true → number_from false (parts_of ds) ≡ Some (unsigned (digits_value 10 ds))
 number_digits ds some fits = rw (append-nil ds, some, fits) refl
 
-number_minus : (ds : List ℕ) → nat_lt 0 (length ds) ≡ true → nat_lt 0 (digits_value 10 ds) ≡ true → nat_le (digits_value 10 ds) (2 ^ 63) ≡ true → number_from true (parts_of ds) ≡ Some (negative (with_sign true (digits_value 10 ds)))
+number_minus : (ds : List ℕ) →
+    nat_lt 0 (length ds) ≡ true → nat_lt 0 (digits_value 10 ds) ≡ true → nat_le (digits_value 10 ds) (2 ^ 63) ≡ true →
+    number_from true (parts_of ds) ≡ Some (negative (with_sign true (digits_value 10 ds)))
 number_minus ds some above fits = rw (append-nil ds, some, above, fits) refl
 
 -- ---- what is written
@@ -58,7 +65,11 @@ whole_exact (x ∷ xs) n w =
     let digits = and_left (list_all is_ascii_digit (x ∷ xs)) _ w in
     let fits = and_right (list_all is_ascii_digit (x ∷ xs)) _ w in
     let first = and_left (is_ascii_digit x) (list_all is_ascii_digit xs) digits in
-    rw (digit_not_minus x first, scan_digits (x ∷ xs) digits, number_digits (x ∷ xs) (lt-ltb 0 (length (x ∷ xs)) (omega arith)) fits) refl
+    rw (
+      digit_not_minus x first,
+      scan_digits (x ∷ xs) digits,
+      number_digits (x ∷ xs) (lt-ltb 0 (length (x ∷ xs)) (omega arith)) fits,
+    ) refl
 
 some_digit : (ds : List ℕ) → nat_lt 0 (digits_value 10 ds) ≡ true → nat_lt 0 (length ds) ≡ true
 some_digit [] h = h
@@ -81,13 +92,16 @@ abbrev pub Written : List ℕ → List ℕ → Type 0
 Written r t = (t ≡ listed r) ⊎ (IsRun t × (is_number t ≡ true → IsExact t))
 
 run_take : (n : ℕ) (r : List ℕ) → IsRun r → IsRun (take n r)
-run_take n r h = list_all-from_AllPass is_run_byte (take n r) (All-take (λ x. is_run_byte x ≡ true) n r (AllPass-from_list_all is_run_byte r h))
+run_take n r h = list_all-from_AllPass is_run_byte
+    (take n r) (All-take (λ x. is_run_byte x ≡ true) n r (AllPass-from_list_all is_run_byte r h))
 
-written_by : (n w z g : Bool) (r : List ℕ) → is_number r ≡ n → is_whole r ≡ w → has_zero_fraction r ≡ z → is_negative r ≡ g → IsRun r
+written_by : (n w z g : Bool) (r : List ℕ) →
+    is_number r ≡ n → is_whole r ≡ w → has_zero_fraction r ≡ z → is_negative r ≡ g → IsRun r
     → Written r (cond (not n) r (cond w r (cond z (take (digit_count r) r) (cond g r (listed r)))))
 written_by false w z g r en ew ez eg h = inr (h, λ number. let no : true ≡ false = sym number ∙ en in absurd (cc))
 written_by true true z g r en ew ez eg h = inr (h, λ number. whole_exact r number ew)
-written_by true false true g r en ew ez eg h = inr (run_take (digit_count r) r h, λ number. whole_exact _ number (and_left (is_whole (take (digit_count r) r)) _ ez))
+written_by true false true g r en ew ez eg h = inr
+    (run_take (digit_count r) r h, λ number. whole_exact _ number (and_left (is_whole (take (digit_count r) r)) _ ez))
 written_by true false false true r en ew ez eg h = inr (h, λ number. negative_exact r eg)
 written_by true false false false r en ew ez eg h = inl refl
 

@@ -1,5 +1,6 @@
 -- Digits and number bytes.
-use Rattle.std.proofs.Common.{◌≡◌, ◌<◌, ℕ, ◌+◌, ◌^◌, List, [], ◌∷◌, length, take, Bool, true, false, cond, ◌==◌, nat_le, refl, sym, one-add, ◌∙◌, arith, rules, IsUtf8, ne_eqb}
+use Rattle.std.proofs.Common.{◌≡◌, ◌<◌, ℕ, ◌+◌, ◌^◌, List, [], ◌∷◌, length, take, Bool, true, false, cond, ◌==◌, nat_le}
+use Rattle.std.proofs.Common.{refl, sym, one-add, ◌∙◌, arith, rules, IsUtf8, ne_eqb}
 use Rattle.std.specs.Char.{is_ascii_digit}
 use Rattle.std.specs.List.{All, list_all}
 use Rattle.std.proofs.lemmas.List.Sums.{AllPass-from_list_all}
@@ -15,7 +16,8 @@ pub digits_by_test : IsNumeralModel (λ ds. list_all is_ascii_digit ds ≡ true)
 digits_by_test = numerals_by_value _ (search rules)
 
 -- where it refuses digits, there are none or their number is too large
-pub refused_digits : (ds : List ℕ) (most : ℕ) → most < 2 ^ 64 → ¬ ((0 < length ds) × (digits_value 10 ds < 2 ^ 64)) → (length ds == 0) ≡ nat_le (digits_value 10 ds) most
+pub refused_digits : (ds : List ℕ) (most : ℕ) → most < 2 ^ 64 →
+    ¬ ((0 < length ds) × (digits_value 10 ds < 2 ^ 64)) → (length ds == 0) ≡ nat_le (digits_value 10 ds) most
 refused_digits [] most fits refused = search rules
 refused_digits (c ∷ cs) most fits refused =
     let large : ¬ (digits_value 10 (c ∷ cs) < 2 ^ 64) = λ fit. refused (omega arith, fit) in
@@ -32,7 +34,8 @@ all_ascii run e = λ k d h. ascii_byte _ (AllPass-from_list_all is_run_byte run 
 pub run_is_utf8 : (run : List ℕ) → list_all is_run_byte run ≡ true → IsUtf8 run
 run_is_utf8 run e = IsUtf8-from_ascii run (IsAscii-from_all run (all_ascii run e))
 
-run_one : (b : Bool) (x : ℕ) (xs : List ℕ) → is_run_byte x ≡ b → list_all is_run_byte (first_run xs) ≡ true → list_all is_run_byte (take (cond b (1 + run_len xs) 0) (x ∷ xs)) ≡ true
+run_one : (b : Bool) (x : ℕ) (xs : List ℕ) → is_run_byte x ≡ b →
+    list_all is_run_byte (first_run xs) ≡ true → list_all is_run_byte (take (cond b (1 + run_len xs) 0) (x ∷ xs)) ≡ true
 run_one true x xs e rest = rw one-add (rw e rest)
 run_one false x xs e rest = refl
 

@@ -25,15 +25,18 @@ none_by_test false text e refused = rw e refl
 pub value_in-none : (text : List ℕ) → (IsUtf8 text → read text ≡ None) → value_in text ≡ None
 value_in-none text refused = none_by_test (is_utf8 text) text refl refused
 
-whole_by : (b : Bool) (o : Option Data) → IfSome o (λ d. has_float d ≡ false) → IfSome (cond b o None) (λ d. has_float d ≡ false)
+whole_by : (b : Bool) (o : Option Data) →
+    IfSome o (λ d. has_float d ≡ false) → IfSome (cond b o None) (λ d. has_float d ≡ false)
 whole_by true o h = h
 whole_by false o h = tt
 
 -- the value of a plain form has no float
 whole_of_plain : (bytes : List ℕ) (d : Data) → value_in (plain_of bytes) ≡ Some d → has_float d ≡ false
-whole_of_plain bytes d e = subst (λ o. IfSome o (λ d. has_float d ≡ false)) e (whole_by (is_utf8 (plain_of bytes)) _ (whole_value (plain_of bytes) (plain_lexed bytes)))
+whole_of_plain bytes d e = subst (λ o. IfSome o (λ d. has_float d ≡ false)) e
+    (whole_by (is_utf8 (plain_of bytes)) _ (whole_value (plain_of bytes) (plain_lexed bytes)))
 
 -- so neither has what is read of one
-pub whole_when_read : (r : Result Value ValueFault) (bytes : List ℕ) → IfOk r (λ v. value_in (plain_of bytes) ≡ Some (view v)) → IfOk r (λ v. has_float (view v) ≡ false)
+pub whole_when_read : (r : Result Value ValueFault) (bytes : List ℕ) →
+    IfOk r (λ v. value_in (plain_of bytes) ≡ Some (view v)) → IfOk r (λ v. has_float (view v) ≡ false)
 whole_when_read (Ok v) bytes h = whole_of_plain bytes (view v) h
 whole_when_read (Err e) bytes h = tt

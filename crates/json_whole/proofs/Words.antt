@@ -1,5 +1,7 @@
 -- Where the number at the front of a run ends does not depend on what stands behind the run.
-use Rattle.std.proofs.Common.{◌≡◌, ◌≤◌, ℕ, ◌+◌, ◌-◌, List, [], ◌∷◌, ◌++◌, length, length-append, take, drop, subst, Bool, true, false, cond, ◌||◌, ◌&&◌, ◌==◌, Option, Some, None, option_map, option_and_then, refl, sym, ap, ◌∙◌, arith, ne_eqb}
+use Rattle.std.proofs.Common.{◌≡◌, ◌≤◌, ℕ, ◌+◌, ◌-◌, List, [], ◌∷◌, ◌++◌, length, length-append, take, drop, subst}
+use Rattle.std.proofs.Common.{Bool, true, false, cond, ◌||◌, ◌&&◌, ◌==◌, Option, Some, None, option_map}
+use Rattle.std.proofs.Common.{option_and_then, refl, sym, ap, ◌∙◌, arith, ne_eqb}
 use Rattle.std.specs.Prelude.{IfSome}
 use Rattle.std.specs.List.{prefix_len, list_all}
 use Rattle.std.specs.Char.{is_ascii_digit}
@@ -8,7 +10,8 @@ use Rattle.std.proofs.lemmas.List.{drop-append-le}
 use Rattle.std.proofs.lemmas.List.Elements.{All-drop}
 use Rattle.std.proofs.lemmas.List.Sums.{prefix_len-le-length, AllPass-from_list_all, list_all-from_AllPass}
 use Rattle.json.specs.Token.{number, bad}
-use Rattle.json.specs.Word.{is_operator, is_space, head, ends_word, number_before, word, after_digits, after_minus, after_sign, after_whole, after_fraction, after_exponent, after_number}
+use Rattle.json.specs.Word.{is_operator, is_space, head, ends_word, number_before, word, after_digits, after_minus}
+use Rattle.json.specs.Word.{after_sign, after_whole, after_fraction, after_exponent, after_number}
 use Rattle.json.specs.Lex.{class, other}
 use Rattle.json_whole.specs.Run.{is_run_byte, run_len, is_number}
 use Rattle.json_whole.proofs.Tokens.{IsExact, Exact, Behind}
@@ -31,7 +34,8 @@ pub run_head : (x : ℕ) (r : List ℕ) → IsRun (x ∷ r) → is_run_byte x �
 run_head x r h = and_left (is_run_byte x) (list_all is_run_byte r) h
 
 run_drop : (n : ℕ) (r : List ℕ) → IsRun r → IsRun (drop n r)
-run_drop n r h = list_all-from_AllPass is_run_byte (drop n r) (All-drop (λ x. is_run_byte x ≡ true) n r (AllPass-from_list_all is_run_byte r h))
+run_drop n r h = list_all-from_AllPass is_run_byte
+    (drop n r) (All-drop (λ x. is_run_byte x ≡ true) n r (AllPass-from_list_all is_run_byte r h))
 
 pull : {A B : Type 0} (f : A → B) (b : Bool) (x y : A) → f (cond b x y) ≡ cond b (f x) (f y)
 pull f true x y = refl
@@ -53,19 +57,45 @@ other_than x c p q = ne_eqb x c (λ same. let no : true ≡ false = sym p ∙ ap
 -- a run byte ends no word
 pub run_goes_on : (x : ℕ) → is_run_byte x ≡ true → (is_operator x || is_space x) ≡ false
 run_goes_on x e =
-    rw (other_than x 123 e refl, other_than x 125 e refl, other_than x 91 e refl, other_than x 93 e refl, other_than x 58 e refl, other_than x 44 e refl, other_than x 32 e refl, other_than x 9 e refl, other_than x 10 e refl, other_than x 13 e refl)
+    rw (
+      other_than x 123 e refl,
+      other_than x 125 e refl,
+      other_than x 91 e refl,
+      other_than x 93 e refl,
+      other_than x 58 e refl,
+      other_than x 44 e refl,
+      other_than x 32 e refl,
+      other_than x 9 e refl,
+      other_than x 10 e refl,
+      other_than x 13 e refl,
+    )
     refl
 
 pub run_class : (x : ℕ) → is_run_byte x ≡ true → class x ≡ other
 run_class x e =
-    rw (other_than x 34 e refl, other_than x 92 e refl, other_than x 123 e refl, other_than x 125 e refl, other_than x 91 e refl, other_than x 93 e refl, other_than x 58 e refl, other_than x 44 e refl, other_than x 32 e refl, other_than x 9 e refl, other_than x 10 e refl, other_than x 13 e refl)
+    rw (
+      other_than x 34 e refl,
+      other_than x 92 e refl,
+      other_than x 123 e refl,
+      other_than x 125 e refl,
+      other_than x 91 e refl,
+      other_than x 93 e refl,
+      other_than x 58 e refl,
+      other_than x 44 e refl,
+      other_than x 32 e refl,
+      other_than x 9 e refl,
+      other_than x 10 e refl,
+      other_than x 13 e refl,
+    )
     refl
 
-ended : (b : Bool) (s r : List ℕ) (P : Type 0) → s ≡ r → IsExact r → (b ≡ true → P) → Exact (cond b (number s) bad) × Behind (cond b (number s) bad) P
+ended : (b : Bool) (s r : List ℕ) (P : Type 0) →
+    s ≡ r → IsExact r → (b ≡ true → P) → Exact (cond b (number s) bad) × Behind (cond b (number s) bad) P
 ended true s r P same exact p = (subst IsExact (sym same) exact, p refl)
 ended false s r P same exact p = (tt, tt)
 
-unended : (b : Bool) (s : List ℕ) (P : Type 0) → b ≡ false → Exact (cond b (number s) bad) × Behind (cond b (number s) bad) P
+unended : (b : Bool) (s : List ℕ) (P : Type 0) →
+    b ≡ false → Exact (cond b (number s) bad) × Behind (cond b (number s) bad) P
 unended b s P e = rw e (tt, tt)
 
 no_digit_at : (ys : List ℕ) → is_run_byte (head ys) ≡ false → prefix_len is_ascii_digit ys ≡ 0
@@ -100,7 +130,8 @@ module _ (ys : List ℕ) (stops : is_run_byte (head ys) ≡ false) where
   same_digits (x ∷ r) = ap (λ n. cond (is_ascii_digit x) (1 + n) 0) (same_digits r)
 
   digits_by : (b : Bool) (n : ℕ) (r : List ℕ) → IsRun r → n ≤ length r
-      → (cond b None (Some (drop n (r ++ ys))) ≡ option_map (λ rest. rest ++ ys) (cond b None (Some (drop n r)))) × IfSome (cond b None (Some (drop n r))) IsRun
+      → (cond b None (Some (drop n (r ++ ys))) ≡ option_map (λ rest. rest ++ ys) (cond b None (Some (drop n r))))
+      × IfSome (cond b None (Some (drop n r))) IsRun
   digits_by true n r h e = (refl, tt)
   digits_by false n r h e = (ap (λ l. Some l) (drop-append-le n r ys e), run_drop n r h)
 
@@ -111,11 +142,13 @@ module _ (ys : List ℕ) (stops : is_run_byte (head ys) ≡ false) where
 
   -- one byte may stand before what f finds
   branch_by : (b : Bool) (f g : List ℕ → Option (List ℕ)) → Splits f → Splits g → (x : ℕ) (r : List ℕ) → IsRun (x ∷ r)
-      → (cond b (f (r ++ ys)) (g (x ∷ r ++ ys)) ≡ option_map (λ rest. rest ++ ys) (cond b (f r) (g (x ∷ r)))) × IfSome (cond b (f r) (g (x ∷ r))) IsRun
+      → (cond b (f (r ++ ys)) (g (x ∷ r ++ ys)) ≡ option_map (λ rest. rest ++ ys) (cond b (f r) (g (x ∷ r))))
+      × IfSome (cond b (f r) (g (x ∷ r))) IsRun
   branch_by true f g p q x r h = p r (run_rest x r h)
   branch_by false f g p q x r h = q (x ∷ r) h
 
-  branch : (test : List ℕ → Bool) → ((r : List ℕ) → test (r ++ ys) ≡ test r) → test [] ≡ false → (f g : List ℕ → Option (List ℕ)) → Splits f → Splits g
+  branch : (test : List ℕ → Bool) → ((r : List ℕ) → test (r ++ ys) ≡ test r) →
+      test [] ≡ false → (f g : List ℕ → Option (List ℕ)) → Splits f → Splits g
       → Splits (λ t. cond (test t) (f (drop 1 t)) (g t))
   branch test same none f g p q [] h = rw (same [], none) (q [] h)
   branch test same none f g p q (x ∷ r) h = rw (same (x ∷ r)) (branch_by (test (x ∷ r)) f g p q x r h)
@@ -125,28 +158,40 @@ module _ (ys : List ℕ) (stops : is_run_byte (head ys) ≡ false) where
 
   whole_split : Splits (λ t. after_whole (after_minus t))
   whole_split r h =
-      rw (pull after_whole (head (r ++ ys) == 45) (drop 1 (r ++ ys)) (r ++ ys), pull after_whole (head r == 45) (drop 1 r) r)
+      rw (
+        pull after_whole (head (r ++ ys) == 45) (drop 1 (r ++ ys)) (r ++ ys),
+        pull after_whole (head r == 45) (drop 1 r) r,
+      )
       (branch (λ t. head t == 45) (same_head 45 refl) refl after_whole after_whole zero_split zero_split r h)
 
   fraction_split : Splits after_fraction
-  fraction_split = branch (λ t. head t == 46) (same_head 46 refl) refl after_digits (λ t. Some t) digits_split some_split
+  fraction_split =
+      branch (λ t. head t == 46) (same_head 46 refl) refl after_digits (λ t. Some t) digits_split some_split
 
   is_either : ℕ → ℕ → List ℕ → Bool
   is_either a b t = (head t == a) || (head t == b)
 
-  same_either : (a b : ℕ) → is_run_byte a ≡ true → is_run_byte b ≡ true → (r : List ℕ) → ((head (r ++ ys) == a) || (head (r ++ ys) == b)) ≡ ((head r == a) || (head r == b))
+  same_either : (a b : ℕ) → is_run_byte a ≡ true → is_run_byte b ≡ true →
+      (r : List ℕ) → ((head (r ++ ys) == a) || (head (r ++ ys) == b)) ≡ ((head r == a) || (head r == b))
   same_either a b p q r = rw (same_head a p r, same_head b q r) refl
 
   signed_split : Splits (λ t. after_digits (after_sign t))
   signed_split r h =
-      rw (pull after_digits ((head (r ++ ys) == 45) || (head (r ++ ys) == 43)) (drop 1 (r ++ ys)) (r ++ ys), pull after_digits ((head r == 45) || (head r == 43)) (drop 1 r) r)
-      (branch (λ t. (head t == 45) || (head t == 43)) (same_either 45 43 refl refl) refl after_digits after_digits digits_split digits_split r h)
+      rw (
+        pull after_digits ((head (r ++ ys) == 45) || (head (r ++ ys) == 43)) (drop 1 (r ++ ys)) (r ++ ys),
+        pull after_digits ((head r == 45) || (head r == 43)) (drop 1 r) r,
+      )
+      (branch (λ t. (head t == 45) || (head t == 43))
+      (same_either 45 43 refl refl) refl after_digits after_digits digits_split digits_split r h)
 
   exponent_split : Splits after_exponent
-  exponent_split = branch (λ t. (head t == 101) || (head t == 69)) (same_either 101 69 refl refl) refl (λ t. after_digits (after_sign t)) (λ t. Some t) signed_split some_split
+  exponent_split = branch (λ t. (head t == 101) || (head t == 69))
+      (same_either 101 69 refl refl) refl (λ t. after_digits (after_sign t)) (λ t. Some t) signed_split some_split
 
-  then_by : (g : List ℕ → Option (List ℕ)) → Splits g → (o more : Option (List ℕ)) → more ≡ option_map (λ rest. rest ++ ys) o → IfSome o IsRun
-      → (option_and_then g more ≡ option_map (λ rest. rest ++ ys) (option_and_then g o)) × IfSome (option_and_then g o) IsRun
+  then_by : (g : List ℕ → Option (List ℕ)) →
+      Splits g → (o more : Option (List ℕ)) → more ≡ option_map (λ rest. rest ++ ys) o → IfSome o IsRun
+      → (option_and_then g more ≡ option_map (λ rest. rest ++ ys) (option_and_then g o))
+      × IfSome (option_and_then g o) IsRun
   then_by g q None more e h = rw e (refl, tt)
   then_by g q (Some l) more e h = rw e (q l h)
 
@@ -156,10 +201,12 @@ module _ (ys : List ℕ) (stops : is_run_byte (head ys) ≡ false) where
   pub number_split : Splits after_number
   unfolding after_number
   number_split =
-      then_split (λ t. option_and_then after_fraction (after_whole (after_minus t))) after_exponent (then_split (λ t. after_whole (after_minus t)) after_fraction whole_split fraction_split) exponent_split
+      then_split (λ t. option_and_then after_fraction (after_whole (after_minus t))) after_exponent
+      (then_split (λ t. after_whole (after_minus t)) after_fraction whole_split fraction_split) exponent_split
 
   -- the token that a run begins: a number only where the whole run is one and the word ends behind it
-  number_token : (r : List ℕ) → (is_number r ≡ true → IsExact r) → (P : Type 0) → (ends_word ys ≡ true → P) → (o : Option (List ℕ)) → after_number r ≡ o → IfSome o IsRun
+  number_token : (r : List ℕ) → (is_number r ≡ true → IsExact r) →
+      (P : Type 0) → (ends_word ys ≡ true → P) → (o : Option (List ℕ)) → after_number r ≡ o → IfSome o IsRun
       → let t = number_before (r ++ ys) (option_map (λ rest. rest ++ ys) o) in Exact t × Behind t P
   number_token r exact P behind None e h = (tt, tt)
   number_token r exact P behind (Some []) e h =
@@ -167,12 +214,19 @@ module _ (ys : List ℕ) (stops : is_run_byte (head ys) ≡ false) where
       let alone : take (length (r ++ ys) - length ys) (r ++ ys) ≡ r = rw len (take-append_seam r ys) in
       let whole : is_number r ≡ true = rw e refl in
       ended (ends_word ys) _ r P alone (exact whole) behind
-  number_token r exact P behind (Some (l ∷ ls)) e h = unended (ends_word (l ∷ ls ++ ys)) _ P (run_goes_on l (run_head l ls h))
+  number_token r exact P behind (Some (l ∷ ls)) e h =
+      unended (ends_word (l ∷ ls ++ ys)) _ P (run_goes_on l (run_head l ls h))
 
-  pub run_token : (x : ℕ) (r : List ℕ) → IsRun (x ∷ r) → (is_number (x ∷ r) ≡ true → IsExact (x ∷ r)) → (P : Type 0) → (ends_word ys ≡ true → P)
+  pub run_token : (x : ℕ) (r : List ℕ) →
+      IsRun (x ∷ r) → (is_number (x ∷ r) ≡ true → IsExact (x ∷ r)) → (P : Type 0) → (ends_word ys ≡ true → P)
       → Exact (word (x ∷ r ++ ys)) × Behind (word (x ∷ r ++ ys)) P
   unfolding word
   run_token x r h exact P behind =
       let byte = run_head x r h in
-      rw (other_than x 116 byte refl, other_than x 102 byte refl, other_than x 110 byte refl, (number_split (x ∷ r) h).0)
+      rw (
+        other_than x 116 byte refl,
+        other_than x 102 byte refl,
+        other_than x 110 byte refl,
+        (number_split (x ∷ r) h).0,
+      )
       (number_token (x ∷ r) exact P behind (after_number (x ∷ r)) refl (number_split (x ∷ r) h).1)

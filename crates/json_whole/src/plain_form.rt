@@ -78,7 +78,8 @@ fn write_piece(out: &mut Vec<u8>, text: &[u8]) -> Result<usize, AllocError>
     requires { 0 < length text.now }
     ensures some { IfOk result (λ n. 0 < n) }
     ensures within { IfOk result (λ n. n ≤ length text.now) }
-    ensures written { IfOk result (λ n. out.new.items ++ plain_of (drop n text.now) ≡ out.old.items ++ plain_of text.now) }
+    ensures written { IfOk result
+        (λ n. out.new.items ++ plain_of (drop n text.now) ≡ out.old.items ++ plain_of text.now) }
 {
     let (len, form) = kept_front(text);
     let run = first_run(&text[len..]);

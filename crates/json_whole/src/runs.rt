@@ -3,7 +3,8 @@ ghost use Rattle.std.specs.Prelude.{◌≡◌, ◌++◌, ◌==◌, ◌≤◌, le
 ghost use Rattle.std.specs.List.{list_all};
 ghost use Rattle.std.specs.Char.{is_ascii_digit};
 ghost use Rattle.std.specs.Str.Parse.{digits_value};
-ghost use Rattle.json_whole.specs.Run.{begins_run, is_run_byte, digit_count, run_len, is_number, is_whole, has_zero_fraction, is_negative, first_run, written};
+ghost use Rattle.json_whole.specs.Run.{begins_run, is_run_byte, digit_count, run_len, is_number, is_whole};
+ghost use Rattle.json_whole.specs.Run.{has_zero_fraction, is_negative, first_run, written};
 ghost use Rattle.json_whole.specs.Forms.{written_as};
 
 use std::alloc::AllocError;

@@ -1,5 +1,6 @@
 -- A value whose numbers are whole and whose keys stand in order is read back from its compact text.
-use Rattle.std.proofs.Common.{◌≡◌, refl, sym, ap, ◌∙◌, ℕ, zero, suc, ◌^◌, ◌<◌, ◌≤◌, pos, negsuc, List, [], ◌++◌, Bool, true, ◌&&◌, Some, option_map, option_and_then, ◌-◌, arith, append-nil}
+use Rattle.std.proofs.Common.{◌≡◌, refl, sym, ap, ◌∙◌, ℕ, zero, suc, ◌^◌, ◌<◌, ◌≤◌, pos, negsuc, List, [], ◌++◌, Bool}
+use Rattle.std.proofs.Common.{true, ◌&&◌, Some, option_map, option_and_then, ◌-◌, arith, append-nil}
 use Rattle.std.specs.Ordering.{nat_cmp, match_ordering, is_lt, ordering_reverse}
 use Rattle.std.specs.declared.cmp.Ordering.{Ordering}
 use Rattle.std.specs.declared.cmp.Ordering.TheVariants.{Less, Equal, Greater}
@@ -12,7 +13,8 @@ use Rattle.json.specs.Print.{IsNumber}
 use Rattle.json.proofs.Printed.Trees.{value-json_tokens, ArePrintable-json_tokens}
 use Rattle.json.proofs.Printed.Tokens.{tokens-print}
 use Rattle.json.proofs.Printed.Decimals.{IsNumber-decimal, IsNumber-signed_decimal}
-use Rattle.serde_json.specs.Data.{Num, unsigned, negative, float, Data, null, boolean, number, string, array, object, Items, no_items, item, Members, no_members, member, put}
+use Rattle.serde_json.specs.Data.{Num, unsigned, negative, float, Data, null, boolean, number, string, array, object}
+use Rattle.serde_json.specs.Data.{Items, no_items, item, Members, no_members, member, put}
 use Rattle.serde_json.specs.Read.{number_of, of_json, of_items, of_members, read, max_depth}
 use Rattle.serde_json.specs.Written.{number_text, outline, items_outline, members_outline, compact_text}
 use Rattle.serde_json.proofs.Numbers.{number_of-decimal, number_of-negative}
@@ -103,7 +105,8 @@ abbrev behind : Members → Members → Members
 behind no_members ms = ms
 behind (member k d fs) ms = member k d (behind fs ms)
 
-behind_last : (fs : Members) (k : List ℕ) (d : Data) (ms : Members) → behind (behind fs (member k d no_members)) ms ≡ behind fs (member k d ms)
+behind_last : (fs : Members) (k : List ℕ) (d : Data) (ms : Members) →
+    behind (behind fs (member k d no_members)) ms ≡ behind fs (member k d ms)
 behind_last no_members k d ms = refl
 behind_last (member l e fs) k d ms = ap (member l e) (behind_last fs k d ms)
 
@@ -131,21 +134,28 @@ put_after Equal a b c h = absurd (cc)
 put_after Greater a b c h = refl
 
 -- a member with a greater key goes last
-put_last : (fs : Members) (k : List ℕ) (d : Data) → are_below fs k ≡ true → put k d fs ≡ behind fs (member k d no_members)
+put_last : (fs : Members) (k : List ℕ) (d : Data) →
+    are_below fs k ≡ true → put k d fs ≡ behind fs (member k d no_members)
 put_last no_members k d h = refl
 put_last (member l e fs) k d h =
-    let first : is_lt (ordering_reverse (slice_cmp nat_cmp k l)) ≡ true = ap is_lt (sym (nat_list_cmp_total.antisymm l k)) ∙ and_left _ _ h in
-    put_after (slice_cmp nat_cmp k l) _ _ _ first ∙ ap (member l e) (put_last fs k d (and_right (is_lt (slice_cmp nat_cmp l k)) _ h))
+    let first : is_lt (ordering_reverse (slice_cmp nat_cmp k l)) ≡ true =
+    ap is_lt (sym (nat_list_cmp_total.antisymm l k)) ∙ and_left _ _ h in
+    put_after (slice_cmp nat_cmp k l) _ _ _ first
+    ∙ ap (member l e) (put_last fs k d (and_right (is_lt (slice_cmp nat_cmp l k)) _ h))
 
 -- one more of the first members
-below_last : (fs : Members) (k : List ℕ) (d : Data) (l : List ℕ) → are_below fs l ≡ true → is_lt (slice_cmp nat_cmp k l) ≡ true → are_below (behind fs (member k d no_members)) l ≡ true
+below_last : (fs : Members) (k : List ℕ) (d : Data) (l : List ℕ) → are_below fs l ≡ true →
+    is_lt (slice_cmp nat_cmp k l) ≡ true → are_below (behind fs (member k d no_members)) l ≡ true
 below_last no_members k d l h p = and_both (is_lt (slice_cmp nat_cmp k l)) true p refl
-below_last (member m e fs) k d l h p = and_both (is_lt (slice_cmp nat_cmp m l)) _ (and_left _ _ h) (below_last fs k d l (and_right (is_lt (slice_cmp nat_cmp m l)) _ h) p)
+below_last (member m e fs) k d l h p = and_both (is_lt (slice_cmp nat_cmp m l)) _
+    (and_left _ _ h) (below_last fs k d l (and_right (is_lt (slice_cmp nat_cmp m l)) _ h) p)
 
-all_below_more : (fs : Members) (k : List ℕ) (d : Data) (ms : Members) → all_below fs ms ≡ true → is_below k ms ≡ true → all_below (behind fs (member k d no_members)) ms ≡ true
+all_below_more : (fs : Members) (k : List ℕ) (d : Data) (ms : Members) →
+    all_below fs ms ≡ true → is_below k ms ≡ true → all_below (behind fs (member k d no_members)) ms ≡ true
 all_below_more fs k d no_members h p = refl
 all_below_more fs k d (member l e ms) h p =
-    and_both (are_below (behind fs (member k d no_members)) l) _ (below_last fs k d l (and_left _ _ h) (and_left _ _ p)) (all_below_more fs k d ms (and_right (are_below fs l) _ h) (and_right (is_lt (slice_cmp nat_cmp k l)) _ p))
+    and_both (are_below (behind fs (member k d no_members)) l) _ (below_last fs k d l (and_left _ _ h) (and_left _ _ p))
+    (all_below_more fs k d ms (and_right (are_below fs l) _ h) (and_right (is_lt (slice_cmp nat_cmp k l)) _ p))
 
 none_below : (ms : Members) → all_below no_members ms ≡ true
 none_below no_members = refl
@@ -174,18 +184,22 @@ mutual
   items_back n no_items h = refl
   items_back n (item d ds) h = rw (back n d h.0, items_back n ds h.1) refl
 
-  members_back : (n : ℕ) (ms fs : Members) → HasPlain n ms → all_below fs ms ≡ true → of_members (members_outline ms) fs ≡ Some (behind fs ms)
+  members_back : (n : ℕ) (ms fs : Members) →
+      HasPlain n ms → all_below fs ms ≡ true → of_members (members_outline ms) fs ≡ Some (behind fs ms)
   members_back n no_members fs h below = ap Some (sym (behind_none fs))
   members_back n (member k d ms) fs h below =
       ap (option_and_then (λ e. of_members (members_outline ms) (put k e fs))) (back n d h.0)
       ∙ ap (of_members (members_outline ms)) (put_last fs k d (and_left _ _ below))
-      ∙ members_back n ms (behind fs (member k d no_members)) h.2 (all_below_more fs k d ms (and_right (are_below fs k) _ below) h.1)
+      ∙ members_back n ms
+      (behind fs (member k d no_members)) h.2 (all_below_more fs k d ms (and_right (are_below fs k) _ below) h.1)
       ∙ ap Some (behind_last fs k d ms)
 
 -- the compact text is JSON of the value
 pub read_compact : (n : ℕ) (d : Data) → n ≤ max_depth → IsPlain n d → read (compact_text d) ≡ Some d
 read_compact n d few plain =
     let j = outline d in
-    let lexed : tokens (compact_text d) ≡ tree.json_tokens j ++ [] = ap tokens (sym (print-outline d)) ∙ tokens-print (tree.json_tokens j) (ArePrintable-json_tokens j (numbers n d plain)) ∙ sym (append-nil (tree.json_tokens j)) in
-    let value : json.value max_depth (tokens (compact_text d)) ≡ Some (j, []) = ap (json.value max_depth) lexed ∙ value-json_tokens j max_depth [] (omega (arith, levels n d plain)) in
+    let lexed : tokens (compact_text d) ≡ tree.json_tokens j ++ [] = ap tokens (sym (print-outline d)) ∙ tokens-print
+    (tree.json_tokens j) (ArePrintable-json_tokens j (numbers n d plain)) ∙ sym (append-nil (tree.json_tokens j)) in
+    let value : json.value max_depth (tokens (compact_text d)) ≡ Some (j, []) =
+    ap (json.value max_depth) lexed ∙ value-json_tokens j max_depth [] (omega (arith, levels n d plain)) in
     ap (λ v. option_and_then of_json (option_and_then (λ p. json.if_last p.0 p.1) v)) value ∙ back n d plain

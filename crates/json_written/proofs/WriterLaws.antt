@@ -5,7 +5,8 @@ use Rattle.json.specs.Written.{Written, Writes}
 use Rattle.json_written.specs.Tokens.{Adds}
 
 -- one token
-pub wrote : {E : Type 0} {old new : Written} {t : Token} {u : Unit {0}} → Writes {E = E} (Ok u) old new t → Adds old new (t ∷ [])
+pub wrote : {E : Type 0} {old new : Written} {t : Token} {u : Unit {0}} →
+    Writes {E = E} (Ok u) old new t → Adds old new (t ∷ [])
 wrote w = record { tokens_are = w.ok; same = w.room.0 }
 
 -- and others after these

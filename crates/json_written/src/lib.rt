@@ -1,5 +1,5 @@
-//! JSON as it is written: texts as JSON holds them, and members put one by one. Its laws say that a value whose text was
-//! written is read again.
+//! JSON as it is written: texts as JSON holds them, and members put one by one. Its laws say that a value whose text
+//! was written is read again.
 #![tactic(auto)]
 
 mod members;

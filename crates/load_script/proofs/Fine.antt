@@ -1,5 +1,7 @@
 -- The lines of a load are short, and have no byte that ends a line.
-use Rattle.std.proofs.Common.{◌≡◌, ◌≢◌, ℕ, zero, suc, ◌+◌, ◌*◌, ◌/◌, ◌%◌, ◌<◌, ◌≤◌, ◌==◌, ◌&&◌, nat_lt, not, cond, Bool, true, false, List, [], ◌∷◌, ◌++◌, length, length-append, codes, inl, inr, refl, sym, ◌∙◌, ap, subst, arith, true≢false}
+use Rattle.std.proofs.Common.{◌≡◌, ◌≢◌, ℕ, zero, suc, ◌+◌, ◌*◌, ◌/◌, ◌%◌, ◌<◌, ◌≤◌, ◌==◌, ◌&&◌, nat_lt, not, cond, Bool}
+use Rattle.std.proofs.Common.{true, false, List, [], ◌∷◌, ◌++◌, length, length-append, codes, inl, inr, refl, sym, ◌∙◌}
+use Rattle.std.proofs.Common.{ap, subst, arith, true≢false}
 use Rattle.std.specs.Prelude.{decimal}
 use Rattle.std.specs.List.{AllByRecursion, list_all}
 use Rattle.std.specs.Char.{digit_value}
@@ -10,7 +12,8 @@ use Rattle.std.proofs.lemmas.Fmt.{decimal_is_IsNumeral, length-decimal-le}
 use Rattle.load_script.specs.declared.lines.TheConstants.{MOST_COMMANDS}
 use Rattle.list_laws.proofs.Lists.{all_append}
 use Rattle.load_script.specs.Draws.{drawn, row_of, extent_of, seconds_on, second_at}
-use Rattle.load_script.specs.Jobspecs.{core_request, memory_request, slot_request, node_request, task_text, jobspec, core_and_memory, nodes_jobspec, slots_jobspec, memory_jobspec}
+use Rattle.load_script.specs.Jobspecs.{core_request, memory_request, slot_request, node_request, task_text, jobspec}
+use Rattle.load_script.specs.Jobspecs.{core_and_memory, nodes_jobspec, slots_jobspec, memory_jobspec}
 use Rattle.load_script.specs.Lines.{duration_of, command_text, load_line}
 
 -- no line feed and no carriage return

@@ -1,5 +1,7 @@
 -- Nothing is wrong with the list of vertices that a load's graph is built from.
-use Rattle.std.proofs.Common.{◌≡◌, ◌≢◌, ◌⊎◌, ℕ, zero, suc, ◌+◌, ◌*◌, ◌/◌, ◌%◌, ◌<◌, ◌≤◌, ◌==◌, ◌&&◌, not, Bool, true, false, List, [], ◌∷◌, ◌++◌, length, get_or, Option, Some, None, inl, inr, refl, sym, ◌∙◌, ap, subst, arith, IsTrue, IsSome, true≢false, option_and_then}
+use Rattle.std.proofs.Common.{◌≡◌, ◌≢◌, ◌⊎◌, ℕ, zero, suc, ◌+◌, ◌*◌, ◌/◌, ◌%◌, ◌<◌, ◌≤◌, ◌==◌, ◌&&◌, not, Bool, true}
+use Rattle.std.proofs.Common.{false, List, [], ◌∷◌, ◌++◌, length, get_or, Option, Some, None, inl, inr, refl, sym, ◌∙◌}
+use Rattle.std.proofs.Common.{ap, subst, arith, IsTrue, IsSome, true≢false, option_and_then}
 use Rattle.std.specs.Prelude.{slice_get, codes, decimal}
 use Rattle.std.specs.Option.{IsSomeAnd, option_map_or}
 use Rattle.std.proofs.lemmas.Bool.{cases_lt}
@@ -13,14 +15,16 @@ use Rattle.flux_defs.specs.Graph.{ResourceGraph, parent_of, chain, is_at_or_belo
 use Rattle.flux_defs.specs.ValidGraph.{IsDevice, HasType}
 use Rattle.resource_graph.proofs.Values.{value_of, at_value, from_value}
 use Rattle.resource_graph.specs.Finds.{Nowhere}
-use Rattle.graph_laws.proofs.Containment.{ParentsFirst, up, up-None, steps_of, below_parent, below_from, below_to, parent_below, equal_to, equal_from}
+use Rattle.graph_laws.proofs.Containment.{ParentsFirst, up, up-None, steps_of, below_parent, below_from, below_to}
+use Rattle.graph_laws.proofs.Containment.{parent_below, equal_to, equal_from}
 use Rattle.graph_build.specs.declared.raw.RawVertex.{RawVertex}
 use Rattle.graph_build.specs.Faults.{IsNodeType, HasDoubleId, HasDoubleName, HasBadRank}
 use Rattle.graph_build.specs.Raw.{shape_of, raw_graph, raw_names, KindsApart}
 use Rattle.graph_build.specs.Table.{IsFaultless}
 use Rattle.graph_build.proofs.Facts.{Facts, faultless}
 use Rattle.load_script.specs.Vertices.{load_kinds, cluster, node, load_vertices}
-use Rattle.load_script.proofs.Places.{Spot, is_cluster, is_rack, is_node, is_core, is_memory, shapes, shapes_long, spot, name_there}
+use Rattle.load_script.proofs.Places.{Spot, is_cluster, is_rack, is_node, is_core, is_memory, shapes, shapes_long, spot}
+use Rattle.load_script.proofs.Places.{name_there}
 
 -- ---- types by their names
 

@@ -1,5 +1,7 @@
 -- How the input of a load is read: its lines are those of its commands, all of one client, and none is past a limit.
-use Rattle.std.proofs.Common.{◌≡◌, ℕ, zero, suc, ◌+◌, ◌-◌, ◌*◌, ◌<◌, ◌≤◌, ◌==◌, nat_lt, cond, false, List, [], ◌∷◌, ◌++◌, map, take, length, get_or, codes, Some, None, ◌⊎◌, inl, inr, refl, sym, ◌∙◌, ap, subst, arith, append_assoc, if◌then◌else◌, lit≤}
+use Rattle.std.proofs.Common.{◌≡◌, ℕ, zero, suc, ◌+◌, ◌-◌, ◌*◌, ◌<◌, ◌≤◌, ◌==◌, nat_lt, cond, false, List, [], ◌∷◌}
+use Rattle.std.proofs.Common.{◌++◌, map, take, length, get_or, codes, Some, None, ◌⊎◌, inl, inr, refl, sym, ◌∙◌, ap}
+use Rattle.std.proofs.Common.{subst, arith, append_assoc, if◌then◌else◌, lit≤}
 use Rattle.std.specs.List.{AllByRecursion, concat, range_with_len}
 use Rattle.std.specs.Option.{option_or}
 use Rattle.std.proofs.lemmas.Bool.Decides.{nat_tests, eqb_tells}
@@ -18,7 +20,8 @@ use Rattle.fluxion_lines.specs.declared.input.Over.TheVariants as over
 use Rattle.fluxion_lines.specs.Commands.{client_of}
 use Rattle.fluxion_lines.proofs.BarLaws.{bars_within}
 use Rattle.load_script.specs.declared.lines.TheConstants.{LOAD_LIMITS, MOST_COMMANDS}
-use Rattle.fluxion_lines.specs.Inputs.{client_in, clients_of, over_size, line_over_size, bars_in, over_bars, over_from, over_in}
+use Rattle.fluxion_lines.specs.Inputs.{client_in, clients_of, over_size, line_over_size, bars_in, over_bars, over_from}
+use Rattle.fluxion_lines.specs.Inputs.{over_in}
 use Rattle.fluxion_lines.proofs.LineLaws.{ended}
 use Rattle.load_script.specs.Lines.{command_text, load_line, load_text}
 use Rattle.load_script.specs.Draws.{row_of, extent_of, second_at}
@@ -76,7 +79,8 @@ begins : (commands k : ℕ) → client_of (load_line commands k) ≡ load_name
 unfolding load_line
 begins commands k = named (command_text k (row_of commands k) (extent_of commands k) (second_at commands k))
 
-client_is : (commands k : ℕ) → commands ≤ MOST_COMMANDS → k ≤ MOST_COMMANDS → client_in (load_line commands k) ≡ load_name
+client_is : (commands k : ℕ) →
+    commands ≤ MOST_COMMANDS → k ≤ MOST_COMMANDS → client_in (load_line commands k) ≡ load_name
 client_is commands k few most = ap client_of (read_whole (load_line commands k)
     (fine_line commands k few most).plain) ∙ begins commands k
 
@@ -188,11 +192,13 @@ module _ (g : NamedGraph) where
       (bars + bars_in g Rfc14 raw) (at + 1) raws)) here ∙ rest)
 
 -- no line of a load is past a limit
-pub no_limit : (g : NamedGraph) (commands : ℕ) → length g.resources.vertices ≤ MOST_VERTICES → commands ≤ MOST_COMMANDS →
+pub no_limit : (g : NamedGraph) (commands : ℕ) →
+    length g.resources.vertices ≤ MOST_VERTICES → commands ≤ MOST_COMMANDS →
     over_in LOAD_LIMITS g Rfc14 (load_text commands) ≡ None
 no_limit g commands few most =
     let long = many commands in
-    let short : length (map (load_line commands) (range_with_len 1 commands)) ≤ MOST_COMMANDS = omega (arith, long, most) in
+    let short : length (map (load_line commands) (range_with_len 1 commands)) ≤ MOST_COMMANDS =
+    omega (arith, long, most) in
     let product : length g.resources.vertices * length (map (load_line commands)
     (range_with_len 1 commands)) ≤ MOST_VERTICES * MOST_COMMANDS =
     mul-le-mul few short in

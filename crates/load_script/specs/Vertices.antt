@@ -1,5 +1,6 @@
 -- The graph of a load, as the list of vertices that it is built from: type by type, and each type by its numbers.
-use Rattle.std.specs.Prelude.{ℕ, ◌+◌, ◌-◌, ◌/◌, ◌%◌, nat_lt, List, [], ◌∷◌, ◌++◌, map, codes, decimal, Option, Some, None, if◌then◌else◌}
+use Rattle.std.specs.Prelude.{ℕ, ◌+◌, ◌-◌, ◌/◌, ◌%◌, nat_lt, List, [], ◌∷◌, ◌++◌, map, codes, decimal, Option, Some}
+use Rattle.std.specs.Prelude.{None, if◌then◌else◌}
 use Rattle.std.specs.List.{range_with_len}
 use Rattle.resource_graph.specs.NamedGraph.{NamedGraph}
 use Rattle.graph_build.specs.declared.raw.RawVertex.{RawVertex}

@@ -4,7 +4,8 @@ ghost use Rattle.std.specs.Str.{bytes_eq};
 ghost use Rattle.flux_defs.specs.declared.journal.Command.{Command};
 ghost use Rattle.flux_defs.specs.declared.journal.Entry.{Entry};
 ghost use Rattle.flux_defs.specs.Scheduler.{State, after};
-ghost use Rattle.load_script.specs.Counts.{reply_word, replies_called, end_of, count_line, reply_line, accepting_lines, refusing_lines, other_lines, state_lines, counts_text};
+ghost use Rattle.load_script.specs.Counts.{reply_word, replies_called, end_of, count_line, reply_line, accepting_lines};
+ghost use Rattle.load_script.specs.Counts.{refusing_lines, other_lines, state_lines, counts_text};
 ghost use Rattle.load_script.specs.Tallied.{AreOf, held_by};
 
 use flux_defs::{Entry, Reply, Steps, Text};

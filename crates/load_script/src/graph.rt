@@ -1,6 +1,7 @@
 //! The graph of a load.
 ghost use Rattle.std.specs.Prelude.{◌≡◌, ◌<◌, ◌≤◌, ◌++◌, decimal, IfOk};
-ghost use Rattle.load_script.specs.Vertices.{load_kinds, plain_vertex, cluster, rack, node, core, memory, vertex_at, load_vertices, IsLoadGraph};
+ghost use Rattle.load_script.specs.Vertices.{load_kinds, plain_vertex, cluster, rack, node, core, memory, vertex_at};
+ghost use Rattle.load_script.specs.Vertices.{load_vertices, IsLoadGraph};
 
 use flux_defs::{List, Text};
 use graph_build::{GraphFault, RawVertex, build};

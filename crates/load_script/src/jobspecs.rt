@@ -1,6 +1,7 @@
 //! The jobspecs of a load.
 ghost use Rattle.std.specs.Prelude.{◌≡◌, IfOk};
-ghost use Rattle.load_script.specs.Jobspecs.{core_request, memory_request, slot_request, node_request, task_text, jobspec, core_and_memory, nodes_jobspec, slots_jobspec, memory_jobspec};
+ghost use Rattle.load_script.specs.Jobspecs.{core_request, memory_request, slot_request, node_request, task_text};
+ghost use Rattle.load_script.specs.Jobspecs.{jobspec, core_and_memory, nodes_jobspec, slots_jobspec, memory_jobspec};
 
 use flux_defs::Text;
 use std::alloc::{AllocError, Global};

@@ -1,5 +1,6 @@
 -- Jobs that stay live: where each job that is live at m is live at n, what is available at n is available at m.
-use Rattle.std.proofs.Common.{ℕ, ◌-◌, ◌≤◌, nat_le, if◌then◌else◌, Bool, true, false, not, ◌&&◌, ◌||◌, List, [], ◌∷◌, inl, inr, sym, refl, arith, IsTrue, true≢false}
+use Rattle.std.proofs.Common.{ℕ, ◌-◌, ◌≤◌, nat_le, if◌then◌else◌, Bool, true, false, not, ◌&&◌, ◌||◌, List, [], ◌∷◌}
+use Rattle.std.proofs.Common.{inl, inr, sym, refl, arith, IsTrue, true≢false}
 use Rattle.std.specs.List.{AllByRecursion, list_any, sum_by}
 use Rattle.std.proofs.lemmas.Bool.{and_parts, and_from, or_cases, or_left, or_right}
 use Rattle.std.proofs.lemmas.Bool.Decides.{nat_tests}
@@ -30,14 +31,22 @@ if_mono true false n f = absurd (true≢false (sym (f refl)))
 pub taken_on : (jobs : List Job) (m n v : ℕ) → LivesOn jobs m n → taken_at jobs m v ≤ taken_at jobs n v
 taken_on [] m n v lives = omega arith
 taken_on (job ∷ jobs) m n v lives =
-    omega (arith, sum_by-cons (takes_live m v) job jobs, sum_by-cons (takes_live n v) job jobs, if_mono (is_live m job) (is_live n job) (sum_by (take_of v) job.claims) lives.0, taken_on jobs m n v lives.1)
+    omega (
+      arith,
+      sum_by-cons (takes_live m v) job jobs,
+      sum_by-cons (takes_live n v) job jobs,
+      if_mono (is_live m job) (is_live n job) (sum_by (take_of v) job.claims) lives.0,
+      taken_on jobs m n v lives.1,
+    )
 
 -- and a claim of a job that is live at m is one of a job that is live at n
-claim_on : (jobs : List Job) (m n : ℕ) (test : Claim → Bool) → LivesOn jobs m n → IsTrue (some_live_claim jobs m test) → IsTrue (some_live_claim jobs n test)
+claim_on : (jobs : List Job) (m n : ℕ) (test : Claim → Bool) →
+    LivesOn jobs m n → IsTrue (some_live_claim jobs m test) → IsTrue (some_live_claim jobs n test)
 claim_on [] m n test lives h = h
 claim_on (job ∷ jobs) m n test lives h =
     elim (or_cases (is_live m job && list_any test job.claims) (some_live_claim jobs m test) h) [
-      | inl here ↦ (let b = and_parts (is_live m job) (list_any test job.claims) here in or_left _ _ (and_from _ _ (lives.0 b.0) b.1))
+      | inl here ↦ (let b = and_parts (is_live m job) (list_any test job.claims) here in
+          or_left _ _ (and_from _ _ (lives.0 b.0) b.1))
       | inr later ↦ or_right (is_live n job && list_any test job.claims) _ (claim_on jobs m n test lives.1 later)
     ]
 
@@ -59,17 +68,21 @@ le_mono q x y le h = grind (arith, nat_tests)
 
 module _ (s : Scene) (m n : ℕ) (lives : LivesOn s.jobs m n) where
   closed_on : (v : ℕ) → IsTrue (is_closed s m v) → IsTrue (is_closed s n v)
-  closed_on v = or_mono (some_live_claim s.jobs m (holds_over s.vertices v)) (some_live_claim s.jobs n (holds_over s.vertices v)) (is_withheld s v) (claim_on s.jobs m n (holds_over s.vertices v) lives)
+  closed_on v = or_mono (some_live_claim s.jobs m (holds_over s.vertices v)) (some_live_claim s.jobs n
+      (holds_over s.vertices v)) (is_withheld s v) (claim_on s.jobs m n (holds_over s.vertices v) lives)
 
   touched_on : (v : ℕ) → IsTrue (is_touched s m v) → IsTrue (is_touched s n v)
-  touched_on v = or_mono (some_live_claim s.jobs m (is_on_or_below s.vertices v)) (some_live_claim s.jobs n (is_on_or_below s.vertices v)) (has_withheld s v) (claim_on s.jobs m n (is_on_or_below s.vertices v) lives)
+  touched_on v = or_mono (some_live_claim s.jobs m (is_on_or_below s.vertices v)) (some_live_claim s.jobs n
+      (is_on_or_below s.vertices v)) (has_withheld s v) (claim_on s.jobs m n (is_on_or_below s.vertices v) lives)
 
   free_on : (v : ℕ) → free_at s n v ≤ free_at s m v
-  free_on v = free_mono (is_closed s m v) (is_closed s n v) (is_pool s.vertices v) (size_of s.vertices v) (taken_at s.jobs m v) (taken_at s.jobs n v) (closed_on v) (taken_on s.jobs m n v lives)
+  free_on v = free_mono (is_closed s m v) (is_closed s n v) (is_pool s.vertices v)
+      (size_of s.vertices v) (taken_at s.jobs m v) (taken_at s.jobs n v) (closed_on v) (taken_on s.jobs m n v lives)
 
   pub available_on : (c : Claim) → IsTrue (is_available_at s n c) → IsTrue (is_available_at s m c)
   available_on (Take v q) h = le_mono q (free_at s n v) (free_at s m v) (free_on v) h
   available_on (Hold v) h =
       let b = and_parts (not (is_closed s n v)) (not (is_touched s n v)) h in
-      and_from _ _ (not_mono (is_closed s m v) (is_closed s n v) (closed_on v) b.0) (not_mono (is_touched s m v) (is_touched s n v) (touched_on v) b.1)
+      and_from _ _ (not_mono (is_closed s m v) (is_closed s n v) (closed_on v) b.0)
+      (not_mono (is_touched s m v) (is_touched s n v) (touched_on v) b.1)
   available_on (Pass v) h = not_mono (is_closed s m v) (is_closed s n v) (closed_on v) h

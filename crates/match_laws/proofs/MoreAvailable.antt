@@ -8,12 +8,14 @@ use Rattle.flux_defs.specs.Graph.{Scope, Beneath}
 use Rattle.flux_defs.specs.Needs.{amount_of}
 use Rattle.flux_defs.specs.Fits.{Pick, Pieces, Group, Piece, FitsRow, Fits}
 
-pieces_map : (piece other : ℕ → ℕ → List Claim → Type 0) → ((v q : ℕ) (claims : List Claim) → piece v q claims → other v q claims) →
+pieces_map : (piece other : ℕ → ℕ → List Claim → Type 0) →
+    ((v q : ℕ) (claims : List Claim) → piece v q claims → other v q claims) →
     (ps : List Pick) (claims : List Claim) → Pieces piece ps claims → Pieces other ps claims
 pieces_map piece other f [] claims g = g
 pieces_map piece other f (p ∷ ps) claims g = (g.0, g.1, g.2, f p.0 p.1 g.0 g.3, pieces_map piece other f ps g.1 g.4)
 
-group_map : (piece other : ℕ → ℕ → List Claim → Type 0) → ((v q : ℕ) (claims : List Claim) → piece v q claims → other v q claims) →
+group_map : (piece other : ℕ → ℕ → List Claim → Type 0) →
+    ((v q : ℕ) (claims : List Claim) → piece v q claims → other v q claims) →
     (amount : ℕ) (claims : List Claim) → Group amount piece claims → Group amount other claims
 group_map piece other f amount claims g = (g.0, g.1, g.2, g.3, pieces_map piece other f g.0 claims g.4)
 

@@ -1,5 +1,6 @@
 -- What a search needs to know of lists of needs: each need is looked for alone.
-use Rattle.std.proofs.Common.{◌≡◌, ℕ, zero, suc, ◌+◌, ◌*◌, ◌<◌, ◌≤◌, Bool, true, false, List, [], ◌∷◌, ◌++◌, refl, sym, ◌∙◌, ap, subst, arith, append_assoc, append-nil, length, drop, drop-cons, get_or}
+use Rattle.std.proofs.Common.{◌≡◌, ℕ, zero, suc, ◌+◌, ◌*◌, ◌<◌, ◌≤◌, Bool, true, false, List, [], ◌∷◌, ◌++◌, refl, sym}
+use Rattle.std.proofs.Common.{◌∙◌, ap, subst, arith, append_assoc, append-nil, length, drop, drop-cons, get_or}
 use mathlib.Core.Path.{transport, transport⁻¹}
 use Rattle.std.specs.List.{AllByRecursion}
 use Rattle.flux_defs.specs.declared.vertices.Vertex.{Vertex}
@@ -16,8 +17,10 @@ use Rattle.flux_laws.proofs.Rows.{piece_Vert, piece_Spread, lowest_Vert, lowest_
 use Rattle.match_laws.specs.Offers.{IsGreatest, Offers, SomeGroup, SomeFits, LowestGroup, VertexClaims}
 
 -- the greatest of one fact is the greatest of another that says the same
-pub greatest_along : (can could : ℕ → Type 0) (most n : ℕ) → ((k : ℕ) → can k → could k) → ((k : ℕ) → could k → can k) → IsGreatest can most n → IsGreatest could most n
-greatest_along can could most n to from g = record { within = g.within; can_be = λ some. to n (g.can_be some); full = λ lt c. g.full lt (from (n + 1) c) }
+pub greatest_along : (can could : ℕ → Type 0) (most n : ℕ) →
+    ((k : ℕ) → can k → could k) → ((k : ℕ) → could k → can k) → IsGreatest can most n → IsGreatest could most n
+greatest_along can could most n to from g =
+    record { within = g.within; can_be = λ some. to n (g.can_be some); full = λ lt c. g.full lt (from (n + 1) c) }
 
 -- offers of one kind are offers of another
 pub offers_along : (can could : ℕ → Type 0) (piece other : ℕ → List Claim → Type 0) (most q : ℕ) (claims : List Claim) →
@@ -31,14 +34,17 @@ offers_along can could piece other most q claims to from along o = record {
 
 -- nothing is the greatest where 1 can't be
 pub greatest_none : (can : ℕ → Type 0) (most : ℕ) → (can 1 → ⊥) → IsGreatest can most 0
-greatest_none can most never = record { within = omega arith; can_be = λ some. absurd (omega arith); full = λ lt c. never c }
+greatest_none can most never =
+    record { within = omega arith; can_be = λ some. absurd (omega arith); full = λ lt c. never c }
 
 -- 1 is the greatest where 1 can be and 2 can't
 pub greatest_one : (can : ℕ → Type 0) (most : ℕ) → 1 ≤ most → can 1 → (can 2 → ⊥) → IsGreatest can most 1
 greatest_one can most some c never = record { within = some; can_be = λ _. c; full = λ _ d. never d }
 
-pub drop_item : (needs items : List Need) (i : ℕ) (need : Need) → needs ≡ items → i < length items → need ≡ get_or items i need → drop i needs ≡ need ∷ drop (suc i) items
-drop_item needs items i need same lt is = ap (drop i) same ∙ (drop-cons items i need lt ∙ ap (λ n. n ∷ drop (suc i) items) (sym is))
+pub drop_item : (needs items : List Need) (i : ℕ) (need : Need) →
+    needs ≡ items → i < length items → need ≡ get_or items i need → drop i needs ≡ need ∷ drop (suc i) items
+drop_item needs items i need same lt is =
+    ap (drop i) same ∙ (drop-cons items i need lt ∙ ap (λ n. n ∷ drop (suc i) items) (sym is))
 
 module _ (vertices : List Vertex) (ok : Claim → Type 0) where
   -- each need has a group of k times its amount
@@ -150,13 +156,18 @@ module _ (vertices : List Vertex) (ok : Claim → Type 0) where
       (transport (piece_Spread vertices ok scope count needs v q c.0) c.1).2 in (p.2, (p.0, p.3))
 
   -- what is written for a vertex that is held, or shared, and for copies
-  pub writes_hold : (kind count : ℕ) (needs : List Need) (v : ℕ) → LowestPiece vertices ok (Vert kind count true needs) v 1 (Hold v ∷ [])
+  pub writes_hold : (kind count : ℕ) (needs : List Need) (v : ℕ) →
+      LowestPiece vertices ok (Vert kind count true needs) v 1 (Hold v ∷ [])
   writes_hold kind count needs v = transport⁻¹ (lowest_Vert vertices ok kind count true needs v 1 (Hold v ∷ [])) refl
 
-  pub writes_pass : (kind count : ℕ) (needs : List Need) (v : ℕ) (within : List Claim) → Lowest vertices ok 1 (Beneath v) needs within →
+  pub writes_pass : (kind count : ℕ) (needs : List Need) (v : ℕ) (within : List Claim) →
+      Lowest vertices ok 1 (Beneath v) needs within →
       LowestPiece vertices ok (Vert kind count false needs) v 1 (Pass v ∷ within)
-  writes_pass kind count needs v within low = transport⁻¹ (lowest_Vert vertices ok kind count false needs v 1 (Pass v ∷ within)) (within, refl, low)
+  writes_pass kind count needs v within low =
+      transport⁻¹ (lowest_Vert vertices ok kind count false needs v 1 (Pass v ∷ within)) (within, refl, low)
 
-  pub writes_copies : (count : ℕ) (needs : List Need) (v q : ℕ) (within : List Claim) → Lowest vertices ok q (Beneath v) needs within →
+  pub writes_copies : (count : ℕ) (needs : List Need) (v q : ℕ) (within : List Claim) →
+      Lowest vertices ok q (Beneath v) needs within →
       LowestPiece vertices ok (Spread count needs) v q (Pass v ∷ within)
-  writes_copies count needs v q within low = transport⁻¹ (lowest_Spread vertices ok count needs v q (Pass v ∷ within)) (within, refl, low)
+  writes_copies count needs v q within low =
+      transport⁻¹ (lowest_Spread vertices ok count needs v q (Pass v ∷ within)) (within, refl, low)

@@ -1,5 +1,6 @@
 -- What the answers of a view say of claims, to an ask with bars.
-use Rattle.std.proofs.Common.{◌≡◌, ℕ, ◌-◌, ◌<◌, ◌≤◌, ◌↔◌, Bool, true, false, not, ◌&&◌, List, refl, sym, ◌∙◌, ap, subst, IsTrue, true≢false, nat_le, arith}
+use Rattle.std.proofs.Common.{◌≡◌, ℕ, ◌-◌, ◌<◌, ◌≤◌, ◌↔◌, Bool, true, false, not, ◌&&◌, List, refl, sym, ◌∙◌, ap, subst}
+use Rattle.std.proofs.Common.{IsTrue, true≢false, nat_le, arith}
 use Rattle.std.specs.Prelude.{if◌then◌else◌, ◌||◌}
 use Rattle.std.specs.List.{list_any}
 use Rattle.std.proofs.lemmas.Bool.{and_parts, and_from, or_left, or_right}
@@ -10,7 +11,8 @@ use Rattle.flux_defs.specs.declared.claims.Job.{Job}
 use Rattle.flux_defs.specs.declared.claims.Window.{Window}
 use Rattle.flux_defs.specs.Graph.{is_at_or_below, is_pool, size_of}
 use Rattle.flux_defs.specs.Jobs.{some_live_claim, holds_over, is_on_or_below, EachMoment, SomeMoment}
-use Rattle.flux_defs.specs.Closed.{Scene, no_bars, is_closed, is_touched, IsClosedIn, IsTouchedIn, IsClosedOver, IsTouchedOver}
+use Rattle.flux_defs.specs.Closed.{Scene, no_bars, is_closed, is_touched, IsClosedIn, IsTouchedIn, IsClosedOver}
+use Rattle.flux_defs.specs.Closed.{IsTouchedOver}
 use Rattle.flux_defs.specs.Free.{taken_at, free_at, IsFreeIn, IsFreeOver}
 use Rattle.flux_defs.specs.Available.{IsAvailable}
 use Rattle.graph_laws.proofs.Containment.{not_from, not_to}
@@ -25,40 +27,49 @@ none_of w test b h = (
 
 module _ (scene : Scene) (w : Window) (v : ℕ) where
   -- a pass is available exactly where the vertex isn't closed
-  pub available_pass : (closed : Bool) → (IsTrue closed ↔ IsClosedIn scene w v) → (IsTrue (not closed) ↔ IsAvailable scene w (Pass v))
+  pub available_pass : (closed : Bool) →
+      (IsTrue closed ↔ IsClosedIn scene w v) → (IsTrue (not closed) ↔ IsAvailable scene w (Pass v))
   available_pass closed h = none_of w (λ m. is_closed scene m v) closed h
 
   -- a hold, where it is neither closed nor touched
-  pub available_hold : (closed touched : Bool) → (IsTrue closed ↔ IsClosedIn scene w v) → (IsTrue touched ↔ IsTouchedIn scene w v) →
+  pub available_hold : (closed touched : Bool) →
+      (IsTrue closed ↔ IsClosedIn scene w v) → (IsTrue touched ↔ IsTouchedIn scene w v) →
       (IsTrue (not closed && not touched) ↔ IsAvailable scene w (Hold v))
   available_hold closed touched h k =
       let c = none_of w (λ m. is_closed scene m v) closed h in
       let t = none_of w (λ m. is_touched scene m v) touched k in (
         λ n m lo hi. let p = and_parts (not closed) (not touched) n in and_from _ _ (c.0 p.0 m lo hi) (t.0 p.1 m lo hi),
-        λ each. and_from _ _ (c.1 (λ m lo hi. (and_parts _ _ (each m lo hi)).0)) (t.1 (λ m lo hi. (and_parts _ _ (each m lo hi)).1)),
+        λ each. and_from _ _
+            (c.1 (λ m lo hi. (and_parts _ _ (each m lo hi)).0)) (t.1 (λ m lo hi. (and_parts _ _ (each m lo hi)).1)),
       )
 
   -- where it isn't closed, whether it is touched decides
-  pub hold_open : (closed touched : Bool) → closed ≡ false → (IsTrue closed ↔ IsClosedIn scene w v) → (IsTrue touched ↔ IsTouchedIn scene w v) →
+  pub hold_open : (closed touched : Bool) →
+      closed ≡ false → (IsTrue closed ↔ IsClosedIn scene w v) → (IsTrue touched ↔ IsTouchedIn scene w v) →
       (IsTrue (not touched) ↔ IsAvailable scene w (Hold v))
   hold_open true touched o h k = absurd (true≢false o)
   hold_open false touched o h k = available_hold false touched h k
 
   -- a need of vertices claims nothing of a closed vertex
-  pub admits_none : (hold closed : Bool) → closed ≡ true → (IsTrue closed ↔ IsClosedIn scene w v) → (IsTrue false ↔ IsAvailable scene w (if hold then Hold v else Pass v))
+  pub admits_none : (hold closed : Bool) → closed ≡ true →
+      (IsTrue closed ↔ IsClosedIn scene w v) → (IsTrue false ↔ IsAvailable scene w (if hold then Hold v else Pass v))
   admits_none true closed o h = (
     λ t. absurd (true≢false (sym t)),
     λ each. absurd (not_to closed ((available_pass closed h).1 (λ m lo hi. (and_parts _ _ (each m lo hi)).0)) o),
   )
-  admits_none false closed o h = (λ t. absurd (true≢false (sym t)), λ each. absurd (not_to closed ((available_pass closed h).1 each) o))
+  admits_none false closed o h =
+      (λ t. absurd (true≢false (sym t)), λ each. absurd (not_to closed ((available_pass closed h).1 each) o))
 
   -- it passes one that isn't closed
-  pub admits_pass : (hold closed : Bool) → hold ≡ false → closed ≡ false → (IsTrue closed ↔ IsClosedIn scene w v) → (IsTrue true ↔ IsAvailable scene w (if hold then Hold v else Pass v))
+  pub admits_pass : (hold closed : Bool) → hold ≡ false → closed ≡ false →
+      (IsTrue closed ↔ IsClosedIn scene w v) → (IsTrue true ↔ IsAvailable scene w (if hold then Hold v else Pass v))
   admits_pass true closed f o h = absurd (true≢false f)
-  admits_pass false closed f o h = (λ t. (available_pass closed h).0 (not_from closed (λ u. true≢false (sym u ∙ o))), λ each. refl)
+  admits_pass false closed f o h =
+      (λ t. (available_pass closed h).0 (not_from closed (λ u. true≢false (sym u ∙ o))), λ each. refl)
 
   -- and holds one that isn't touched either
-  pub admits_hold : (hold closed touched : Bool) → hold ≡ true → closed ≡ false → (IsTrue closed ↔ IsClosedIn scene w v) → (IsTrue touched ↔ IsTouchedIn scene w v) →
+  pub admits_hold : (hold closed touched : Bool) →
+      hold ≡ true → closed ≡ false → (IsTrue closed ↔ IsClosedIn scene w v) → (IsTrue touched ↔ IsTouchedIn scene w v) →
       (IsTrue (not touched) ↔ IsAvailable scene w (if hold then Hold v else Pass v))
   admits_hold true closed touched t o h k = hold_open closed touched o h k
   admits_hold false closed touched t o h k = absurd (true≢false (sym t))
@@ -90,23 +101,56 @@ module _ (vertices : List Vertex) (jobs : List Job) (barred : List ℕ) (w : Win
   scene = record { vertices = vertices; jobs = jobs; barred = barred }
 
   -- a barred vertex is closed, and one at or above a barred one touched
-  pub closed_barred : (b : Bool) → b ≡ true → b ≡ list_any (is_at_or_below vertices v) barred → (IsTrue b ↔ IsClosedIn scene w v)
-  closed_barred b t e = (λ _. (w.from, omega arith, opens, or_right (some_live_claim jobs w.from (holds_over vertices v)) _ (sym e ∙ t)), λ _. t)
-
-  pub touched_barred : (b : Bool) → b ≡ true → b ≡ list_any (λ u. is_at_or_below vertices u v) barred → (IsTrue b ↔ IsTouchedIn scene w v)
-  touched_barred b t e = (λ _. (w.from, omega arith, opens, or_right (some_live_claim jobs w.from (is_on_or_below vertices v)) _ (sym e ∙ t)), λ _. t)
-
-  -- of any other vertex the jobs decide
-  pub closed_unbarred : (a b : Bool) → b ≡ false → b ≡ list_any (is_at_or_below vertices v) barred → (IsTrue a ↔ IsClosedOver vertices jobs w v) → (IsTrue a ↔ IsClosedIn scene w v)
-  closed_unbarred a b f e h = (
-    λ t. let s = h.0 t in (s.0, s.1, s.2, or_left _ _ (or_no (some_live_claim jobs s.0 (holds_over vertices v)) s.3)),
-    λ s. h.1 (s.0, s.1, s.2, or_swap (some_live_claim jobs s.0 (holds_over vertices v)) (list_any (is_at_or_below vertices v) barred) (sym e ∙ f) s.3),
+  pub closed_barred : (b : Bool) →
+      b ≡ true → b ≡ list_any (is_at_or_below vertices v) barred → (IsTrue b ↔ IsClosedIn scene w v)
+  closed_barred b t e = (
+    λ _. (
+      w.from,
+      omega arith,
+      opens,
+      or_right (some_live_claim jobs w.from (holds_over vertices v)) _ (sym e ∙ t),
+    ),
+    λ _. t,
   )
 
-  pub touched_unbarred : (a b : Bool) → b ≡ false → b ≡ list_any (λ u. is_at_or_below vertices u v) barred → (IsTrue a ↔ IsTouchedOver vertices jobs w v) → (IsTrue a ↔ IsTouchedIn scene w v)
+  pub touched_barred : (b : Bool) →
+      b ≡ true → b ≡ list_any (λ u. is_at_or_below vertices u v) barred → (IsTrue b ↔ IsTouchedIn scene w v)
+  touched_barred b t e = (
+    λ _. (
+      w.from,
+      omega arith,
+      opens,
+      or_right (some_live_claim jobs w.from (is_on_or_below vertices v)) _ (sym e ∙ t),
+    ),
+    λ _. t,
+  )
+
+  -- of any other vertex the jobs decide
+  pub closed_unbarred : (a b : Bool) → b ≡ false → b ≡ list_any (is_at_or_below vertices v) barred →
+      (IsTrue a ↔ IsClosedOver vertices jobs w v) → (IsTrue a ↔ IsClosedIn scene w v)
+  closed_unbarred a b f e h = (
+    λ t. let s = h.0 t in (s.0, s.1, s.2, or_left _ _ (or_no (some_live_claim jobs s.0 (holds_over vertices v)) s.3)),
+    λ s. h.1 (
+      s.0,
+      s.1,
+      s.2,
+      or_swap (some_live_claim jobs s.0 (holds_over vertices v))
+          (list_any (is_at_or_below vertices v) barred) (sym e ∙ f) s.3,
+    ),
+  )
+
+  pub touched_unbarred : (a b : Bool) → b ≡ false → b ≡ list_any (λ u. is_at_or_below vertices u v) barred →
+      (IsTrue a ↔ IsTouchedOver vertices jobs w v) → (IsTrue a ↔ IsTouchedIn scene w v)
   touched_unbarred a b f e h = (
-    λ t. let s = h.0 t in (s.0, s.1, s.2, or_left _ _ (or_no (some_live_claim jobs s.0 (is_on_or_below vertices v)) s.3)),
-    λ s. h.1 (s.0, s.1, s.2, or_swap (some_live_claim jobs s.0 (is_on_or_below vertices v)) (list_any (λ u. is_at_or_below vertices u v) barred) (sym e ∙ f) s.3),
+    λ t. let s = h.0 t in
+        (s.0, s.1, s.2, or_left _ _ (or_no (some_live_claim jobs s.0 (is_on_or_below vertices v)) s.3)),
+    λ s. h.1 (
+      s.0,
+      s.1,
+      s.2,
+      or_swap (some_live_claim jobs s.0 (is_on_or_below vertices v))
+          (list_any (λ u. is_at_or_below vertices u v) barred) (sym e ∙ f) s.3,
+    ),
   )
 
   -- what is free of a vertex that isn't closed
@@ -114,22 +158,26 @@ module _ (vertices : List Vertex) (jobs : List Job) (barred : List ℕ) (w : Win
   free_open m = if is_pool vertices v then (size_of vertices v - taken_at jobs m v) else 1
 
   closed_bar : (m : ℕ) → list_any (is_at_or_below vertices v) barred ≡ true → free_at scene m v ≡ 0
-  closed_bar m e = go (some_live_claim jobs m (holds_over vertices v)) (list_any (is_at_or_below vertices v) barred) (free_open m) e
+  closed_bar m e =
+      go (some_live_claim jobs m (holds_over vertices v)) (list_any (is_at_or_below vertices v) barred) (free_open m) e
     where
       go : (a b : Bool) (n : ℕ) → b ≡ true → (let free : ℕ = (if a || b then 0 else n) in free ≡ 0)
       go true b n e = refl
       go false true n e = refl
       go false false n e = absurd (true≢false (sym e))
 
-  same_free : (m : ℕ) → list_any (is_at_or_below vertices v) barred ≡ false → free_at scene m v ≡ free_at (no_bars vertices jobs) m v
+  same_free : (m : ℕ) →
+      list_any (is_at_or_below vertices v) barred ≡ false → free_at scene m v ≡ free_at (no_bars vertices jobs) m v
   same_free m e = ap (λ b. if some_live_claim jobs m (holds_over vertices v) || b then 0 else free_open m) e
 
   -- nothing is free of a barred vertex
   pub free_barred : (b : Bool) → b ≡ true → b ≡ list_any (is_at_or_below vertices v) barred → IsFreeIn scene w v 0
-  free_barred b t e = record { each = λ m lo hi. omega arith; reached = (w.from, omega arith, opens, closed_bar w.from (sym e ∙ t)) }
+  free_barred b t e =
+      record { each = λ m lo hi. omega arith; reached = (w.from, omega arith, opens, closed_bar w.from (sym e ∙ t)) }
 
   -- and of any other as much as without bars
-  pub free_unbarred : (b : Bool) (n : ℕ) → b ≡ false → b ≡ list_any (is_at_or_below vertices v) barred → IsFreeOver vertices jobs w v n → IsFreeIn scene w v n
+  pub free_unbarred : (b : Bool) (n : ℕ) → b ≡ false →
+      b ≡ list_any (is_at_or_below vertices v) barred → IsFreeOver vertices jobs w v n → IsFreeIn scene w v n
   free_unbarred b n t e f = record {
     each = λ m lo hi. subst (λ x. n ≤ x) (sym (same_free m (sym e ∙ t))) (f.each m lo hi);
     reached = (let r = f.reached in (r.0, r.1, r.2, same_free r.0 (sym e ∙ t) ∙ r.3));

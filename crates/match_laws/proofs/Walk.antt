@@ -1,5 +1,6 @@
 -- Walks over the vertices that take from each all that it offers: what they keep, over an abstract `can v q`.
-use Rattle.std.proofs.Common.{◌≡◌, ℕ, zero, suc, ◌+◌, ◌-◌, ◌<◌, ◌≤◌, List, [], ◌∷◌, ◌++◌, inl, inr, refl, sym, ◌∙◌, ap, subst, arith, append_assoc, append-nil}
+use Rattle.std.proofs.Common.{◌≡◌, ℕ, zero, suc, ◌+◌, ◌-◌, ◌<◌, ◌≤◌, List, [], ◌∷◌, ◌++◌, inl, inr, refl, sym, ◌∙◌, ap}
+use Rattle.std.proofs.Common.{subst, arith, append_assoc, append-nil}
 use Rattle.std.proofs.lemmas.Bool.{cases_lt}
 use Rattle.std.specs.List.{AllByRecursion}
 use Rattle.flux_defs.specs.declared.claims.Claim.{Claim}
@@ -12,17 +13,23 @@ use Rattle.match_laws.specs.Offers.{IsGreatest, Offers}
 abbrev pub NoneBetween : (ℕ → ℕ → Type 0) → ℕ → ℕ → Type 0
 NoneBetween can low high = (v q : ℕ) → low ≤ v → v < high → 1 ≤ q → can v q → ⊥
 
-pieces_push : (piece : ℕ → ℕ → List Claim → Type 0) (ps : List Pick) (p : Pick) (a b : List Claim) → Pieces piece ps a → piece p.0 p.1 b → Pieces piece (ps ++ p ∷ []) (a ++ b)
+pieces_push : (piece : ℕ → ℕ → List Claim → Type 0) (ps : List Pick) (p : Pick) (a b : List Claim) →
+    Pieces piece ps a → piece p.0 p.1 b → Pieces piece (ps ++ p ∷ []) (a ++ b)
 pieces_push piece [] p a b g h = (b, [], (ap (λ x. x ++ b) g ∙ sym (append-nil b)), h, refl)
-pieces_push piece (q ∷ ps) p a b g h = (g.0, g.1 ++ b, ap (λ x. x ++ b) g.2 ∙ append_assoc g.0 g.1 b, g.3, pieces_push piece ps p g.1 b g.4 h)
+pieces_push piece (q ∷ ps) p a b g h =
+    (g.0, g.1 ++ b, ap (λ x. x ++ b) g.2 ∙ append_assoc g.0 g.1 b, g.3, pieces_push piece ps p g.1 b g.4 h)
 
 -- vertices that can serve nothing are passed over, by picks that fill
-fills_over : (can : ℕ → ℕ → Type 0) (low high n : ℕ) (picks : List Pick) → low ≤ high → NoneBetween can low high → FillsFrom can high n picks → FillsFrom can low n picks
+fills_over : (can : ℕ → ℕ → Type 0) (low high n : ℕ) (picks : List Pick) →
+    low ≤ high → NoneBetween can low high → FillsFrom can high n picks → FillsFrom can low n picks
 fills_over can low high n [] le none f = f
 fills_over can low high n (p ∷ ps) le none f =
     let from : high ≤ p.0 = f.0 in (
       omega arith,
-      λ u lo hi c. elim (cases_lt u high) [ inl before ↦ none u 1 lo before (omega arith) c | inr after ↦ f.1 u after hi c ],
+      λ u lo hi c. elim (cases_lt u high) [
+        | inl before ↦ none u 1 lo before (omega arith) c
+        | inr after ↦ f.1 u after hi c
+      ],
       f.2,
       f.3,
       f.4,
@@ -31,17 +38,29 @@ fills_over can low high n (p ∷ ps) le none f =
     )
 
 -- and by picks that serve so much
-can_fill_over : (can : ℕ → ℕ → Type 0) (low high n : ℕ) → NoneBetween can low high → CanFill can low n → CanFill can high n
-can_fill_over can low high n none f = record { picks = f.picks; distinct = f.distinct; each = go f.picks f.each; serves = f.serves }
+can_fill_over : (can : ℕ → ℕ → Type 0) (low high n : ℕ) →
+    NoneBetween can low high → CanFill can low n → CanFill can high n
+can_fill_over can low high n none f =
+    record { picks = f.picks; distinct = f.distinct; each = go f.picks f.each; serves = f.serves }
   where
     go : (ps : List Pick) → AllByRecursion (IsPickFrom can low) ps → AllByRecursion (IsPickFrom can high) ps
     go [] each = tt
-    go (p ∷ ps) each =
-        ((elim (cases_lt p.0 high) [ inl before ↦ absurd (none p.0 p.1 each.0.0 before each.0.1 each.0.2) | inr after ↦ after ], each.0.1, each.0.2), go ps each.1)
+    go (p ∷ ps) each = (
+      (
+        elim (cases_lt p.0 high) [
+          | inl before ↦ absurd (none p.0 p.1 each.0.0 before each.0.1 each.0.2)
+          | inr after ↦ after
+        ],
+        each.0.1,
+        each.0.2,
+      ),
+      go ps each.1,
+    )
 
 -- The walk has come to vertex `at`, with these claims, and `missing` of the total is left. What fills the rest
 -- completes it; and if anything can fill the total, the vertices from here on can fill the rest.
-pub record Filled (can : ℕ → ℕ → Type 0) (piece : ℕ → ℕ → List Claim → Type 0) (total at missing : ℕ) (claims : List Claim) : Type 0 where
+pub record Filled (can : ℕ → ℕ → Type 0)
+    (piece : ℕ → ℕ → List Claim → Type 0) (total at missing : ℕ) (claims : List Claim) : Type 0 where
   pub picks : List Pick
   pub fills : (rest : List Pick) → FillsFrom can at missing rest → FillsFrom can 0 total (picks ++ rest)
   pub pieces : Pieces piece picks claims
@@ -68,7 +87,8 @@ module _ (can : ℕ → ℕ → Type 0) (piece : ℕ → ℕ → List Claim → 
   }
 
   -- it passes over vertices that can serve nothing
-  pub filled_over : (at to missing : ℕ) (claims : List Claim) → at ≤ to → NoneBetween can at to → Filled can piece total at missing claims → Filled can piece total to missing claims
+  pub filled_over : (at to missing : ℕ) (claims : List Claim) → at ≤ to →
+      NoneBetween can at to → Filled can piece total at missing claims → Filled can piece total to missing claims
   filled_over at to missing claims le none f = record {
     picks = f.picks;
     fills = λ rest h. f.fills rest (fills_over can at to missing rest le none h);
@@ -77,7 +97,8 @@ module _ (can : ℕ → ℕ → Type 0) (piece : ℕ → ℕ → List Claim → 
   }
 
   -- nothing is missing: the claims are a lowest-first group
-  pub filled_done : (at : ℕ) (claims : List Claim) → Filled can piece total at 0 claims → (picks : List Pick) × FillsFrom can 0 total picks × Pieces piece picks claims
+  pub filled_done : (at : ℕ) (claims : List Claim) →
+      Filled can piece total at 0 claims → (picks : List Pick) × FillsFrom can 0 total picks × Pieces piece picks claims
   filled_done at claims f = (f.picks, subst (FillsFrom can 0 total) (append-nil f.picks) (f.fills [] refl), f.pieces)
 
 module _ (can : ℕ → ℕ → Type 0) (down : IsDownward can) where
@@ -85,7 +106,8 @@ module _ (can : ℕ → ℕ → Type 0) (down : IsDownward can) where
   none_left at n e = record { picks = []; distinct = tt; each = tt; serves = sym e }
 
   -- what can be filled from `at` on, when vertex `at` has served all that it can
-  left_after : (at missing q : ℕ) → IsGreatest (can at) missing q → CanFill can at missing → CanFill can (at + 1) (missing - q)
+  left_after : (at missing q : ℕ) →
+      IsGreatest (can at) missing q → CanFill can at missing → CanFill can (at + 1) (missing - q)
   left_after at missing q o h =
       elim (cases_lt q missing) [
         | inl lt ↦ rest_can_fill can down at missing q o.within (o.full lt) h
@@ -93,26 +115,31 @@ module _ (can : ℕ → ℕ → Type 0) (down : IsDownward can) where
       ]
 
   -- no vertex from here on can serve, and something is missing: nothing fills the total
-  pub filled_none : (piece : ℕ → ℕ → List Claim → Type 0) (total at missing : ℕ) (claims : List Claim) → ((v q : ℕ) → at ≤ v → 1 ≤ q → can v q → ⊥) → 1 ≤ missing →
+  pub filled_none : (piece : ℕ → ℕ → List Claim → Type 0) (total at missing : ℕ) (claims : List Claim) →
+      ((v q : ℕ) → at ≤ v → 1 ≤ q → can v q → ⊥) → 1 ≤ missing →
       Filled can piece total at missing claims → CanFill can 0 total → ⊥
   filled_none piece total at missing claims none some f h = stop_here at missing none some (f.left h)
     where
-      no_picks : (low : ℕ) → ((v q : ℕ) → low ≤ v → 1 ≤ q → can v q → ⊥) → (ps : List Pick) → AllByRecursion (IsPickFrom can low) ps → served ps ≡ 0
+      no_picks : (low : ℕ) → ((v q : ℕ) → low ≤ v → 1 ≤ q → can v q → ⊥) →
+          (ps : List Pick) → AllByRecursion (IsPickFrom can low) ps → served ps ≡ 0
       no_picks low never [] each = refl
       no_picks low never (p ∷ ps) each = absurd (never p.0 p.1 each.0.0 each.0.1 each.0.2)
 
       stop_here : (low n : ℕ) → ((v q : ℕ) → low ≤ v → 1 ≤ q → can v q → ⊥) → 1 ≤ n → CanFill can low n → ⊥
-      stop_here low n never more g = let z : served g.picks ≡ 0 = no_picks low never g.picks g.each in let s : served g.picks ≡ n = g.serves in omega arith
+      stop_here low n never more g = let z : served g.picks ≡ 0 = no_picks low never g.picks g.each in
+          let s : served g.picks ≡ n = g.serves in omega arith
 
   -- the next vertex serves all that it can, and writes its piece
-  pub filled_next : (piece : ℕ → ℕ → List Claim → Type 0) (total at missing q : ℕ) (claims more : List Claim) → 1 ≤ missing → Filled can piece total at missing claims →
+  pub filled_next : (piece : ℕ → ℕ → List Claim → Type 0) (total at missing q : ℕ) (claims more : List Claim) →
+      1 ≤ missing → Filled can piece total at missing claims →
       Offers (can at) (piece at) missing q more → Filled can piece total (at + 1) (missing - q) (claims ++ more)
   filled_next piece total at missing zero claims more some f o =
       let less : missing ≡ missing - 0 = omega arith in
       let nothing : claims ++ more ≡ claims = ap (λ x. claims ++ x) (o.nothing refl) ∙ append-nil claims in
       record {
         picks = f.picks;
-        fills = λ rest h. f.fills rest (fills_past can down at missing rest (o.greatest.full some) (subst (λ (m : ℕ). FillsFrom can (at + 1) m rest) (sym less) h));
+        fills = λ rest h. f.fills rest (fills_past can down at missing rest
+            (o.greatest.full some) (subst (λ (m : ℕ). FillsFrom can (at + 1) m rest) (sym less) h));
         pieces = subst (Pieces piece f.picks) (sym nothing) f.pieces;
         left = λ h. left_after at missing 0 o.greatest (f.left h);
       }
@@ -120,7 +147,8 @@ module _ (can : ℕ → ℕ → Type 0) (down : IsDownward can) where
       let able : can at (suc q) = o.greatest.can_be (omega arith) in
       record {
         picks = f.picks ++ (at, suc q) ∷ [];
-        fills = λ rest h. rw append_assoc (f.fills ((at, suc q) ∷ rest) (fills_with can down at missing (suc q) rest (omega arith) o.greatest.within able o.greatest.full h));
+        fills = λ rest h. rw append_assoc (f.fills ((at, suc q) ∷ rest)
+            (fills_with can down at missing (suc q) rest (omega arith) o.greatest.within able o.greatest.full h));
         pieces = pieces_push piece f.picks (at, suc q) claims more f.pieces (o.written (omega arith));
         left = λ h. left_after at missing (suc q) o.greatest (f.left h);
       }
@@ -133,20 +161,24 @@ module _ (can : ℕ → ℕ → Type 0) (down : IsDownward can) where
     distinct = tt;
     each = tt;
     serves = refl;
-    left = λ n lt le f. let e : n ≡ n - 0 = omega arith in subst (CanFill can from) e (can_fill_over can 0 from n none f);
+    left = λ n lt le f. let e : n ≡ n - 0 = omega arith in
+        subst (CanFill can from) e (can_fill_over can 0 from n none f);
   }
 
-  raise : (low high : ℕ) → low ≤ high → (ps : List Pick) → AllByRecursion (λ p. (p.0 < low) × (1 ≤ p.1) × can p.0 p.1) ps →
+  raise : (low high : ℕ) →
+      low ≤ high → (ps : List Pick) → AllByRecursion (λ p. (p.0 < low) × (1 ≤ p.1) × can p.0 p.1) ps →
       AllByRecursion (λ p. (p.0 < high) × (1 ≤ p.1) × can p.0 p.1) ps
   raise low high le [] each = tt
-  raise low high le (p ∷ ps) each = ((let lt : p.0 < low = each.0.0 in omega arith, each.0.1, each.0.2), raise low high le ps each.1)
+  raise low high le (p ∷ ps) each =
+      ((let lt : p.0 < low = each.0.0 in omega arith, each.0.1, each.0.2), raise low high le ps each.1)
 
   none_at : (low : ℕ) (ps : List Pick) → AllByRecursion (λ p. (p.0 < low) × (1 ≤ p.1) × can p.0 p.1) ps → NoneFor low ps
   none_at low [] each = tt
   none_at low (p ∷ ps) each = ((let lt : p.0 < low = each.0.0 in λ (e : p.0 ≡ low). omega arith), none_at low ps each.1)
 
   -- it passes over vertices that can serve nothing
-  pub reached_over : (most at to done : ℕ) → at ≤ to → NoneBetween can at to → Reached can most at done → Reached can most to done
+  pub reached_over : (most at to done : ℕ) →
+      at ≤ to → NoneBetween can at to → Reached can most at done → Reached can most to done
   reached_over most at to done le none r = record {
     within = r.within;
     picks = r.picks;
@@ -157,7 +189,8 @@ module _ (can : ℕ → ℕ → Type 0) (down : IsDownward can) where
   }
 
   -- the next vertex serves all that it can
-  pub reached_next : (most at done q : ℕ) → Reached can most at done → IsGreatest (can at) (most - done) q → Reached can most (at + 1) (done + q)
+  pub reached_next : (most at done q : ℕ) →
+      Reached can most at done → IsGreatest (can at) (most - done) q → Reached can most (at + 1) (done + q)
   reached_next most at done zero r o = record {
     within = let le : done ≤ most = r.within in omega arith;
     picks = r.picks;
@@ -166,7 +199,8 @@ module _ (can : ℕ → ℕ → Type 0) (down : IsDownward can) where
     serves = (let s : served r.picks ≡ done = r.serves in omega arith);
     left = λ n lt few f.
         let e : (n - done) - 0 ≡ n - (done + 0) = omega arith in
-        subst (CanFill can (at + 1)) e (rest_can_fill can down at (n - done) 0 (omega arith) (o.full (omega arith)) (r.left n (omega arith) few f));
+        subst (CanFill can (at + 1)) e (rest_can_fill can down at
+        (n - done) 0 (omega arith) (o.full (omega arith)) (r.left n (omega arith) few f));
   }
   reached_next most at done (suc q) r o = record {
     within = (let le : done ≤ most = r.within in let few : suc q ≤ most - done = o.within in omega arith);
@@ -176,16 +210,19 @@ module _ (can : ℕ → ℕ → Type 0) (down : IsDownward can) where
     serves = (let s : served r.picks ≡ done = r.serves in omega arith);
     left = λ n lt few f.
         let e : (n - done) - suc q ≡ n - (done + suc q) = omega arith in
-        subst (CanFill can (at + 1)) e (rest_can_fill can down at (n - done) (suc q) (omega arith) (o.full (omega arith)) (r.left n (omega arith) few f));
+        subst (CanFill can (at + 1)) e (rest_can_fill can down at
+        (n - done) (suc q) (omega arith) (o.full (omega arith)) (r.left n (omega arith) few f));
   }
 
-  from_first : (at : ℕ) (ps : List Pick) → AllByRecursion (λ p. (p.0 < at) × (1 ≤ p.1) × can p.0 p.1) ps → AllByRecursion (IsPickFrom can 0) ps
+  from_first : (at : ℕ) (ps : List Pick) →
+      AllByRecursion (λ p. (p.0 < at) × (1 ≤ p.1) × can p.0 p.1) ps → AllByRecursion (IsPickFrom can 0) ps
   from_first at [] each = tt
   from_first at (p ∷ ps) each = ((omega arith, each.0.1, each.0.2), from_first at ps each.1)
 
   -- what is done can be filled
   pub reached_fills : (most at done : ℕ) → Reached can most at done → CanFill can 0 done
-  reached_fills most at done r = record { picks = r.picks; distinct = r.distinct; each = from_first at r.picks r.each; serves = r.serves }
+  reached_fills most at done r =
+      record { picks = r.picks; distinct = r.distinct; each = from_first at r.picks r.each; serves = r.serves }
 
   -- all that was asked is done
   pub reached_all : (most at done : ℕ) → most ≤ done → Reached can most at done → IsGreatest (CanFill can 0) most done
@@ -196,7 +233,8 @@ module _ (can : ℕ → ℕ → Type 0) (down : IsDownward can) where
   }
 
   -- no vertex from here on can serve
-  pub reached_end : (most at done : ℕ) → ((v q : ℕ) → at ≤ v → 1 ≤ q → can v q → ⊥) → Reached can most at done → IsGreatest (CanFill can 0) most done
+  pub reached_end : (most at done : ℕ) →
+      ((v q : ℕ) → at ≤ v → 1 ≤ q → can v q → ⊥) → Reached can most at done → IsGreatest (CanFill can 0) most done
   reached_end most at done never r = record {
     within = r.within;
     can_be = λ some. reached_fills most at done r;

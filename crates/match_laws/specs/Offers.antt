@@ -42,4 +42,5 @@ module _ (vertices : List Vertex) (ok : Claim → Type 0) where
   -- the claims meet one of a need of vertices by vertex v, which is held or shared
   abbrev pub VertexClaims : Bool → List Need → ℕ → List Claim → Type 0
   VertexClaims hold needs v claims =
-      MatchBool hold (HeldPiece vertices ok v (Fits vertices ok 1 (Beneath v) needs) claims) (SharedPiece vertices ok v (Fits vertices ok 1 (Beneath v) needs) claims)
+      MatchBool hold (HeldPiece vertices ok v (Fits vertices ok 1 (Beneath v) needs) claims)
+      (SharedPiece vertices ok v (Fits vertices ok 1 (Beneath v) needs) claims)

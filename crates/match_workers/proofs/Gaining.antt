@@ -1,5 +1,6 @@
 -- The positions that a session gains, line by line.
-use Rattle.std.proofs.Common.{◌≡◌, ℕ, zero, suc, ◌+◌, ◌≤◌, ◌<◌, true, false, List, [], ◌∷◌, ◌++◌, length, map, take, slice_get, slice_set, Some, refl, sym, ap, ◌∙◌, subst, arith, append_assoc, length-append}
+use Rattle.std.proofs.Common.{◌≡◌, ℕ, zero, suc, ◌+◌, ◌≤◌, ◌<◌, true, false, List, [], ◌∷◌, ◌++◌, length, map, take}
+use Rattle.std.proofs.Common.{slice_get, slice_set, Some, refl, sym, ap, ◌∙◌, subst, arith, append_assoc, length-append}
 use Rattle.std.proofs.lemmas.List.{append-nil}
 use Rattle.std.proofs.lemmas.Option.{slice_get_within}
 use mathlib.Core.List.{IsPrefix, map-append}
@@ -58,7 +59,8 @@ gains_none client lines s m = record {
 
 module _ (client : ℕ) (s : List Entry) (m : List ℕ) (s' s'' : List Entry) (m' m'' : List ℕ) where
   -- more was seen
-  pub gains_seen : (lines : List Line) → Gains client lines s m s' m' → IsPrefix s' s'' → m'' ≡ m' → Gains client lines s m s'' m''
+  pub gains_seen : (lines : List Line) →
+      Gains client lines s m s' m' → IsPrefix s' s'' → m'' ≡ m' → Gains client lines s m s'' m''
   gains_seen lines g p same = record {
     later = prefix_trans s s' s'' g.later p;
     gained = g.gained;
@@ -68,24 +70,29 @@ module _ (client : ℕ) (s : List Entry) (m : List ℕ) (s' s'' : List Entry) (m
   }
 
   -- one line more is placed
-  pub gains_one : (lines : List Line) (i : ℕ) (l : Line) (at : ℕ) → Gains client (take i lines) s m s' m' → IsPrefix s' s''
+  pub gains_one : (lines : List Line) (i : ℕ) (l : Line) (at : ℕ) →
+      Gains client (take i lines) s m s' m' → IsPrefix s' s''
       → slice_get lines i ≡ Some l → IsPlaced client l.line l.command at s' s'' → m'' ≡ m' ++ at ∷ []
       → Gains client (take (i + 1) lines) s m s'' m''
   gains_one lines i l at g p there placed same =
       let old : map (line_at s'') g.gained ≡ map (some_line client) (take i lines)
       = same_lines (length s) g.gained s' s'' g.rising p ∙ g.answers in
-      let both : map (line_at s'') g.gained ++ line_at s'' at ∷ [] ≡ map (some_line client) (take i lines) ++ some_line client l ∷ []
+      let both : map (line_at s'') g.gained ++ line_at s'' at ∷ []
+      ≡ map (some_line client) (take i lines) ++ some_line client l ∷ []
       = cc (placed.1) in record {
         later = prefix_trans s s' s'' g.later p;
         gained = g.gained ++ at ∷ [];
         mine-is = same ∙ (ap (λ w. w ++ at ∷ []) g.mine-is ∙ append_assoc m g.gained (at ∷ []));
-        rising = rise_one (length s) (length s') at (length s'') g.gained g.rising placed.0 (line_below s'' at _ placed.1);
+        rising =
+            rise_one (length s) (length s') at (length s'') g.gained g.rising placed.0 (line_below s'' at _ placed.1);
         answers = map-append (line_at s'') g.gained (at ∷ []) ∙ (both
-            ∙ sym (ap (map (some_line client)) (take_next lines i l there) ∙ map-append (some_line client) (take i lines) (l ∷ [])));
+            ∙ sym (ap (map (some_line client)) (take_next lines i l there)
+            ∙ map-append (some_line client) (take i lines) (l ∷ [])));
       }
 
 -- what stands of a session before its line i
-pub record Sofar {D T : Type 0} (takes : D → T → Type 0) (seen : T → List Entry) (mine : T → List ℕ) (share : T → ℕ) (desk : D)
+pub record Sofar {D T : Type 0}
+    (takes : D → T → Type 0) (seen : T → List Entry) (mine : T → List ℕ) (share : T → ℕ) (desk : D)
     (s s' : Session T) (i : ℕ) : Type 0 where
   pub seat : takes desk s'.seat
   pub part : share s'.seat ≡ share s.seat
@@ -106,7 +113,8 @@ module _ {D T : Type 0} (takes : D → T → Type 0) (seen : T → List Entry) (
     -- the line was placed
     pub placed_one : (l : Line) (at : ℕ) (s'' : Session T) → slice_get s'.lines i ≡ Some l
         → s''.lines ≡ slice_set s'.lines i (taken_from l) → takes desk s''.seat → share s''.seat ≡ share s'.seat
-        → IsPrefix (seen s'.seat) (seen s''.seat) → IsPlaced s'.client l.line l.command at (seen s'.seat) (seen s''.seat)
+        → IsPrefix (seen s'.seat) (seen s''.seat) →
+        IsPlaced s'.client l.line l.command at (seen s'.seat) (seen s''.seat)
         → mine s''.seat ≡ mine s'.seat ++ at ∷ [] → s''.client ≡ s'.client → s''.stopped ≡ s'.stopped
         → s''.done ≡ s'.done + 1 → Sofar takes seen mine share desk s s'' (i + 1)
     placed_one l at s'' there lines seat part pre placed more client stopped done =
@@ -118,14 +126,16 @@ module _ {D T : Type 0} (takes : D → T → Type 0) (seen : T → List Entry) (
           done = let e = so.done in omega arith;
           within = let w = slice_get_within s.lines i l was in omega arith;
           left = lines ∙ (ap (λ ls. slice_set ls i (taken_from l)) so.left ∙ left_next i s.lines l was);
-          gains = gains_one s.client (seen s.seat) (mine s.seat) (seen s'.seat) (seen s''.seat) (mine s'.seat) (mine s''.seat)
+          gains = gains_one s.client
+              (seen s.seat) (mine s.seat) (seen s'.seat) (seen s''.seat) (mine s'.seat) (mine s''.seat)
               s.lines i l at so.gains pre was
               (subst (λ c. IsPlaced c l.line l.command at (seen s'.seat) (seen s''.seat)) so.client placed) more;
         }
 
     -- the submit found no memory, and its line is put back
     pub stopped_at : (l : Line) (s'' : Session T) → slice_get s'.lines i ≡ Some l
-        → s''.lines ≡ slice_set (slice_set s'.lines i (taken_from l)) i l → takes desk s''.seat → share s''.seat ≡ share s'.seat
+        → s''.lines ≡ slice_set (slice_set s'.lines i (taken_from l)) i l →
+        takes desk s''.seat → share s''.seat ≡ share s'.seat
         → IsPrefix (seen s'.seat) (seen s''.seat) → mine s''.seat ≡ mine s'.seat → s''.client ≡ s'.client
         → s''.stopped ≡ true → s''.done ≡ s'.done → IsServed takes seen mine share desk s s''
     stopped_at l s'' there lines seat part pre same client stopped done =
@@ -141,7 +151,9 @@ module _ {D T : Type 0} (takes : D → T → Type 0) (seen : T → List Entry) (
           done = omega arith;
           stopped = ((λ _. less), (λ _. stopped));
           lines = back ∙ ap (λ n. left_of n s.lines) (sym here);
-          gains = subst (λ n. Gains s.client (take n s.lines) (seen s.seat) (mine s.seat) (seen s''.seat) (mine s''.seat)) (sym here)
-              (gains_seen s.client (seen s.seat) (mine s.seat) (seen s'.seat) (seen s''.seat) (mine s'.seat) (mine s''.seat)
+          gains = subst (λ n.
+              Gains s.client (take n s.lines) (seen s.seat) (mine s.seat) (seen s''.seat) (mine s''.seat)) (sym here)
+              (gains_seen s.client
+              (seen s.seat) (mine s.seat) (seen s'.seat) (seen s''.seat) (mine s'.seat) (mine s''.seat)
               (take i s.lines) so.gains pre same);
         }

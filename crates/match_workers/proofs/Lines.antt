@@ -1,5 +1,6 @@
 -- The lines of a session, of which the first ones were taken out.
-use Rattle.std.proofs.Common.{◌≡◌, ℕ, zero, suc, ◌+◌, List, [], ◌∷◌, ◌++◌, length, map, take, drop, slice_get, slice_set, Some, refl, sym, ap, ◌∙◌, subst, arith, All}
+use Rattle.std.proofs.Common.{◌≡◌, ℕ, zero, suc, ◌+◌, List, [], ◌∷◌, ◌++◌, length, map, take, drop, slice_get}
+use Rattle.std.proofs.Common.{slice_set, Some, refl, sym, ap, ◌∙◌, subst, arith, All}
 use Rattle.std.proofs.lemmas.List.Elements.{All-get_or}
 use Rattle.std.proofs.lemmas.Option.{slice_get_within, get_or_from_slice_get}
 use Rattle.flux_defs.specs.declared.journal.Line.{Line}
@@ -36,7 +37,8 @@ left_back zero (x ∷ ls) l y at = let same : x ≡ l = cc in ap (λ z. z ∷ ls
 left_back (suc i) (x ∷ ls) l y at = ap (λ zs. taken_from x ∷ zs) (left_back i ls l y at)
 
 -- the line that was taken out is the next of those before it
-pub take_next : {A : Type 0} (xs : List A) (i : ℕ) (x : A) → slice_get xs i ≡ Some x → take (i + 1) xs ≡ take i xs ++ x ∷ []
+pub take_next : {A : Type 0} (xs : List A) (i : ℕ) (x : A) →
+    slice_get xs i ≡ Some x → take (i + 1) xs ≡ take i xs ++ x ∷ []
 take_next [] i x at = absurd cc
 take_next (y ∷ xs) zero x at = let same : y ≡ x = cc in ap (λ z. z ∷ []) same
 take_next (y ∷ xs) (suc i) x at =

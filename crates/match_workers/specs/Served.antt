@@ -1,5 +1,6 @@
 -- What serving a session does.
-use Rattle.std.specs.Prelude.{◌≡◌, ℕ, ◌+◌, ◌≤◌, ◌<◌, ◌↔◌, false, IsTrue, List, [], ◌∷◌, ◌++◌, All, length, map, take, drop, Option, Some}
+use Rattle.std.specs.Prelude.{◌≡◌, ℕ, ◌+◌, ◌≤◌, ◌<◌, ◌↔◌, false, IsTrue, List, [], ◌∷◌, ◌++◌, All, length, map, take}
+use Rattle.std.specs.Prelude.{drop, Option, Some}
 use mathlib.Core.List.{IsPrefix}
 use Rattle.flux_defs.specs.declared.journal.ClientLine.{ClientLine}
 use Rattle.flux_defs.specs.declared.journal.Command.{Command}
@@ -25,7 +26,8 @@ some_line client l = Some (client_line client l)
 
 -- Between two looks at a history a client gained these positions: behind all that was seen at first, in rising order,
 -- and the k-th of them has the entry that answers the k-th of the lines.
-pub record Gains (client : ℕ) (lines : List Line) (seen : List Entry) (mine : List ℕ) (seen' : List Entry) (mine' : List ℕ)
+pub record Gains (client : ℕ)
+    (lines : List Line) (seen : List Entry) (mine : List ℕ) (seen' : List Entry) (mine' : List ℕ)
     : Type 0 where
   pub later : IsPrefix seen seen'
   pub gained : List ℕ
@@ -35,7 +37,8 @@ pub record Gains (client : ℕ) (lines : List Line) (seen : List Entry) (mine : 
 
 module _ {D T : Type 0} where
   -- the desk takes the session's seat and its lines' commands, and the session has done nothing yet
-  pub record CanBegin (takes : D → T → Type 0) (accepts : D → Command → Type 0) (desk : D) (s : Session T) : Type 0 where
+  pub record CanBegin
+      (takes : D → T → Type 0) (accepts : D → Command → Type 0) (desk : D) (s : Session T) : Type 0 where
     pub seat : takes desk s.seat
     pub commands : All (λ l. accepts desk l.command) s.lines
     pub done : s.done ≡ 0

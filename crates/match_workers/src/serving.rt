@@ -61,7 +61,8 @@ where
     D::Seat: Send,
     requires { All (CanBegin D.takes D.accepts desk.now) sessions.old }
     ensures { (i : ℕ) (s : Sitting (D.Seat)) → i < length sessions.old →
-        IsServed D.takes D.seen D.mine D.share desk.now (slice_index_or sessions.old i s) (slice_index_or sessions.new i s) }
+        IsServed D.takes D.seen D.mine D.share desk.now
+        (slice_index_or sessions.old i s) (slice_index_or sessions.new i s) }
 {
     thread::for_each_mut(
         rt,
@@ -85,7 +86,8 @@ where
     requires { All (CanBegin D.takes D.accepts desk.now) sessions.old }
     ensures count { length sessions.new ≡ length sessions.old }
     ensures each { (i : ℕ) (s : Sitting (D.Seat)) → i < length sessions.old →
-        IsServed D.takes D.seen D.mine D.share desk.now (slice_index_or sessions.old i s) (slice_index_or sessions.new i s) }
+        IsServed D.takes D.seen D.mine D.share desk.now
+        (slice_index_or sessions.old i s) (slice_index_or sessions.new i s) }
 {
     let mut all = mem::replace(sessions, List::new(alloc)).into_vec();
     serve_each(rt, alloc, all.as_mut_slice(), desk, gate);

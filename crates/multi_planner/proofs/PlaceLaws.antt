@@ -1,5 +1,6 @@
 -- Lists that grow by one place with the relation at it.
-use Rattle.std.proofs.Common.{◌≡◌, ℕ, zero, suc, ◌+◌, ◌<◌, ◌≤◌, List, [], ◌∷◌, ◌++◌, length, refl, sym, ◌∙◌, ap, subst, arith, Some, slice_get, take, ◌⊎◌, inl, inr}
+use Rattle.std.proofs.Common.{◌≡◌, ℕ, zero, suc, ◌+◌, ◌<◌, ◌≤◌, List, [], ◌∷◌, ◌++◌, length, refl, sym, ◌∙◌, ap, subst}
+use Rattle.std.proofs.Common.{arith, Some, slice_get, take, ◌⊎◌, inl, inr}
 use Rattle.std.specs.Prelude.{sum_by}
 use Rattle.std.proofs.lemmas.List.Sums.{sum_by-cons}
 use Rattle.multi_planner.specs.Places.{AtEach, AtEachThree}
@@ -67,7 +68,8 @@ sum_rest f (x ∷ xs) (suc place) =
     omega (arith, sum_by-cons f x xs, sum_by-cons f x (take place xs), sum_rest f xs place)
 
 -- what is done at one item after another takes no more than the sum
-module _ {X : Type 0} (f : X → ℕ) (xs : List X) (start before after place : ℕ) (x : X) (at : slice_get xs place ≡ Some x)
+module _ {X : Type 0}
+    (f : X → ℕ) (xs : List X) (start before after place : ℕ) (x : X) (at : slice_get xs place ≡ Some x)
     (so_far : before ≤ start + sum_by f (take place xs)) (one : after ≤ before + f x) where
   pub work_next : after ≤ start + sum_by f (take (place + 1) xs)
   work_next = omega (arith, sum_more f xs place x at, so_far, one)

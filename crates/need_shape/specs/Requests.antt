@@ -1,7 +1,9 @@
 -- Request vertices (RFC 14): the types that they name, and which lists of them are requests.
--- The request vertices in one appear here as a row (`end_of-RawNeed`, `more_of-RawNeed`), a list within a request vertex.
+-- The request vertices in one appear here as a row (`end_of-RawNeed`, `more_of-RawNeed`), a list within a request
+-- vertex.
 use Rattle.flux_defs.specs.declared.limits.TheConstants.{GREATEST_NUMBER}
-use Rattle.std.specs.Prelude.{ℕ, ◌^◌, ◌≤◌, Bool, ◌||◌, List, [], ◌∷◌, ◌++◌, if◌then◌else◌, IsTrue, IsFalse, codes, bytes_eq}
+use Rattle.std.specs.Prelude.{ℕ, ◌^◌, ◌≤◌, Bool, ◌||◌, List, [], ◌∷◌, ◌++◌, if◌then◌else◌, IsTrue, IsFalse, codes}
+use Rattle.std.specs.Prelude.{bytes_eq}
 use Rattle.need_shape.specs.declared.raw.RawNeed.{RawNeed, RawNeed', Row_of-RawNeed, end_of-RawNeed, more_of-RawNeed}
 
 -- a request vertex whose type is called so is a slot

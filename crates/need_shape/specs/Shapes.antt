@@ -4,7 +4,8 @@ use Rattle.std.specs.List.{list_any}
 use Rattle.flux_defs.specs.declared.requests.Need.{Need, Vert, Pool, Spread}
 use Rattle.flux_defs.specs.Graph.{is_pool_kind}
 use Rattle.flux_defs.specs.Needs.{scaled}
-use Rattle.need_shape.specs.declared.raw.RawNeed.{RawNeed, RawNeed', Row_of-RawNeed, end_of-RawNeed, more_of-RawNeed, out-RawNeed}
+use Rattle.need_shape.specs.declared.raw.RawNeed.{RawNeed, RawNeed', Row_of-RawNeed, end_of-RawNeed, more_of-RawNeed}
+use Rattle.need_shape.specs.declared.raw.RawNeed.{out-RawNeed}
 use Rattle.need_shape.specs.declared.shaping.Within.{Within}
 use Rattle.need_shape.specs.Requests.{is_slot, types_row, types_in}
 use Rattle.need_shape.specs.Types.{Types, number_of, is_inner, is_upper}
@@ -20,7 +21,8 @@ in_slot within = record { slot = true; node = within.node }
 abbrev pub in_type : Types → Within → List ℕ → Within
 in_type types within kind = record { slot = within.slot; node = is_inner types kind || within.node }
 
--- a slot is multiplied out where it stands in a request for nodes or what they contain, or asks for nodes or what contains them
+-- a slot is multiplied out where it stands in a request for nodes or what they contain, or asks for nodes or what
+-- contains them
 abbrev pub is_multiplied : Types → Within → {m : _} → Row_of-RawNeed m → Bool
 is_multiplied types within with = within.node || list_any (is_upper types) (types_row with)
 
@@ -28,10 +30,12 @@ is_multiplied types within with = within.node || list_any (is_upper types) (type
 abbrev pub slot_needs : Bool → ℕ → List Need → List Need
 slot_needs multiplied count needs = if multiplied then scaled count needs else Spread count needs ∷ []
 
--- the need for a type: a quantity of a pool type, or vertices, held where the request says so, or else where it stands in a slot
+-- the need for a type: a quantity of a pool type, or vertices, held where the request says so, or else where it stands
+-- in a slot
 abbrev pub type_need : Types → Within → List ℕ → ℕ → Option Bool → List Need → Need
 type_need types within kind count exclusive needs =
-    if is_pool_kind types.vertices (number_of types kind) then Pool (number_of types kind) count else Vert (number_of types kind) count (unwrap_or exclusive within.slot) needs
+    if is_pool_kind types.vertices (number_of types kind) then Pool (number_of types kind) count
+    else Vert (number_of types kind) count (unwrap_or exclusive within.slot) needs
 
 abbrev mutual
   -- the needs that a request vertex becomes
@@ -51,8 +55,10 @@ needs_in types within (raw ∷ rest) = needs_of types within raw ++ needs_in typ
 
 -- The same of a slot and of a type, by the list of those in them.
 abbrev pub slot_needs_in : Types → Within → ℕ → List RawNeed → List Need
-slot_needs_in types within count with = slot_needs (within.node || list_any (is_upper types) (types_in with)) count (needs_in types (in_slot within) with)
+slot_needs_in types within count with =
+    slot_needs (within.node || list_any (is_upper types) (types_in with)) count (needs_in types (in_slot within) with)
 
 abbrev pub type_need_in : Types → Within → RawNeed → Need
 type_need_in types within raw =
-    type_need types within (out-RawNeed raw).kind (out-RawNeed raw).count (out-RawNeed raw).exclusive (needs_in types (in_type types within (out-RawNeed raw).kind) (out-RawNeed raw).with)
+    type_need types within (out-RawNeed raw).kind (out-RawNeed raw).count (out-RawNeed raw).exclusive
+    (needs_in types (in_type types within (out-RawNeed raw).kind) (out-RawNeed raw).with)

@@ -17,7 +17,8 @@ pub record Types : Type 0 where
 abbrev pub types_at : NamedGraph → List (List ℕ) → Types
 types_at graph names = record { vertices = graph.resources.vertices; names = names }
 
--- the types of the graph, and after them the others that the request names, each once, in the order in which it names them
+-- the types of the graph, and after them the others that the request names, each once, in the order in which it names
+-- them
 abbrev pub types_for : ResourceGraph → List RawNeed → Types
 types_for g request = record { vertices = g.vertices; names = with_texts g.kinds (types_in request) }
 

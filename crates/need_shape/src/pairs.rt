@@ -44,7 +44,8 @@ fn nested(
     upper: &Need,
     lower: &Need,
 ) -> Result<ShapeFault, AllocError>
-    ensures { IfOk result (λ fault. fault ≡ ShapeFault.NestedSiblings (name_in (types_at graph.now table.now) upper.now) (name_in (types_at graph.now table.now) lower.now)) }
+    ensures { IfOk result (λ fault. fault ≡ ShapeFault.NestedSiblings
+        (name_in (types_at graph.now table.now) upper.now) (name_in (types_at graph.now table.now) lower.now)) }
 {
     Ok(ShapeFault::NestedSiblings {
         upper: name_in(alloc, graph, table, upper)?,

@@ -1,12 +1,14 @@
 //! From request vertices to needs.
-ghost use Rattle.std.specs.Prelude.{◌≡◌, ◌<◌, ◌≤◌, ◌^◌, ◌*◌, ◌++◌, ◌∷◌, [], true, false, length, None, IfOk, IfErr, IfSome, IfNone, IsOk, OnOk};
+ghost use Rattle.std.specs.Prelude.{◌≡◌, ◌<◌, ◌≤◌, ◌^◌, ◌*◌, ◌++◌, ◌∷◌, [], true, false, length, None, IfOk, IfErr};
+ghost use Rattle.std.specs.Prelude.{IfSome, IfNone, IsOk, OnOk};
 ghost use Rattle.flux_defs.specs.Needs.{scaled, scaled_need, AreValidNeeds};
 ghost use Rattle.flux_defs.specs.declared.limits.TheConstants.{GREATEST_NUMBER};
 ghost use Rattle.need_shape.specs.Requests.{AreRequests};
 ghost use Rattle.need_shape.specs.Types.{types_at, types_for};
 ghost use Rattle.need_shape.specs.declared.raw.RawNeed.{out-RawNeed};
 ghost use Rattle.need_shape.specs.Shapes.{outside, in_type, needs_of, needs_in, slot_needs_in, type_need_in};
-ghost use Rattle.need_shape.specs.Faults.{IsFirstFault, fault_of, members_fault_in, list_fault, pairs_fault, slot_fault_in, type_fault_in, pool_fault, is_some_list, is_past, fault_where};
+ghost use Rattle.need_shape.specs.Faults.{IsFirstFault, fault_of, members_fault_in, list_fault, pairs_fault};
+ghost use Rattle.need_shape.specs.Faults.{slot_fault_in, type_fault_in, pool_fault, is_some_list, is_past, fault_where};
 
 use crate::pairs::pairs_fault;
 use crate::raw::{RawNeed, ShapeFault};
@@ -72,7 +74,8 @@ fn push_need(out: &mut Vec<Need>, need: Need) -> Result<(), AllocError>
 
 /// Adds the needs, each its count so many times.
 fn add_scaled(count: u64, needs: Vec<Need>, out: &mut Vec<Need>) -> Result<(), ShapeFault>
-    ensures ok { OnOk result ((out.new.items ≡ out.old.items ++ scaled count needs.items) × (is_past count needs.items ≡ false)) }
+    ensures ok { OnOk result
+        ((out.new.items ≡ out.old.items ++ scaled count needs.items) × (is_past count needs.items ≡ false)) }
     ensures told { IfErr result (IsFirstFault (fault_where (is_past count needs.items) ShapeFault.CountLimit)) }
 {
     for need in needs {
@@ -116,7 +119,8 @@ fn in_type(graph: &Graph, table: &TextTable, within: Within, kind: &[u8]) -> Wit
 fn shape_pool(alloc: Global, kind: u32, raw: &RawNeed) -> Result<Need, ShapeFault>
     ensures need { IfOk result (λ need. need ≡ Need.Pool kind (out-RawNeed raw.now).count) }
     ensures bare { IsOk result → (out-RawNeed raw.now).with ≡ [] }
-    ensures fine { IsOk result → pool_fault (out-RawNeed raw.now).kind (out-RawNeed raw.now).exclusive (is_some_list (out-RawNeed raw.now).with) ≡ None }
+    ensures fine { IsOk result → pool_fault
+        (out-RawNeed raw.now).kind (out-RawNeed raw.now).exclusive (is_some_list (out-RawNeed raw.now).with) ≡ None }
     ensures told { IfErr result (IsFirstFault
         (pool_fault (out-RawNeed raw.now).kind (out-RawNeed raw.now).exclusive
         (is_some_list (out-RawNeed raw.now).with))) }
@@ -146,7 +150,8 @@ fn add_members(
     out: &mut Vec<Need>,
 ) -> Result<(), ShapeFault>
     requires { length table.now < 2 ^ 32 }
-    ensures ok { OnOk result ((out.new.items ≡ out.old.items ++ needs_in (types_at graph.now table.now) within request.now)
+    ensures ok { OnOk result
+        ((out.new.items ≡ out.old.items ++ needs_in (types_at graph.now table.now) within request.now)
         × (members_fault_in (types_at graph.now table.now) within request.now ≡ None)) }
     ensures told { IfErr result (IsFirstFault (members_fault_in (types_at graph.now table.now) within request.now)) }
 {
@@ -212,7 +217,8 @@ fn add_slot(
     out: &mut Vec<Need>,
 ) -> Result<(), ShapeFault>
     requires { length table.now < 2 ^ 32 }
-    ensures ok { OnOk result ((out.new.items ≡ out.old.items ++ slot_needs_in (types_at graph.now table.now) within count with.now)
+    ensures ok { OnOk result
+        ((out.new.items ≡ out.old.items ++ slot_needs_in (types_at graph.now table.now) within count with.now)
         × (slot_fault_in (types_at graph.now table.now) within count with.now ≡ None)) }
     ensures told { IfErr result (IsFirstFault (slot_fault_in (types_at graph.now table.now) within count with.now)) }
 {
@@ -268,7 +274,8 @@ pub fn shape(
     request: &List<RawNeed>,
 ) -> Result<List<Need>, ShapeFault>
     requires { AreRequests false request.now }
-    ensures needs { IfOk result (λ needs. needs ≡ needs_in (types_for graph.now.resources request.now) outside request.now) }
+    ensures needs { IfOk result
+        (λ needs. needs ≡ needs_in (types_for graph.now.resources request.now) outside request.now) }
     ensures fine { IsOk result → list_fault (types_for graph.now.resources request.now) outside request.now ≡ None }
     ensures told { IfErr result (IsFirstFault
         (list_fault (types_for graph.now.resources request.now) outside request.now)) }

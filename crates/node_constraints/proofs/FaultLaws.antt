@@ -1,5 +1,6 @@
 -- The fault that is meant.
-use Rattle.std.proofs.Common.{◌≡◌, refl, sym, ◌∙◌, ap, subst, arith, ℕ, ◌+◌, ◌*◌, ◌<◌, ◌≤◌, drop, get_or, length, List, ◌∷◌, ◌++◌, append_assoc, Option, Some, None}
+use Rattle.std.proofs.Common.{◌≡◌, refl, sym, ◌∙◌, ap, subst, arith, ℕ, ◌+◌, ◌*◌, ◌<◌, ◌≤◌, drop, get_or, length, List}
+use Rattle.std.proofs.Common.{◌∷◌, ◌++◌, append_assoc, Option, Some, None}
 use Rattle.std.proofs.lemmas.List.{drop_more}
 use Rattle.std.specs.Option.{option_or}
 use Rattle.node_constraints.specs.declared.faults.ConstraintFault.{ConstraintFault}
@@ -83,5 +84,6 @@ module _ (vs : List Value) (at : ℕ) (x : Value) (lt : at < length vs) (is : x 
       pub none_at : fault_at (list ++ index at) (view x) ≡ None →
           items_fault list (at + 1) (items_view (drop (at + 1) vs)) ≡ items_fault list 0 (items_view vs)
       none_at none =
-          sym (later_is (fault_at (list ++ index at) (view x)) (items_fault list (at + 1) (items_view (drop (at + 1) vs)))
+          sym (later_is (fault_at (list ++ index at) (view x))
+          (items_fault list (at + 1) (items_view (drop (at + 1) vs)))
           none) ∙ (ap (λ ys. items_fault list at (items_view ys)) (sym rest_here) ∙ before)

@@ -1,5 +1,6 @@
 -- Lists that are filtered, and what a filter leaves out.
-use Rattle.std.proofs.Common.{◌≡◌, ◌≢◌, refl, sym, ◌∙◌, ap, ℕ, zero, suc, ◌+◌, Bool, true, false, not, ◌&&◌, ◌||◌, List, [], ◌∷◌, ◌++◌, cond, drop, Some, append_assoc}
+use Rattle.std.proofs.Common.{◌≡◌, ◌≢◌, refl, sym, ◌∙◌, ap, ℕ, zero, suc, ◌+◌, Bool, true, false, not, ◌&&◌, ◌||◌, List}
+use Rattle.std.proofs.Common.{[], ◌∷◌, ◌++◌, cond, drop, Some, append_assoc}
 use Rattle.std.specs.Prelude.{slice_get}
 use Rattle.std.proofs.lemmas.List.{drop_more}
 use Rattle.std.proofs.lemmas.Option.{slice_get-get_or, slice_get_within, same_Some}
@@ -15,7 +16,9 @@ pub filter_twice : {X : Type 0} (p q : X → Bool) (xs : List X) → filter q (f
 filter_twice p q [] = refl
 filter_twice p q (x ∷ xs) = go (p x) (filter_twice p q xs)
   where
-    go : (b : Bool) → filter q (filter p xs) ≡ filter (λ y. p y && q y) xs → filter q (cond b (x ∷ filter p xs) (filter p xs)) ≡ cond (b && q x) (x ∷ filter (λ y. p y && q y) xs) (filter (λ y. p y && q y) xs)
+    go : (b : Bool) → filter q (filter p xs) ≡ filter (λ y. p y && q y) xs →
+        filter q (cond b (x ∷ filter p xs) (filter p xs))
+        ≡ cond (b && q x) (x ∷ filter (λ y. p y && q y) xs) (filter (λ y. p y && q y) xs)
     go true others = ap (λ ys. cond (q x) (x ∷ ys) ys) others
     go false others = others
 
@@ -24,30 +27,36 @@ head_passes : (p : ℕ → Bool) (x : ℕ) (left xs : List ℕ) → x ∷ left �
 head_passes p x left [] same = absurd (cc)
 head_passes p x left (y ∷ ys) same = go (p y) refl (head_passes p x left ys) same
   where
-    go : (b : Bool) → p y ≡ b → (x ∷ left ≡ filter p ys → p x ≡ true) → x ∷ left ≡ cond b (y ∷ filter p ys) (filter p ys) → p x ≡ true
+    go : (b : Bool) → p y ≡ b →
+        (x ∷ left ≡ filter p ys → p x ≡ true) → x ∷ left ≡ cond b (y ∷ filter p ys) (filter p ys) → p x ≡ true
     go true is later here = let first : x ≡ y = cc in ap p first ∙ is
     go false is later here = later here
 
 -- the first of a list also stands first in the filtered one: it passes
-pub passes_first : (p : ℕ → Bool) (x : ℕ) (left xs : List ℕ) → x ∷ left ≡ filter p (x ∷ xs) → (left ≡ filter p xs) × (filter (λ y. not (p y)) (x ∷ xs) ≡ filter (λ y. not (p y)) xs)
+pub passes_first : (p : ℕ → Bool) (x : ℕ) (left xs : List ℕ) → x ∷ left ≡ filter p (x ∷ xs) →
+    (left ≡ filter p xs) × (filter (λ y. not (p y)) (x ∷ xs) ≡ filter (λ y. not (p y)) xs)
 passes_first p x left xs same = go (p x) (head_passes p x left (x ∷ xs) same) same
   where
-    go : (b : Bool) → b ≡ true → x ∷ left ≡ cond b (x ∷ filter p xs) (filter p xs) → (left ≡ filter p xs) × (cond (not b) (x ∷ filter (λ y. not (p y)) xs) (filter (λ y. not (p y)) xs) ≡ filter (λ y. not (p y)) xs)
+    go : (b : Bool) → b ≡ true → x ∷ left ≡ cond b (x ∷ filter p xs) (filter p xs) → (left ≡ filter p xs)
+        × (cond (not b) (x ∷ filter (λ y. not (p y)) xs) (filter (λ y. not (p y)) xs) ≡ filter (λ y. not (p y)) xs)
     go true is here = let more : left ≡ filter p xs = cc in (more, refl)
     go false is here = absurd (cc)
 
 -- the first of a list doesn't stand first in the filtered one: it doesn't pass
-pub fails_first : (p : ℕ → Bool) (x : ℕ) (left xs : List ℕ) → left ≡ filter p (x ∷ xs) → ((ys : List ℕ) → left ≢ x ∷ ys) → (left ≡ filter p xs) × (filter (λ y. not (p y)) (x ∷ xs) ≡ x ∷ filter (λ y. not (p y)) xs)
+pub fails_first : (p : ℕ → Bool) (x : ℕ) (left xs : List ℕ) → left ≡ filter p (x ∷ xs) → ((ys : List ℕ) →
+    left ≢ x ∷ ys) → (left ≡ filter p xs) × (filter (λ y. not (p y)) (x ∷ xs) ≡ x ∷ filter (λ y. not (p y)) xs)
 fails_first p x left xs same other = go (p x) same
   where
-    go : (b : Bool) → left ≡ cond b (x ∷ filter p xs) (filter p xs) → (left ≡ filter p xs) × (cond (not b) (x ∷ filter (λ y. not (p y)) xs) (filter (λ y. not (p y)) xs) ≡ x ∷ filter (λ y. not (p y)) xs)
+    go : (b : Bool) → left ≡ cond b (x ∷ filter p xs) (filter p xs) → (left ≡ filter p xs)
+        × (cond (not b) (x ∷ filter (λ y. not (p y)) xs) (filter (λ y. not (p y)) xs) ≡ x ∷ filter (λ y. not (p y)) xs)
     go true here = absurd (other _ here)
     go false here = (here, refl)
 
 -- ---- what stands at a place
 
 pub at_drop : (xs : List ℕ) (k x : ℕ) → slice_get xs k ≡ Some x → drop k xs ≡ x ∷ drop (k + 1) xs
-at_drop xs k x here = let lt = slice_get_within xs k x here in drop_more xs k x lt ∙ ap (λ y. y ∷ drop (k + 1) xs) (same_Some _ _ (sym (slice_get-get_or xs k x lt) ∙ here))
+at_drop xs k x here = let lt = slice_get_within xs k x here in
+    drop_more xs k x lt ∙ ap (λ y. y ∷ drop (k + 1) xs) (same_Some _ _ (sym (slice_get-get_or xs k x lt) ∙ here))
 
 pub drop_at : (xs ys : List ℕ) (k x : ℕ) → drop k xs ≡ x ∷ ys → slice_get xs k ≡ Some x
 drop_at [] ys zero x same = absurd (cc)
@@ -57,20 +66,31 @@ drop_at (y ∷ xs) ys (suc k) x same = drop_at xs ys k x same
 
 -- ---- one step over a list, with its filtered one beside it
 
-pub passed_over : (p : ℕ → Bool) (xs some others : List ℕ) (at next x : ℕ) (all : List ℕ) → drop at xs ≡ x ∷ drop (at + 1) xs → slice_get some next ≡ Some x →
+pub passed_over : (p : ℕ → Bool) (xs some others : List ℕ) (at next x : ℕ) (all : List ℕ) →
+    drop at xs ≡ x ∷ drop (at + 1) xs → slice_get some next ≡ Some x →
     (drop next some ≡ filter p (drop at xs)) × (others ++ filter (λ v. not (p v)) (drop at xs) ≡ all) →
     (drop (next + 1) some ≡ filter p (drop (at + 1) xs)) × (others ++ filter (λ v. not (p v)) (drop (at + 1) xs) ≡ all)
 passed_over p xs some others at next x all here is before =
-    let same : x ∷ drop (next + 1) some ≡ filter p (x ∷ drop (at + 1) xs) = sym (at_drop some next x is) ∙ (before.0 ∙ ap (filter p) here) in
-    let step = passes_first p x (drop (next + 1) some) (drop (at + 1) xs) same in
-    (step.0, ap (λ ys. others ++ ys) (sym step.1) ∙ (ap (λ ys. others ++ filter (λ v. not (p v)) ys) (sym here) ∙ before.1))
+    let same : x ∷ drop (next + 1) some ≡ filter p (x ∷ drop (at + 1) xs) =
+    sym (at_drop some next x is) ∙ (before.0 ∙ ap (filter p) here) in
+    let step = passes_first p x (drop (next + 1) some) (drop (at + 1) xs) same in (
+      step.0,
+      ap (λ ys. others ++ ys) (sym step.1)
+          ∙ (ap (λ ys. others ++ filter (λ v. not (p v)) ys) (sym here) ∙ before.1),
+    )
 
-pub kept_one : (p : ℕ → Bool) (xs some others : List ℕ) (at next x : ℕ) (all : List ℕ) → drop at xs ≡ x ∷ drop (at + 1) xs → slice_get some next ≢ Some x →
+pub kept_one : (p : ℕ → Bool) (xs some others : List ℕ) (at next x : ℕ) (all : List ℕ) →
+    drop at xs ≡ x ∷ drop (at + 1) xs → slice_get some next ≢ Some x →
     (drop next some ≡ filter p (drop at xs)) × (others ++ filter (λ v. not (p v)) (drop at xs) ≡ all) →
-    (drop next some ≡ filter p (drop (at + 1) xs)) × ((others ++ x ∷ []) ++ filter (λ v. not (p v)) (drop (at + 1) xs) ≡ all)
+    (drop next some ≡ filter p (drop (at + 1) xs))
+    × ((others ++ x ∷ []) ++ filter (λ v. not (p v)) (drop (at + 1) xs) ≡ all)
 kept_one p xs some others at next x all here apart before =
-    let step = fails_first p x (drop next some) (drop (at + 1) xs) (before.0 ∙ ap (filter p) here) (λ ys same. apart (drop_at some ys next x same)) in
-    (step.0, append_assoc others (x ∷ []) (filter (λ v. not (p v)) (drop (at + 1) xs)) ∙ (ap (λ ys. others ++ ys) (sym step.1) ∙ (ap (λ ys. others ++ filter (λ v. not (p v)) ys) (sym here) ∙ before.1)))
+    let step = fails_first p x (drop next some)
+    (drop (at + 1) xs) (before.0 ∙ ap (filter p) here) (λ ys same. apart (drop_at some ys next x same)) in (
+      step.0,
+      append_assoc others (x ∷ []) (filter (λ v. not (p v)) (drop (at + 1) xs)) ∙ (ap
+          (λ ys. others ++ ys) (sym step.1) ∙ (ap (λ ys. others ++ filter (λ v. not (p v)) ys) (sym here) ∙ before.1)),
+    )
 
 -- ---- what something is false for
 
@@ -83,5 +103,7 @@ not_either true b = refl
 not_either false b = refl
 
 -- those for which it apart false
-pub others_of_others : (nodes others new : List ℕ) (p : ℕ → Bool) → others ≡ filter (λ v. not (p v)) nodes → AreOthers nodes others new → new ≡ filter p nodes
-others_of_others nodes others new p are taken = taken (λ v. not (p v)) are ∙ filter_agree (λ v. not (not (p v))) p (λ v. not_not (p v)) nodes
+pub others_of_others : (nodes others new : List ℕ) (p : ℕ → Bool) →
+    others ≡ filter (λ v. not (p v)) nodes → AreOthers nodes others new → new ≡ filter p nodes
+others_of_others nodes others new p are taken =
+    taken (λ v. not (p v)) are ∙ filter_agree (λ v. not (not (p v))) p (λ v. not_not (p v)) nodes

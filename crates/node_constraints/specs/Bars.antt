@@ -1,5 +1,6 @@
 -- The nodes that a constraint bars.
-use Rattle.std.specs.Prelude.{◌≡◌, ℕ, ◌&&◌, List, Bool, not, Option, Some, None, is_some, length, Result, Ok, Err, codes, ⊤}
+use Rattle.std.specs.Prelude.{◌≡◌, ℕ, ◌&&◌, List, Bool, not, Option, Some, None, is_some, length, Result, Ok, Err}
+use Rattle.std.specs.Prelude.{codes, ⊤}
 use Rattle.std.specs.List.{filter, range_with_len}
 use Rattle.serde_json.specs.Data.{Data}
 use Rattle.resource_graph.specs.NamedGraph.{NamedGraph}

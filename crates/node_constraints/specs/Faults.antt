@@ -1,7 +1,9 @@
 -- Which values are no constraints (RFC 31), and where the first fault of one stands.
-use Rattle.std.specs.Prelude.{ℕ, ◌+◌, List, ◌++◌, Bool, true, false, if◌then◌else◌, Option, Some, None, Result, Ok, Err, codes}
+use Rattle.std.specs.Prelude.{ℕ, ◌+◌, List, ◌++◌, Bool, true, false, if◌then◌else◌, Option, Some, None, Result, Ok, Err}
+use Rattle.std.specs.Prelude.{codes}
 use Rattle.std.specs.Option.{option_or}
-use Rattle.serde_json.specs.Data.{Data, null, boolean, number, string, array, object, Items, no_items, item, Members, no_members, member}
+use Rattle.serde_json.specs.Data.{Data, null, boolean, number, string, array, object, Items, no_items, item, Members}
+use Rattle.serde_json.specs.Data.{no_members, member}
 use Rattle.json_fields.specs.Paths.{index}
 use Rattle.idset_text.specs.Hostlists.{hostlist_of}
 use Rattle.idset_text.specs.Idsets.{idset_of}
@@ -43,8 +45,8 @@ list_fault path And ds inner = inner
 list_fault path Or ds inner = inner
 list_fault path Not ds inner = inner
 
--- The path of the innermost constraint in which the first fault of the constraint at a path stands: objects and lists are
--- looked at from their beginnings, the keys of an object in the order of their bytes.
+-- The path of the innermost constraint in which the first fault of the constraint at a path stands: objects and lists
+-- are looked at from their beginnings, the keys of an object in the order of their bytes.
 abbrev mutual
   pub fault_at : List ℕ → Data → Option (List ℕ)
   fault_at path null = Some path

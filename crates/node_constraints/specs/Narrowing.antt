@@ -12,7 +12,8 @@ where_true g holds nodes = filter (λ v. holds (facts_of g v)) nodes
 
 -- `some` are the nodes for which something is true, so `others` are those for which it is false
 abbrev pub AreOthers : List ℕ → List ℕ → List ℕ → Type 0
-AreOthers nodes some others = (holds : ℕ → Bool) → some ≡ filter holds nodes → others ≡ filter (λ v. not (holds v)) nodes
+AreOthers nodes some others =
+    (holds : ℕ → Bool) → some ≡ filter holds nodes → others ≡ filter (λ v. not (holds v)) nodes
 
 -- a fault that is told from a path on is the one that is meant; of want of memory nothing is said
 abbrev pub Means : List ℕ → Option (List ℕ) → ConstraintFault → Type 0

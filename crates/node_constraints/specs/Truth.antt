@@ -1,9 +1,11 @@
 -- What a constraint on nodes says (RFC 31), and for which nodes it is true.
-use Rattle.std.specs.Prelude.{ℕ, ◌==◌, ◌&&◌, ◌||◌, List, [], ◌∷◌, Bool, true, false, not, if◌then◌else◌, Option, Some, None, unwrap_or, slice_get, option_and_then, Result, Ok, Err, codes}
+use Rattle.std.specs.Prelude.{ℕ, ◌==◌, ◌&&◌, ◌||◌, List, [], ◌∷◌, Bool, true, false, not, if◌then◌else◌, Option, Some}
+use Rattle.std.specs.Prelude.{None, unwrap_or, slice_get, option_and_then, Result, Ok, Err, codes}
 use Rattle.std.specs.List.{list_any}
 use Rattle.std.specs.Option.{option_map_or}
 use Rattle.std.specs.Str.{bytes_eq}
-use Rattle.serde_json.specs.Data.{Data, null, boolean, number, string, array, object, Items, no_items, item, Members, no_members, member}
+use Rattle.serde_json.specs.Data.{Data, null, boolean, number, string, array, object, Items, no_items, item, Members}
+use Rattle.serde_json.specs.Data.{no_members, member}
 use Rattle.serde_json.specs.Find.{as_str}
 use Rattle.idset_text.specs.declared.hostlists.Hosts.{Hosts}
 use Rattle.idset_text.specs.declared.idsets.Range.{Range}
@@ -48,7 +50,8 @@ some_text passes (item d ds) = option_map_or passes (as_str d) false || some_tex
 -- the node has the property, or behind `^` (94) it lacks the one called so
 abbrev pub has_property : List (List ℕ) → List ℕ → Bool
 has_property properties [] = is_among properties []
-has_property properties (byte ∷ rest) = if byte == 94 then not (is_among properties rest) else is_among properties (byte ∷ rest)
+has_property properties (byte ∷ rest) =
+    if byte == 94 then not (is_among properties rest) else is_among properties (byte ∷ rest)
 
 abbrev pub is_host_of : List ℕ → Result (List Hosts) ℕ → Bool
 is_host_of name (Ok hosts) = is_among (names_of hosts) name

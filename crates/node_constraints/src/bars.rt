@@ -32,11 +32,12 @@ fn false_for(alloc: Global, graph: &Graph, constraint: &Value) -> Result<Vec<u32
     }
 }
 
-/// The nodes of a graph for which the constraint of a jobspec is false, in the order of their numbers. A constraint (RFC
-/// 31) is an object, true for a node where each of its keys is, and each key has a list: `properties` (each is one of the
-/// node's, or behind `^` none), `hostlist` (some hostlist names the node), `ranks` (some idset has its rank), `and` (each
-/// constraint is true), `or` (some is, or there is none), `not` (some is false). The fault names the innermost constraint
-/// around the first fault, the keys of an object in the order of their bytes.
+/// The nodes of a graph for which the constraint of a jobspec is false, in the order of their numbers. A constraint
+/// (RFC
+/// 31) is an object, true for a node where each of its keys is, and each key has a list: `properties` (each is one of
+/// the node's, or behind `^` none), `hostlist` (some hostlist names the node), `ranks` (some idset has its rank), `and`
+/// (each constraint is true), `or` (some is, or there is none), `not` (some is false). The fault names the innermost
+/// constraint around the first fault, the keys of an object in the order of their bytes.
 pub fn barred(
     alloc: Global,
     graph: &Graph,

@@ -5,8 +5,8 @@ use std::alloc::AllocError;
 /// Why a value is no constraint.
 #[derive(Debug, Drop)]
 pub enum ConstraintFault {
-    /// The constraint at the path, as `attributes.system.constraints.and[0]`, is the innermost one around the first fault:
-    /// it is no object, has a key that no constraint has, or has at a key no list of what stands there.
+    /// The constraint at the path, as `attributes.system.constraints.and[0]`, is the innermost one around the first
+    /// fault: it is no object, has a key that no constraint has, or has at a key no list of what stands there.
     Form { path: Text },
     /// Want of memory.
     Memory,

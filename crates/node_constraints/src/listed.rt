@@ -6,7 +6,8 @@ ghost use Rattle.covered_numbers.specs.Covers.{is_covered};
 ghost use Rattle.idset_text.specs.Hostlists.{names_of};
 ghost use Rattle.text_table.specs.Tables.{with_texts};
 ghost use Rattle.node_constraints.specs.Truth.{is_among};
-ghost use Rattle.node_constraints.specs.Listed.{own_name, own_prefix, own_stretch, names_in, prefixes_in, stretches_in, is_small, are_small, code, IsNumber, IsNumbered};
+ghost use Rattle.node_constraints.specs.Listed.{own_name, own_prefix, own_stretch, names_in, prefixes_in, stretches_in};
+ghost use Rattle.node_constraints.specs.Listed.{is_small, are_small, code, IsNumber, IsNumbered};
 
 use covered_numbers::{Covered, Stretch};
 use flux_defs::List;
@@ -63,7 +64,8 @@ fn add_stretches(
     stretches: &mut Vec<Stretch>,
     hosts: &[Hosts],
 ) -> Result<(), AllocError>
-    ensures added { OnOk result (stretches.new.items ≡ stretches.old.items ++ flat_map (own_stretch prefixes.now) hosts.now) }
+    ensures added { OnOk result
+        (stretches.new.items ≡ stretches.old.items ++ flat_map (own_stretch prefixes.now) hosts.now) }
     ensures small { OnOk result (list_all is_small hosts.now ≡ true) }
 {
     'each: for host in hosts {

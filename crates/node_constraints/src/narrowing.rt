@@ -1,7 +1,7 @@
-//! The nodes for which a constraint is true, found for all nodes at once: one walk over the constraint narrows a list of
-//! nodes key by key, and finds the faults on its way. A fault is told from the inside on, so that no path is made where
-//! nothing is wrong. Where some or none of a list's constraints has to be true, a copy of the nodes that are still in
-//! question is narrowed, and what is left of it is taken away.
+//! The nodes for which a constraint is true, found for all nodes at once: one walk over the constraint narrows a list
+//! of nodes key by key, and finds the faults on its way. A fault is told from the inside on, so that no path is made
+//! where nothing is wrong. Where some or none of a list's constraints has to be true, a copy of the nodes that are
+//! still in question is narrowed, and what is left of it is taken away.
 ghost use Rattle.std.specs.Prelude.{◌≡◌, ◌++◌, ◌||◌, ◌==◌, ℕ, List, Option, Some, false, not, IfOk, IsOk, OnOk};
 ghost use Rattle.std.specs.List.{list_any};
 ghost use Rattle.std.specs.Option.{option_map_or};
@@ -9,8 +9,11 @@ ghost use Rattle.serde_json.specs.View.{view, items_view};
 ghost use Rattle.json_fields.specs.Paths.{index};
 ghost use Rattle.idset_text.specs.Hostlists.{names_of};
 ghost use Rattle.idset_text.specs.Idsets.{ids_of};
-ghost use Rattle.node_constraints.specs.Truth.{facts_of, is_among, has_property, is_listed, is_ranked, each_text, some_text, is_empty, is_true, key_is_true, list_is_true, each_true, some_true, key_of};
-ghost use Rattle.node_constraints.specs.Faults.{is_text, is_hostlist, is_idset, unless, fault_at, key_fault, list_fault, items_fault, list_path};
+ghost use Rattle.node_constraints.specs.Truth.{facts_of, is_among, has_property, is_listed, is_ranked, each_text};
+ghost use Rattle.node_constraints.specs.Truth.{some_text, is_empty, is_true, key_is_true, list_is_true, each_true};
+ghost use Rattle.node_constraints.specs.Truth.{some_true, key_of};
+ghost use Rattle.node_constraints.specs.Faults.{is_text, is_hostlist, is_idset, unless, fault_at, key_fault};
+ghost use Rattle.node_constraints.specs.Faults.{list_fault, items_fault, list_path};
 ghost use Rattle.node_constraints.specs.Narrowing.{where_true, Means, Finds};
 
 use crate::faults::ConstraintFault;
@@ -99,7 +102,8 @@ fn narrow_by_properties(
     values: &[Value],
     nodes: &mut Vec<u32>,
 ) -> Result<(), ConstraintFault>
-    ensures kept { OnOk result (nodes.new.items ≡ where_true graph.now (λ n. each_text (has_property n.properties) (items_view values.now)) nodes.old.items) }
+    ensures kept { OnOk result (nodes.new.items
+        ≡ where_true graph.now (λ n. each_text (has_property n.properties) (items_view values.now)) nodes.old.items) }
     ensures found { (path : List ℕ) → Finds path result (unless path (each_text is_text (items_view values.now))) }
 {
     if !are_texts(values) {
@@ -123,7 +127,8 @@ fn narrow_by_hosts(
     values: &[Value],
     nodes: &mut Vec<u32>,
 ) -> Result<(), ConstraintFault>
-    ensures kept { OnOk result (nodes.new.items ≡ where_true graph.now (λ n. some_text (is_listed n.name) (items_view values.now)) nodes.old.items) }
+    ensures kept { OnOk result (nodes.new.items
+        ≡ where_true graph.now (λ n. some_text (is_listed n.name) (items_view values.now)) nodes.old.items) }
     ensures found { (path : List ℕ) → Finds path result (unless path (each_text is_hostlist (items_view values.now))) }
 {
     let Some(lists) = read_hostlists(alloc, values)? else {
@@ -136,7 +141,8 @@ fn narrow_by_hosts(
 
 /// Whether the rank of a node is one of the ids of some set.
 fn is_among_ids(graph: &Graph, node: u32, ranks: &Ranks) -> bool
-    ensures { result ≡ option_map_or (λ r. list_any (λ ranges. list_any (λ id. id == r) (ids_of ranges)) ranks.now.sets) (facts_of graph.now node).rank false }
+    ensures { result ≡ option_map_or (λ r. list_any (λ ranges. list_any (λ id. id == r) (ids_of ranges)) ranks.now.sets)
+        (facts_of graph.now node).rank false }
 {
     ranks.has(graph.rank_at(node))
 }
@@ -148,7 +154,8 @@ fn narrow_by_ranks(
     values: &[Value],
     nodes: &mut Vec<u32>,
 ) -> Result<(), ConstraintFault>
-    ensures kept { OnOk result (nodes.new.items ≡ where_true graph.now (λ n. some_text (is_ranked n.rank) (items_view values.now)) nodes.old.items) }
+    ensures kept { OnOk result (nodes.new.items
+        ≡ where_true graph.now (λ n. some_text (is_ranked n.rank) (items_view values.now)) nodes.old.items) }
     ensures found { (path : List ℕ) → Finds path result (unless path (each_text is_idset (items_view values.now))) }
 {
     let Some(sets) = read_idsets(alloc, values)? else {
@@ -167,7 +174,8 @@ fn narrow_by_each(
     values: &[Value],
     nodes: &mut Vec<u32>,
 ) -> Result<(), ConstraintFault>
-    ensures kept { OnOk result (nodes.new.items ≡ where_true graph.now (λ n. each_true n (items_view values.now)) nodes.old.items) }
+    ensures kept { OnOk result
+        (nodes.new.items ≡ where_true graph.now (λ n. each_true n (items_view values.now)) nodes.old.items) }
     ensures found { (list : List ℕ) → Finds list result (items_fault list 0 (items_view values.now)) }
 {
     'values: for (at, value) in values.iter().enumerate() {
@@ -187,7 +195,8 @@ fn narrow_by_none(
     values: &[Value],
     nodes: &mut Vec<u32>,
 ) -> Result<(), ConstraintFault>
-    ensures kept { OnOk result (nodes.new.items ≡ where_true graph.now (λ n. not (some_true n (items_view values.now))) nodes.old.items) }
+    ensures kept { OnOk result
+        (nodes.new.items ≡ where_true graph.now (λ n. not (some_true n (items_view values.now))) nodes.old.items) }
     ensures found { (list : List ℕ) → Finds list result (items_fault list 0 (items_view values.now)) }
 {
     'values: for (at, value) in values.iter().enumerate() {
@@ -208,7 +217,8 @@ fn narrow_by_some(
     values: &[Value],
     nodes: &mut Vec<u32>,
 ) -> Result<(), ConstraintFault>
-    ensures kept { OnOk result (nodes.new.items ≡ where_true graph.now (λ n. is_empty (items_view values.now) || some_true n (items_view values.now)) nodes.old.items) }
+    ensures kept { OnOk result (nodes.new.items ≡ where_true graph.now
+        (λ n. is_empty (items_view values.now) || some_true n (items_view values.now)) nodes.old.items) }
     ensures found { (list : List ℕ) → Finds list result (items_fault list 0 (items_view values.now)) }
 {
     if values.is_empty() {
@@ -228,7 +238,8 @@ fn narrow_by_not(
     values: &[Value],
     nodes: &mut Vec<u32>,
 ) -> Result<(), ConstraintFault>
-    ensures kept { OnOk result (nodes.new.items ≡ where_true graph.now (λ n. not (each_true n (items_view values.now))) nodes.old.items) }
+    ensures kept { OnOk result
+        (nodes.new.items ≡ where_true graph.now (λ n. not (each_true n (items_view values.now))) nodes.old.items) }
     ensures found { (list : List ℕ) → Finds list result (items_fault list 0 (items_view values.now)) }
 {
     let mut fitting = copy_of(alloc, nodes)?;
@@ -247,7 +258,8 @@ fn narrow_by_list(
     values: &[Value],
     nodes: &mut Vec<u32>,
 ) -> Result<(), ConstraintFault>
-    ensures kept { OnOk result (nodes.new.items ≡ where_true graph.now (λ n. list_is_true n known (items_view values.now) (each_true n (items_view values.now)) (some_true n (items_view values.now))) nodes.old.items) }
+    ensures kept { OnOk result (nodes.new.items ≡ where_true graph.now (λ n. list_is_true n known (items_view
+        values.now) (each_true n (items_view values.now)) (some_true n (items_view values.now))) nodes.old.items) }
     ensures found { (path : List ℕ) → Finds path result
         (list_fault path known (items_view values.now)
         (items_fault (list_path path key.now) 0 (items_view values.now))) }
@@ -271,7 +283,8 @@ fn narrow_by_key(
     value: &Value,
     nodes: &mut Vec<u32>,
 ) -> Result<(), ConstraintFault>
-    ensures kept { OnOk result (nodes.new.items ≡ where_true graph.now (λ n. key_is_true n (key_of key.now) (view value.now)) nodes.old.items) }
+    ensures kept { OnOk result (nodes.new.items
+        ≡ where_true graph.now (λ n. key_is_true n (key_of key.now) (view value.now)) nodes.old.items) }
     ensures found { (path : List ℕ) → Finds path result (key_fault path key.now (key_of key.now) (view value.now)) }
 {
     let Some(known) = key_of(key) else {
@@ -291,7 +304,8 @@ pub(crate) fn narrow(
     constraint: &Value,
     nodes: &mut Vec<u32>,
 ) -> Result<(), ConstraintFault>
-    ensures kept { OnOk result (nodes.new.items ≡ where_true graph.now (λ n. is_true n (view constraint.now)) nodes.old.items) }
+    ensures kept { OnOk result
+        (nodes.new.items ≡ where_true graph.now (λ n. is_true n (view constraint.now)) nodes.old.items) }
     ensures found { (path : List ℕ) → Finds path result (fault_at path (view constraint.now)) }
 {
     let Some(members) = constraint.as_object() else {

@@ -20,7 +20,8 @@ pub(crate) fn properties_of(graph: &Graph, vertex: u32) -> &[Text]
 
 /// The nodes of a graph, in the order of their numbers.
 pub(crate) fn nodes_of(alloc: Global, graph: &Graph) -> Result<Vec<u32>, AllocError>
-    ensures { IfOk result (λ nodes. nodes.items ≡ filter (λ v. is_some (facts_of graph.now v).rank) (range_with_len 0 (length graph.now.resources.vertices))) }
+    ensures { IfOk result (λ nodes. nodes.items
+        ≡ filter (λ v. is_some (facts_of graph.now v).rank) (range_with_len 0 (length graph.now.resources.vertices))) }
 {
     let mut nodes = Vec::new(alloc);
     'vertices: for vertex in 0..graph.len() {

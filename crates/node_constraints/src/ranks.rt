@@ -62,7 +62,8 @@ impl Ranks {
 
     /// Whether there is a rank and it is one of the ids of some set. Logarithmic in the ranges.
     pub(crate) fn has(&self, rank: Option<u32>) -> bool
-        ensures { result ≡ option_map_or (λ r. list_any (λ ranges. list_any (λ id. id == r) (ids_of ranges)) self.now.sets) rank false }
+        ensures { result ≡ option_map_or
+            (λ r. list_any (λ ranges. list_any (λ id. id == r) (ids_of ranges)) self.now.sets) rank false }
     {
         match rank {
             Some(rank) => self.covered.has(u128::from(rank)),

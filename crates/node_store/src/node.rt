@@ -104,8 +104,8 @@ impl<T: Share + Drop> Node<T> {
         self.copy(alloc)
     }
 
-    /// Makes this another node, which holds an equal value. It stands alone, so that a call of `own` that copies nothing
-    /// has no room to clear for a copy.
+    /// Makes this another node, which holds an equal value. It stands alone, so that a call of `own` that copies
+    /// nothing has no room to clear for a copy.
     #[inline(never)]
     fn copy(&mut self, alloc: Global) -> Result<(), AllocError>
         ensures { self.new ≡ self.old }

@@ -92,13 +92,17 @@ counted_sync = search (crosses, sendable) depth 60 fits 20000
 
 accounts_send : (P : RattleType) (d : Ghosts P.Denot) → IsSend P → IsSync P → IsSend (accounts.the_row P d)
 accounts_send P d s y =
-    declared_send (accounts.the_type P d)
-    (Arc-send counted.the_row counted_send counted_sync, (planners_send P d s y, (as_row_send (row_field P) s, (search sendable, tt))))
+    declared_send (accounts.the_type P d) (
+      Arc-send counted.the_row counted_send counted_sync,
+      (planners_send P d s y, (as_row_send (row_field P) s, (search sendable, tt))),
+    )
 
 accounts_sync : (P : RattleType) (d : Ghosts P.Denot) → IsSend P → IsSync P → IsSync (accounts.the_row P d)
 accounts_sync P d s y =
-    declared_sync (accounts.the_type P d)
-    (Arc-sync counted.the_row counted_send counted_sync, (planners_sync P d s y, (as_row_sync (row_field P) y, (search sendable, tt))))
+    declared_sync (accounts.the_type P d) (
+      Arc-sync counted.the_row counted_send counted_sync,
+      (planners_sync P d s y, (as_row_sync (row_field P) y, (search sendable, tt))),
+    )
 
 -- what a planner says of itself plays no part in where it may go
 any_ghosts : (T : Type 0) → Ghosts T
@@ -114,12 +118,14 @@ any_ghosts T = record {
 filtered_send : IsSend filtered.the_row
 filtered_send =
     view_send filtered_inside.the_row _ _ _ _
-    (declared_send filtered_inside.the_type (Arc-send graph.the_row graph_send graph_sync, (rules_send, (search (crosses, sendable) depth 20, tt))))
+    (declared_send filtered_inside.the_type
+    (Arc-send graph.the_row graph_send graph_sync, (rules_send, (search (crosses, sendable) depth 20, tt))))
 
 filtered_sync : IsSync filtered.the_row
 filtered_sync =
     view_sync filtered_inside.the_row _ _ _ _
-    (declared_sync filtered_inside.the_type (Arc-sync graph.the_row graph_send graph_sync, (rules_sync, (search (crosses, sendable) depth 20, tt))))
+    (declared_sync filtered_inside.the_type
+    (Arc-sync graph.the_row graph_send graph_sync, (rules_sync, (search (crosses, sendable) depth 20, tt))))
 
 kept_send : IsSend kept.the_row
 kept_send =
@@ -134,7 +140,8 @@ book_send : IsSend book.the_row
 book_send = view_send book_inside.the_row _ _ _ _ (declared_send book_inside.the_type (kept_send, tt))
 
 grown_send : IsSend grown.the_row
-grown_send = declared_send grown.the_type (pages_send entry.the_row entry_send entry_sync, (book_send, (search sendable, tt)))
+grown_send =
+    declared_send grown.the_type (pages_send entry.the_row entry_send entry_sync, (book_send, (search sendable, tt)))
 
 site_send : IsSend site.the_row
 site_send =

@@ -1,5 +1,6 @@
 -- From each client's part of a history to the order that it plays.
-use Rattle.std.proofs.Common.{◌≡◌, ℕ, zero, suc, ◌<◌, ◌==◌, ◌||◌, Bool, true, false, cond, List, [], ◌∷◌, length, map, filter, get_or, slice_get, Some, All, Contains, refl, sym, ap, ◌∙◌, arith, eq-eqb, ne_eqb}
+use Rattle.std.proofs.Common.{◌≡◌, ℕ, zero, suc, ◌<◌, ◌==◌, ◌||◌, Bool, true, false, cond, List, [], ◌∷◌, length, map}
+use Rattle.std.proofs.Common.{filter, get_or, slice_get, Some, All, Contains, refl, sym, ap, ◌∙◌, arith, eq-eqb, ne_eqb}
 use Rattle.std.specs.List.{AllByRecursion}
 use Rattle.std.proofs.lemmas.List.Elements.{All-from_recursion}
 use Rattle.std.proofs.lemmas.Option.{slice_get-get_or}
@@ -16,10 +17,12 @@ use Rattle.one_history.proofs.Parts.{part_yes, part_no}
 
 -- ---- lists
 
-all_from_places : {X : Type 0} (P : X → Type 0) (xs : List X) → ((k : ℕ) (x : X) → slice_get xs k ≡ Some x → P x) → All P xs
+all_from_places : {X : Type 0} (P : X → Type 0) (xs : List X) →
+    ((k : ℕ) (x : X) → slice_get xs k ≡ Some x → P x) → All P xs
 all_from_places P xs f k d l = f k (get_or xs k d) (slice_get-get_or xs k d l)
 
-by_recursion : {X : Type 0} (P : X → Type 0) (xs : List X) → ((k : ℕ) (x : X) → slice_get xs k ≡ Some x → P x) → AllByRecursion P xs
+by_recursion : {X : Type 0} (P : X → Type 0) (xs : List X) →
+    ((k : ℕ) (x : X) → slice_get xs k ≡ Some x → P x) → AllByRecursion P xs
 by_recursion P [] f = tt
 by_recursion P (x ∷ xs) f = (f 0 x refl, by_recursion P xs (λ k. f (suc k)))
 
@@ -65,7 +68,8 @@ first_line c x e es (l ∷ ls) same parts =
     } in (0, omega arith, here)
 
 -- an entry of the client answers one of its lines
-its_line : (c : ℕ) (h : List Entry) (ls : List Line) (p : ℕ) (e : Entry) → map line_of (of_client c h) ≡ map (client_line c) ls
+its_line : (c : ℕ) (h : List Entry) (ls : List Line) (p : ℕ) (e : Entry) →
+    map line_of (of_client c h) ≡ map (client_line c) ls
     → slice_get h p ≡ Some e → e.client ≡ c → Contains ls (asked e)
 its_line c [] ls p e parts at own = absurd cc
 its_line c (x ∷ h) ls zero e parts at own =
@@ -74,7 +78,8 @@ its_line c (x ∷ h) ls zero e parts at own =
     first_line c x e (of_client c h) ls same (sym (ap (map line_of) (part_yes c x h mine)) ∙ parts)
 its_line c (x ∷ h) [] (suc p) e parts at own = dite (ℕ_discrete x.client c)
     (λ mine.
-    let none : line_of x ∷ map line_of (of_client c h) ≡ [] = sym (ap (map line_of) (part_yes c x h mine)) ∙ parts in absurd cc)
+    let none : line_of x ∷ map line_of (of_client c h) ≡ [] =
+    sym (ap (map line_of) (part_yes c x h mine)) ∙ parts in absurd cc)
     (λ other. its_line c h [] p e (sym (ap (map line_of) (part_no c x h other)) ∙ parts) at own)
 its_line c (x ∷ h) (l ∷ ls) (suc p) e parts at own = dite (ℕ_discrete x.client c)
     (λ mine.
@@ -89,15 +94,18 @@ told_apart : (c : ℕ) (test : ℕ → Bool) (h : List Entry) → AllByRecursion
     → filter test (order_of h) ≡ order_of (of_client c h)
 told_apart c test [] tells = refl
 told_apart c test (e ∷ h) tells =
-    ap (λ b. cond b (e.line ∷ filter test (order_of h)) (filter test (order_of h))) tells.0 ∙ by_test (e.client == c) (told_apart c test h tells.1)
+    ap (λ b. cond b (e.line ∷ filter test (order_of h)) (filter test (order_of h))) tells.0
+    ∙ by_test (e.client == c) (told_apart c test h tells.1)
   where
     by_test : (b : Bool) → filter test (order_of h) ≡ order_of (of_client c h)
-        → cond b (e.line ∷ filter test (order_of h)) (filter test (order_of h)) ≡ order_of (cond b (e ∷ of_client c h) (of_client c h))
+        → cond b (e.line ∷ filter test (order_of h)) (filter test (order_of h))
+        ≡ order_of (cond b (e ∷ of_client c h) (of_client c h))
     by_test true rest = ap (λ ns. e.line ∷ ns) rest
     by_test false rest = rest
 
 -- the numbers of lines that are answered
-numbers_of : (c : ℕ) (es : List Entry) (ls : List Line) → map line_of es ≡ map (client_line c) ls → order_of es ≡ map (λ l. l.line) ls
+numbers_of : (c : ℕ) (es : List Entry) (ls : List Line) →
+    map line_of es ≡ map (client_line c) ls → order_of es ≡ map (λ l. l.line) ls
 numbers_of c [] [] parts = refl
 numbers_of c [] (l ∷ ls) parts = absurd cc
 numbers_of c (e ∷ es) [] parts = absurd cc
@@ -112,7 +120,8 @@ numbers_of c (e ∷ es) (l ∷ ls) parts =
 all_of_one : (h : List Entry) → AllByRecursion (λ e. e.client ≡ 0) h → of_client 0 h ≡ h
 all_of_one [] all = refl
 all_of_one (e ∷ h) all =
-    ap (λ b. cond b (e ∷ of_client 0 h) (of_client 0 h)) (eq-eqb e.client 0 all.0) ∙ ap (λ es. e ∷ es) (all_of_one h all.1)
+    ap (λ b. cond b (e ∷ of_client 0 h) (of_client 0 h)) (eq-eqb e.client 0 all.0)
+    ∙ ap (λ es. e ∷ es) (all_of_one h all.1)
 
 -- ---- the order
 
@@ -155,7 +164,8 @@ module _ (script : Script) (apart : NumbersApart script) (h : List Entry)
   }
     where
       numbered : (es : List Entry) → ((p : ℕ) (e : Entry) → slice_get es p ≡ Some e → Answers script e)
-          → AllByRecursion (λ n. (c : ℕ) × (ls : List Line) × HasLines script c ls × Contains (map (λ l. l.line) ls) n) (order_of es)
+          → AllByRecursion
+          (λ n. (c : ℕ) × (ls : List Line) × HasLines script c ls × Contains (map (λ l. l.line) ls) n) (order_of es)
       numbered [] f = tt
       numbered (e ∷ es) f =
           let a = f 0 e refl in (

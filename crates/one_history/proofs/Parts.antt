@@ -1,5 +1,6 @@
 -- From where each client's lines stand in a history to its part of it.
-use Rattle.std.proofs.Common.{◌≡◌, ◌≢◌, ℕ, zero, suc, ◌+◌, ◌-◌, ◌≤◌, ◌<◌, cond, List, [], ◌∷◌, length, map, slice_get, Option, Some, None, refl, sym, ap, ◌∙◌, subst, arith, eq-eqb, ne_eqb, add-zero, zero-add}
+use Rattle.std.proofs.Common.{◌≡◌, ◌≢◌, ℕ, zero, suc, ◌+◌, ◌-◌, ◌≤◌, ◌<◌, cond, List, [], ◌∷◌, length, map, slice_get}
+use Rattle.std.proofs.Common.{Option, Some, None, refl, sym, ap, ◌∙◌, subst, arith, eq-eqb, ne_eqb, add-zero, zero-add}
 use Rattle.std.specs.List.{sum_by}
 use Rattle.std.proofs.lemmas.List.Sums.{sum_by-cons}
 use Rattle.std.proofs.lemmas.Option.{slice_get_within}
@@ -40,7 +41,8 @@ client_is e n l h = let f : Option ClientLine → ℕ = λ o. elim o [ None ↦ 
 -- ---- whose an entry is
 
 -- an entry at one of a client's positions is the client's
-in_told : (h : List Entry) (n p : ℕ) (e : Entry) (g : List ℕ) (ls : List Line) → map (line_at h) g ≡ map (some_line n) ls
+in_told : (h : List Entry) (n p : ℕ) (e : Entry) (g : List ℕ) (ls : List Line) →
+    map (line_at h) g ≡ map (some_line n) ls
     → slice_get h p ≡ Some e → 0 < times p g → e.client ≡ n
 in_told h n p e [] ls m at some = absurd (omega arith)
 in_told h n p e (x ∷ g) [] m at some = absurd cc
@@ -68,7 +70,8 @@ none_later h n p e (ls ∷ lss) (g ∷ gs) a at low =
     let sum = sum_by-cons (times p) g gs in omega arith
 
 -- an entry at some position of theirs is of one of these clients
-pub some_client : (h : List Entry) (n p : ℕ) (e : Entry) (lss : List (List Line)) (gs : List (List ℕ)) → AreTold h n lss gs
+pub some_client : (h : List Entry) (n p : ℕ) (e : Entry) (lss : List (List Line)) (gs : List (List ℕ)) →
+    AreTold h n lss gs
     → slice_get h p ≡ Some e → 0 < sum_by (times p) gs → e.client < n + length lss
 some_client h n p e [] [] a at some = absurd (omega arith)
 some_client h n p e [] (g ∷ gs) a at some = absurd a
@@ -83,7 +86,8 @@ some_client h n p e (ls ∷ lss) (g ∷ gs) a at some = let sum = sum_by-cons (t
 -- the positions, counted from a on, are just those of the client's entries
 abbrev AreJust : List Entry → ℕ → ℕ → List ℕ → Type 0
 AreJust h a c xs =
-    (p : ℕ) (e : Entry) → slice_get h p ≡ Some e → (e.client ≡ c → times (a + p) xs ≡ 1) × (e.client ≢ c → times (a + p) xs ≡ 0)
+    (p : ℕ) (e : Entry) →
+    slice_get h p ≡ Some e → (e.client ≡ c → times (a + p) xs ≡ 1) × (e.client ≢ c → times (a + p) xs ≡ 0)
 
 -- a client's positions: they rise, its lines stand there, and no other entry of its own
 record AreItsOwn (h : List Entry) (c : ℕ) (ls : List Line) : Type 0 where
@@ -93,7 +97,8 @@ record AreItsOwn (h : List Entry) (c : ℕ) (ls : List Line) : Type 0 where
   just : AreJust h 0 c own
 
 its_own : (h : List Entry) (n i : ℕ) (ls : List Line) (lss : List (List Line)) (gs : List (List ℕ)) → AreTold h n lss gs
-    → slice_get lss i ≡ Some ls → ((p : ℕ) (e : Entry) → slice_get h p ≡ Some e → n ≤ e.client → sum_by (times p) gs ≡ 1)
+    → slice_get lss i ≡ Some ls →
+    ((p : ℕ) (e : Entry) → slice_get h p ≡ Some e → n ≤ e.client → sum_by (times p) gs ≡ 1)
     → AreItsOwn h (n + i) ls
 its_own h n i ls [] gs a there once = absurd cc
 its_own h n i ls (xs ∷ lss) [] a there once = absurd a
@@ -146,7 +151,8 @@ skips a b [] r z l = l
 skips a b (x ∷ xs) r z l =
     let other : x ≢ a = λ s. let o = times_hit a x xs s in absurd (omega arith) in let q = r.0 in (omega arith, r.1)
 
-starts : (a b : ℕ) (xs : List ℕ) → RiseWithin a xs b → times a xs ≡ 1 → (ys : List ℕ) × (xs ≡ a ∷ ys) × RiseWithin (a + 1) ys b
+starts : (a b : ℕ) (xs : List ℕ) →
+    RiseWithin a xs b → times a xs ≡ 1 → (ys : List ℕ) × (xs ≡ a ∷ ys) × RiseWithin (a + 1) ys b
 starts a b [] r o = absurd (omega arith)
 starts a b (x ∷ xs) r o =
     let q = r.0 in
@@ -167,7 +173,8 @@ part_at (e ∷ h) a b c xs s r j = dite (ℕ_discrete e.client c)
     let k = j (suc p) f at in
     let miss = times_miss (a + suc p) a ys (λ q. omega arith) in
     let t : times (a + suc p) xs ≡ times (a + 1 + p) ys
-    = ap (times (a + suc p)) st.1 ∙ (miss ∙ ap (λ (n : ℕ). times n ys) (let n : a + suc p ≡ a + 1 + p = omega arith in n)) in
+    = ap (times (a + suc p)) st.1
+    ∙ (miss ∙ ap (λ (n : ℕ). times n ys) (let n : a + suc p ≡ a + 1 + p = omega arith in n)) in
     ((λ q. sym t ∙ k.0 q), (λ q. sym t ∙ k.1 q)) in
     let rest = part_at h (a + 1) b c ys (omega arith) st.2 j' in
     let more = further a b (a + 1) e h ys (omega arith) st.2 in

@@ -1,5 +1,7 @@
 -- Sessions at a book: dealt, served, and taken in again.
-use Rattle.std.proofs.Common.{◌≡◌, ℕ, suc, ◌+◌, ◌≤◌, ◌<◌, ◌||◌, Bool, true, false, List, [], ◌∷◌, ◌++◌, All, length, map, get_or, take, refl, sym, ap, ◌∙◌, subst, arith, append_assoc, append-nil, length-append, slice_get, Some}
+use Rattle.std.proofs.Common.{◌≡◌, ℕ, suc, ◌+◌, ◌≤◌, ◌<◌, ◌||◌, Bool, true, false, List, [], ◌∷◌, ◌++◌, All, length}
+use Rattle.std.proofs.Common.{map, get_or, take, refl, sym, ap, ◌∙◌, subst, arith, append_assoc, append-nil}
+use Rattle.std.proofs.Common.{length-append, slice_get, Some}
 use Rattle.std.specs.List.{AllByRecursion, list_any, range_with_len, sum_by}
 use Rattle.std.proofs.Math.Seq.{take-length}
 use Rattle.std.proofs.lemmas.List.Elements.{All-nil, All-cons, All-pop, All-from_recursion}
@@ -32,7 +34,8 @@ use Rattle.one_history.proofs.Interleaved.{all_answer, interleaves, alone}
 
 -- ---- dealt
 
-dealt_length : (book : Book) (n : ℕ) (lss : List (List Line)) (ss : List Sitting) → AreDealt book n lss ss → length ss ≡ length lss
+dealt_length : (book : Book) (n : ℕ) (lss : List (List Line)) (ss : List Sitting) →
+    AreDealt book n lss ss → length ss ≡ length lss
 dealt_length book n [] [] d = refl
 dealt_length book n [] (s ∷ ss) d = absurd d
 dealt_length book n (ls ∷ lss) [] d = absurd d
@@ -40,7 +43,8 @@ dealt_length book n (ls ∷ lss) (s ∷ ss) d = ap suc (dealt_length book (n + 1
 
 dealt_more : (book : Book) (n : ℕ) (lss : List (List Line)) (ss : List Sitting) (ls : List Line) (s : Sitting)
     → AreDealt book n lss ss → IsDealt book (n + length lss) ls s → AreDealt book n (lss ++ ls ∷ []) (ss ++ s ∷ [])
-dealt_more book n [] [] ls s d new = (subst (λ c. IsDealt book c ls s) (let same : n + 0 ≡ n = omega arith in same) new, tt)
+dealt_more book n [] [] ls s d new =
+    (subst (λ c. IsDealt book c ls s) (let same : n + 0 ≡ n = omega arith in same) new, tt)
 dealt_more book n [] (x ∷ ss) ls s d new = absurd d
 dealt_more book n (xs ∷ lss) [] ls s d new = absurd d
 dealt_more book n (xs ∷ lss) (x ∷ ss) ls s d new =
@@ -85,7 +89,8 @@ begins_each book vertices over n (ls ∷ lss) [] d proper = tt
 begins_each book vertices over n (ls ∷ lss) (s ∷ ss) d proper = (
   record {
     seat = d.0.own.0;
-    commands = subst (λ (xs : List Line). All (λ (l : Line). IsProper (book_setting book).graph.vertices l.command) xs) (sym d.0.lines-are)
+    commands = subst (λ (xs : List Line). All (λ (l : Line). IsProper (book_setting book).graph.vertices l.command) xs)
+        (sym d.0.lines-are)
         (subst (λ (v : List Vertex). All (λ (l : Line). IsProper v l.command) ls) (sym over)
         (All-from_recursion (λ (l : Line). IsProper vertices l.command) ls proper.0));
     done = d.0.done;
@@ -99,7 +104,8 @@ pub may_begin : (book : Book) (vertices : List Vertex) → (book_setting book).g
     → AllByRecursion (λ lines. AllByRecursion (λ (l : Line). IsProper vertices l.command) lines) lss
     → All (CanBegin (λ (b : Book) (s : SeatAtBook). IsSeatOf b s)
     (λ (b : Book) (c : Command). IsProper (book_setting b).graph.vertices c) book) ss
-may_begin book vertices over lss ss d proper = All-from_recursion _ ss (begins_each book vertices over 0 lss ss d proper)
+may_begin book vertices over lss ss d proper =
+    All-from_recursion _ ss (begins_each book vertices over 0 lss ss d proper)
 
 -- ---- served
 
@@ -129,7 +135,8 @@ still_shared book lss ss ss' d long served =
 -- ---- taken in
 
 -- what stands while the seats are taken in: those of the last sessions are
-pub record Gathering (book : Book) (seat₀ : SeatAtBook) (all : List Sitting) (seat : SeatAtBook) (left : List Sitting) : Type 0 where
+pub record Gathering
+    (book : Book) (seat₀ : SeatAtBook) (all : List Sitting) (seat : SeatAtBook) (left : List Sitting) : Type 0 where
   pub gone : List Sitting
   pub parts : all ≡ left ++ gone
   pub own : IsSeatOf book seat
@@ -154,8 +161,10 @@ module _ (book : Book) (seat₀ : SeatAtBook) (all : List Sitting) where
       → left ≡ left' ++ s ∷ [] → HasOneShare book s
   next_shared seat left left' s g cut = (All-pop (HasOneShare book) left left' (Some s) cut g.theirs).1
 
-  pub gathers_one : (seat seat' : SeatAtBook) (left left' : List Sitting) (s : Sitting) → Gathering book seat₀ all seat left
-      → left ≡ left' ++ s ∷ [] → IsSeatOf book seat' → IsPrefix (seen seat) (seen seat') × IsPrefix (seen s.seat) (seen seat')
+  pub gathers_one : (seat seat' : SeatAtBook) (left left' : List Sitting) (s : Sitting) →
+      Gathering book seat₀ all seat left
+      → left ≡ left' ++ s ∷ [] →
+      IsSeatOf book seat' → IsPrefix (seen seat) (seen seat') × IsPrefix (seen s.seat) (seen seat')
       → ((p : ℕ) → times p (mine seat') ≡ times p (mine seat) + times p (mine s.seat))
       → share seat' ≡ share seat + share s.seat → Gathering book seat₀ all seat' left'
   gathers_one seat seat' left left' s g cut own sees mines shares = record {
@@ -172,7 +181,8 @@ module _ (book : Book) (seat₀ : SeatAtBook) (all : List Sitting) where
     weighs = let w = g.weighs in let one = (next_shared seat left left' s g cut).1 in omega arith;
   }
 
-  gathered : (seat : SeatAtBook) (left : List Sitting) → Gathering book seat₀ all seat left → left ≡ [] → (g : List Sitting)
+  gathered : (seat : SeatAtBook) (left : List Sitting) →
+      Gathering book seat₀ all seat left → left ≡ [] → (g : List Sitting)
       × (g ≡ all) × All (λ s. IsPrefix (seen s.seat) (seen seat)) g
       × ((p : ℕ) → times p (mine seat) ≡ times p (mine seat₀) + sum_by (λ s. times p (mine s.seat)) g)
       × (share seat ≡ share seat₀ + length g)
@@ -191,7 +201,8 @@ module _ (book : Book) (seat₀ : SeatAtBook) (all : List Sitting) where
 
   pub gathered_share : (seat : SeatAtBook) (left : List Sitting) → Gathering book seat₀ all seat left → left ≡ []
       → share seat ≡ share seat₀ + length all
-  gathered_share seat left g none = let h = gathered seat left g none in h.4 ∙ ap (λ (l : List Sitting). share seat₀ + length l) h.1
+  gathered_share seat left g none = let h = gathered seat left g none in
+      h.4 ∙ ap (λ (l : List Sitting). share seat₀ + length l) h.1
 
 -- ---- what the sessions placed
 
@@ -207,7 +218,8 @@ told_one : (book : Book) (h : List Entry) (n : ℕ) (ls : List Line) (s s' : Sit
     → RiseWithin 0 (mine s'.seat) (length h) × (map (line_at h) (mine s'.seat) ≡ map (some_line n) ls)
 told_one book h n ls s s' new v going begins =
     let g = v.gains in
-    let full : s'.done ≡ length s.lines = whole (s'.done) (length s.lines) v.done (λ less. (let bad : false ≡ true = sym going ∙ v.stopped.1 less in absurd cc)) in
+    let full : s'.done ≡ length s.lines = whole (s'.done)
+    (length s.lines) v.done (λ less. (let bad : false ≡ true = sym going ∙ v.stopped.1 less in absurd cc)) in
     let all : take s'.done s.lines ≡ ls = ap (λ m. take m s.lines) full ∙ (take-length s.lines ∙ new.lines-are) in
     let mines : mine s'.seat ≡ g.gained = g.mine-is ∙ ap (λ l. l ++ g.gained) new.empty in
     let rises : RiseWithin 0 g.gained (length h)
@@ -216,8 +228,10 @@ told_one book h n ls s s' new v going begins =
     let same : map (line_at h) g.gained ≡ map (line_at (seen s'.seat)) g.gained
     = same_lines (length (seen s.seat)) g.gained (seen s'.seat) h g.rising begins in
     let at : map (line_at h) g.gained ≡ map (some_line n) ls
-    = same ∙ (g.answers ∙ (ap (λ c. map (some_line c) (take s'.done s.lines)) new.client-is ∙ ap (map (some_line n)) all)) in
-    subst (λ (l : List ℕ). RiseWithin 0 l (length h) × (map (line_at h) l ≡ map (some_line n) ls)) (sym mines) (rises, at)
+    = same ∙ (g.answers
+    ∙ (ap (λ c. map (some_line c) (take s'.done s.lines)) new.client-is ∙ ap (map (some_line n)) all)) in
+    subst (λ (l : List ℕ). RiseWithin 0 l (length h) × (map (line_at h) l ≡ map (some_line n) ls))
+    (sym mines) (rises, at)
   where
     whole : (d m : ℕ) → d ≤ m → (d < m → ⊥) → d ≡ m
     whole d m le less = omega (arith, le, less)
@@ -226,7 +240,8 @@ abbrev mines_of : List Sitting → List (List ℕ)
 mines_of [] = []
 mines_of (s ∷ ss) = mine s.seat ∷ mines_of ss
 
-all_told : (book : Book) (h : List Entry) (n : ℕ) (lss : List (List Line)) (ss ss' : List Sitting) → AreDealt book n lss ss
+all_told : (book : Book) (h : List Entry) (n : ℕ) (lss : List (List Line)) (ss ss' : List Sitting) →
+    AreDealt book n lss ss
     → length ss' ≡ length ss → AreServed book ss ss' → AllByRecursion (λ s. s.stopped ≡ false) ss'
     → All (λ s. IsPrefix (seen s.seat) h) ss' → AreTold h n lss (mines_of ss')
 all_told book h n [] [] [] d long served going begins = tt

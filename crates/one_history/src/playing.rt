@@ -53,7 +53,8 @@ fn gather(book: &Book, seat: &mut BookSeat, mut sessions: List<Session<BookSeat>
     requires theirs { All (HasOneShare book.now) sessions }
     ensures own { IsSeatOf book.now seat.new }
     ensures seen { All (λ s. IsPrefix (seen s.seat) (seen seat.new)) sessions }
-    ensures mine { (p : ℕ) → times p (mine seat.new) ≡ times p (mine seat.old) + sum_by (λ s. times p (mine s.seat)) sessions }
+    ensures mine { (p : ℕ) →
+        times p (mine seat.new) ≡ times p (mine seat.old) + sum_by (λ s. times p (mine s.seat)) sessions }
     ensures share { share seat.new ≡ share seat.old + length sessions }
 {
     while let Some(session) = sessions.pop() {
@@ -88,7 +89,8 @@ pub fn play_script<R: Threads + Wait + Sync, G: Gate + Sync>(
 ) -> Result<Played, AllocError>
     requires new { core.journal ≡ [] }
     requires few { length script.lines < ALL_SHARES }
-    requires proper { AllByRecursion (λ lines. AllByRecursion (λ l. IsProper core.setting.graph.vertices l.command) lines) script.lines }
+    requires proper { AllByRecursion
+        (λ lines. AllByRecursion (λ l. IsProper core.setting.graph.vertices l.command) lines) script.lines }
     requires apart { NumbersApart script }
     ensures clients { IfOk result (λ played. played.clients ≡ script.clients) }
     ensures together { IfOk result (λ played. IsPlayedTogether core played.core script) }

@@ -1,5 +1,6 @@
 -- What a walk tells, in the words of the definition.
-use Rattle.std.proofs.Common.{◌≡◌, ℕ, ◌<◌, List, length, Option, Some, None, MatchOption, slice_get, ◌⊎◌, inl, inr, sym, ◌∙◌, subst, All}
+use Rattle.std.proofs.Common.{◌≡◌, ℕ, ◌<◌, List, length, Option, Some, None, MatchOption, slice_get, ◌⊎◌, inl, inr, sym}
+use Rattle.std.proofs.Common.{◌∙◌, subst, All}
 use Rattle.std.proofs.lemmas.List.Elements.{All-from_recursion}
 use Rattle.flux_defs.specs.declared.vertices.Vertex.{Vertex}
 use Rattle.flux_defs.specs.declared.claims.Claim.{Claim}
@@ -17,7 +18,8 @@ use Rattle.flux_defs.specs.Available.{IsAvailable}
 use Rattle.flux_defs.specs.Asks.{window_of}
 use Rattle.flux_defs.specs.Scheduler.{Setting}
 use Rattle.flux_defs.specs.Histories.{state_at}
-use Rattle.flux_defs.specs.Overtaken.{Candidate, Frees, Delays, Blocks, IsFirstFrom, NoneFrom, IsAllocate, IsPastFor, CanBeOvertaken, IsOvertaken}
+use Rattle.flux_defs.specs.Overtaken.{Candidate, Frees, Delays, Blocks, IsFirstFrom, NoneFrom, IsAllocate, IsPastFor}
+use Rattle.flux_defs.specs.Overtaken.{CanBeOvertaken, IsOvertaken}
 use Rattle.list_laws.proofs.Lists.{all_along, all_at}
 use Rattle.candidate_check.specs.Taken.{IsFirstGone}
 use Rattle.commit_laws.specs.CommitLaws.{state_now, StillStands}
@@ -25,7 +27,8 @@ use Rattle.commit_laws.proofs.Commits.{InTime, stands_still}
 use Rattle.commit_laws.proofs.Stretch.{still_there}
 use Rattle.overtaken_check.specs.declared.causes.Cause.{Cause}
 use Rattle.overtaken_check.specs.declared.causes.Cause.TheVariants as cause
-use Rattle.overtaken_check.specs.Scans.{cause_of, candidate_of, IsTooLate, DelaysPast, IsHindered, IsUnhindered, IsTakenFrom, IsFree, IsWhy, WereClaimed}
+use Rattle.overtaken_check.specs.Scans.{cause_of, candidate_of, IsTooLate, DelaysPast, IsHindered, IsUnhindered}
+use Rattle.overtaken_check.specs.Scans.{IsTakenFrom, IsFree, IsWhy, WereClaimed}
 
 -- claims that were had are on vertices of the graph
 pub on_vertices : (vertices : List Vertex) (jobs : List Job) (w : Window) (claims : List Claim) →

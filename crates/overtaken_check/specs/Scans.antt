@@ -19,7 +19,8 @@ use Rattle.flux_defs.specs.Available.{IsAvailable}
 use Rattle.flux_defs.specs.Asks.{window_of, CountsWithin}
 use Rattle.flux_defs.specs.Histories.{state_at}
 use Rattle.flux_defs.specs.Overtaken as over
-use Rattle.flux_defs.specs.Overtaken.{Candidate, HasEntry, HasAccepted, Frees, Blocks, conflicts, IsFirstFrom, IsFirstTaken, NoneFrom}
+use Rattle.flux_defs.specs.Overtaken.{Candidate, HasEntry, HasAccepted, Frees, Blocks, conflicts, IsFirstFrom}
+use Rattle.flux_defs.specs.Overtaken.{IsFirstTaken, NoneFrom}
 use Rattle.commit_laws.specs.CommitLaws.{state_now}
 use Rattle.overtaken_check.specs.declared.causes.Cause.{Cause}
 use Rattle.overtaken_check.specs.declared.causes.Cause.TheVariants as cause

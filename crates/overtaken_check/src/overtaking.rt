@@ -10,7 +10,8 @@ ghost use Rattle.flux_defs.specs.Histories.{state_at};
 ghost use Rattle.flux_defs.specs.Overtaken.{Frees, NoneFrom, IsOvertaken};
 ghost use Rattle.commit_laws.specs.CommitLaws.{state_now, StillStands};
 ghost use Rattle.candidate_check.specs.Taken.{IsFirstGone};
-ghost use Rattle.overtaken_check.specs.Scans.{cause_of, candidate_of, IsHindered, IsUnhindered, IsTakenFrom, IsFree, IsWhy, WereClaimed, WasFoundFor, MayBeFound};
+ghost use Rattle.overtaken_check.specs.Scans.{cause_of, candidate_of, IsHindered, IsUnhindered, IsTakenFrom, IsFree};
+ghost use Rattle.overtaken_check.specs.Scans.{IsWhy, WereClaimed, WasFoundFor, MayBeFound};
 ghost use Rattle.overtaken_check.specs.Costs.{scan_most, claims_found};
 
 use crate::causes::Cause;
@@ -56,7 +57,8 @@ fn blocked<L: Ledger>(
     requires frees { NoneFrom (Frees journal.now) place }
     requires was { WereClaimed graph.now.resources.vertices (state_at journal.now place).jobs window claims.now }
     requires gone { IsFirstGone graph.now.resources.vertices (state_now journal.now).jobs window claims.now index }
-    ensures answer { IsTakenFrom graph.now.resources.vertices (state_now journal.now).jobs window claims.now journal.now place
+    ensures answer { IsTakenFrom graph.now.resources.vertices
+        (state_now journal.now).jobs window claims.now journal.now place
         result }
     ensures work { steps.new ≤ steps.old + scan_most journal.now place }
 {
@@ -133,8 +135,8 @@ fn found_overtaken<F: FreeView, L: Ledger>(
 }
 
 /// The first cause by which the candidate is overtaken: what a search found of the command where so many entries were
-/// searched, at the moment there. `None` exactly where nothing overtook it. It takes no memory, two looks at the view for
-/// each claim that was found, and three at each entry since; the graph's size doesn't count.
+/// searched, at the moment there. `None` exactly where nothing overtook it. It takes no memory, two looks at the view
+/// for each claim that was found, and three at each entry since; the graph's size doesn't count.
 pub fn overtaken<F: FreeView, L: Ledger>(
     view: &F,
     graph: &Graph,
@@ -154,7 +156,8 @@ pub fn overtaken<F: FreeView, L: Ledger>(
     ensures answer { (g : Setting) → g.graph.vertices ≡ graph.now.resources.vertices → g.horizon ≡ horizon →
         MatchOption result (StillStands g journal.now (candidate_of command.now place verdict.now))
         (λ cause. IsOvertaken g journal.now (candidate_of command.now place verdict.now) (cause_of cause)) }
-    ensures work { steps.new ≤ steps.old + 2 * F.cost view.now * length (claims_found verdict.now) + 3 * scan_most journal.now place }
+    ensures work { steps.new ≤ steps.old + 2 * F.cost view.now * length
+        (claims_found verdict.now) + 3 * scan_most journal.now place }
 {
     match verdict {
         Verdict::Found { start, claims } => match command {

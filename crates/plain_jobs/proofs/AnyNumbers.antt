@@ -1,5 +1,6 @@
 -- Containment of any two numbers: past the graph nothing is below another.
-use Rattle.std.proofs.Common.{◌≡◌, ◌≢◌, ℕ, zero, suc, ◌≤◌, Bool, true, false, not, ◌&&◌, List, length, Some, None, option_and_then, ◌⊎◌, inl, inr, refl, sym, ◌∙◌, ap, arith, IsTrue}
+use Rattle.std.proofs.Common.{◌≡◌, ◌≢◌, ℕ, zero, suc, ◌≤◌, Bool, true, false, not, ◌&&◌, List, length, Some, None}
+use Rattle.std.proofs.Common.{option_and_then, ◌⊎◌, inl, inr, refl, sym, ◌∙◌, ap, arith, IsTrue}
 use Rattle.std.proofs.lemmas.Bool.{cases_lt}
 use Rattle.std.proofs.lemmas.Option.{slice_get_past}
 use Rattle.flux_defs.specs.declared.vertices.Vertex.{Vertex}
@@ -21,20 +22,24 @@ past_steps vertices v u (suc n) past ne e =
     let clash : None ≡ Some u = sym (up-None vertices n) ∙ (ap (up vertices n) (sym none) ∙ e) in
     cc
 
-pub past_below : (g : ResourceGraph) → StandsInPreorder g → (v u : ℕ) → v ≢ u → (length g.vertices ≤ v) ⊎ (length g.vertices ≤ u) → is_at_or_below g.vertices v u ≡ false
+pub past_below : (g : ResourceGraph) → StandsInPreorder g →
+    (v u : ℕ) → v ≢ u → (length g.vertices ≤ v) ⊎ (length g.vertices ≤ u) → is_at_or_below g.vertices v u ≡ false
 past_below g o v u ne past = false_from (is_at_or_below g.vertices v u) (refuted past)
   where
     refuted : (length g.vertices ≤ v) ⊎ (length g.vertices ≤ u) → IsTrue (is_at_or_below g.vertices v u) → ⊥
-    refuted (inl lower) h = let s = steps_of g.vertices (parents_first g o) v u h in past_steps g.vertices v u s.0 lower ne s.1
+    refuted (inl lower) h = let s = steps_of g.vertices (parents_first g o) v u h in
+        past_steps g.vertices v u s.0 lower ne s.1
     refuted (inr upper) h =
         elim (cases_lt v (length g.vertices)) [
           | inl within ↦ (let le : u ≤ v = below_le g.vertices (parents_first g o) v u h in omega arith)
-          | inr lower ↦ (let s = steps_of g.vertices (parents_first g o) v u h in past_steps g.vertices v u s.0 lower ne s.1)
+          | inr lower ↦
+              (let s = steps_of g.vertices (parents_first g o) v u h in past_steps g.vertices v u s.0 lower ne s.1)
         ]
 
 -- of two different vertices, being below is being at or below
 pub differ_below : (vertices : List Vertex) (v u : ℕ) → v ≢ u → is_below vertices v u ≡ is_at_or_below vertices v u
-differ_below vertices v u ne = ap (λ b. is_at_or_below vertices v u && not b) (unequal_from v u ne) ∙ and_true (is_at_or_below vertices v u)
+differ_below vertices v u ne =
+    ap (λ b. is_at_or_below vertices v u && not b) (unequal_from v u ne) ∙ and_true (is_at_or_below vertices v u)
   where
     and_true : (b : Bool) → (b && true) ≡ b
     and_true true = refl

@@ -1,5 +1,6 @@
 -- What a walk over a list of jobs finds of a window.
-use Rattle.std.specs.Prelude.{◌≡◌, ◌≢◌, ℕ, ◌<◌, ◌≤◌, Bool, ◌&&◌, nat_le, nat_lt, if◌then◌else◌, min, List, Option, Some, None}
+use Rattle.std.specs.Prelude.{◌≡◌, ◌≢◌, ℕ, ◌<◌, ◌≤◌, Bool, ◌&&◌, nat_le, nat_lt, if◌then◌else◌, min, List, Option, Some}
+use Rattle.std.specs.Prelude.{None}
 use Rattle.std.specs.List.{list_any}
 use Rattle.flux_defs.specs.declared.claims.Claim.{Claim}
 use Rattle.flux_defs.specs.declared.claims.Job.{Job}

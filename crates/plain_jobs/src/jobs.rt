@@ -48,13 +48,15 @@ fn has_claim(graph: &Graph, vertex: u32, claims: &[Claim]) -> bool
 }
 
 fn closes(graph: &Graph, window: Window, vertex: u32, job: &Job) -> bool
-    ensures { result ≡ (overlaps window job.now && list_any (holds_over graph.now.resources.vertices vertex) job.now.claims) }
+    ensures { result
+        ≡ (overlaps window job.now && list_any (holds_over graph.now.resources.vertices vertex) job.now.claims) }
 {
     overlaps(window, job) && has_hold(graph, vertex, job.claims.items())
 }
 
 fn touches(graph: &Graph, window: Window, vertex: u32, job: &Job) -> bool
-    ensures { result ≡ (overlaps window job.now && list_any (is_on_or_below graph.now.resources.vertices vertex) job.now.claims) }
+    ensures { result
+        ≡ (overlaps window job.now && list_any (is_on_or_below graph.now.resources.vertices vertex) job.now.claims) }
 {
     overlaps(window, job) && has_claim(graph, vertex, job.claims.items())
 }

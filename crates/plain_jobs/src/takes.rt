@@ -42,8 +42,8 @@ fn taken(jobs: &[Job], moment: u64, vertex: u32) -> u64
     sum
 }
 
-/// The most that is taken of the vertex at a moment of the window, at most 2^64 - 1: it is reached where the window or a
-/// job begins.
+/// The most that is taken of the vertex at a moment of the window, at most 2^64 - 1: it is reached where the window or
+/// a job begins.
 pub fn most_taken(jobs: &[Job], window: Window, vertex: u32) -> u64
     requires { window.from < window.to }
     ensures { IsMostTaken jobs.now window vertex u64.MAX result }

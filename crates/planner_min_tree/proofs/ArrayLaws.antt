@@ -1,5 +1,6 @@
 -- A point put or set at the place of a time marks the points.
-use Rattle.std.proofs.Common.{◌≡◌, ℕ, zero, suc, ◌<◌, ◌≤◌, nat_le, List, [], ◌∷◌, length, refl, sym, ◌∙◌, ap, arith, cond, inl, inr, slice_set, insert, remove, get_or}
+use Rattle.std.proofs.Common.{◌≡◌, ℕ, zero, suc, ◌<◌, ◌≤◌, nat_le, List, [], ◌∷◌, length, refl, sym, ◌∙◌, ap, arith}
+use Rattle.std.proofs.Common.{cond, inl, inr, slice_set, insert, remove, get_or}
 use Rattle.std.proofs.lemmas.Bool.{cases_lt}
 use Rattle.planner_min_tree.specs.declared.points.Point.{Point}
 use Rattle.planner_min_tree.specs.declared.marking.Mark.{Mark}

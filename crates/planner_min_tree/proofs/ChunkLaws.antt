@@ -1,5 +1,6 @@
 -- A change of the points of chunks is one of the chunk that has its place.
-use Rattle.std.proofs.Common.{◌≡◌, ℕ, zero, suc, ◌<◌, ◌≤◌, List, [], ◌∷◌, ◌++◌, length, refl, sym, ◌∙◌, ap, arith, append-nil, inl, inr, Some, slice_get}
+use Rattle.std.proofs.Common.{◌≡◌, ℕ, zero, suc, ◌<◌, ◌≤◌, List, [], ◌∷◌, ◌++◌, length, refl, sym, ◌∙◌, ap, arith}
+use Rattle.std.proofs.Common.{append-nil, inl, inr, Some, slice_get}
 use Rattle.std.proofs.lemmas.Bool.{cases_lt}
 use Rattle.balanced_tree.specs.declared.edits.Edit.{Edit}
 use Rattle.balanced_tree.specs.Edits.{edited, made}
@@ -82,7 +83,8 @@ unmarked_left d (p ∷ xs) ys h s =
     gone qs ge near few = if_gt {a = suc p.time} {b = d.time} _ _ ge ∙ if_le {a = p.time} {b = d.time} _ _ near
         ∙ if_le {a = p.ends} {b = 1} _ _ few
 
-pub changed_right : (c : Change) (xs ys : List Point) → latest_of xs < time_of c → changed c (xs ++ ys) ≡ xs ++ changed c ys
+pub changed_right : (c : Change) (xs ys : List Point) →
+    latest_of xs < time_of c → changed c (xs ++ ys) ≡ xs ++ changed c ys
 changed_right (More d) xs ys h = marked_right d xs ys h
 changed_right (Less d) xs ys h = unmarked_right d xs ys h
 

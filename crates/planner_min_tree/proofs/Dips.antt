@@ -1,10 +1,13 @@
 -- What two lists of points, one after the other, do to a number.
-use Rattle.std.proofs.Common.{◌≡◌, ℕ, suc, ◌+◌, ◌-◌, ◌^◌, ◌<◌, ◌≤◌, min, max, nat_le, List, [], ◌∷◌, ◌++◌, length, Some, None, refl, sym, ◌∙◌, ap, arith, cond, inl, inr, get_or, take, drop}
+use Rattle.std.proofs.Common.{◌≡◌, ℕ, suc, ◌+◌, ◌-◌, ◌^◌, ◌<◌, ◌≤◌, min, max, nat_le, List, [], ◌∷◌, ◌++◌, length, Some}
+use Rattle.std.proofs.Common.{None, refl, sym, ◌∙◌, ap, arith, cond, inl, inr, get_or, take, drop}
 use Rattle.std.specs.Prelude.{Option, IfNone}
 use Rattle.std.proofs.lemmas.Bool.Decides.{leb_tells}
 use Rattle.std.proofs.lemmas.Bool.{cases_lt}
 use Rattle.planner_min_tree.specs.declared.points.Point.{Point}
-use Rattle.planner_min_tree.specs.Points.{latest_of, need_of, rest_of, past, after, Runs, lowest, lowest_before, lowest_from, lowest_in, first_from, top_of, highest, value_at, first_rise, rise_after}
+use Rattle.planner_min_tree.specs.Points.{latest_of, need_of, rest_of, past, after, Runs, lowest, lowest_before}
+use Rattle.planner_min_tree.specs.Points.{lowest_from, lowest_in, first_from, top_of, highest, value_at, first_rise}
+use Rattle.planner_min_tree.specs.Points.{rise_after}
 
 pub latest_append : (xs ys : List Point) → latest_of (xs ++ ys) ≡ max (latest_of xs) (latest_of ys)
 latest_append [] ys = omega arith

@@ -1,5 +1,6 @@
 -- The points of spans, after one span more or less.
-use Rattle.std.proofs.Common.{◌≡◌, ℕ, suc, ◌+◌, ◌-◌, ◌<◌, ◌≤◌, List, [], ◌∷◌, ◌++◌, refl, sym, ◌∙◌, ap, arith, cond, inl, inr}
+use Rattle.std.proofs.Common.{◌≡◌, ℕ, suc, ◌+◌, ◌-◌, ◌<◌, ◌≤◌, List, [], ◌∷◌, ◌++◌, refl, sym, ◌∙◌, ap, arith, cond}
+use Rattle.std.proofs.Common.{inl, inr}
 use Rattle.std.proofs.lemmas.Bool.{cases_lt}
 use Rattle.std.proofs.lemmas.List.Sums.{sum_by-cons, sum_by-append}
 use Rattle.flux_defs.specs.declared.claims.Window.{Window}
@@ -7,9 +8,11 @@ use Rattle.planner_points.specs.declared.spans.Span.{Span}
 use Rattle.planner_points.specs.Spans.{span_of, used_at, is_in, HasRoom}
 use Rattle.planner_min_tree.specs.declared.points.Point.{Point}
 use Rattle.planner_min_tree.specs.declared.marking.Mark.{Mark}
-use Rattle.planner_min_tree.specs.Marks.{added, fresh, lessened, marked, unmarked, IsRising, Tallies, when_at, at, ends_at, taken_at, given_at, starts_at, stops_at, start_of, stop_of}
+use Rattle.planner_min_tree.specs.Marks.{added, fresh, lessened, marked, unmarked, IsRising, Tallies, when_at, at}
+use Rattle.planner_min_tree.specs.Marks.{ends_at, taken_at, given_at, starts_at, stops_at, start_of, stop_of}
 use Rattle.planner_min_tree.proofs.Dips.{if_le, if_gt}
-use Rattle.planner_min_tree.proofs.Sums.{total_append, now_at, not_yet_at, past_at, at_none, each_of, each_append, each_front, each_back}
+use Rattle.planner_min_tree.proofs.Sums.{total_append, now_at, not_yet_at, past_at, at_none, each_of, each_append}
+use Rattle.planner_min_tree.proofs.Sums.{each_front, each_back}
 use Rattle.planner_points.proofs.Starts.{in_yes, in_early, in_late}
 use Rattle.planner_min_tree.specs.Chunks.{Each}
 

@@ -1,5 +1,7 @@
--- Points in two lists of chunks, one behind the other: the place of a change, and a chunk that goes from one to the other.
-use Rattle.std.proofs.Common.{◌≡◌, ℕ, zero, suc, ◌+◌, ◌*◌, ◌<◌, ◌≤◌, max, List, [], ◌∷◌, ◌++◌, length, length-append, refl, sym, ◌∙◌, ap, arith, append-nil, append_assoc, inl, inr, Some, slice_get}
+-- Points in two lists of chunks, one behind the other: the place of a change, and a chunk that goes from one to the
+-- other.
+use Rattle.std.proofs.Common.{◌≡◌, ℕ, zero, suc, ◌+◌, ◌*◌, ◌<◌, ◌≤◌, max, List, [], ◌∷◌, ◌++◌, length, length-append}
+use Rattle.std.proofs.Common.{refl, sym, ◌∙◌, ap, arith, append-nil, append_assoc, inl, inr, Some, slice_get}
 use Rattle.std.proofs.lemmas.Bool.{cases_lt}
 use Rattle.flux_defs.specs.Digits.{dig}
 use Rattle.balanced_tree.specs.declared.edits.Edit.{Edit}
@@ -146,7 +148,8 @@ module _ (c d : Change) (xs ys : List (List Point)) where
   pub second_inside : (HasPlace (time_of c) (flat xs) → ⊥) → HasPlace (time_of d) (flat xs) →
       (ws zs : List (List Point)) → flat ws ≡ changed d (flat xs) → flat zs ≡ changed c (flat ys) →
       Twice (flat (ws ++ zs))
-  second_inside off place ws zs e f = flat_append ws zs ∙ ap (λ l. l ++ flat zs) e ∙ ap (λ l. changed d (flat xs) ++ l) f
+  second_inside off place ws zs e f =
+      flat_append ws zs ∙ ap (λ l. l ++ flat zs) e ∙ ap (λ l. changed d (flat xs) ++ l) f
       ∙ sym (inside d (flat xs) (changed c (flat ys)) place)
       ∙ ap (changed d) (sym (behind c (flat xs) (flat ys) off) ∙ ap (changed c) (sym (flat_append xs ys)))
 
@@ -199,6 +202,14 @@ pub low_both : {X : Type 0} (h k : ℕ) (xs ys : List (List X)) (now : List X) �
 low_both {X = X} h k xs ys now is filled l m =
     let len = length-append (flat xs) (flat ys) in
     let all = ap (λ (zs : List X). length zs) (sym (flat_append xs ys) ∙ is) in (
-      omega (arith, low_height h xs filled.0 l, dig_mono (length (flat xs) + 2) (length now + 2) (omega (arith, len, all))),
-      omega (arith, low_height k ys filled.1 m, dig_mono (length (flat ys) + 2) (length now + 2) (omega (arith, len, all))),
+      omega (
+        arith,
+        low_height h xs filled.0 l,
+        dig_mono (length (flat xs) + 2) (length now + 2) (omega (arith, len, all)),
+      ),
+      omega (
+        arith,
+        low_height k ys filled.1 m,
+        dig_mono (length (flat ys) + 2) (length now + 2) (omega (arith, len, all)),
+      ),
     )

@@ -1,8 +1,10 @@
 -- What two lists of chunks, one after the other, say: what a walk over a tree of chunks rests on.
-use Rattle.std.proofs.Common.{◌≡◌, ℕ, suc, ◌+◌, ◌-◌, ◌^◌, ◌<◌, ◌≤◌, min, List, [], ◌∷◌, ◌++◌, length, Some, None, refl, sym, ◌∙◌, ap, subst, arith, append_assoc, inl, inr}
+use Rattle.std.proofs.Common.{◌≡◌, ℕ, suc, ◌+◌, ◌-◌, ◌^◌, ◌<◌, ◌≤◌, min, List, [], ◌∷◌, ◌++◌, length, Some, None, refl}
+use Rattle.std.proofs.Common.{sym, ◌∙◌, ap, subst, arith, append_assoc, inl, inr}
 use Rattle.std.proofs.lemmas.Bool.{cases_lt}
 use Rattle.planner_min_tree.specs.declared.points.Point.{Point}
-use Rattle.planner_min_tree.specs.Points.{latest_of, need_of, rest_of, after, Runs, lowest_before, lowest_from, lowest_in, first_from, top_of, highest, value_at, first_rise, rise_after}
+use Rattle.planner_min_tree.specs.Points.{latest_of, need_of, rest_of, after, Runs, lowest_before, lowest_from}
+use Rattle.planner_min_tree.specs.Points.{lowest_in, first_from, top_of, highest, value_at, first_rise, rise_after}
 use Rattle.planner_min_tree.specs.Chunks.{flat, chunk_at}
 use Rattle.planner_min_tree.proofs.Dips as dips
 use Rattle.planner_min_tree.proofs.Dips.{if_le, if_gt}

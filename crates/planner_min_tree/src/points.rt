@@ -1,7 +1,9 @@
 //! Points, and what a few of them one after the other say of a moment or a window.
-ghost use Rattle.std.specs.Prelude.{◌≡◌, ◌↔◌, IsTrue, false, ◌+◌, ◌-◌, ◌^◌, ◌<◌, ◌≤◌, List, [], ◌∷◌, ◌++◌, length, IfOk};
+ghost use Rattle.std.specs.Prelude.{◌≡◌, ◌↔◌, IsTrue, false, ◌+◌, ◌-◌, ◌^◌, ◌<◌, ◌≤◌, List, [], ◌∷◌, ◌++◌, length};
+ghost use Rattle.std.specs.Prelude.{IfOk};
 ghost use Rattle.std.specs.Option.{option_copied};
-ghost use Rattle.planner_min_tree.specs.Points.{past, Runs, dip_of, latest_of, lowest, lowest_before, lowest_from, lowest_in, count_before, first_from, value_at, first_rise, rise_after};
+ghost use Rattle.planner_min_tree.specs.Points.{past, Runs, dip_of, latest_of, lowest, lowest_before, lowest_from};
+ghost use Rattle.planner_min_tree.specs.Points.{lowest_in, count_before, first_from, value_at, first_rise, rise_after};
 
 use std::alloc::AllocError;
 
@@ -17,8 +19,8 @@ pub struct Point {
     pub given: u64,
 }
 
-/// What points do to what is free: it falls by `need` at most, is `rest` above its lowest in the end, and `top` above it
-/// where it is highest, before the points or after one of them. The latest of them is at the second `latest`.
+/// What points do to what is free: it falls by `need` at most, is `rest` above its lowest in the end, and `top` above
+/// it where it is highest, before the points or after one of them. The latest of them is at the second `latest`.
 #[derive(Clone, Copy, Debug, PartialEq, Eq)]
 pub struct Dip {
     pub latest: u64,

@@ -1,5 +1,6 @@
 //! The points of a planner, of which those that are past stand apart.
-ghost use Rattle.std.specs.Prelude.{◌≡◌, ◌↔◌, IsTrue, false, ◌+◌, ◌*◌, ◌<◌, ◌≤◌, List, [], ◌++◌, length, Some, slice_get, IfOk, IfSome};
+ghost use Rattle.std.specs.Prelude.{◌≡◌, ◌↔◌, IsTrue, false, ◌+◌, ◌*◌, ◌<◌, ◌≤◌, List, [], ◌++◌, length, Some};
+ghost use Rattle.std.specs.Prelude.{slice_get, IfOk, IfSome};
 ghost use Rattle.flux_defs.specs.Digits.{dig};
 ghost use Rattle.balanced_tree.specs.Edits.{made};
 ghost use Rattle.planner_min_tree.specs.declared.points.Point.{Point};

@@ -1,7 +1,8 @@
 //! What a tree of points says of a moment or a window.
 ghost use Rattle.std.specs.Prelude.{◌≡◌, ◌+◌, ◌-◌, ◌*◌, ◌^◌, ◌<◌, ◌≤◌, length, IfNone};
 ghost use Rattle.planner_min_tree.specs.Chunks.{flat, chunk_at};
-ghost use Rattle.planner_min_tree.specs.Points.{Runs, lowest_before, lowest_from, lowest_in, first_from, value_at, first_rise, rise_after};
+ghost use Rattle.planner_min_tree.specs.Points.{Runs, lowest_before, lowest_from, lowest_in, first_from, value_at};
+ghost use Rattle.planner_min_tree.specs.Points.{first_rise, rise_after};
 
 use crate::chunks::Chunk;
 use crate::points::{self, Dip, Point};
@@ -210,7 +211,8 @@ pub fn some_rise<L: Ledger>(
     first_rise(side, quantity, free, steps)
 }
 
-/// The time of the first point that is later than a moment and after which so much is free, where less is at the moment.
+/// The time of the first point that is later than a moment and after which so much is free, where less is at the
+/// moment.
 #[tactic(auto, using(crate::proofs::TwoSides::after_facts))]
 pub fn rise_after<L: Ledger>(
     side: Side<'_>,

@@ -1,5 +1,6 @@
 -- What spans leave free of a total.
-use Rattle.std.specs.Prelude.{◌≡◌, ℕ, ◌+◌, ◌-◌, ◌<◌, ◌≤◌, Bool, ◌&&◌, nat_le, nat_lt, if◌then◌else◌, List, [], ◌∷◌, ◌++◌, sum_by, ◌⊎◌}
+use Rattle.std.specs.Prelude.{◌≡◌, ℕ, ◌+◌, ◌-◌, ◌<◌, ◌≤◌, Bool, ◌&&◌, nat_le, nat_lt, if◌then◌else◌, List, [], ◌∷◌}
+use Rattle.std.specs.Prelude.{◌++◌, sum_by, ◌⊎◌}
 use Rattle.flux_defs.specs.declared.claims.Window.{Window}
 use Rattle.flux_defs.specs.Jobs.{EachMoment}
 use Rattle.flux_defs.specs.Free.{IsLeastIn}

@@ -1,7 +1,8 @@
 //! What every planner answers.
 ghost use Rattle.std.specs.Prelude.{◌≡◌, ℕ, ◌+◌, ◌<◌, ◌≤◌, List, [], ◌∷◌, ◌++◌, ◌↔◌, IfOk, IfSome, MatchOption};
 ghost use Rattle.planner_points.specs.declared.spans.Span.{Span};
-ghost use Rattle.planner_points.specs.Spans.{free_at, span_of, HasRoom, HasSpan, IsLeastFree, IsEnd, IsNextEnd, MayStart, IsFirstStart, IsFirstFree};
+ghost use Rattle.planner_points.specs.Spans.{free_at, span_of, HasRoom, HasSpan, IsLeastFree, IsEnd, IsNextEnd};
+ghost use Rattle.planner_points.specs.Spans.{MayStart, IsFirstStart, IsFirstFree};
 
 use flux_defs::{Steps, Window};
 use std::alloc::{AllocError, Global};

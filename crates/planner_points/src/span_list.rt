@@ -1,7 +1,9 @@
 //! A planner that keeps its spans as a list: plain and slow, to compare others with.
-ghost use Rattle.std.specs.Prelude.{◌≡◌, ℕ, ◌+◌, ◌-◌, ◌<◌, ◌≤◌, ◌↔◌, IsTrue, List, [], ◌∷◌, ◌++◌, length, Some, slice_get, IfOk, MatchOption};
+ghost use Rattle.std.specs.Prelude.{◌≡◌, ℕ, ◌+◌, ◌-◌, ◌<◌, ◌≤◌, ◌↔◌, IsTrue, List, [], ◌∷◌, ◌++◌, length, Some};
+ghost use Rattle.std.specs.Prelude.{slice_get, IfOk, MatchOption};
 ghost use Rattle.planner_points.specs.declared.spans.Span.{Span};
-ghost use Rattle.planner_points.specs.Spans.{used_at, free_at, span_of, HasRoom, HasSpan, IsLeastFree, IsEnd, IsNextEnd, MayStart, IsFirstStart, IsFirstFree};
+ghost use Rattle.planner_points.specs.Spans.{used_at, free_at, span_of, HasRoom, HasSpan, IsLeastFree, IsEnd};
+ghost use Rattle.planner_points.specs.Spans.{IsNextEnd, MayStart, IsFirstStart, IsFirstFree};
 ghost use Rattle.planner_points.specs.Lists.{sooner, count_of};
 
 use crate::planners::Planner;
@@ -137,7 +139,8 @@ impl SpanList {
 }
 
 impl SpanList {
-    /// The least second from the asked one on at which so much is free: the asked one, or one at which a span starts or ends.
+    /// The least second from the asked one on at which so much is free: the asked one, or one at which a span starts or
+    /// ends.
     fn first_left(&self, from: u64, quantity: u64) -> Option<u64>
         ensures { MatchOption result
             ((t : ℕ) → from ≤ t → free_at self.now.total self.now.spans.items t < quantity)

@@ -1,5 +1,7 @@
 -- How a text falls into items, and an item into two types.
-use Rattle.std.proofs.Common.{◌≡◌, ◌≢◌, ℕ, ◌+◌, nat_lt, nat_le, nat_eq, true, false, ◌&&◌, List, [], ◌∷◌, ◌++◌, length, sum_by, inl, inr, refl, sym, ◌∙◌, ap, subst, arith, IsTrue, true≢false, cond, append_assoc, Option, Some, None, MatchOption}
+use Rattle.std.proofs.Common.{◌≡◌, ◌≢◌, ℕ, ◌+◌, nat_lt, nat_le, nat_eq, true, false, ◌&&◌, List, [], ◌∷◌, ◌++◌, length}
+use Rattle.std.proofs.Common.{sum_by, inl, inr, refl, sym, ◌∙◌, ap, subst, arith, IsTrue, true≢false, cond}
+use Rattle.std.proofs.Common.{append_assoc, Option, Some, None, MatchOption}
 use Rattle.std.specs.List.{AllByRecursion, AllZip, onto_first, list_all}
 use Rattle.std.proofs.lemmas.Bool.{and_parts}
 use Rattle.std.proofs.lemmas.Bool.Decides.{eqb_tells}
@@ -17,13 +19,15 @@ unequal b c ne = elim (eqb_tells b c) [ inl same ↦ absurd (ne same.1) | inr di
 pub items_none : (text : List ℕ) → Lacks 44 text → items_of text ≡ text ∷ []
 items_none [] none = refl
 items_none (b ∷ bs) none =
-    ap (λ test. cond test ([] ∷ items_of bs) (onto_first b (items_of bs))) (unequal b 44 none.0) ∙ ap (onto_first b) (items_none bs none.1)
+    ap (λ test. cond test ([] ∷ items_of bs) (onto_first b (items_of bs))) (unequal b 44 none.0)
+    ∙ ap (onto_first b) (items_none bs none.1)
 
 -- a comma ends the first item
 pub items_cut : (item rest : List ℕ) → Lacks 44 item → items_of (item ++ 44 ∷ rest) ≡ item ∷ items_of rest
 items_cut [] rest none = refl
 items_cut (b ∷ bs) rest none =
-    ap (λ test. cond test ([] ∷ items_of (bs ++ 44 ∷ rest)) (onto_first b (items_of (bs ++ 44 ∷ rest)))) (unequal b 44 none.0) ∙ ap (onto_first b) (items_cut bs rest none.1)
+    ap (λ test. cond test ([] ∷ items_of (bs ++ 44 ∷ rest)) (onto_first b (items_of (bs ++ 44 ∷ rest))))
+    (unequal b 44 none.0) ∙ ap (onto_first b) (items_cut bs rest none.1)
 
 -- a type's name has no colon
 no_colon_byte : (b : ℕ) → is_name_byte b ≡ true → b ≢ 58
@@ -58,13 +62,17 @@ cut_once (x ∷ a) b (y ∷ c) d la lc e =
     (let same : a ≡ c = r.0 in cc, r.1)
 
 -- so an item is a rule only if both its parts are names
-pub rule_parts : (item a b : List ℕ) → item ≡ a ++ 58 ∷ b → Lacks 58 a → IsRule item → IsTrue (is_type_name a) × IsTrue (is_type_name b)
+pub rule_parts : (item a b : List ℕ) →
+    item ≡ a ++ 58 ∷ b → Lacks 58 a → IsRule item → IsTrue (is_type_name a) × IsTrue (is_type_name b)
 rule_parts item a b e none (rule, s) =
-    let r = cut_once a b rule.high rule.low none (no_colon rule.high s.high) (sym e ∙ s.spelled) in
-    (subst (λ (x : List ℕ). IsTrue (is_type_name x)) (sym r.0) s.high, subst (λ (x : List ℕ). IsTrue (is_type_name x)) (sym r.1) s.low)
+    let r = cut_once a b rule.high rule.low none (no_colon rule.high s.high) (sym e ∙ s.spelled) in (
+      subst (λ (x : List ℕ). IsTrue (is_type_name x)) (sym r.0) s.high,
+      subst (λ (x : List ℕ). IsTrue (is_type_name x)) (sym r.1) s.low,
+    )
 
 -- one more item and its rule
-pub zip_push : (items : List (List ℕ)) (rules : List Rule) (item : List ℕ) (rule : Rule) → AllZip Spells items rules → Spells item rule → AllZip Spells (items ++ item ∷ []) (rules ++ rule ∷ [])
+pub zip_push : (items : List (List ℕ)) (rules : List Rule) (item : List ℕ) (rule : Rule) →
+    AllZip Spells items rules → Spells item rule → AllZip Spells (items ++ item ∷ []) (rules ++ rule ∷ [])
 zip_push [] [] item rule each s = (s, tt)
 zip_push [] (r ∷ rs) item rule each s = elim each [ ]
 zip_push (i ∷ is) [] item rule each s = elim each [ ]
@@ -79,18 +87,21 @@ zip_rules (i ∷ is) (r ∷ rs) each = ((r, each.0), zip_rules is rs each.1)
 abbrev pub bytes_of : List (List ℕ) → ℕ
 bytes_of items = sum_by (λ i. length i + 1) items
 
-pub bytes_push : (items : List (List ℕ)) (item : List ℕ) → bytes_of (items ++ item ∷ []) ≡ bytes_of items + (length item + 1)
+pub bytes_push : (items : List (List ℕ)) (item : List ℕ) →
+    bytes_of (items ++ item ∷ []) ≡ bytes_of items + (length item + 1)
 bytes_push items item = sum_by_push (λ (i : List ℕ). length i + 1) items item
 
 -- a text has a first item, whatever stands behind it
-pub first_head : {R : Type 0} (f : R → List (List ℕ)) (text item : List ℕ) (o : Option R) → MatchOption o (items_of text ≡ item ∷ []) (λ r. items_of text ≡ item ∷ f r) →
+pub first_head : {R : Type 0} (f : R → List (List ℕ)) (text item : List ℕ) (o : Option R) →
+    MatchOption o (items_of text ≡ item ∷ []) (λ r. items_of text ≡ item ∷ f r) →
     (after : List (List ℕ)) × (items_of text ≡ item ∷ after)
 first_head f text item None e = ([], e)
 first_head f text item (Some r) e = (f r, e)
 
 -- the first item that is no rule
 pub first_fault : (text rest item : List ℕ) (after : List (List ℕ)) (at : ℕ) (rules : List Rule) →
-    ((before : List (List ℕ)) × (items_of text ≡ before ++ items_of rest) × AllZip Spells before rules × (at ≡ bytes_of before)) →
+    ((before : List (List ℕ))
+    × (items_of text ≡ before ++ items_of rest) × AllZip Spells before rules × (at ≡ bytes_of before)) →
     items_of rest ≡ item ∷ after → (IsRule item → ⊥) → IsFirstFault text at
 first_fault text rest item after at rules (before, split, each, place) e broken = record {
   before = before;
@@ -104,19 +115,24 @@ first_fault text rest item after at rules (before, split, each, place) e broken 
 
 -- one more item was read
 pub read_more : (text rest item next : List ℕ) (at : ℕ) (rules : List Rule) (rule : Rule) →
-    ((before : List (List ℕ)) × (items_of text ≡ before ++ items_of rest) × AllZip Spells before rules × (at ≡ bytes_of before)) →
+    ((before : List (List ℕ))
+    × (items_of text ≡ before ++ items_of rest) × AllZip Spells before rules × (at ≡ bytes_of before)) →
     items_of rest ≡ item ∷ items_of next → Spells item rule →
-    (before : List (List ℕ)) × (items_of text ≡ before ++ items_of next) × AllZip Spells before (rules ++ rule ∷ []) × (at + (length item + 1) ≡ bytes_of before)
+    (before : List (List ℕ)) × (items_of text ≡ before ++ items_of next)
+    × AllZip Spells before (rules ++ rule ∷ []) × (at + (length item + 1) ≡ bytes_of before)
 read_more text rest item next at rules rule (before, split, each, place) e s = (
   before ++ item ∷ [],
   split ∙ (ap (λ items. before ++ items) e ∙ sym (append_assoc before (item ∷ []) (items_of next))),
   zip_push before rules item rule each s,
-  (let more : bytes_of (before ++ item ∷ []) ≡ bytes_of before + (length item + 1) = bytes_push before item in omega arith),
+  (let more : bytes_of (before ++ item ∷ []) ≡ bytes_of before + (length item + 1) = bytes_push before item in
+      omega arith),
 )
 
 -- the last item was read
 pub read_last : (text rest item : List ℕ) (at : ℕ) (rules : List Rule) (rule : Rule) →
-    ((before : List (List ℕ)) × (items_of text ≡ before ++ items_of rest) × AllZip Spells before rules × (at ≡ bytes_of before)) →
+    ((before : List (List ℕ))
+    × (items_of text ≡ before ++ items_of rest) × AllZip Spells before rules × (at ≡ bytes_of before)) →
     items_of rest ≡ item ∷ [] → Spells item rule → AreRulesOf text (rules ++ rule ∷ [])
 read_last text rest item at rules rule (before, split, each, place) e s =
-    subst (λ (items : List (List ℕ)). AllZip Spells items (rules ++ rule ∷ [])) (sym (split ∙ ap (λ items. before ++ items) e)) (zip_push before rules item rule each s)
+    subst (λ (items : List (List ℕ)). AllZip Spells items (rules ++ rule ∷ []))
+    (sym (split ∙ ap (λ items. before ++ items) e)) (zip_push before rules item rule each s)

@@ -6,8 +6,8 @@ ghost use Rattle.prune_filters.specs.Amples.{IsNextAmpleOrNone};
 use flux_defs::{FreeView, Steps};
 use std::sync::ledger::Ledger;
 
-/// A view that tells from when on the root's total of a kind is enough. As with each view the answer holds for every list
-/// of jobs that it stands for, takes no memory, and takes at least one step and at most `cost`.
+/// A view that tells from when on the root's total of a kind is enough. As with each view the answer holds for every
+/// list of jobs that it stands for, takes no memory, and takes at least one step and at most `cost`.
 pub trait TotalsView: FreeView {
     /// The least start or end of a job that is later than the moment, in seconds, and at which the root's total of the
     /// kind is that much; `None` exactly where there is none. The view's filter rules have to keep that total.

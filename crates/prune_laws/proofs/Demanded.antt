@@ -1,5 +1,7 @@
 -- What serves a need is free: the pieces of a fit lie in disjoint subtrees, each with what it claims free.
-use Rattle.std.proofs.Common.{◌≡◌, ◌≢◌, ℕ, zero, suc, ◌+◌, ◌-◌, ◌*◌, ◌<◌, ◌≤◌, ◌==◌, nat_eq, nat_le, Bool, true, false, not, ◌&&◌, ◌||◌, if◌then◌else◌, List, [], ◌∷◌, length, Option, Some, None, slice_get, is_some, inl, inr, refl, sym, ◌∙◌, ap, subst, arith, IsTrue, true≢false}
+use Rattle.std.proofs.Common.{◌≡◌, ◌≢◌, ℕ, zero, suc, ◌+◌, ◌-◌, ◌*◌, ◌<◌, ◌≤◌, ◌==◌, nat_eq, nat_le, Bool, true, false}
+use Rattle.std.proofs.Common.{not, ◌&&◌, ◌||◌, if◌then◌else◌, List, [], ◌∷◌, length, Option, Some, None, slice_get}
+use Rattle.std.proofs.Common.{is_some, inl, inr, refl, sym, ◌∙◌, ap, subst, arith, IsTrue, true≢false}
 use Rattle.std.specs.Prelude.{IsSome}
 use Rattle.std.specs.List.{AllByRecursion, list_any, sum_by, enumerate_from}
 use Rattle.std.specs.Option.{IsSomeAnd, option_map_or}
@@ -11,19 +13,24 @@ use Rattle.flux_defs.specs.declared.claims.Claim.{Claim}
 use Rattle.flux_defs.specs.declared.claims.Claim.TheVariants.{Hold}
 use Rattle.flux_defs.specs.declared.claims.Job.{Job}
 use Rattle.flux_defs.specs.declared.claims.Window.{Window}
-use Rattle.flux_defs.specs.declared.requests.Need.{Need, Vert', Pool, Spread', Row_of-Need, end_of-Need, more_of-Need, items-the_row-Need, items_hidden-the_row-Need-0}
+use Rattle.flux_defs.specs.declared.requests.Need.{Need, Vert', Pool, Spread', Row_of-Need, end_of-Need, more_of-Need}
+use Rattle.flux_defs.specs.declared.requests.Need.{items-the_row-Need, items_hidden-the_row-Need-0}
 use Rattle.flux_defs.specs.declared.requests.Need.TheBlock.{hidden-the_row-Need-0}
-use Rattle.flux_defs.specs.Graph.{ResourceGraph, Scope, Everywhere, Beneath, IsIn, HasKind, IsNode, is_at_or_below, is_below, is_pool, is_pool_kind, size_of}
+use Rattle.flux_defs.specs.Graph.{ResourceGraph, Scope, Everywhere, Beneath, IsIn, HasKind, IsNode, is_at_or_below}
+use Rattle.flux_defs.specs.Graph.{is_below, is_pool, is_pool_kind, size_of}
 use Rattle.flux_defs.specs.ValidGraph.{IsValidGraph}
 use Rattle.flux_defs.specs.Jobs.{some_live_claim, holds_over}
 use Rattle.flux_defs.specs.Closed.{no_bars, is_closed, is_withheld}
 use Rattle.flux_defs.specs.Free.{free_at, taken_at, total_at}
 use Rattle.flux_defs.specs.Available.{IsAvailable}
-use Rattle.flux_defs.specs.Needs.{amount_of, IsOfNeed, HasNoSpread, HaveNoSpreadRow, IsValidNeed, AreValidNeeds, AreValidRow}
+use Rattle.flux_defs.specs.Needs.{amount_of, IsOfNeed, HasNoSpread, HaveNoSpreadRow, IsValidNeed, AreValidNeeds}
+use Rattle.flux_defs.specs.Needs.{AreValidRow}
 use Rattle.flux_defs.specs.Fits.{Pick, served, AreDistinct, Pieces, Piece, Fits, FitsRow}
-use Rattle.graph_laws.proofs.Containment.{below_trans, below_le, below_parent, below_self, below_from, below_to, equal_to, equal_from, not_from, not_to}
+use Rattle.graph_laws.proofs.Containment.{below_trans, below_le, below_parent, below_self, below_from, below_to}
+use Rattle.graph_laws.proofs.Containment.{equal_to, equal_from, not_from, not_to}
 use Rattle.graph_laws.proofs.Preorder.{parents_first}
-use Rattle.flux_laws.proofs.Groups.{AreDisjoint, AtOrBelow, IsOfPicks, IsRootOf, picks_disjoint, siblings_disjoint, piece_vertex, disjoint_sym}
+use Rattle.flux_laws.proofs.Groups.{AreDisjoint, AtOrBelow, IsOfPicks, IsRootOf, picks_disjoint, siblings_disjoint}
+use Rattle.flux_laws.proofs.Groups.{piece_vertex, disjoint_sym}
 use Rattle.flux_laws.proofs.Valid.{nodes_alike, none_nested}
 use Rattle.flux_laws.proofs.Rows.{fits_list, valid_to_row}
 use Rattle.list_laws.proofs.Tests.{false_from}

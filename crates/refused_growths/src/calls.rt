@@ -1,4 +1,5 @@
-//! The calls of a book, each made once more where it finds no memory. Then the book has to be as it was before the call.
+//! The calls of a book, each made once more where it finds no memory. Then the book has to be as it was before the
+//! call.
 ghost use Rattle.std.specs.Prelude.{◌≡◌, ◌≤◌, IfSome};
 ghost use mathlib.Core.List.{IsPrefix};
 ghost use Rattle.flux_defs.specs.Scheduler.{IsProper};

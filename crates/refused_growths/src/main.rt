@@ -1,6 +1,7 @@
-//! Plays four jobs by calls of a book, of which one is overtaken by another client's cancel, where any request for memory
-//! may be refused. A call that finds no memory has to leave the book as it was, and is made once more; so what this program
-//! writes is the same whichever request is refused, once the book is made. `tools/refused.py` refuses each in turn.
+//! Plays four jobs by calls of a book, of which one is overtaken by another client's cancel, where any request for
+//! memory may be refused. A call that finds no memory has to leave the book as it was, and is made once more; so what
+//! this program writes is the same whichever request is refused, once the book is made. `tools/refused.py` refuses each
+//! in turn.
 #![tactic(auto)]
 
 mod calls;

@@ -41,8 +41,8 @@ const FOURTH: &str = "a cancel 1";
 
 const FIFTH: &str = asked!("a reserve 4", "2", "5");
 
-/// What came of the lines: by what the third was overtaken, the answers, and whether each call that found no memory left
-/// the book as it was.
+/// What came of the lines: by what the third was overtaken, the answers, and whether each call that found no memory
+/// left the book as it was.
 #[derive(Drop)]
 pub struct Played {
     pub overtaken: Cause,

@@ -1,5 +1,6 @@
 -- Which kinds contain which: the test over all pairs of vertices agrees with what a graph answers.
-use Rattle.std.proofs.Common.{◌≡◌, ℕ, zero, suc, ◌+◌, ◌<◌, ◌==◌, Bool, true, false, ◌&&◌, ◌||◌, List, length, Option, Some, None, slice_get, IsTrue, ◌↔◌, true≢false, refl, sym, zero-add, arith}
+use Rattle.std.proofs.Common.{◌≡◌, ℕ, zero, suc, ◌+◌, ◌<◌, ◌==◌, Bool, true, false, ◌&&◌, ◌||◌, List, length, Option}
+use Rattle.std.proofs.Common.{Some, None, slice_get, IsTrue, ◌↔◌, true≢false, refl, sym, zero-add, arith}
 use Rattle.std.specs.List.{list_any, range_with_len}
 use Rattle.std.specs.Option.{IsSomeAnd, option_map_or}
 use Rattle.std.proofs.lemmas.List.Folds.{list_any_at}
@@ -13,15 +14,20 @@ use Rattle.resource_graph.specs.Tables.{has_kind, contains_kind}
 use Rattle.resource_graph.proofs.Values.{value_of, fact_within}
 
 -- an index that passes a test of all indices, and the converse
-any_index : (test : ℕ → Bool) (count v : ℕ) → v < count → IsTrue (test v) → IsTrue (list_any test (range_with_len 0 count))
+any_index : (test : ℕ → Bool) (count v : ℕ) →
+    v < count → IsTrue (test v) → IsTrue (list_any test (range_with_len 0 count))
 any_index test count v less h =
-    list_any_at test (range_with_len 0 count) v v (rw (length-range_with_len) less) (rw (get_or-range_with_len 0 count v v less, zero-add) h)
+    list_any_at test (range_with_len 0 count) v v
+    (rw (length-range_with_len) less) (rw (get_or-range_with_len 0 count v v less, zero-add) h)
 
-some_index : (test : ℕ → Bool) (low count : ℕ) → IsTrue (list_any test (range_with_len low count)) → (v : ℕ) × IsTrue (test v)
+some_index : (test : ℕ → Bool) (low count : ℕ) →
+    IsTrue (list_any test (range_with_len low count)) → (v : ℕ) × IsTrue (test v)
 some_index test low zero h = absurd (true≢false (sym h))
 some_index test low (suc count) h = by (test low) refl h (some_index test (low + 1) count)
   where
-    by : (b : Bool) → test low ≡ b → IsTrue (b || list_any test (range_with_len (low + 1) count)) → (IsTrue (list_any test (range_with_len (low + 1) count)) → (v : ℕ) × IsTrue (test v)) → (v : ℕ) × IsTrue (test v)
+    by : (b : Bool) → test low ≡ b → IsTrue (b || list_any test (range_with_len (low + 1) count)) →
+        (IsTrue (list_any test (range_with_len (low + 1) count)) → (v : ℕ) × IsTrue (test v)) →
+        (v : ℕ) × IsTrue (test v)
     by true is h later = (low, is)
     by false is h later = later h
 
@@ -54,26 +60,37 @@ is_of_kind vertices kind v h = by (slice_get vertices v) h
 in_range : (vertices : List Vertex) (kind v : ℕ) → HasKind vertices kind v → v < length vertices
 in_range vertices kind v h = fact_within vertices v (λ x. x.kind ≡ kind) h
 
-pub contains_is : (vertices : List Vertex) (upper lower : ℕ) → IsTrue (contains_kind vertices upper lower) ↔ Contains vertices (HasKind vertices upper) (HasKind vertices lower)
+pub contains_is : (vertices : List Vertex) (upper lower : ℕ) →
+    IsTrue (contains_kind vertices upper lower) ↔ Contains vertices (HasKind vertices upper) (HasKind vertices lower)
 contains_is vertices upper lower = (
   (λ h.
       let u = some_index _ 0 (length vertices) h in
       let v = some_index _ 0 (length vertices) u.1 in
-      let rest = second (has_kind vertices upper u.0) _ v.1 in
-      (u.0, v.0, of_kind vertices upper u.0 (first (has_kind vertices upper u.0) _ v.1), of_kind vertices lower v.0 (first (has_kind vertices lower v.0) _ rest), second (has_kind vertices lower v.0) _ rest)),
+      let rest = second (has_kind vertices upper u.0) _ v.1 in (
+        u.0,
+        v.0,
+        of_kind vertices upper u.0 (first (has_kind vertices upper u.0) _ v.1),
+        of_kind vertices lower v.0
+            (first (has_kind vertices lower v.0) _ rest),
+        second (has_kind vertices lower v.0) _ rest,
+      )),
   (λ (u, v, up, low, below).
-      any_index _ (length vertices) u (in_range vertices upper u up) (any_index _ (length vertices) v (in_range vertices lower v low)
+      any_index _ (length vertices) u
+      (in_range vertices upper u up) (any_index _ (length vertices) v (in_range vertices lower v low)
       (both _ _ (is_of_kind vertices upper u up) (both _ _ (is_of_kind vertices lower v low) below)))),
 )
 
 -- what a graph answers is this test
-pub nests_is : (vertices : List Vertex) (upper lower : ℕ) (answer : Bool) → (IsTrue answer ↔ Contains vertices (HasKind vertices upper) (HasKind vertices lower)) → answer ≡ contains_kind vertices upper lower
+pub nests_is : (vertices : List Vertex) (upper lower : ℕ) (answer : Bool) →
+    (IsTrue answer ↔ Contains vertices (HasKind vertices upper) (HasKind vertices lower)) →
+    answer ≡ contains_kind vertices upper lower
 nests_is vertices upper lower answer is =
     let (to, from) = contains_is vertices upper lower in
     same_tests answer (contains_kind vertices upper lower) (λ h. from (is.0 h)) (λ h. is.1 (to h))
 
 -- a kind is one of the graph's
-kind_in : (vertices : List Vertex) (kinds kind v : ℕ) → KnowsKinds vertices kinds → HasKind vertices kind v → kind < kinds
+kind_in : (vertices : List Vertex) (kinds kind v : ℕ) →
+    KnowsKinds vertices kinds → HasKind vertices kind v → kind < kinds
 kind_in vertices kinds kind v known h =
     let x = value_of (slice_get vertices v) (λ x. x.kind ≡ kind) h in
     let lt : x.0.kind < kinds = known v x.0 x.1 in

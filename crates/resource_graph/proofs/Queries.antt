@@ -1,5 +1,6 @@
 -- From the tables to what the queries answer.
-use Rattle.std.proofs.Common.{◌≡◌, ℕ, ◌<◌, ◌≤◌, false, List, length, get_or, Option, Some, None, refl, sym, subst, arith, ltb, MatchOption}
+use Rattle.std.proofs.Common.{◌≡◌, ℕ, ◌<◌, ◌≤◌, false, List, length, get_or, Option, Some, None, refl, sym, subst}
+use Rattle.std.proofs.Common.{arith, ltb, MatchOption}
 use Rattle.std.specs.Prelude.{slice_get}
 use Rattle.std.specs.Option.{IsSomeAnd}
 use Rattle.std.proofs.lemmas.Bool.{false_from_ne_true, lt-ltb, ltb-true}
@@ -24,27 +25,33 @@ module _ (vertices : List Vertex) (first : ParentsFirst vertices) where
       b.1 (omega arith))
 
   -- below is a range
-  pub below_range : (u v after : ℕ) → IsPast vertices u after → v < length vertices → u < v → ltb v after ≡ is_below vertices v u
+  pub below_range : (u v after : ℕ) →
+      IsPast vertices u after → v < length vertices → u < v → ltb v after ≡ is_below vertices v u
   below_range u v after past lt before =
       same_tests (ltb v after) (is_below vertices v u)
-      (λ h. let le : v < after = ltb-true v after h in below_from vertices first v u (λ e. omega arith) (past.covered v (omega arith) le))
+      (λ h. let le : v < after = ltb-true v after h in
+      below_from vertices first v u (λ e. omega arith) (past.covered v (omega arith) le))
       (λ h. let b = below_to vertices first v u h in lt-ltb v after (past.whole v lt b.0))
 
 -- what has a kind is a vertex
-pub kind_within : (vertices : List Vertex) (kind v : ℕ) → HasKind vertices kind v → (x : Vertex) × (slice_get vertices v ≡ Some x) × (x.kind ≡ kind)
+pub kind_within : (vertices : List Vertex) (kind v : ℕ) →
+    HasKind vertices kind v → (x : Vertex) × (slice_get vertices v ≡ Some x) × (x.kind ≡ kind)
 kind_within vertices kind v h = at (slice_get vertices v) refl h
   where
-    at : (o : Option Vertex) → slice_get vertices v ≡ o → IsSomeAnd o (λ x. x.kind ≡ kind) → (x : Vertex) × (slice_get vertices v ≡ Some x) × (x.kind ≡ kind)
+    at : (o : Option Vertex) → slice_get vertices v ≡ o →
+        IsSomeAnd o (λ x. x.kind ≡ kind) → (x : Vertex) × (slice_get vertices v ≡ Some x) × (x.kind ≡ kind)
     at None e p = absurd p
     at (Some x) e p = (x, e, p)
 
 -- the next of a list of a kind is the next of that kind
-pub next_of_list : (vertices : List Vertex) (kind : ℕ) (list : List ℕ) (from to : ℕ) (found : Option ℕ) → ListsKind vertices kind list →
+pub next_of_list : (vertices : List Vertex) (kind : ℕ) (list : List ℕ) (from to : ℕ) (found : Option ℕ) →
+    ListsKind vertices kind list →
     MatchOption found (HasNoneIn list from to) (λ v. IsNextIn list from to v) →
     MatchOption found (HasNoneOfKind vertices kind from to) (λ v. IsNextOfKind vertices kind from to v)
 next_of_list vertices kind list from to None lists none = λ u has low high.
     let there = lists.all u has in
-    none there.0 there.1 (let e : get_or list there.0 0 ≡ u = there.2 in omega arith) (let e : get_or list there.0 0 ≡ u = there.2 in omega arith)
+    none there.0 there.1 (let e : get_or list there.0 0 ≡ u = there.2 in omega arith)
+    (let e : get_or list there.0 0 ≡ u = there.2 in omega arith)
 next_of_list vertices kind list from to (Some v) lists next = record {
   of_kind = subst (λ (w : ℕ). HasKind vertices kind w) next.there.2 (lists.only next.there.0 next.there.1);
   low = next.low;
@@ -62,7 +69,8 @@ parents_known g names valid v p e =
     let before : p < v = parents_first g valid.preorder v p e in
     let within : v < length g.vertices = has_parent g.vertices v p e in omega arith
 
-pub lines_short : (g : ResourceGraph) (names : List (List ℕ)) → IsValidGraph g names → (v : ℕ) → v < length g.vertices → length (line_of g.vertices v) ≤ 16
+pub lines_short : (g : ResourceGraph) (names : List (List ℕ)) →
+    IsValidGraph g names → (v : ℕ) → v < length g.vertices → length (line_of g.vertices v) ≤ 16
 lines_short g names valid v lt =
     valid.shallow v (get_or g.vertices v no_vertex) (slice_get-get_or g.vertices v no_vertex lt)
   where
@@ -70,7 +78,8 @@ lines_short g names valid v lt =
     no_vertex = record { kind = 0; size = 0; parent = None; id = None; rank = None }
 
 -- preorder doesn't speak of the types' names
-pub in_preorder : (g : ResourceGraph) (vertices : List Vertex) → vertices ≡ g.vertices → StandsInPreorder g → InPreorder vertices
+pub in_preorder : (g : ResourceGraph) (vertices : List Vertex) →
+    vertices ≡ g.vertices → StandsInPreorder g → InPreorder vertices
 in_preorder g vertices same o =
     let here : InPreorder g.vertices = record { some = o.some; root = o.root; next = o.next } in
     subst (λ (l : List Vertex). InPreorder l) (sym same) here

@@ -1,5 +1,6 @@
 -- What the tables of a graph hold, and what each step of their making leaves.
-use Rattle.std.specs.Prelude.{◌≡◌, ℕ, ◌<◌, ◌*◌, ◌+◌, ◌↔◌, ◌⊎◌, Bool, false, List, [], length, Option, Some, slice_get, slice_index, slice_index_or, IsTrue, Vec}
+use Rattle.std.specs.Prelude.{◌≡◌, ℕ, ◌<◌, ◌*◌, ◌+◌, ◌↔◌, ◌⊎◌, Bool, false, List, [], length, Option, Some, slice_get}
+use Rattle.std.specs.Prelude.{slice_index, slice_index_or, IsTrue, Vec}
 use Rattle.std.specs.Ordering.{nat_cmp}
 use Rattle.std.specs.BTreeMap.{BTreeMap, get}
 use Rattle.std.specs.declared.alloc.Global.{Global}
@@ -34,7 +35,9 @@ HasPools vertices pools = (k : ℕ) → slice_index_or pools k false ≡ is_pool
 -- by two types, row by row, whether the first contains the second
 pub record HasNested (vertices : List Vertex) (kinds : ℕ) (nested : List Bool) : Type 0 where
   pub as_many : length nested ≡ kinds * kinds
-  pub each : (upper lower : ℕ) → upper < kinds → lower < kinds → (IsTrue (slice_index_or nested (upper * kinds + lower) false) ↔ Contains vertices (HasKind vertices upper) (HasKind vertices lower))
+  pub each : (upper lower : ℕ) →
+      upper < kinds → lower < kinds → (IsTrue (slice_index_or nested (upper * kinds + lower) false)
+      ↔ Contains vertices (HasKind vertices upper) (HasKind vertices lower))
 
 -- the numbers from 1 to the count
 pub record CountsUp (numbers : List ℕ) (count : ℕ) : Type 0 where
@@ -53,10 +56,12 @@ pub record HasNodesTo (vertices : List Vertex) (most : ℕ) (nodes : List (Optio
 
 -- v is of the lower kind and below a vertex of the upper one
 abbrev pub LiesIn : List Vertex → ℕ → ℕ → ℕ → Type 0
-LiesIn vertices upper lower v = (u : ℕ) × HasKind vertices upper u × HasKind vertices lower v × IsTrue (is_below vertices v u)
+LiesIn vertices upper lower v =
+    (u : ℕ) × HasKind vertices upper u × HasKind vertices lower v × IsTrue (is_below vertices v u)
 
 -- exactly the pairs of kinds that v shows are marked beside those that were
 pub record AddsNested (vertices : List Vertex) (kinds v : ℕ) (old new : List Bool) : Type 0 where
   pub as_many : length new ≡ length old
   pub each : (upper lower : ℕ) → upper < kinds → lower < kinds →
-      (IsTrue (slice_index_or new (upper * kinds + lower) false) ↔ (IsTrue (slice_index_or old (upper * kinds + lower) false) ⊎ LiesIn vertices upper lower v))
+      (IsTrue (slice_index_or new (upper * kinds + lower) false)
+      ↔ (IsTrue (slice_index_or old (upper * kinds + lower) false) ⊎ LiesIn vertices upper lower v))

@@ -6,7 +6,13 @@ use Rattle.resource_graph.specs.declared.graph.Graph.TheInside.{Inside}
 
 -- the graph that contracts see
 abbrev pub graph_of : Inside → NamedGraph
-graph_of a = record { resources = record { kinds = a.kinds; vertices = a.vertices }; names = a.names; bases = a.bases; units = a.units; properties = a.properties }
+graph_of a = record {
+  resources = record { kinds = a.kinds; vertices = a.vertices };
+  names = a.names;
+  bases = a.bases;
+  units = a.units;
+  properties = a.properties;
+}
 
 -- the graph is valid, and each table holds what it answers
 pub record Keeps (a : Inside) : Type 0 where

@@ -1,5 +1,6 @@
 -- What the queries of a graph answer, and what its tables hold.
-use Rattle.std.specs.Prelude.{◌≡◌, ◌≢◌, ℕ, ◌<◌, ◌≤◌, Bool, false, ◌&&◌, ◌==◌, List, length, Option, Some, MatchOption, [], option_and_then, unwrap_or, slice_get, slice_index, IsTrue}
+use Rattle.std.specs.Prelude.{◌≡◌, ◌≢◌, ℕ, ◌<◌, ◌≤◌, Bool, false, ◌&&◌, ◌==◌, List, length, Option, Some, MatchOption}
+use Rattle.std.specs.Prelude.{[], option_and_then, unwrap_or, slice_get, slice_index, IsTrue}
 use Rattle.std.specs.List.{list_any, range_with_len}
 use Rattle.std.specs.Option.{option_map_or}
 use Rattle.std.specs.List.Sorted.{IsStrictlyIncreasing}
@@ -8,7 +9,8 @@ use Rattle.flux_defs.specs.Graph.{ResourceGraph, is_at_or_below, is_below, HasKi
 use Rattle.flux_defs.specs.ValidGraph.{HasRank}
 use Rattle.resource_graph.specs.NamedGraph.{NamedGraph}
 
--- `after` is the number after the last vertex at or below v: exactly the vertices from v on and before it are at or below v
+-- `after` is the number after the last vertex at or below v: exactly the vertices from v on and before it are at or
+-- below v
 pub record IsPast (vertices : List Vertex) (v after : ℕ) : Type 0 where
   pub later : v < after
   pub within : after ≤ length vertices
@@ -18,7 +20,8 @@ pub record IsPast (vertices : List Vertex) (v after : ℕ) : Type 0 where
 -- the node that v is or lies below, and none exactly where v is not in a node
 abbrev pub IsNodeOf : List Vertex → ℕ → Option ℕ → Type 0
 IsNodeOf vertices v found =
-    MatchOption found ((n : ℕ) → IsNode vertices n → IsTrue (is_at_or_below vertices v n) → ⊥) (λ n. IsNode vertices n × IsTrue (is_at_or_below vertices v n))
+    MatchOption found ((n : ℕ) → IsNode vertices n → IsTrue (is_at_or_below vertices v n) → ⊥)
+    (λ n. IsNode vertices n × IsTrue (is_at_or_below vertices v n))
 
 -- the node of this rank, and none exactly where no node has it
 abbrev pub IsRanked : ResourceGraph → ℕ → Option ℕ → Type 0
@@ -34,7 +37,8 @@ name_at g v = unwrap_or (slice_get g.names v) []
 
 -- the type that is called so, and none exactly where no type is
 abbrev pub IsNamedKind : ResourceGraph → List ℕ → Option ℕ → Type 0
-IsNamedKind g name found = MatchOption found ((k : ℕ) → slice_get g.kinds k ≢ Some name) (λ k. slice_get g.kinds k ≡ Some name)
+IsNamedKind g name found =
+    MatchOption found ((k : ℕ) → slice_get g.kinds k ≢ Some name) (λ k. slice_get g.kinds k ≡ Some name)
 
 -- whether v is a vertex of this kind
 abbrev pub has_kind : List Vertex → ℕ → ℕ → Bool

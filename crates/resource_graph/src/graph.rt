@@ -6,7 +6,8 @@ ghost use Rattle.flux_defs.specs.Graph.{HasKind, is_below, is_pool_kind};
 ghost use Rattle.resource_graph.specs.Lines.{AllBelow};
 ghost use Rattle.resource_graph.specs.NamedGraph.{IsWhole, name_step, path_text};
 ghost use Rattle.resource_graph.specs.Made.{named_graph};
-ghost use Rattle.resource_graph.specs.Tables.{IsPast, IsNodeOf, IsRanked, IsNamedKind, contains_kind, IsNextOfKind, HasNoneOfKind, IsNextIn, HasNoneIn, IsFirstIndex, rank_at, name_at};
+ghost use Rattle.resource_graph.specs.Tables.{IsPast, IsNodeOf, IsRanked, IsNamedKind, contains_kind, IsNextOfKind};
+ghost use Rattle.resource_graph.specs.Tables.{HasNoneOfKind, IsNextIn, HasNoneIn, IsFirstIndex, rank_at, name_at};
 ghost use Rattle.std.specs.List.Sorted.{IsStrictlyIncreasing};
 
 use crate::lines::line_up;
@@ -57,8 +58,8 @@ pub struct Texts {
 }
 
 impl Graph {
-    /// The graph of these types, vertices and texts, which are a valid graph: types by their first vertices, vertices in
-    /// preorder. Near-linear in the vertices; the only error is want of memory.
+    /// The graph of these types, vertices and texts, which are a valid graph: types by their first vertices, vertices
+    /// in preorder. Near-linear in the vertices; the only error is want of memory.
     pub fn of(
         alloc: Global,
         kinds: List<Text>,
@@ -170,7 +171,8 @@ impl Graph {
 
     /// The least vertex of the type from `from` on and before `to`.
     pub fn next_of_kind(&self, kind: u32, from: u32, to: u32) -> Option<u32>
-        ensures { MatchOption result (HasNoneOfKind self.now.resources.vertices kind from to) (λ v. IsNextOfKind self.now.resources.vertices kind from to v) }
+        ensures { MatchOption result (HasNoneOfKind self.now.resources.vertices kind from to)
+            (λ v. IsNextOfKind self.now.resources.vertices kind from to v) }
     {
         if from < to && self.has_kind(kind, from) {
             return Some(from);
@@ -190,7 +192,8 @@ impl Graph {
 
     /// The least vertex in the type's list from `from` on and before `to`.
     fn next_listed(&self, kind: u32, from: u32, to: u32) -> Option<u32>
-        ensures { MatchOption result (HasNoneOfKind self.now.resources.vertices kind from to) (λ v. IsNextOfKind self.now.resources.vertices kind from to v) }
+        ensures { MatchOption result (HasNoneOfKind self.now.resources.vertices kind from to)
+            (λ v. IsNextOfKind self.now.resources.vertices kind from to v) }
     {
         if kind as usize >= self.lists.len() {
             return None;

@@ -2,7 +2,8 @@
 ghost use Rattle.std.specs.Prelude.{◌≡◌, ◌<◌, ◌≤◌, ◌+◌, ◌*◌, length, IfOk};
 ghost use Rattle.flux_defs.specs.declared.limits.TheConstants.{MOST_VERTICES, MOST_TYPES};
 ghost use Rattle.resource_graph.specs.Preorder.{InPreorder, KnowsKinds, RanksApart};
-ghost use Rattle.resource_graph.specs.Holds.{HasPasts, HasNodes, HasLists, HasRanked, HasPools, HasNested, AddsNested, CountsUp, AreEmpty, HasNodesTo};
+ghost use Rattle.resource_graph.specs.Holds.{HasPasts, HasNodes, HasLists, HasRanked, HasPools, HasNested, AddsNested};
+ghost use Rattle.resource_graph.specs.Holds.{CountsUp, AreEmpty, HasNodesTo};
 ghost use Rattle.resource_graph.specs.Tables.{IsNodeOf};
 
 use flux_defs::Vertex;

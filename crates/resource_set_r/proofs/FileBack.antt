@@ -13,9 +13,11 @@ use Rattle.graph_json.specs.FileGraph.{HasFileNumbers, IsFileGraph}
 use Rattle.idset_text.specs.Hostlists.{is_host_name}
 use Rattle.resource_set_r.specs.ReadBack.{HasIdNumbers, HasSmallQuantity, CanBeRead}
 
-names_named : (names : List (List ℕ)) → IsTrue (list_all (is_name MOST_NAME_BYTES) names) → AllByRecursion (λ name. IsTrue (is_host_name name)) names
+names_named : (names : List (List ℕ)) →
+    IsTrue (list_all (is_name MOST_NAME_BYTES) names) → AllByRecursion (λ name. IsTrue (is_host_name name)) names
 names_named [] h = tt
-names_named (name ∷ names) h = let both = and_parts (is_name MOST_NAME_BYTES name) (list_all (is_name MOST_NAME_BYTES) names) h in (both.0, names_named names both.1)
+names_named (name ∷ names) h = let both = and_parts
+    (is_name MOST_NAME_BYTES name) (list_all (is_name MOST_NAME_BYTES) names) h in (both.0, names_named names both.1)
 
 less : (o : Option ℕ) → IfSome o (λ n. n ≤ GREATEST_ID) → IfSome o (λ n. n < NO_ID)
 less None h = h

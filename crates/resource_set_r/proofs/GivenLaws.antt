@@ -1,5 +1,6 @@
 -- What a claim gives.
-use Rattle.std.proofs.Common.{◌≡◌, ℕ, ◌+◌, ◌-◌, ◌<◌, ◌≤◌, ◌==◌, true, false, List, [], ◌∷◌, length, inl, inr, refl, sym, ◌∙◌, ap, arith, true≢false}
+use Rattle.std.proofs.Common.{◌≡◌, ℕ, ◌+◌, ◌-◌, ◌<◌, ◌≤◌, ◌==◌, true, false, List, [], ◌∷◌, length, inl, inr, refl, sym}
+use Rattle.std.proofs.Common.{◌∙◌, ap, arith, true≢false}
 use Rattle.std.proofs.lemmas.Bool.{false_from_ne_true, or_cases, or_left, or_right}
 use Rattle.flux_defs.specs.declared.vertices.Vertex.{Vertex}
 use Rattle.flux_defs.specs.declared.claims.Claim.{Claim}
@@ -29,29 +30,36 @@ module _ (vertices : List Vertex) (first : ParentsFirst vertices) where
   -- a claim past the graph gives nothing
   pub given_past : (c : Claim) → length vertices ≤ vertex_of c → given_by vertices c ≡ []
   given_past c past =
-      filter_none (is_given_by vertices c) (length vertices) 0 (λ w lo hi. false_from_ne_true _ (λ h. let le : vertex_of c ≤ w = given_later c w h in omega arith))
+      filter_none (is_given_by vertices c) (length vertices) 0
+      (λ w lo hi. false_from_ne_true _ (λ h. let le : vertex_of c ≤ w = given_later c w h in omega arith))
 
   -- exactly the vertices before a number are given
-  given_range : (c : Claim) (after : ℕ) → vertex_of c ≤ after → after ≤ length vertices → ((w : ℕ) → vertex_of c ≤ w → w < after → is_given_by vertices c w ≡ true) →
-      ((w : ℕ) → after ≤ w → w < length vertices → is_given_by vertices c w ≡ true → ⊥) → given_by vertices c ≡ ids_from (after - vertex_of c) (vertex_of c)
+  given_range : (c : Claim) (after : ℕ) → vertex_of c ≤ after →
+      after ≤ length vertices → ((w : ℕ) → vertex_of c ≤ w → w < after → is_given_by vertices c w ≡ true) →
+      ((w : ℕ) → after ≤ w → w < length vertices → is_given_by vertices c w ≡ true → ⊥) →
+      given_by vertices c ≡ ids_from (after - vertex_of c) (vertex_of c)
   given_range c after lo hi inside outside =
-      filter_range (is_given_by vertices c) (length vertices) 0 (vertex_of c) after (omega arith) lo (omega arith) inside
+      filter_range (is_given_by vertices c)
+      (length vertices) 0 (vertex_of c) after (omega arith) lo (omega arith) inside
       (λ w l h. false_from_ne_true _ (λ t. let le : vertex_of c ≤ w = given_later c w t in omega arith))
       (λ w l h. false_from_ne_true _ (outside w l (omega arith)))
 
   pub given_hold : (v after : ℕ) → IsPast vertices v after → given_by vertices (Hold v) ≡ ids_from (after - v) v
   given_hold v after past =
-      given_range (Hold v) after (omega (arith, past.later)) past.within (λ w lo hi. or_right (v == w) (is_at_or_below vertices w v) (past.covered w lo hi))
+      given_range (Hold v) after (omega (arith, past.later)) past.within
+      (λ w lo hi. or_right (v == w) (is_at_or_below vertices w v) (past.covered w lo hi))
       (λ w lo hi h. elim (or_cases (v == w) (is_at_or_below vertices w v) h) [
         | inl same ↦ (let e : v ≡ w = equal_to v w same in omega (arith, past.later))
         | inr held ↦ (let lt : w < after = past.whole w hi held in omega arith)
       ])
 
-  given_alone : (c : Claim) → vertex_of c < length vertices → ((w : ℕ) → holds_over vertices w c ≡ false) → given_by vertices c ≡ vertex_of c ∷ []
+  given_alone : (c : Claim) → vertex_of c < length vertices →
+      ((w : ℕ) → holds_over vertices w c ≡ false) → given_by vertices c ≡ vertex_of c ∷ []
   given_alone c within none =
       let v = vertex_of c in
       let e : v + 1 - v ≡ 1 = omega arith in
-      given_range c (v + 1) (omega arith) (omega arith) (λ w lo hi. or_left (v == w) (holds_over vertices w c) (equal_from v w (omega arith)))
+      given_range c (v + 1) (omega arith)
+      (omega arith) (λ w lo hi. or_left (v == w) (holds_over vertices w c) (equal_from v w (omega arith)))
       (λ w lo hi h. elim (or_cases (v == w) (holds_over vertices w c) h) [
         | inl same ↦ (let e : v ≡ w = equal_to v w same in omega arith)
         | inr held ↦ true≢false (sym held ∙ none w)

@@ -1,5 +1,8 @@
 -- The hosts of a job: what they are called, and that their hostlists are plain texts.
-use Rattle.std.proofs.Common.{◌≡◌, ℕ, zero, suc, ◌+◌, ◌<◌, ◌≤◌, ◌==◌, ◌&&◌, Bool, true, false, List, [], ◌∷◌, ◌++◌, length, take, drop, Option, Some, None, refl, sym, ◌∙◌, ap, subst, arith, cond, if◌then◌else◌, IsUtf8, IsTrue, IfSome, slice_get, slice_index, unwrap_or, option_and_then, is_some, true≢false, inl, inr}
+use Rattle.std.proofs.Common.{◌≡◌, ℕ, zero, suc, ◌+◌, ◌<◌, ◌≤◌, ◌==◌, ◌&&◌, Bool, true, false, List, [], ◌∷◌, ◌++◌}
+use Rattle.std.proofs.Common.{length, take, drop, Option, Some, None, refl, sym, ◌∙◌, ap, subst, arith, cond}
+use Rattle.std.proofs.Common.{if◌then◌else◌, IsUtf8, IsTrue, IfSome, slice_get, slice_index, unwrap_or, option_and_then}
+use Rattle.std.proofs.Common.{is_some, true≢false, inl, inr}
 use Rattle.std.specs.List.{AllByRecursion, find, list_all}
 use Rattle.std.specs.Option.{option_map_or}
 use Rattle.std.proofs.lemmas.Bool.{and_parts, cases_eq, cases_lt}
@@ -12,7 +15,8 @@ use Rattle.flux_defs.specs.declared.vertices.Vertex.{Vertex}
 use Rattle.flux_defs.specs.Graph.{is_at_or_below}
 use Rattle.resource_graph.specs.NamedGraph.{NamedGraph}
 use Rattle.idset_text.specs.Idsets.{ids_from}
-use Rattle.idset_text.specs.Hostlists.{is_host_name, prefix_of, digits_of, digits_place, continues, run_text, texts_from, hostlist_texts}
+use Rattle.idset_text.specs.Hostlists.{is_host_name, prefix_of, digits_of, digits_place, continues, run_text}
+use Rattle.idset_text.specs.Hostlists.{texts_from, hostlist_texts}
 use Rattle.text_forms.specs.Names.{is_name_byte}
 use Rattle.resource_set_r.specs.Rows.{rank_of, node_above, rank_above, node_with, host_of, is_of_type, id_of_type}
 use Rattle.resource_set_r.specs.ReadBack.{HasIdNumbers}
@@ -60,18 +64,24 @@ ascii_name name h = ascii_bytes name (and_parts _ _ h).1
 
 ascii_run : (many : Bool) (first last : List ℕ) → AreAscii first → AreAscii last → AreAscii (run_text many first last)
 ascii_run true first last a b =
-    let one = ascii_append (prefix_of first) (91 ∷ digits_of first) (ascii_take (digits_place first) first a) (omega arith, ascii_drop (digits_place first) first a) in
-    let two = ascii_append (prefix_of first ++ 91 ∷ digits_of first) (45 ∷ digits_of last) one (omega arith, ascii_drop (digits_place last) last b) in
+    let one = ascii_append (prefix_of first) (91 ∷ digits_of first)
+    (ascii_take (digits_place first) first a) (omega arith, ascii_drop (digits_place first) first a) in
+    let two = ascii_append (prefix_of first ++ 91 ∷ digits_of first)
+    (45 ∷ digits_of last) one (omega arith, ascii_drop (digits_place last) last b) in
     ascii_append ((prefix_of first ++ 91 ∷ digits_of first) ++ 45 ∷ digits_of last) (93 ∷ []) two (omega arith, tt)
 ascii_run false first last a b = a
 
-utf8_from : (many : Bool) (first last : List ℕ) (names : List (List ℕ)) → AreAscii first → AreAscii last → AllByRecursion AreAscii names → AllByRecursion IsUtf8 (texts_from many first last names)
+utf8_from : (many : Bool) (first last : List ℕ) (names : List (List ℕ)) → AreAscii first →
+    AreAscii last → AllByRecursion AreAscii names → AllByRecursion IsUtf8 (texts_from many first last names)
 utf8_from many first last [] a b all = (ascii_utf8 (run_text many first last) (ascii_run many first last a b), tt)
 utf8_from many first last (next ∷ names) a b all =
-    by (continues first last next) (utf8_from true first next names a all.0 all.1) (utf8_from false next next names all.0 all.0 all.1)
+    by (continues first last next)
+    (utf8_from true first next names a all.0 all.1) (utf8_from false next next names all.0 all.0 all.1)
   where
-    by : (c : Bool) → AllByRecursion IsUtf8 (texts_from true first next names) → AllByRecursion IsUtf8 (texts_from false next next names) →
-        AllByRecursion IsUtf8 (if c then texts_from true first next names else (run_text many first last ∷ texts_from false next next names))
+    by : (c : Bool) → AllByRecursion IsUtf8 (texts_from true first next names) →
+        AllByRecursion IsUtf8 (texts_from false next next names) →
+        AllByRecursion IsUtf8 (if c
+        then texts_from true first next names else (run_text many first last ∷ texts_from false next next names))
     by true joined new = joined
     by false joined new = (ascii_utf8 (run_text many first last) (ascii_run many first last a b), new)
 
@@ -83,32 +93,42 @@ ascii_names (name ∷ names) all = (ascii_name name all.0, ascii_names names all
 pub utf8_hostlists : (names : List (List ℕ)) → AllByRecursion (λ name. IsTrue (is_host_name name)) names →
     AllByRecursion IsUtf8 (hostlist_texts names)
 utf8_hostlists [] all = tt
-utf8_hostlists (name ∷ names) all = let first = ascii_name name all.0 in utf8_from false name name names first first (ascii_names names all.1)
+utf8_hostlists (name ∷ names) all = let first = ascii_name name all.0 in
+    utf8_from false name name names first first (ascii_names names all.1)
 
 -- ---- what stands at a place
 
 -- what passes is found
-found_some : (p : ℕ → Bool) (count start n : ℕ) → start ≤ n → n < start + count → p n ≡ true → find p (ids_from count start) ≡ None → ⊥
+found_some : (p : ℕ → Bool) (count start n : ℕ) →
+    start ≤ n → n < start + count → p n ≡ true → find p (ids_from count start) ≡ None → ⊥
 found_some p zero start n lo hi passes none = omega arith
-found_some p (suc count) start n lo hi passes none = by (p start) refl none (λ more rest. found_some p count (start + 1) n more (omega arith) passes rest)
+found_some p (suc count) start n lo hi passes none =
+    by (p start) refl none (λ more rest. found_some p count (start + 1) n more (omega arith) passes rest)
   where
-    by : (b : Bool) → p start ≡ b → cond b (Some start) (find p (ids_from count (start + 1))) ≡ None → (start + 1 ≤ n → find p (ids_from count (start + 1)) ≡ None → ⊥) → ⊥
+    by : (b : Bool) → p start ≡ b → cond b (Some start) (find p (ids_from count (start + 1))) ≡ None →
+        (start + 1 ≤ n → find p (ids_from count (start + 1)) ≡ None → ⊥) → ⊥
     by true e f rest = cc
     by false e f rest =
         elim (cases_eq start n) [
           | inl same ↦ true≢false (sym passes ∙ (ap p (sym same) ∙ e))
-          | inr differ ↦ rest (elim (cases_lt start n) [ inl less ↦ omega arith | inr le ↦ absurd (differ (omega arith)) ]) f
+          | inr differ ↦ rest (elim (cases_lt start n) [
+            | inl less ↦ omega arith
+            | inr le ↦ absurd (differ (omega arith))
+          ]) f
         ]
 
 module _ (vertices : List Vertex) where
   -- the rank of a node above a vertex is that of a vertex
-  pub ranked_above : (v rank : ℕ) → rank_above vertices v ≡ Some rank → (n : ℕ) × (n < length vertices) × (rank_of vertices n ≡ Some rank)
+  pub ranked_above : (v rank : ℕ) →
+      rank_above vertices v ≡ Some rank → (n : ℕ) × (n < length vertices) × (rank_of vertices n ≡ Some rank)
   ranked_above v rank e = by (node_above vertices v) refl e
     where
-      by : (o : Option ℕ) → node_above vertices v ≡ o → option_and_then (rank_of vertices) o ≡ Some rank → (n : ℕ) × (n < length vertices) × (rank_of vertices n ≡ Some rank)
+      by : (o : Option ℕ) → node_above vertices v ≡ o → option_and_then (rank_of vertices) o ≡ Some rank →
+          (n : ℕ) × (n < length vertices) × (rank_of vertices n ≡ Some rank)
       by None e f = cc
       by (Some n) e f =
-          let found = find_some (λ n. is_some (rank_of vertices n) && is_at_or_below vertices v n) (length vertices) 0 n e in
+          let found =
+          find_some (λ n. is_some (rank_of vertices n) && is_at_or_below vertices v n) (length vertices) 0 n e in
           (n, (let lt : n < 0 + length vertices = found.2 in omega arith), f)
 
   module _ (small : AllByRecursion HasIdNumbers vertices) where
@@ -117,14 +137,16 @@ module _ (vertices : List Vertex) where
       where
         by : (o : Option Vertex) → slice_get vertices n ≡ o → option_and_then (λ x. x.rank) o ≡ Some rank → Small rank
         by None f g = cc
-        by (Some x) f g = let x_small = all_at HasIdNumbers vertices n x small f in subst (λ (o : Option ℕ). IfSome o (λ k. k < NO_ID)) g x_small.rank
+        by (Some x) f g = let x_small = all_at HasIdNumbers vertices n x small f in
+            subst (λ (o : Option ℕ). IfSome o (λ k. k < NO_ID)) g x_small.rank
 
     pub id_small : (kind : Option ℕ) (n id : ℕ) → id_of_type vertices kind n ≡ Some id → Small id
     id_small kind n id e = by (is_of_type vertices kind n) e
       where
         at : (o : Option Vertex) → slice_get vertices n ≡ o → option_and_then (λ x. x.id) o ≡ Some id → Small id
         at None f g = cc
-        at (Some x) f g = let x_small = all_at HasIdNumbers vertices n x small f in subst (λ (o : Option ℕ). IfSome o (λ k. k < NO_ID)) g x_small.id
+        at (Some x) f g = let x_small = all_at HasIdNumbers vertices n x small f in
+            subst (λ (o : Option ℕ). IfSome o (λ k. k < NO_ID)) g x_small.id
 
         by : (b : Bool) → (if b then option_and_then (λ x. x.id) (slice_get vertices n) else None) ≡ Some id → Small id
         by true g = at (slice_get vertices n) refl g

@@ -1,5 +1,6 @@
 -- R that is written of a job is JSON of its value.
-use Rattle.std.proofs.Common.{◌≡◌, refl, ap, ◌∙◌, ℕ, ◌^◌, ◌<◌, List, [], ◌∷◌, Bool, true, false, cond, Some, None, if◌then◌else◌, codes, IsUtf8, arith}
+use Rattle.std.proofs.Common.{◌≡◌, refl, ap, ◌∙◌, ℕ, ◌^◌, ◌<◌, List, [], ◌∷◌, Bool, true, false, cond, Some, None}
+use Rattle.std.proofs.Common.{if◌then◌else◌, codes, IsUtf8, arith}
 use Rattle.std.specs.List.{AllByRecursion, filter}
 use Rattle.std.specs.Str.{is_utf8}
 use Rattle.std.proofs.lemmas.Str.{is_utf8-from_IsUtf8}
@@ -20,11 +21,14 @@ use Rattle.idset_text.specs.Idsets.{idset_text}
 use Rattle.resource_set_r.specs.declared.rows.Element.{Element}
 use Rattle.resource_set_r.specs.Rows.{elements_of, is_other}
 use Rattle.resource_set_r.specs.ReadBack.{HasSmallQuantity}
-use Rattle.resource_set_r.specs.WrittenR.{with_ids, element_data, elements_data, texts_data, nodelist, execution_data, mode_of, quantity_data, claim_data, claims_data, with_scheduling, r_data, r_text}
+use Rattle.resource_set_r.specs.WrittenR.{with_ids, element_data, elements_data, texts_data, nodelist, execution_data}
+use Rattle.resource_set_r.specs.WrittenR.{mode_of, quantity_data, claim_data, claims_data, with_scheduling, r_data}
+use Rattle.resource_set_r.specs.WrittenR.{r_text}
 
 -- ---- whole numbers, and keys in order
 
-plain_children : (cores gpus : List ℕ) → HasPlain 0 (with_ids (codes "core") cores (with_ids (codes "gpu") gpus no_members))
+plain_children : (cores gpus : List ℕ) →
+    HasPlain 0 (with_ids (codes "core") cores (with_ids (codes "gpu") gpus no_members))
 plain_children [] [] = tt
 plain_children [] (gpu ∷ gpus) = (tt, refl, tt)
 plain_children (core ∷ cores) [] = (tt, refl, tt)
@@ -41,8 +45,13 @@ plain_texts : (texts : List (List ℕ)) → ArePlain 2 (texts_data texts)
 plain_texts [] = tt
 plain_texts (text ∷ texts) = (tt, plain_texts texts)
 
-plain_execution : (g : NamedGraph) (job : Job) → job.start < 2 ^ 64 → job.end < 2 ^ 64 → IsPlain 4 (execution_data g job)
-plain_execution g job start end = (plain_elements (elements_of g.resources job.claims), refl, (end, refl, (plain_texts (nodelist g job.claims), refl, (start, refl, tt))))
+plain_execution : (g : NamedGraph) (job : Job) →
+    job.start < 2 ^ 64 → job.end < 2 ^ 64 → IsPlain 4 (execution_data g job)
+plain_execution g job start end = (
+  plain_elements (elements_of g.resources job.claims),
+  refl,
+  (end, refl, (plain_texts (nodelist g job.claims), refl, (start, refl, tt))),
+)
 
 plain_claim : (g : NamedGraph) (c : Claim) → HasSmallQuantity c → IsPlain 2 (claim_data g c)
 plain_claim g (Take v q) small = (tt, refl, (tt, refl, (small, refl, tt)))
@@ -56,26 +65,34 @@ plain_claims g (c ∷ cs) all = (plain_claim g c all.0, plain_claims g cs all.1)
 plain_last : HasPlain 4 (member (codes "version") (number (unsigned 1)) no_members)
 plain_last = (omega arith, refl, tt)
 
-plain_scheduling : (g : NamedGraph) (cs : List Claim) → AllByRecursion HasSmallQuantity cs → HasPlain 4 (with_scheduling g cs (member (codes "version") (number (unsigned 1)) no_members))
+plain_scheduling : (g : NamedGraph) (cs : List Claim) → AllByRecursion HasSmallQuantity cs →
+    HasPlain 4 (with_scheduling g cs (member (codes "version") (number (unsigned 1)) no_members))
 plain_scheduling g [] all = plain_last
 plain_scheduling g (c ∷ cs) all = ((plain_claims g (c ∷ cs) all, refl, tt), refl, plain_last)
 
-execution_first : (g : NamedGraph) (cs : List Claim) → is_below (codes "execution") (with_scheduling g cs (member (codes "version") (number (unsigned 1)) no_members)) ≡ true
+execution_first : (g : NamedGraph) (cs : List Claim) → is_below
+    (codes "execution") (with_scheduling g cs (member (codes "version") (number (unsigned 1)) no_members)) ≡ true
 execution_first g [] = refl
 execution_first g (c ∷ cs) = refl
 
-some_kept : (p : Claim → Bool) (cs : List Claim) → AllByRecursion HasSmallQuantity cs → AllByRecursion HasSmallQuantity (filter p cs)
+some_kept : (p : Claim → Bool) (cs : List Claim) →
+    AllByRecursion HasSmallQuantity cs → AllByRecursion HasSmallQuantity (filter p cs)
 some_kept p [] all = tt
 some_kept p (c ∷ cs) all = by (p c) (some_kept p cs all.1)
   where
-    by : (b : Bool) → AllByRecursion HasSmallQuantity (filter p cs) → AllByRecursion HasSmallQuantity (cond b (c ∷ filter p cs) (filter p cs))
+    by : (b : Bool) → AllByRecursion HasSmallQuantity (filter p cs) →
+        AllByRecursion HasSmallQuantity (cond b (c ∷ filter p cs) (filter p cs))
     by true rest = (all.0, rest)
     by false rest = rest
 
-plain_r : (g : NamedGraph) (job : Job) → job.start < 2 ^ 64 → job.end < 2 ^ 64 → AllByRecursion HasSmallQuantity job.claims → IsPlain 5 (r_data g job)
+plain_r : (g : NamedGraph) (job : Job) →
+    job.start < 2 ^ 64 → job.end < 2 ^ 64 → AllByRecursion HasSmallQuantity job.claims → IsPlain 5 (r_data g job)
 plain_r g job start end small =
-    let others = filter (is_other g.resources) job.claims in
-    (plain_execution g job start end, execution_first g others, plain_scheduling g others (some_kept (is_other g.resources) job.claims small))
+    let others = filter (is_other g.resources) job.claims in (
+      plain_execution g job start end,
+      execution_first g others,
+      plain_scheduling g others (some_kept (is_other g.resources) job.claims small),
+    )
 
 -- ---- texts in UTF-8
 
@@ -86,7 +103,8 @@ clear_ids key (id ∷ ids) rest utf8 clear = (utf8, clear_readable (idset_text (
 clear_element : (e : Element) → IsClear (element_data e)
 clear_element e = (
   IsUtf8-are_ascii (codes "children") refl,
-  clear_ids (codes "core") e.children.cores _ (IsUtf8-are_ascii (codes "core") refl) (clear_ids (codes "gpu") e.children.gpus no_members (IsUtf8-are_ascii (codes "gpu") refl) tt),
+  clear_ids (codes "core") e.children.cores _ (IsUtf8-are_ascii (codes "core") refl)
+      (clear_ids (codes "gpu") e.children.gpus no_members (IsUtf8-are_ascii (codes "gpu") refl) tt),
   (IsUtf8-are_ascii (codes "rank") refl, clear_readable (idset_text e.ranks), tt),
 )
 
@@ -105,7 +123,11 @@ clear_execution g job = (
   (
     IsUtf8-are_ascii (codes "expiration") refl,
     tt,
-    (IsUtf8-are_ascii (codes "nodelist") refl, clear_texts (nodelist g job.claims), (IsUtf8-are_ascii (codes "starttime") refl, tt, tt)),
+    (
+      IsUtf8-are_ascii (codes "nodelist") refl,
+      clear_texts (nodelist g job.claims),
+      (IsUtf8-are_ascii (codes "starttime") refl, tt, tt),
+    ),
   ),
 )
 
@@ -122,11 +144,16 @@ clear_quantity (Pass v) = tt
 clear_claims : (g : NamedGraph) (cs : List Claim) → AreClear (claims_data g cs)
 clear_claims g [] = tt
 clear_claims g (c ∷ cs) = (
-  (IsUtf8-are_ascii (codes "mode") refl, clear_mode c, (IsUtf8-are_ascii (codes "path") refl, clear_readable (path_text g (vertex_of c)), clear_quantity c)),
+  (
+    IsUtf8-are_ascii (codes "mode") refl,
+    clear_mode c,
+    (IsUtf8-are_ascii (codes "path") refl, clear_readable (path_text g (vertex_of c)), clear_quantity c),
+  ),
   clear_claims g cs,
 )
 
-clear_scheduling : (g : NamedGraph) (cs : List Claim) → HasClear (with_scheduling g cs (member (codes "version") (number (unsigned 1)) no_members))
+clear_scheduling : (g : NamedGraph) (cs : List Claim) →
+    HasClear (with_scheduling g cs (member (codes "version") (number (unsigned 1)) no_members))
 clear_scheduling g [] = (IsUtf8-are_ascii (codes "version") refl, tt, tt)
 clear_scheduling g (c ∷ cs) = (
   IsUtf8-are_ascii (codes "scheduling") refl,
@@ -135,12 +162,20 @@ clear_scheduling g (c ∷ cs) = (
 )
 
 clear_r : (g : NamedGraph) (job : Job) → IsClear (r_data g job)
-clear_r g job = (IsUtf8-are_ascii (codes "execution") refl, clear_execution g job, clear_scheduling g (filter (is_other g.resources) job.claims))
+clear_r g job = (
+  IsUtf8-are_ascii (codes "execution") refl,
+  clear_execution g job,
+  clear_scheduling g (filter (is_other g.resources) job.claims),
+)
 
 -- what is written of a job is read as its value
-pub value_of-r_text : (g : NamedGraph) (job : Job) → job.start < 2 ^ 64 → job.end < 2 ^ 64 → AllByRecursion HasSmallQuantity job.claims → value_of (r_text g job) ≡ Some (r_data g job)
+pub value_of-r_text : (g : NamedGraph) (job : Job) → job.start < 2 ^ 64 →
+    job.end < 2 ^ 64 → AllByRecursion HasSmallQuantity job.claims → value_of (r_text g job) ≡ Some (r_data g job)
 unfolding r_text value_of
 value_of-r_text g job start end small =
     let plain : IsPlain 5 (r_data g job) = plain_r g job start end small in
-    let utf8 : is_utf8 (compact_text (r_data g job)) ≡ true = is_utf8-from_IsUtf8 (compact_text (r_data g job)) (utf8_value 5 (r_data g job) plain (clear_r g job)) in
-    ap value_in (plain-compact_text 5 (r_data g job) plain) ∙ (ap (λ b. if b then read (compact_text (r_data g job)) else None) utf8 ∙ read_compact 5 (r_data g job) (omega arith) plain)
+    let utf8 : is_utf8 (compact_text (r_data g job)) ≡ true =
+    is_utf8-from_IsUtf8 (compact_text (r_data g job)) (utf8_value 5 (r_data g job) plain (clear_r g job)) in
+    ap value_in (plain-compact_text 5 (r_data g job) plain)
+    ∙ (ap (λ b. if b then read (compact_text (r_data g job)) else None) utf8
+    ∙ read_compact 5 (r_data g job) (omega arith) plain)

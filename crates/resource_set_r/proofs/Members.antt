@@ -1,5 +1,7 @@
 -- What stands in a list.
-use Rattle.std.proofs.Common.{◌≡◌, ℕ, zero, suc, ◌+◌, ◌<◌, ◌≤◌, ◌⊎◌, Bool, true, false, List, [], ◌∷◌, ◌++◌, length, get_or, fold, Option, Some, None, inl, inr, refl, sym, ◌∙◌, ap, subst, arith, cond, true≢false}
+use Rattle.std.proofs.Common.{◌≡◌, ℕ, zero, suc, ◌+◌, ◌<◌, ◌≤◌, ◌⊎◌, Bool, true, false, List, [], ◌∷◌, ◌++◌, length}
+use Rattle.std.proofs.Common.{get_or, fold, Option, Some, None, inl, inr, refl, sym, ◌∙◌, ap, subst, arith, cond}
+use Rattle.std.proofs.Common.{true≢false}
 use Rattle.std.specs.List.{cons_option, filter, filter_map, flat_map, list_any, Contains}
 use Rattle.std.specs.Ordering.{nat_cmp, match_ordering}
 use Rattle.std.specs.declared.cmp.Ordering.{Ordering}
@@ -38,7 +40,8 @@ inserted x k [] (inl e) = inl e
 inserted x k [] (inr h) = absurd h
 inserted x k (y ∷ ys) h = by (nat_cmp k y) h (λ r. inserted x k ys r)
   where
-    by : (o : Ordering) → Stands x (match_ordering o (k ∷ y ∷ ys) (y ∷ ys) (y ∷ insert_key nat_cmp ys k)) → (Stands x (insert_key nat_cmp ys k) → (k ≡ x) ⊎ Stands x ys) → (k ≡ x) ⊎ Stands x (y ∷ ys)
+    by : (o : Ordering) → Stands x (match_ordering o (k ∷ y ∷ ys) (y ∷ ys) (y ∷ insert_key nat_cmp ys k)) →
+        (Stands x (insert_key nat_cmp ys k) → (k ≡ x) ⊎ Stands x ys) → (k ≡ x) ⊎ Stands x (y ∷ ys)
     by Less (inl e) rest = inl e
     by Less (inr r) rest = inr r
     by Equal r rest = inr r
@@ -49,7 +52,8 @@ insert_new : (k : ℕ) (ks : List ℕ) → Stands k (insert_key nat_cmp ks k)
 insert_new k [] = inl refl
 insert_new k (y ∷ ys) = by (nat_cmp k y) refl (insert_new k ys)
   where
-    by : (o : Ordering) → nat_cmp k y ≡ o → Stands k (insert_key nat_cmp ys k) → Stands k (match_ordering o (k ∷ y ∷ ys) (y ∷ ys) (y ∷ insert_key nat_cmp ys k))
+    by : (o : Ordering) → nat_cmp k y ≡ o → Stands k (insert_key nat_cmp ys k) →
+        Stands k (match_ordering o (k ∷ y ∷ ys) (y ∷ ys) (y ∷ insert_key nat_cmp ys k))
     by Less e rest = inl refl
     by Equal e rest = inl (same_number k y e)
     by Greater e rest = inr rest
@@ -58,7 +62,8 @@ insert_old : (x k : ℕ) (ks : List ℕ) → Stands x ks → Stands x (insert_ke
 insert_old x k [] h = absurd h
 insert_old x k (y ∷ ys) h = by (nat_cmp k y) h (λ r. insert_old x k ys r)
   where
-    by : (o : Ordering) → Stands x (y ∷ ys) → (Stands x ys → Stands x (insert_key nat_cmp ys k)) → Stands x (match_ordering o (k ∷ y ∷ ys) (y ∷ ys) (y ∷ insert_key nat_cmp ys k))
+    by : (o : Ordering) → Stands x (y ∷ ys) → (Stands x ys → Stands x (insert_key nat_cmp ys k)) →
+        Stands x (match_ordering o (k ∷ y ∷ ys) (y ∷ ys) (y ∷ insert_key nat_cmp ys k))
     by Less r rest = inr r
     by Equal r rest = r
     by Greater (inl e) rest = inl e
@@ -78,7 +83,8 @@ fold_old x (n ∷ ns) ks h = fold_old x ns (insert_key nat_cmp ks n) (insert_old
 
 fold_new : (x : ℕ) (ns ks : List ℕ) → Stands x ns → Stands x (fold (insert_key nat_cmp) ks ns)
 fold_new x [] ks h = absurd h
-fold_new x (n ∷ ns) ks (inl e) = fold_old x ns (insert_key nat_cmp ks n) (subst (λ (m : ℕ). Stands m (insert_key nat_cmp ks n)) e (insert_new n ks))
+fold_new x (n ∷ ns) ks (inl e) =
+    fold_old x ns (insert_key nat_cmp ks n) (subst (λ (m : ℕ). Stands m (insert_key nat_cmp ks n)) e (insert_new n ks))
 fold_new x (n ∷ ns) ks (inr r) = fold_new x ns (insert_key nat_cmp ks n) r
 
 pub of_rising : (x : ℕ) (ns : List ℕ) → Stands x (rising ns) → Stands x ns
@@ -93,7 +99,8 @@ pub of_filter : {X : Type 0} (p : X → Bool) (x : X) (xs : List X) → Stands x
 of_filter p x [] h = absurd h
 of_filter {X} p x (y ∷ ys) h = by (p y) refl h (λ r. of_filter p x ys r)
   where
-    by : (b : Bool) → p y ≡ b → Stands x (cond b (y ∷ filter p ys) (filter p ys)) → (Stands x (filter p ys) → Stands x ys × (p x ≡ true)) → Stands x (y ∷ ys) × (p x ≡ true)
+    by : (b : Bool) → p y ≡ b → Stands x (cond b (y ∷ filter p ys) (filter p ys)) →
+        (Stands x (filter p ys) → Stands x ys × (p x ≡ true)) → Stands x (y ∷ ys) × (p x ≡ true)
     by true e (inl same) rest = (inl same, subst (λ (z : X). p z ≡ true) same e)
     by true e (inr r) rest = (inr (rest r).0, (rest r).1)
     by false e r rest = (inr (rest r).0, (rest r).1)
@@ -102,22 +109,26 @@ pub in_filter : {X : Type 0} (p : X → Bool) (x : X) (xs : List X) → Stands x
 in_filter p x [] h t = absurd h
 in_filter {X} p x (y ∷ ys) h t = by (p y) refl h (λ r. in_filter p x ys r t)
   where
-    by : (b : Bool) → p y ≡ b → Stands x (y ∷ ys) → (Stands x ys → Stands x (filter p ys)) → Stands x (cond b (y ∷ filter p ys) (filter p ys))
+    by : (b : Bool) → p y ≡ b →
+        Stands x (y ∷ ys) → (Stands x ys → Stands x (filter p ys)) → Stands x (cond b (y ∷ filter p ys) (filter p ys))
     by true e (inl same) rest = inl same
     by true e (inr r) rest = inr (rest r)
     by false e (inl same) rest = absurd (true≢false (sym t ∙ (ap p (sym same) ∙ e)))
     by false e (inr r) rest = rest r
 
-pub of_filter_map : {X Y : Type 0} (h : X → Option Y) (y : Y) (xs : List X) → Stands y (filter_map h xs) → (x : X) × Stands x xs × (h x ≡ Some y)
+pub of_filter_map : {X Y : Type 0} (h : X → Option Y) (y : Y) (xs : List X) →
+    Stands y (filter_map h xs) → (x : X) × Stands x xs × (h x ≡ Some y)
 of_filter_map h y [] s = absurd s
 of_filter_map {X} {Y} h y (x ∷ xs) s = by (h x) refl s (λ r. of_filter_map h y xs r)
   where
-    by : (o : Option Y) → h x ≡ o → Stands y (cons_option o (filter_map h xs)) → (Stands y (filter_map h xs) → (z : X) × Stands z xs × (h z ≡ Some y)) → (z : X) × Stands z (x ∷ xs) × (h z ≡ Some y)
+    by : (o : Option Y) → h x ≡ o → Stands y (cons_option o (filter_map h xs)) → (Stands y (filter_map h xs) →
+        (z : X) × Stands z xs × (h z ≡ Some y)) → (z : X) × Stands z (x ∷ xs) × (h z ≡ Some y)
     by None e r rest = let t = rest r in (t.0, inr t.1, t.2)
     by (Some w) e (inl same) rest = (x, inl refl, e ∙ ap Some same)
     by (Some w) e (inr r) rest = let t = rest r in (t.0, inr t.1, t.2)
 
-pub in_filter_map : {X Y : Type 0} (h : X → Option Y) (x : X) (y : Y) (xs : List X) → Stands x xs → h x ≡ Some y → Stands y (filter_map h xs)
+pub in_filter_map : {X Y : Type 0} (h : X → Option Y) (x : X) (y : Y) (xs : List X) →
+    Stands x xs → h x ≡ Some y → Stands y (filter_map h xs)
 in_filter_map h x y [] s e = absurd s
 in_filter_map {X} {Y} h x y (z ∷ xs) s e = by (h z) refl s (λ r. in_filter_map h x y xs r e)
   where
@@ -129,7 +140,8 @@ in_filter_map {X} {Y} h x y (z ∷ xs) s e = by (h z) refl s (λ r. in_filter_ma
     keep None r = r
     keep (Some w) r = inr r
 
-    by : (o : Option Y) → h z ≡ o → Stands x (z ∷ xs) → (Stands x xs → Stands y (filter_map h xs)) → Stands y (cons_option o (filter_map h xs))
+    by : (o : Option Y) → h z ≡ o →
+        Stands x (z ∷ xs) → (Stands x xs → Stands y (filter_map h xs)) → Stands y (cons_option o (filter_map h xs))
     by o f (inl same) rest = some o (sym f ∙ (ap h same ∙ e))
     by o f (inr r) rest = keep o (rest r)
 
@@ -147,7 +159,8 @@ in_rest : {X : Type 0} (x : X) (a b : List X) → Stands x b → Stands x (a ++ 
 in_rest x [] b h = h
 in_rest x (y ∷ a) b h = inr (in_rest x a b h)
 
-pub of_flat_map : {X Y : Type 0} (f : X → List Y) (y : Y) (xs : List X) → Stands y (flat_map f xs) → (x : X) × Stands x xs × Stands y (f x)
+pub of_flat_map : {X Y : Type 0} (f : X → List Y) (y : Y) (xs : List X) →
+    Stands y (flat_map f xs) → (x : X) × Stands x xs × Stands y (f x)
 of_flat_map f y [] h = absurd h
 of_flat_map f y (x ∷ xs) h =
     elim (of_append y (f x) (flat_map f xs) h) [
@@ -155,9 +168,11 @@ of_flat_map f y (x ∷ xs) h =
       | inr r ↦ (let t = of_flat_map f y xs r in (t.0, inr t.1, t.2))
     ]
 
-pub in_flat_map : {X Y : Type 0} (f : X → List Y) (x : X) (y : Y) (xs : List X) → Stands x xs → Stands y (f x) → Stands y (flat_map f xs)
+pub in_flat_map : {X Y : Type 0} (f : X → List Y) (x : X) (y : Y) (xs : List X) →
+    Stands x xs → Stands y (f x) → Stands y (flat_map f xs)
 in_flat_map f x y [] s h = absurd s
-in_flat_map {X} {Y} f x y (z ∷ xs) (inl e) h = in_front y (f z) (flat_map f xs) (subst (λ (w : X). Stands y (f w)) (sym e) h)
+in_flat_map {X} {Y} f x y (z ∷ xs) (inl e) h =
+    in_front y (f z) (flat_map f xs) (subst (λ (w : X). Stands y (f w)) (sym e) h)
 in_flat_map f x y (z ∷ xs) (inr r) h = in_rest y (f z) (flat_map f xs) (in_flat_map f x y xs r h)
 
 pub of_ids : (x count start : ℕ) → Stands x (ids_from count start) → (start ≤ x) × (x < start + count)
@@ -170,7 +185,10 @@ in_ids x zero start lo hi = absurd (omega arith)
 in_ids x (suc count) start lo hi =
     elim (cases_eq start x) [
       | inl same ↦ inl same
-      | inr differ ↦ inr (in_ids x count (start + 1) (elim (cases_lt start x) [ inl less ↦ omega arith | inr le ↦ absurd (differ (omega arith)) ]) (omega arith))
+      | inr differ ↦ inr (in_ids x count (start + 1) (elim (cases_lt start x) [
+        | inl less ↦ omega arith
+        | inr le ↦ absurd (differ (omega arith))
+      ]) (omega arith))
     ]
 
 -- some item passes

@@ -1,5 +1,6 @@
 -- A text says one set, and no fault is told of it.
-use Rattle.std.proofs.Common.{◌≡◌, refl, sym, ap, subst, ◌∙◌, ℕ, List, Some, None, Result, Ok, Err, ◌⊎◌, inl, inr, MatchResult, IfOk, IfErr}
+use Rattle.std.proofs.Common.{◌≡◌, refl, sym, ap, subst, ◌∙◌, ℕ, List, Some, None, Result, Ok, Err, ◌⊎◌, inl, inr}
+use Rattle.std.proofs.Common.{MatchResult, IfOk, IfErr}
 use Rattle.serde_json.specs.Data.{Data}
 use Rattle.json_whole.specs.Whole.{value_of}
 use Rattle.flux_defs.specs.declared.claims.Job.{Job}
@@ -31,8 +32,10 @@ no_ok (Err n) x m p q = cc
 same_value : (bytes : List ℕ) (c d : Data) → value_of bytes ≡ Some c → value_of bytes ≡ Some d → d ≡ c
 same_value bytes c d one other = let same : Some d ≡ Some c = sym other ∙ one in cc
 
-module _ (bytes : List ℕ) (d e : Data) (rows : List RRow) (value : value_of bytes ≡ Some d) (has : HasRows d e rows) where
-  same_rows : (d' e' : Data) (rows' : List RRow) → value_of bytes ≡ Some d' → HasRows d' e' rows' → (e' ≡ e) × (rows' ≡ rows)
+module _ (bytes : List ℕ)
+    (d e : Data) (rows : List RRow) (value : value_of bytes ≡ Some d) (has : HasRows d e rows) where
+  same_rows : (d' e' : Data) (rows' : List RRow) →
+      value_of bytes ≡ Some d' → HasRows d' e' rows' → (e' ≡ e) × (rows' ≡ rows)
   same_rows d' e' rows' value' has' =
       let at = subst (λ (x : Data). execution_of x ≡ Ok e') (same_value bytes d d' value value') has'.0 in
       let one : e' ≡ e = same_ok (execution_of d) e' e at has.0 in
@@ -50,8 +53,10 @@ no_misread bytes set m p has = by has.2
   where
     by : IsMisreadOf has.0 m → ⊥
     by (inl before) =
-        let at = subst (λ (x : Data). result_and_then (execution_of x) rows_in ≡ Err m) (same_value bytes p.0 has.0 p.1 has.1) before in
-        let there : result_and_then (execution_of p.0) rows_in ≡ Ok p.2.1 = ap (λ r. result_and_then r rows_in) p.2.2.0 ∙ p.2.2.1 in
+        let at = subst (λ (x : Data). result_and_then (execution_of x) rows_in ≡ Err m)
+        (same_value bytes p.0 has.0 p.1 has.1) before in
+        let there : result_and_then (execution_of p.0) rows_in ≡ Ok p.2.1 =
+        ap (λ r. result_and_then r rows_in) p.2.2.0 ∙ p.2.2.1 in
         no_ok (result_and_then (execution_of p.0) rows_in) p.2.1 m there at
     by (inr (inl r)) =
         let same = same_rows bytes p.0 p.2.0 p.2.1 p.1 p.2.2 has.0 r.0 r.1 has.1 r.2 in
@@ -104,7 +109,8 @@ module _ (d : Data) where
   -- a value has rows, or is wrong before them
   rows_or_before : (m : Misread) (e : Data) (rows : List RRow) → HasRows d e rows → IsWrongBefore d m → ⊥
   rows_or_before m e rows has before =
-      let there : result_and_then (execution_of d) rows_in ≡ Ok rows = ap (λ r. result_and_then r rows_in) has.0 ∙ has.1 in
+      let there : result_and_then (execution_of d) rows_in ≡ Ok rows =
+      ap (λ r. result_and_then r rows_in) has.0 ∙ has.1 in
       no_ok (result_and_then (execution_of d) rows_in) rows m there before
 
   rows_same : (e e' : Data) (rows rows' : List RRow) → HasRows d e rows → HasRows d e' rows' → (e' ≡ e) × (rows' ≡ rows)
@@ -127,7 +133,8 @@ module _ (d : Data) where
       let none = subst (λ (x : List RRow). IsRepeatedRank (ranges_in x) None) same.1 q.3 in absurd (none p.3 p.4.0)
   one_misread m n (inr (inr p)) (inr (inl q)) =
       let same = rows_same p.0 q.0 p.1 q.1 p.2 q.2 in
-      let least = subst (λ (x : List RRow). IsRepeatedRank (ranges_in x) (Some q.3)) same.1 q.4 in absurd (p.3 q.3 least.0)
+      let least = subst (λ (x : List RRow). IsRepeatedRank (ranges_in x) (Some q.3)) same.1 q.4 in
+      absurd (p.3 q.3 least.0)
   one_misread m n (inr (inr p)) (inr (inr q)) =
       let same = rows_same p.0 q.0 p.1 q.1 p.2 q.2 in
       let there = subst (λ (x : Data). set_with q.1 x ≡ Err n) same.0 q.4 in
@@ -143,13 +150,16 @@ fault_of (misread.RepeatedRank rank) = fault.RepeatedRank rank
 
 -- a fault tells that the bytes are no JSON, or of a misread
 abbrev Cause : List ℕ → RFault → Type 0
-Cause bytes f = ((value_of bytes ≡ None) × (f ≡ fault.NotJson)) ⊎ ((m : Misread) × HasMisread bytes m × (f ≡ fault_of m))
+Cause bytes f = ((value_of bytes ≡ None) × (f ≡ fault.NotJson))
+    ⊎ ((m : Misread) × HasMisread bytes m × (f ≡ fault_of m))
 
 cause_of : (bytes : List ℕ) (f : RFault) → (f ≡ fault.Memory → ⊥) → IsFirstFault bytes f → Cause bytes f
 cause_of bytes fault.NotJson other told = inl (told, refl)
-cause_of bytes (fault.Field path k) other told = inr (misread.Field told.0 k, told.2, ap (λ (p : List ℕ). fault.Field p k) told.1)
+cause_of bytes (fault.Field path k) other told =
+    inr (misread.Field told.0 k, told.2, ap (λ (p : List ℕ). fault.Field p k) told.1)
 cause_of bytes fault.Version other told = inr (misread.Version, told, refl)
-cause_of bytes (fault.Idset path) other told = inr (misread.Idset told.0, told.2, ap (λ (p : List ℕ). fault.Idset p) told.1)
+cause_of bytes (fault.Idset path) other told =
+    inr (misread.Idset told.0, told.2, ap (λ (p : List ℕ). fault.Idset p) told.1)
 cause_of bytes fault.Hosts other told = inr (misread.Hosts, told, refl)
 cause_of bytes (fault.RepeatedRank rank) other told = inr (misread.RepeatedRank rank, told, refl)
 cause_of bytes fault.Memory other told = absurd (other refl)

@@ -14,12 +14,15 @@ use Rattle.resource_set_r.specs.WrittenR.{with_scheduling}
 use Rattle.resource_set_r.specs.WrittenRTokens.{scheduling_tokens}
 
 -- they are on vertices of the graph
-pub others_within : (vertices : List Vertex) (node core gpu : Option ℕ) (claims : List Claim) → All (λ c. vertex_of c < length vertices) (filter (is_other_than vertices node core gpu) claims)
+pub others_within : (vertices : List Vertex) (node core gpu : Option ℕ) (claims : List Claim) →
+    All (λ c. vertex_of c < length vertices) (filter (is_other_than vertices node core gpu) claims)
 others_within vertices node core gpu claims =
     let test = is_other_than vertices node core gpu in
-    All-weaker (λ c. test c ≡ true) (λ c. vertex_of c < length vertices) (λ c h. ltb-true (vertex_of c) (length vertices) (and_parts _ _ h).0) (filter test claims) (filter_passes test claims)
+    All-weaker (λ c. test c ≡ true) (λ c. vertex_of c < length vertices) (λ c h.
+    ltb-true (vertex_of c) (length vertices) (and_parts _ _ h).0) (filter test claims) (filter_passes test claims)
 
 -- the tokens of an object's members, the first of which may be left out
-pub scheduling_split : (g : NamedGraph) (claims : List Claim) (rest : Members) → member_tokens (with_scheduling g claims rest) ≡ scheduling_tokens g claims ++ member_tokens rest
+pub scheduling_split : (g : NamedGraph) (claims : List Claim) (rest : Members) →
+    member_tokens (with_scheduling g claims rest) ≡ scheduling_tokens g claims ++ member_tokens rest
 scheduling_split g [] rest = refl
 scheduling_split g (c ∷ cs) rest = refl

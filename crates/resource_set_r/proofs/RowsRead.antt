@@ -1,5 +1,6 @@
 -- What is known of the rows that are read.
-use Rattle.std.proofs.Common.{◌≡◌, ℕ, suc, ◌≤◌, List, [], ◌∷◌, ◌++◌, Some, None, Result, Ok, Err, refl, ap, subst, All, IfOk, IfErr, ◌+◌, inl, inr, codes}
+use Rattle.std.proofs.Common.{◌≡◌, ℕ, suc, ◌≤◌, List, [], ◌∷◌, ◌++◌, Some, None, Result, Ok, Err, refl, ap, subst, All}
+use Rattle.std.proofs.Common.{IfOk, IfErr, ◌+◌, inl, inr, codes}
 use Rattle.std.specs.List.{AllByRecursion}
 use Rattle.std.specs.Result.{result_map_both}
 use Rattle.std.proofs.lemmas.List.Elements.{All-from_recursion}
@@ -21,13 +22,15 @@ use Rattle.resource_set_r.specs.declared.faults.RFault.TheVariants as fault
 use Rattle.resource_set_r.specs.declared.sets_read.RRow.{RRow}
 use Rattle.resource_set_r.specs.declared.sets_read.RSet.{RSet}
 use Rattle.resource_set_r.specs.Misreads.{at_field, IsResultOf}
-use Rattle.resource_set_r.specs.ReadRows.{idset_read, idset_text_at, idset_or_none, idset_field, row_with, row_in, row_of, rows_from, rows_in, ranges_in, execution_of, IsRepeatedRank}
+use Rattle.resource_set_r.specs.ReadRows.{idset_read, idset_text_at, idset_or_none, idset_field, row_with, row_in}
+use Rattle.resource_set_r.specs.ReadRows.{row_of, rows_from, rows_in, ranges_in, execution_of, IsRepeatedRank}
 use Rattle.resource_set_r.specs.ReadR.{set_with, IsSetOf, IsErrorOf, IsMisreadOf, IsToldAs, HasMisread, IsFirstFault}
 use Rattle.json_fields.proofs.Results.{then_ok}
 
 -- ---- a value that comes of two steps
 
-mapped_ok : {A B E : Type 0} (r : Result A E) (f : A → B) (y : B) → result_map_both f (λ m. m) r ≡ Ok y → (x : A) × (r ≡ Ok x) × (f x ≡ y)
+mapped_ok : {A B E : Type 0} (r : Result A E) (f : A → B) (y : B) →
+    result_map_both f (λ m. m) r ≡ Ok y → (x : A) × (r ≡ Ok x) × (f x ≡ y)
 mapped_ok (Ok x) f y e = let same : f x ≡ y = cc in (x, refl, same)
 mapped_ok (Err m) f y e = absurd (cc)
 
@@ -49,9 +52,11 @@ idset_ordered : (at : FieldPath) (key : List ℕ) (d : Data) (ranges : List Rang
     AllByRecursion Ordered ranges
 idset_ordered at key d ranges e =
     let text = then_ok (at_field at (text_field key d)) (idset_text_at at) ranges e in
-    ordered_when_rising 0 ranges (idset_rises text.0 ranges (idset_was_read text.0 ranges (read_ordered at (idset_of text.0) ranges text.2)))
+    ordered_when_rising 0 ranges
+    (idset_rises text.0 ranges (idset_was_read text.0 ranges (read_ordered at (idset_of text.0) ranges text.2)))
 
-ok_ranks : (ranks cores gpus : List Range) (row : RRow) → ◌≡◌ {A = Result RRow Misread} (Ok (record { ranks = ranks; cores = cores; gpus = gpus })) (Ok row) → ranks ≡ row.ranks
+ok_ranks : (ranks cores gpus : List Range) (row : RRow) → ◌≡◌ {A = Result RRow Misread}
+    (Ok (record { ranks = ranks; cores = cores; gpus = gpus })) (Ok row) → ranks ≡ row.ranks
 ok_ranks ranks cores gpus row e = ap (λ (r : Result RRow Misread). ranks_or_none r) e
   where
     ranks_or_none : Result RRow Misread → List Range
@@ -75,21 +80,26 @@ row_ordered at d row e =
     subst (λ (rs : List Range). AllByRecursion Ordered rs) same
     (idset_ordered (field.Rank at) (codes "rank") o.0 ranks.0 ranks.1)
 
-all_joined : (xs ys : List Range) → AllByRecursion Ordered xs → AllByRecursion Ordered ys → AllByRecursion Ordered (xs ++ ys)
+all_joined : (xs ys : List Range) →
+    AllByRecursion Ordered xs → AllByRecursion Ordered ys → AllByRecursion Ordered (xs ++ ys)
 all_joined [] ys a b = b
 all_joined (x ∷ xs) ys a b = (a.0, all_joined xs ys a.1 b)
 
-rows_ordered : (at : ℕ) (ds : Items) (rows : List RRow) → rows_from at ds ≡ Ok rows → AllByRecursion Ordered (ranges_in rows)
-rows_ordered at no_items rows e = let same : [] ≡ rows = cc in subst (λ (rs : List RRow). AllByRecursion Ordered (ranges_in rs)) same tt
+rows_ordered : (at : ℕ) (ds : Items) (rows : List RRow) →
+    rows_from at ds ≡ Ok rows → AllByRecursion Ordered (ranges_in rows)
+rows_ordered at no_items rows e = let same : [] ≡ rows = cc in
+    subst (λ (rs : List RRow). AllByRecursion Ordered (ranges_in rs)) same tt
 rows_ordered at (item d ds) rows e =
     let first = then_ok (row_of at d)
     (λ row. result_map_both (λ rows. row ∷ rows) (λ m. m) (rows_from (suc at) ds)) rows e in
     let others = mapped_ok (rows_from (suc at) ds) (λ rows. first.0 ∷ rows) rows first.2 in
     subst (λ (rs : List RRow). AllByRecursion Ordered (ranges_in rs)) others.2
-    (all_joined first.0.ranks (ranges_in others.0) (row_ordered at d first.0 first.1) (rows_ordered (suc at) ds others.0 others.1))
+    (all_joined first.0.ranks
+    (ranges_in others.0) (row_ordered at d first.0 first.1) (rows_ordered (suc at) ds others.0 others.1))
 
 -- no range of a rank falls
-pub ranges_ordered : (e : Data) (rows : List RRow) → rows_in e ≡ Ok rows → All (λ range. range.lo ≤ range.hi) (ranges_in rows)
+pub ranges_ordered : (e : Data) (rows : List RRow) →
+    rows_in e ≡ Ok rows → All (λ range. range.lo ≤ range.hi) (ranges_in rows)
 ranges_ordered e rows is =
     let ds = then_ok (at_field field.RLite (list_field (codes "R_lite") e)) (rows_from 0) rows is in
     All-from_recursion Ordered (ranges_in rows) (rows_ordered 0 ds.0 rows ds.2)
@@ -108,7 +118,8 @@ module _ (e : Data) (rows : List RRow) (read : rows_in e ≡ Ok rows) where
   error_found (Err (error.Misread m)) gives none = λ d is. inr (inr (e, rows, (is, read), none, gives))
   error_found (Err error.Memory) gives none = λ d is. tt
 
-  pub repeated_found : (rank : ℕ) → IsRepeatedRank (ranges_in rows) (Some rank) → (d : Data) → execution_of d ≡ Ok e → IsMisreadOf d (misread.RepeatedRank rank)
+  pub repeated_found : (rank : ℕ) → IsRepeatedRank (ranges_in rows) (Some rank) →
+      (d : Data) → execution_of d ≡ Ok e → IsMisreadOf d (misread.RepeatedRank rank)
   repeated_found rank least d is = inr (inl (e, rows, (is, read), rank, least, refl))
 
 -- what is wrong with a value is told of the bytes

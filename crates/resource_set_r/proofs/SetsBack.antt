@@ -1,5 +1,6 @@
 -- R that is written of a job is R of a set that says what the job has.
-use Rattle.std.proofs.Common.{◌≡◌, refl, sym, ap, subst, ◌∙◌, ℕ, ◌^◌, ◌≤◌, List, [], ◌∷◌, length, map, Option, None, Ok, IsTrue, codes, arith}
+use Rattle.std.proofs.Common.{◌≡◌, refl, sym, ap, subst, ◌∙◌, ℕ, ◌^◌, ◌≤◌, List, [], ◌∷◌, length, map, Option, None, Ok}
+use Rattle.std.proofs.Common.{IsTrue, codes, arith}
 use Rattle.std.specs.List.{AllByRecursion, filter_map, filter}
 use Rattle.std.specs.List.Sorted.{IsStrictlyIncreasing}
 use Rattle.std.proofs.lemmas.List.{length-map}
@@ -17,18 +18,22 @@ use Rattle.resource_set_r.specs.declared.rows.Children.{Children}
 use Rattle.resource_set_r.specs.declared.rows.Element.{Element}
 use Rattle.resource_set_r.specs.declared.sets_read.RRow.{RRow}
 use Rattle.resource_set_r.specs.declared.sets_read.RSet.{RSet}
-use Rattle.resource_set_r.specs.Rows.{given, ids_among, rank_above, ranks_in, host_of, type_called, part_of, id_of_type, children_in, elements_of, is_other}
+use Rattle.resource_set_r.specs.Rows.{given, ids_among, rank_above, ranks_in, host_of, type_called, part_of, id_of_type}
+use Rattle.resource_set_r.specs.Rows.{children_in, elements_of, is_other}
 use Rattle.resource_set_r.specs.WrittenR.{execution_data, r_data, r_text}
 use Rattle.resource_set_r.specs.ReadRows.{rows_in, ranges_in, IsRepeatedRank}
 use Rattle.resource_set_r.specs.ReadR.{hosts_in, seconds_of, second_or_zero, set_with, IsRText}
 use Rattle.resource_set_r.specs.ReadBack.{row_of_element, CanBeRead, IsOfJob}
 use Rattle.resource_set_r.proofs.Rising.{rising_increases}
-use Rattle.resource_set_r.proofs.IdsBack.{Small, AreFine, IsFine, all_rising, all_found, elements_fine, ranks_of_elements, none_twice}
-use Rattle.resource_set_r.proofs.RowsBack.{elements_back, ranks_said, cores_said, gpus_said, all_ranks_said, HostsBack, hosts_back, hosts_for_back, second_back, execution_back}
+use Rattle.resource_set_r.proofs.IdsBack.{Small, AreFine, IsFine, all_rising, all_found, elements_fine}
+use Rattle.resource_set_r.proofs.IdsBack.{ranks_of_elements, none_twice}
+use Rattle.resource_set_r.proofs.RowsBack.{elements_back, ranks_said, cores_said, gpus_said, all_ranks_said, HostsBack}
+use Rattle.resource_set_r.proofs.RowsBack.{hosts_back, hosts_for_back, second_back, execution_back}
 use Rattle.resource_set_r.proofs.HostsBack.{utf8_hostlists, ranked_above, rank_small, id_small, host_named}
 use Rattle.resource_set_r.proofs.JsonBack.{value_of-r_text}
 
-all_mapped : (P : List ℕ → Type 0) (f : ℕ → List ℕ) (xs : List ℕ) → AllByRecursion (λ x. P (f x)) xs → AllByRecursion P (map f xs)
+all_mapped : (P : List ℕ → Type 0) (f : ℕ → List ℕ) (xs : List ℕ) →
+    AllByRecursion (λ x. P (f x)) xs → AllByRecursion P (map f xs)
 all_mapped P f [] all = tt
 all_mapped P f (x ∷ xs) all = (all.0, all_mapped P f xs all.1)
 
@@ -48,21 +53,28 @@ module _ (g : NamedGraph) (job : Job) (can : CanBeRead g job) where
   ranks_fine : AreFine ranks
   ranks_fine = record {
     rise = rising_increases (filter_map (rank_above vertices) (given vertices job.claims));
-    small = all_rising Small (filter_map (rank_above vertices) (given vertices job.claims)) (all_found Small (rank_above vertices) (given vertices job.claims) (λ v rank e.
+    small = all_rising Small (filter_map (rank_above vertices) (given vertices job.claims))
+        (all_found Small (rank_above vertices) (given vertices job.claims) (λ v rank e.
         let above = ranked_above vertices v rank e in rank_small vertices can.numbers above.0 rank above.2));
   }
 
   ids_fine : (kind : Option ℕ) (part : List ℕ) → AreFine (ids_among vertices kind part)
   ids_fine kind part = record {
     rise = rising_increases (filter_map (id_of_type vertices kind) part);
-    small = all_rising Small (filter_map (id_of_type vertices kind) part) (all_found Small (id_of_type vertices kind) part (id_small vertices can.numbers kind));
+    small = all_rising Small (filter_map (id_of_type vertices kind) part)
+        (all_found Small (id_of_type vertices kind) part (id_small vertices can.numbers kind));
   }
 
   abbrev children : ℕ → Children
-  children = children_in vertices (type_called g.resources (codes "core")) (type_called g.resources (codes "gpu")) (given vertices job.claims)
+  children = children_in vertices
+      (type_called g.resources (codes "core")) (type_called g.resources (codes "gpu")) (given vertices job.claims)
 
   fine : AllByRecursion IsFine es
-  fine = elements_fine children (λ rank. (ids_fine (type_called g.resources (codes "core")) (part_of vertices (given vertices job.claims) rank), ids_fine (type_called g.resources (codes "gpu")) (part_of vertices (given vertices job.claims) rank))) ranks ranks_fine
+  fine = elements_fine children (λ rank. (
+    ids_fine (type_called g.resources (codes "core")) (part_of vertices (given vertices job.claims) rank),
+    ids_fine
+        (type_called g.resources (codes "gpu")) (part_of vertices (given vertices job.claims) rank),
+  )) ranks ranks_fine
 
   named : AllByRecursion (λ name. IsTrue (is_host_name name)) names
   named =
@@ -106,8 +118,10 @@ module _ (g : NamedGraph) (job : Job) (can : CanBeRead g job) where
 
   set_read : set_with rows (execution_data g job) ≡ Ok set
   set_read =
-      ap (λ r. result_and_then r (λ hosts. result_and_then (seconds_of (execution_data g job)) (λ seconds. Ok (record { rows = rows; hosts = hosts; start = seconds.0; end = seconds.1 })))) hosts_read_back
-      ∙ ap (λ r. result_and_then r (λ seconds. Ok (record { rows = rows; hosts = back.hosts; start = seconds.0; end = seconds.1 }))) seconds_read
+      ap (λ r. result_and_then r (λ hosts. result_and_then (seconds_of (execution_data g job))
+      (λ seconds. Ok (record { rows = rows; hosts = hosts; start = seconds.0; end = seconds.1 })))) hosts_read_back
+      ∙ ap (λ r. result_and_then r
+      (λ seconds. Ok (record { rows = rows; hosts = back.hosts; start = seconds.0; end = seconds.1 }))) seconds_read
 
   none : IsRepeatedRank (ranges_in rows) None
   none = none_twice (ranges_in rows) (subst (λ (ns : List ℕ). IsStrictlyIncreasing ns) (sym all_ranks) ranks_fine.rise)
@@ -115,8 +129,15 @@ module _ (g : NamedGraph) (job : Job) (can : CanBeRead g job) where
   is_text : IsRText (r_text g job) set
   is_text = (
     r_data g job,
-    value_of-r_text g job (let le : job.start ≤ 2 ^ 46 = can.start in omega arith) (let le : job.end ≤ 2 ^ 46 = can.end in omega arith) can.quantities,
-    (execution_data g job, rows, (execution_back _ g (filter (is_other g.resources) job.claims), rows_read), none, set_read),
+    value_of-r_text g job (let le : job.start ≤ 2 ^ 46 = can.start in omega arith)
+        (let le : job.end ≤ 2 ^ 46 = can.end in omega arith) can.quantities,
+    (
+      execution_data g job,
+      rows,
+      (execution_back _ g (filter (is_other g.resources) job.claims), rows_read),
+      none,
+      set_read,
+    ),
   )
 
   is_of_job : IsOfJob g job set

@@ -4,7 +4,9 @@ use Rattle.std.specs.Result.{result_map_both}
 use Rattle.json_whole.specs.declared.fields.FieldFault.{FieldFault}
 use Rattle.json_fields.specs.Paths.{index}
 use Rattle.resource_set_r.specs.declared.faults.FieldPath.{FieldPath}
-use Rattle.resource_set_r.specs.declared.faults.FieldPath.TheVariants.{Whole, Version, Execution, RLite, Row, Rank, Children, Core, Gpu, Nodelist, Host, Starttime, Expiration}
+use Rattle.resource_set_r.specs.declared.faults.FieldPath.TheVariants.{Whole, Version, Execution, RLite, Row, Rank}
+use Rattle.resource_set_r.specs.declared.faults.FieldPath.TheVariants.{Children, Core, Gpu, Nodelist, Host, Starttime}
+use Rattle.resource_set_r.specs.declared.faults.FieldPath.TheVariants.{Expiration}
 use Rattle.resource_set_r.specs.declared.faults.Misread.{Misread}
 use Rattle.resource_set_r.specs.declared.faults.Misread.TheVariants.{Field}
 use Rattle.resource_set_r.specs.declared.faults.ReadError.{ReadError}

@@ -29,8 +29,8 @@ HasSmallQuantity (Take v q) = q < 2 ^ 64
 HasSmallQuantity (Hold v) = Unit {0}
 HasSmallQuantity (Pass v) = Unit {0}
 
--- The graph and the job have texts and numbers that can be read: each vertex has a name in the grammar of hosts, as in every
--- graph of a file; seconds are at most 2 ^ 46.
+-- The graph and the job have texts and numbers that can be read: each vertex has a name in the grammar of hosts, as in
+-- every graph of a file; seconds are at most 2 ^ 46.
 pub record CanBeRead (g : NamedGraph) (job : Job) : Type 0 where
   pub named : length g.names ≡ length g.resources.vertices
   pub names : AllByRecursion (λ name. IsTrue (is_host_name name)) g.names
@@ -43,8 +43,8 @@ pub record CanBeRead (g : NamedGraph) (job : Job) : Type 0 where
 abbrev pub row_of_element : Element → RRow
 row_of_element e = record { ranks = runs_of e.ranks; cores = runs_of e.children.cores; gpus = runs_of e.children.gpus }
 
--- the set says of the job: its ranks; by element its cores and its gpus; the names of its nodes in rising order of rank; its
--- start and its end
+-- the set says of the job: its ranks; by element its cores and its gpus; the names of its nodes in rising order of
+-- rank; its start and its end
 pub record IsOfJob (g : NamedGraph) (job : Job) (set : RSet) : Type 0 where
   pub rows : set.rows ≡ map row_of_element (elements_of g.resources job.claims)
   pub ranks : map (λ row. ids_of row.ranks) set.rows ≡ map (λ e. e.ranks) (elements_of g.resources job.claims)
@@ -57,4 +57,5 @@ pub record IsOfJob (g : NamedGraph) (job : Job) (set : RSet) : Type 0 where
 
 -- R that is written of a job is R of a set that says what the job has
 abbrev pub AreReadBack : Type 0
-AreReadBack = (g : NamedGraph) (job : Job) → CanBeRead g job → (set : RSet) × IsRText (r_text g job) set × IsOfJob g job set
+AreReadBack = (g : NamedGraph) (job : Job) →
+    CanBeRead g job → (set : RSet) × IsRText (r_text g job) set × IsOfJob g job set

@@ -1,5 +1,6 @@
 -- Which bytes are a resource set and which, and which fault other bytes have.
-use Rattle.std.specs.Prelude.{◌≡◌, ◌⊎◌, ℕ, suc, ◌==◌, Bool, true, List, [], ◌++◌, length, if◌then◌else◌, Option, Some, None, Result, Ok, Err, ⊤, codes}
+use Rattle.std.specs.Prelude.{◌≡◌, ◌⊎◌, ℕ, suc, ◌==◌, Bool, true, List, [], ◌++◌, length, if◌then◌else◌, Option, Some}
+use Rattle.std.specs.Prelude.{None, Result, Ok, Err, ⊤, codes}
 use Rattle.std.specs.Result.{result_map_both}
 use Rattle.flux_defs.specs.declared.limits.TheConstants.{GREATEST_NUMBER}
 use Rattle.serde_json.specs.Data.{Data, Items, no_items, item}
@@ -39,7 +40,8 @@ host_value at d = result_and_then (at_field (field.Host at) (text_or_kind (as_st
 -- the hosts of a list from this index on
 abbrev pub hosts_from : ℕ → Items → Result (List Hosts) Misread
 hosts_from at no_items = Ok []
-hosts_from at (item d ds) = result_and_then (host_value at d) (λ hosts. result_map_both (λ others. hosts ++ others) (λ m. m) (hosts_from (suc at) ds))
+hosts_from at (item d ds) = result_and_then
+    (host_value at d) (λ hosts. result_map_both (λ others. hosts ++ others) (λ m. m) (hosts_from (suc at) ds))
 
 -- the list at `nodelist`, which is empty where there is none
 abbrev pub nodelist_or_none : Option Data → Result Items Misread
@@ -53,7 +55,8 @@ hosts_fit (item d ds) rows hosts = length (names_of hosts) == length (ids_of (ra
 
 -- the hosts that a list has for these ranks
 abbrev pub hosts_for : List RRow → Items → Result (List Hosts) Misread
-hosts_for rows ds = result_and_then (hosts_from 0 ds) (λ hosts. if hosts_fit ds rows hosts then Ok hosts else Err misread.Hosts)
+hosts_for rows ds =
+    result_and_then (hosts_from 0 ds) (λ hosts. if hosts_fit ds rows hosts then Ok hosts else Err misread.Hosts)
 
 -- the hosts of these ranks
 abbrev pub hosts_in : List RRow → Data → Result (List Hosts) Misread
@@ -88,7 +91,8 @@ HasRows d e rows = (execution_of d ≡ Ok e) × (rows_in e ≡ Ok rows)
 
 -- a value is this resource set
 abbrev pub IsSetOf : Data → RSet → Type 0
-IsSetOf d set = (e : Data) × (rows : List RRow) × HasRows d e rows × IsRepeatedRank (ranges_in rows) None × (set_with rows e ≡ Ok set)
+IsSetOf d set = (e : Data)
+    × (rows : List RRow) × HasRows d e rows × IsRepeatedRank (ranges_in rows) None × (set_with rows e ≡ Ok set)
 
 -- the first that is wrong with a value, before its ranks are compared
 abbrev pub IsWrongBefore : Data → Misread → Type 0
@@ -96,11 +100,13 @@ IsWrongBefore d m = result_and_then (execution_of d) rows_in ≡ Err m
 
 -- or that a rank is repeated
 abbrev pub IsRepeatedIn : Data → Misread → Type 0
-IsRepeatedIn d m = (e : Data) × (rows : List RRow) × HasRows d e rows × (rank : ℕ) × IsRepeatedRank (ranges_in rows) (Some rank) × (m ≡ misread.RepeatedRank rank)
+IsRepeatedIn d m = (e : Data) × (rows : List RRow)
+    × HasRows d e rows × (rank : ℕ) × IsRepeatedRank (ranges_in rows) (Some rank) × (m ≡ misread.RepeatedRank rank)
 
 -- or behind them
 abbrev pub IsWrongBehind : Data → Misread → Type 0
-IsWrongBehind d m = (e : Data) × (rows : List RRow) × HasRows d e rows × IsRepeatedRank (ranges_in rows) None × (set_with rows e ≡ Err m)
+IsWrongBehind d m = (e : Data)
+    × (rows : List RRow) × HasRows d e rows × IsRepeatedRank (ranges_in rows) None × (set_with rows e ≡ Err m)
 
 -- the first that is wrong with a value
 abbrev pub IsMisreadOf : Data → Misread → Type 0

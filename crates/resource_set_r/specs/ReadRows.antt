@@ -1,5 +1,6 @@
 -- What a resource set says of its ranks.
-use Rattle.std.specs.Prelude.{ℕ, suc, nat_le, ◌<◌, ◌^◌, ◌-◌, ◌==◌, List, [], ◌∷◌, if◌then◌else◌, Option, Some, None, Result, Ok, Err, MatchOption, codes}
+use Rattle.std.specs.Prelude.{ℕ, suc, nat_le, ◌<◌, ◌^◌, ◌-◌, ◌==◌, List, [], ◌∷◌, if◌then◌else◌, Option, Some, None}
+use Rattle.std.specs.Prelude.{Result, Ok, Err, MatchOption, codes}
 use Rattle.std.specs.List.{flat_map, count_by}
 use Rattle.std.specs.Result.{result_map_both}
 use Rattle.serde_json.specs.Data.{Data, Items, no_items, item}
@@ -57,7 +58,8 @@ row_of at d = result_and_then (at_field (field.Row at) (object_value d)) (row_in
 -- the elements of a list from this index on, and the first fault where one can't be read
 abbrev pub rows_from : ℕ → Items → Result (List RRow) Misread
 rows_from at no_items = Ok []
-rows_from at (item d ds) = result_and_then (row_of at d) (λ row. result_map_both (λ rows. row ∷ rows) (λ m. m) (rows_from (suc at) ds))
+rows_from at (item d ds) =
+    result_and_then (row_of at d) (λ row. result_map_both (λ rows. row ∷ rows) (λ m. m) (rows_from (suc at) ds))
 
 -- ---- the whole, as far as the ranks
 
@@ -93,7 +95,8 @@ IsCoveredTwice ranges rank = 1 < covers ranges rank
 -- it is the least such rank, and none exactly where there is none
 abbrev pub IsRepeatedRank : List Range → Option ℕ → Type 0
 IsRepeatedRank ranges found =
-    MatchOption found ((rank : ℕ) → IsCoveredTwice ranges rank → ⊥) (λ rank. IsCoveredTwice ranges rank × ((q : ℕ) → q < rank → IsCoveredTwice ranges q → ⊥))
+    MatchOption found ((rank : ℕ) → IsCoveredTwice ranges rank → ⊥)
+    (λ rank. IsCoveredTwice ranges rank × ((q : ℕ) → q < rank → IsCoveredTwice ranges q → ⊥))
 
 -- ---- for private clauses
 

@@ -1,5 +1,6 @@
 -- What a job has of the nodes: their ranks, and by rank the ids of cores and gpus.
-use Rattle.std.specs.Prelude.{ℕ, ◌==◌, Bool, false, not, ◌&&◌, ◌||◌, nat_lt, if◌then◌else◌, List, [], ◌∷◌, ◌++◌, length, Option, None, is_some, unwrap_or, slice_get, option_and_then, codes}
+use Rattle.std.specs.Prelude.{ℕ, ◌==◌, Bool, false, not, ◌&&◌, ◌||◌, nat_lt, if◌then◌else◌, List, [], ◌∷◌, ◌++◌, length}
+use Rattle.std.specs.Prelude.{Option, None, is_some, unwrap_or, slice_get, option_and_then, codes}
 use Rattle.std.specs.List.{fold, filter, filter_map, flat_map, find, position}
 use Rattle.std.specs.Option.{option_map_or}
 use Rattle.std.specs.Ordering.{nat_cmp}
@@ -70,11 +71,13 @@ type_called g name = position (bytes_eq name) g.kinds
 
 -- v is of this type, where there is such a type
 abbrev pub is_of_type : List Vertex → Option ℕ → ℕ → Bool
-is_of_type vertices kind v = option_map_or (λ x. option_map_or (λ k. x.kind == k) kind false) (slice_get vertices v) false
+is_of_type vertices kind v =
+    option_map_or (λ x. option_map_or (λ k. x.kind == k) kind false) (slice_get vertices v) false
 
 -- the id of v, if it is of this type
 abbrev pub id_of_type : List Vertex → Option ℕ → ℕ → Option ℕ
-id_of_type vertices kind v = if is_of_type vertices kind v then option_and_then (λ x. x.id) (slice_get vertices v) else None
+id_of_type vertices kind v =
+    if is_of_type vertices kind v then option_and_then (λ x. x.id) (slice_get vertices v) else None
 
 -- what is given of the node of a rank
 abbrev pub part_of : List Vertex → List ℕ → ℕ → List ℕ
@@ -86,7 +89,8 @@ ids_among vertices kind part = rising (filter_map (id_of_type vertices kind) par
 
 -- the children of a rank: the ids of its cores and of its gpus, where these are types
 abbrev pub children_among : List Vertex → Option ℕ → Option ℕ → List ℕ → Children
-children_among vertices core gpu part = record { cores = ids_among vertices core part; gpus = ids_among vertices gpu part }
+children_among vertices core gpu part =
+    record { cores = ids_among vertices core part; gpus = ids_among vertices gpu part }
 
 abbrev pub children_in : List Vertex → Option ℕ → Option ℕ → List ℕ → ℕ → Children
 children_in vertices core gpu vs rank = children_among vertices core gpu (part_of vertices vs rank)
@@ -118,14 +122,17 @@ elements children (rank ∷ ranks) = elements_from children (element_of rank (ch
 -- the elements of a job with these claims
 abbrev pub elements_of : ResourceGraph → List Claim → List Element
 elements_of g claims =
-    elements (children_in g.vertices (type_called g (codes "core")) (type_called g (codes "gpu")) (given g.vertices claims)) (ranks_in g.vertices claims)
+    elements (children_in g.vertices (type_called g (codes "core"))
+    (type_called g (codes "gpu")) (given g.vertices claims)) (ranks_in g.vertices claims)
 
 -- ---- other claims
 
 -- the claim is on a vertex of the graph that is no node, core or gpu, where these are types
 abbrev pub is_other_than : List Vertex → Option ℕ → Option ℕ → Option ℕ → Claim → Bool
 is_other_than vertices node core gpu c = let v = vertex_of c in
-    nat_lt v (length vertices) && not (is_of_type vertices node v || is_of_type vertices core v || is_of_type vertices gpu v)
+    nat_lt v (length vertices)
+    && not (is_of_type vertices node v || is_of_type vertices core v || is_of_type vertices gpu v)
 
 abbrev pub is_other : ResourceGraph → Claim → Bool
-is_other g c = is_other_than g.vertices (type_called g (codes "node")) (type_called g (codes "core")) (type_called g (codes "gpu")) c
+is_other g c = is_other_than g.vertices
+    (type_called g (codes "node")) (type_called g (codes "core")) (type_called g (codes "gpu")) c

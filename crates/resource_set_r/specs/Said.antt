@@ -33,5 +33,7 @@ pub record IsChild (g : ResourceGraph) (claims : List Claim) (name : List ℕ) (
 -- the ids of a rank's children are those of such vertices
 abbrev pub AreIdsOfClaims : Type 0
 AreIdsOfClaims =
-    (g : ResourceGraph) (names : List (List ℕ)) → IsValidGraph g names → (claims : List Claim) (name : List ℕ) (rank id : ℕ) →
-    Contains (ids_among g.vertices (type_called g name) (part_of g.vertices (given g.vertices claims) rank)) id ↔ ((n : ℕ) × (v : ℕ) × IsChild g claims name rank id n v)
+    (g : ResourceGraph) (names : List (List ℕ)) →
+    IsValidGraph g names → (claims : List Claim) (name : List ℕ) (rank id : ℕ) →
+    Contains (ids_among g.vertices (type_called g name) (part_of g.vertices (given g.vertices claims) rank)) id
+    ↔ ((n : ℕ) × (v : ℕ) × IsChild g claims name rank id n v)

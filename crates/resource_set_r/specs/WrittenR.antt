@@ -2,7 +2,8 @@
 use Rattle.std.specs.Prelude.{ℕ, List, [], ◌∷◌, map, codes}
 use Rattle.std.specs.List.{filter}
 use Rattle.std.specs.List.Sorted.{IsStrictlyIncreasing}
-use Rattle.serde_json.specs.Data.{Data, number, string, array, object, unsigned, Items, no_items, item, Members, no_members, member}
+use Rattle.serde_json.specs.Data.{Data, number, string, array, object, unsigned, Items, no_items, item, Members}
+use Rattle.serde_json.specs.Data.{no_members, member}
 use Rattle.serde_json.specs.Written.{compact_text}
 use Rattle.flux_defs.specs.declared.claims.Claim.{Claim}
 use Rattle.flux_defs.specs.declared.claims.Claim.TheVariants.{Take, Hold, Pass}
@@ -81,7 +82,8 @@ claims_data g (c ∷ cs) = item (claim_data g c) (claims_data g cs)
 -- the claims at a key, which is left out where there are none
 abbrev pub with_scheduling : NamedGraph → List Claim → Members → Members
 with_scheduling g [] rest = rest
-with_scheduling g (c ∷ cs) rest = member (codes "scheduling") (object (member (codes "claims") (array (claims_data g (c ∷ cs))) no_members)) rest
+with_scheduling g (c ∷ cs) rest =
+    member (codes "scheduling") (object (member (codes "claims") (array (claims_data g (c ∷ cs))) no_members)) rest
 
 -- ---- the whole
 

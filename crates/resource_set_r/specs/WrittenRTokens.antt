@@ -24,4 +24,5 @@ quantity_tokens (Pass v) = []
 -- the claims at a key
 abbrev pub scheduling_tokens : NamedGraph → List Claim → List Token
 scheduling_tokens g [] = []
-scheduling_tokens g (c ∷ cs) = key (codes "scheduling") ∷ value_tokens (object (member (codes "claims") (array (claims_data g (c ∷ cs))) no_members))
+scheduling_tokens g (c ∷ cs) = key
+    (codes "scheduling") ∷ value_tokens (object (member (codes "claims") (array (claims_data g (c ∷ cs))) no_members))

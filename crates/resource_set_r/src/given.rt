@@ -13,7 +13,8 @@ use std::collections::BTreeSet;
 
 /// Adds what a claim gives.
 fn add_given(set: &mut BTreeSet<u32>, graph: &Graph, claim: &Claim) -> Result<(), AllocError>
-    ensures { OnOk result (set.new.keys ≡ fold (insert_key nat_cmp) set.old.keys (given_by graph.now.resources.vertices claim.now)) }
+    ensures { OnOk result
+        (set.new.keys ≡ fold (insert_key nat_cmp) set.old.keys (given_by graph.now.resources.vertices claim.now)) }
 {
     let vertex = claim.vertex();
     if vertex as usize >= graph.vertices().len() {

@@ -103,7 +103,8 @@ pub(crate) fn rank_count(ranges: &[Range]) -> u128
 
 /// Whether a list that isn't empty has a host for each of so many ranks.
 fn hosts_fit(values: &[Value], ranks: u128, hosts: &[Hosts]) -> bool
-    ensures { (rows : List RRow) → ranks ≡ length (ids_of (ranges_in rows)) → result ≡ hosts_fit (items_view values.now) rows hosts.now }
+    ensures { (rows : List RRow) →
+        ranks ≡ length (ids_of (ranges_in rows)) → result ≡ hosts_fit (items_view values.now) rows hosts.now }
 {
     values.is_empty() || host_count(hosts) == ranks
 }

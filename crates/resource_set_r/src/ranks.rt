@@ -5,7 +5,8 @@ ghost use Rattle.std.specs.List.Sorted.{IsPermutation, IsNonDecreasingBy};
 ghost use Rattle.serde_json.specs.Find.{as_object, get};
 ghost use Rattle.serde_json.specs.View.{view, items_view};
 ghost use Rattle.resource_set_r.specs.Misreads.{IsResultOf};
-ghost use Rattle.resource_set_r.specs.ReadRows.{idset_text_at, idset_or_none, idset_field, row_with, row_in, row_of, rows_from, rows_in, ranges_in, overlap_from, IsRepeatedRank};
+ghost use Rattle.resource_set_r.specs.ReadRows.{idset_text_at, idset_or_none, idset_field, row_with, row_in, row_of};
+ghost use Rattle.resource_set_r.specs.ReadRows.{rows_from, rows_in, ranges_in, overlap_from, IsRepeatedRank};
 
 use crate::faults::{FieldPath, Misread, ReadError};
 use crate::fields::{list_at, object_at, object_of, text_at, text_value};

@@ -126,15 +126,17 @@ fn read(alloc: Global, bytes: &[u8]) -> Result<RSet, RFault>
 }
 
 /// The resource set of the bytes of R (RFC 20, version 1). Keys that it doesn't know are passed over; `core`, `gpu` and
-/// `nodelist` count as empty where they are absent, and `starttime` and `expiration` as 0. The fault is the first that holds
-/// of: the text, `version`, `execution`, the elements of `R_lite` in order with `rank`, `core` and `gpu` of each, a rank that
-/// two items have, `nodelist`, the number of hosts, `starttime`, `expiration`.
+/// `nodelist` count as empty where they are absent, and `starttime` and `expiration` as 0. The fault is the first that
+/// holds of: the text, `version`, `execution`, the elements of `R_lite` in order with `rank`, `core` and `gpu` of each,
+/// a rank that two items have, `nodelist`, the number of hosts, `starttime`, `expiration`.
 pub fn read_r(alloc: Global, bytes: &[u8]) -> Result<RSet, RFault>
     ensures set { IfOk result (IsRText bytes.now) }
     ensures fault { IfErr result (IsFirstFault bytes.now) }
 
-    // What `write_r` wrote of a job is read as the job's ranks, cores, gpus, hosts, start and end, unless memory runs out.
-    ensures again { (g : NamedGraph) (job : Job) → bytes.now ≡ r_text g job → CanBeRead g job → MatchResult result (IsOfJob g job) (λ fault. fault ≡ RFault.Memory) }
+    // What `write_r` wrote of a job is read as the job's ranks, cores, gpus, hosts, start and end, unless memory runs
+    // out.
+    ensures again { (g : NamedGraph) (job : Job) → bytes.now ≡ r_text g job →
+        CanBeRead g job → MatchResult result (IsOfJob g job) (λ fault. fault ≡ RFault.Memory) }
 {
     read(alloc, bytes)
 }

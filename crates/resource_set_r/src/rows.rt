@@ -3,7 +3,9 @@ ghost use Rattle.std.specs.Prelude.{◌≡◌, ℕ, List, [], ◌∷◌, ◌++�
 ghost use Rattle.std.specs.List.{All, filter_map};
 ghost use Rattle.std.specs.List.Sorted.{IsStrictlyIncreasing};
 ghost use Rattle.resource_set_r.specs.WrittenR.{RisesWithin};
-ghost use Rattle.resource_set_r.specs.Rows.{host_of, type_called, element_of, rising, rank_above, is_of_type, id_of_type, ids_among, children_in, part_of, is_same, with_rank, elements_from, elements};
+ghost use Rattle.resource_set_r.specs.Rows.{host_of, type_called, element_of, rising, rank_above, is_of_type};
+ghost use Rattle.resource_set_r.specs.Rows.{id_of_type, ids_among, children_in, part_of, is_same, with_rank};
+ghost use Rattle.resource_set_r.specs.Rows.{elements_from, elements};
 
 use crate::sets::{add, numbers_of};
 use flux_defs::{List, Text, Vertex};
@@ -174,7 +176,8 @@ fn children_of(
     rank: u32,
 ) -> Result<Children, AllocError>
     requires { IsStrictlyIncreasing given.now }
-    ensures { IfOk result (λ children. children ≡ children_in graph.now.resources.vertices types.core types.gpu given.now rank) }
+    ensures { IfOk result
+        (λ children. children ≡ children_in graph.now.resources.vertices types.core types.gpu given.now rank) }
 {
     let part = part_of(graph, given, rank);
     let vertices = graph.vertices().items();
@@ -202,7 +205,8 @@ fn add_rank(
     rank: u32,
     children: Children,
 ) -> Result<Element, AllocError>
-    ensures { IfOk result (λ next. (of : ℕ → Children) (ranks : List ℕ) → of rank ≡ children → elements.new.items ++ elements_from of next ranks ≡ elements.old.items ++ elements_from of last (rank ∷ ranks)) }
+    ensures { IfOk result (λ next. (of : ℕ → Children) (ranks : List ℕ) → of rank ≡ children → elements.new.items
+        ++ elements_from of next ranks ≡ elements.old.items ++ elements_from of last (rank ∷ ranks)) }
 {
     let mut last = last;
     if is_same(&last.children, &children) {
@@ -226,7 +230,8 @@ fn elements_from(
     others: &[u32],
 ) -> Result<Vec<Element>, AllocError>
     requires { IsStrictlyIncreasing given.now }
-    ensures { IfOk result (λ es. es.items ≡ elements (children_in graph.now.resources.vertices types.core types.gpu given.now) (first ∷ others.now)) }
+    ensures { IfOk result (λ es. es.items
+        ≡ elements (children_in graph.now.resources.vertices types.core types.gpu given.now) (first ∷ others.now)) }
 {
     let mut elements = Vec::new(alloc);
     let mut last = element_of(
@@ -253,7 +258,8 @@ pub(crate) fn elements_of(
     requires given { IsStrictlyIncreasing given.now }
     requires ranks { IsStrictlyIncreasing ranks.now }
     ensures rising { IfOk result (λ es. All RisesWithin es.items) }
-    ensures value { IfOk result (λ es. es.items ≡ elements (children_in graph.now.resources.vertices types.core types.gpu given.now) ranks.now) }
+    ensures value { IfOk result (λ es. es.items
+        ≡ elements (children_in graph.now.resources.vertices types.core types.gpu given.now) ranks.now) }
 {
     match ranks {
         [] => Ok(Vec::new(alloc)),

@@ -10,7 +10,8 @@ ghost use Rattle.json_written.specs.Tokens.{Adds, value_tokens, rest_tokens};
 ghost use Rattle.idset_text.specs.Idsets.{idset_text};
 ghost use Rattle.resource_graph.specs.NamedGraph.{path_text};
 ghost use Rattle.resource_set_r.specs.Rows.{is_other_than, type_called, elements_of};
-ghost use Rattle.resource_set_r.specs.WrittenR.{children_data, element_data, elements_data, texts_data, mode_of, claim_data, claims_data, execution_of, nodelist, r_text, RisesWithin};
+ghost use Rattle.resource_set_r.specs.WrittenR.{children_data, element_data, elements_data, texts_data, mode_of};
+ghost use Rattle.resource_set_r.specs.WrittenR.{claim_data, claims_data, execution_of, nodelist, r_text, RisesWithin};
 ghost use Rattle.resource_set_r.specs.WrittenRTokens.{ids_tokens, quantity_tokens, scheduling_tokens};
 
 use crate::given::given_of;
@@ -140,7 +141,8 @@ fn put_path(
     vertex: u32,
 ) -> Result<(), AllocError>
     requires { vertex < length graph.now.resources.vertices }
-    ensures { OnOk result (Adds writer.old writer.new (key (codes "path") ∷ string (readable (path_text graph.now vertex)) ∷ [])) }
+    ensures { OnOk result
+        (Adds writer.old writer.new (key (codes "path") ∷ string (readable (path_text graph.now vertex)) ∷ [])) }
 {
     let path = graph.path_of(alloc, vertex)?;
     put_text(writer, "path", readable(path.bytes()))
@@ -189,7 +191,8 @@ fn put_scheduling(
     claims: &[Claim],
 ) -> Result<(), AllocError>
     requires { All (λ c. vertex_of c < length graph.now.resources.vertices) claims.now }
-    ensures { OnOk result (Adds writer.old writer.new (key (codes "scheduling") ∷ value_tokens (object (member (codes "claims") (array (claims_data graph.now claims.now)) no_members)))) }
+    ensures { OnOk result (Adds writer.old writer.new (key (codes "scheduling") ∷ value_tokens
+        (object (member (codes "claims") (array (claims_data graph.now claims.now)) no_members)))) }
 {
     writer.key("scheduling")?;
     writer.begin_object()?;
@@ -236,7 +239,8 @@ fn others_of(
     types: Types,
     claims: &[Claim],
 ) -> Result<Vec<Claim>, AllocError>
-    ensures { IfOk result (λ cs. cs.items ≡ filter (is_other_than vertices.now types.node types.core types.gpu) claims.now) }
+    ensures { IfOk result
+        (λ cs. cs.items ≡ filter (is_other_than vertices.now types.node types.core types.gpu) claims.now) }
 {
     let mut others = Vec::new(alloc);
     'claims: for claim in claims {
@@ -284,7 +288,8 @@ fn put_execution(
     end: u64,
 ) -> Result<(), AllocError>
     requires { All RisesWithin resources.now.elements.items }
-    ensures { OnOk result (Adds writer.old writer.new (value_tokens (execution_of resources.now.elements.items resources.now.nodelist start end))) }
+    ensures { OnOk result (Adds writer.old writer.new
+        (value_tokens (execution_of resources.now.elements.items resources.now.nodelist start end))) }
 {
     writer.begin_object()?;
     writer.key("R_lite")?;
@@ -299,12 +304,12 @@ fn put_execution(
     Ok(())
 }
 
-/// The resource set R of a job (RFC 20, version 1): compact JSON, with the keys of each object in byte order. A rank is in it
-/// where something at or below its node has a claim or lies at or below a held vertex; its children are the ids of the cores
-/// and gpus of which that is so. Neighbouring ranks with equal children share an element, and the hosts stand in rising order
-/// of rank. Claims on vertices of other types than `node`, `core` and `gpu` follow as `scheduling`, where there are some. A
-/// claim past the graph counts for nothing, and a name that is no UTF-8, which no graph of a file has, is written as the
-/// empty text.
+/// The resource set R of a job (RFC 20, version 1): compact JSON, with the keys of each object in byte order. A rank is
+/// in it where something at or below its node has a claim or lies at or below a held vertex; its children are the ids
+/// of the cores and gpus of which that is so. Neighbouring ranks with equal children share an element, and the hosts
+/// stand in rising order of rank. Claims on vertices of other types than `node`, `core` and `gpu` follow as
+/// `scheduling`, where there are some. A claim past the graph counts for nothing, and a name that is no UTF-8, which no
+/// graph of a file has, is written as the empty text.
 pub fn write_r(alloc: Global, graph: &Graph, job: &Job) -> Result<Text, AllocError>
     ensures { IfOk result (λ text. text ≡ r_text graph.now job.now) }
 {

@@ -1,5 +1,7 @@
 -- The book may follow each reply of the scheduler.
-use Rattle.std.proofs.Common.{◌≡◌, ℕ, ◌+◌, ◌-◌, ◌<◌, ◌≤◌, ◌==◌, nat_le, if◌then◌else◌, Bool, true, false, not, ◌||◌, List, length, Option, Some, None, MatchOption, inl, inr, refl, sym, ap, subst, arith, IsTrue, Contains}
+use Rattle.std.proofs.Common.{◌≡◌, ℕ, ◌+◌, ◌-◌, ◌<◌, ◌≤◌, ◌==◌, nat_le, if◌then◌else◌, Bool, true, false, not, ◌||◌}
+use Rattle.std.proofs.Common.{List, length, Option, Some, None, MatchOption, inl, inr, refl, sym, ap, subst, arith}
+use Rattle.std.proofs.Common.{IsTrue, Contains}
 use Rattle.std.specs.List.{AllByRecursion}
 use Rattle.std.specs.FinMap.{get}
 use Rattle.std.proofs.lemmas.Bool.{and_parts, and_from, cases_lt}
@@ -23,7 +25,8 @@ use Rattle.flux_defs.specs.Closed.{Scene, no_bars, is_closed, is_touched, is_wit
 use Rattle.flux_defs.specs.Free.{taken_at}
 use Rattle.flux_defs.specs.Available.{is_available_at, IsAvailable}
 use Rattle.flux_defs.specs.Asks.{window_of, CountsWithin, scene_of, IsLowestFirst}
-use Rattle.flux_defs.specs.Scheduler.{Setting, State, IsProper, IsAcceptedAs, AcceptedOrFull, Replies, accepted_reply, job_with, info_at}
+use Rattle.flux_defs.specs.Scheduler.{Setting, State, IsProper, IsAcceptedAs, AcceptedOrFull, Replies, accepted_reply}
+use Rattle.flux_defs.specs.Scheduler.{job_with, info_at}
 use Rattle.flux_defs.specs.Sound.{AreAllSeparate}
 use Rattle.flux_laws.proofs.Aside.{separate_fits}
 use Rattle.flux_laws.proofs.Determined.{lowest_fits}

@@ -1,5 +1,6 @@
 -- How many steps a commit takes.
-use Rattle.std.proofs.Common.{◌≡◌, ℕ, ◌+◌, ◌-◌, ◌*◌, ◌≤◌, ◌==◌, not, cond, Bool, true, false, List, [], ◌∷◌, length, ap, arith}
+use Rattle.std.proofs.Common.{◌≡◌, ℕ, ◌+◌, ◌-◌, ◌*◌, ◌≤◌, ◌==◌, not, cond, Bool, true, false, List, [], ◌∷◌, length, ap}
+use Rattle.std.proofs.Common.{arith}
 use Rattle.std.specs.FinMap.{len}
 use Rattle.std.proofs.Math.Nat.{mul-le-mul_left, mul-le-mul_right}
 use Rattle.std.proofs.lemmas.List.{length-map}
@@ -31,7 +32,8 @@ count_without : (id : ℕ) (jobs : List Job) → count_claims (without_job id jo
 count_without id [] = omega arith
 count_without id (job ∷ jobs) = go (not (job.id == id)) (count_without id jobs)
   where
-    go : (b : Bool) → count_claims (without_job id jobs) ≤ count_claims jobs → count_claims (cond b (job ∷ without_job id jobs) (without_job id jobs)) ≤ count_claims (job ∷ jobs)
+    go : (b : Bool) → count_claims (without_job id jobs) ≤ count_claims jobs →
+        count_claims (cond b (job ∷ without_job id jobs) (without_job id jobs)) ≤ count_claims (job ∷ jobs)
     go true rest =
         let a = sum_by-cons (λ (j : Job). length j.claims) job (without_job id jobs) in
         let b = sum_by-cons (λ (j : Job). length j.claims) job jobs in
@@ -54,22 +56,27 @@ few_left s [] few = few
 few_left s (e ∷ journal) few = few_left (after s e.command e.reply) journal (few_after s e.command e.reply few)
 
 -- a change by fewer claims costs no more
-pub change_grows : (book : BookState) (claims most old new : ℕ) → claims ≤ most → new ≤ old + change_cost_of book claims → new ≤ old + change_cost_of book most
+pub change_grows : (book : BookState) (claims most old new : ℕ) →
+    claims ≤ most → new ≤ old + change_cost_of book claims → new ≤ old + change_cost_of book most
 change_grows book claims most old new le work =
     let rules = 1 + length (rules_of book) in
     let b = dig (2 * (accounts_of book).count + len (rows_of book) + 4) in
     let a : 8192 * (claims + 1) ≤ 8192 * (most + 1) = omega (arith, le) in
-    let more : 8192 * (claims + 1) * rules * b ≤ 8192 * (most + 1) * rules * b = mul-le-mul_right b (mul-le-mul_right rules a) in
+    let more : 8192 * (claims + 1) * rules * b ≤ 8192 * (most + 1) * rules * b =
+    mul-le-mul_right b (mul-le-mul_right rules a) in
     omega (arith, work, more)
 
 -- the products of the bounds
-judge_sum : (claims entries b : ℕ) → (1024 * claims + 6 * entries + 16) * b ≡ 1024 * (claims * b) + 6 * (entries * b) + 16 * b
+judge_sum : (claims entries b : ℕ) →
+    (1024 * claims + 6 * entries + 16) * b ≡ 1024 * (claims * b) + 6 * (entries * b) + 16 * b
 judge_sum claims entries b = grind arith
 
-change_sum : (claims rules b : ℕ) → 8192 * (claims + 1) * (1 + rules) * b ≡ 8192 * (claims * b) + 8192 * (rules * (claims * b)) + 8192 * b + 8192 * (rules * b)
+change_sum : (claims rules b : ℕ) → 8192 * (claims + 1) * (1 + rules) * b
+    ≡ 8192 * (claims * b) + 8192 * (rules * (claims * b)) + 8192 * b + 8192 * (rules * b)
 change_sum claims rules b = grind arith
 
-commit_sum : (claims rules b : ℕ) → 16384 * (claims + 1) * (1 + rules) * b ≡ 16384 * (claims * b) + 16384 * (rules * (claims * b)) + 16384 * b + 16384 * (rules * b)
+commit_sum : (claims rules b : ℕ) → 16384 * (claims + 1) * (1 + rules) * b
+    ≡ 16384 * (claims * b) + 16384 * (rules * (claims * b)) + 16384 * b + 16384 * (rules * b)
 commit_sum claims rules b = grind arith
 
 entry_sum : (entries b : ℕ) → 16 * entries * b ≡ 16 * (entries * b)
@@ -86,7 +93,8 @@ module _ (site : Site) (kept : Kept) (core : IsCore site kept) where
   book_within : (claims : ℕ) → book_digits ≤ digits_of course claims
   book_within claims =
       let count = core.book-of.jobs.accounts_are.count in
-      let few : count_claims (left_by (journal_in kept)).jobs ≤ (left_by (journal_in kept)).claim_count = few_left first_state (journal_in kept) (omega arith) in
+      let few : count_claims (left_by (journal_in kept)).jobs ≤ (left_by (journal_in kept)).claim_count =
+      few_left first_state (journal_in kept) (omega arith) in
       let rows = core.book-of.few in
       dig_mono _ _ (omega (arith, count, few, rows))
 
@@ -97,7 +105,8 @@ module _ (site : Site) (kept : Kept) (core : IsCore site kept) where
   entries_within claims = dig_mono _ _ (omega arith)
 
   pub judge_covered : (command : Command) (snap : Course) (place : ℕ) (verdict : Verdict) (old new : ℕ) →
-      new ≤ old + (2 * cost_of kept.book * length (claims_found verdict) + 3 * scan_most (journal_in kept) place + 16 * dig (len (rows_of kept.book) + 2)) →
+      new ≤ old + (2 * cost_of kept.book * length
+      (claims_found verdict) + 3 * scan_most (journal_in kept) place + 16 * dig (len (rows_of kept.book) + 2)) →
       new ≤ old + judge_most course (record { command = command; snap = snap; place = place; verdict = verdict })
   judge_covered command snap place verdict old new work =
       let claims = length (claims_found verdict) in
@@ -106,24 +115,30 @@ module _ (site : Site) (kept : Kept) (core : IsCore site kept) where
       let looks : book_digits * claims ≤ b * claims = mul-le-mul_right claims (book_within claims) in
       let turned : b * claims ≡ claims * b = grind arith in
       let opened : 2 * cost_of kept.book * claims ≡ 1024 * (book_digits * claims) = grind arith in
-      let scans : dig (length (journal_in kept) + 1) * entries ≤ b * entries = mul-le-mul_right entries (entries_within claims) in
+      let scans : dig (length (journal_in kept) + 1) * entries ≤ b * entries =
+      mul-le-mul_right entries (entries_within claims) in
       let around : b * entries ≡ entries * b = grind arith in
-      let walked : 3 * scan_most (journal_in kept) place ≡ 6 * (dig (length (journal_in kept) + 1) * entries) = grind arith in
+      let walked : 3 * scan_most (journal_in kept) place ≡ 6 * (dig (length (journal_in kept) + 1) * entries) =
+      grind arith in
       let ids = rows_within claims in
       let sum = judge_sum claims entries b in
       omega (arith, work, looks, turned, opened, scans, around, walked, ids, sum)
 
-  pub append_covered : (claims old new : ℕ) → new ≤ old + (change_cost_of kept.book claims + 2 * dig (length (journal_in kept) + 1)) → new ≤ old + append_most course claims
+  pub append_covered : (claims old new : ℕ) →
+      new ≤ old + (change_cost_of kept.book claims + 2 * dig (length (journal_in kept) + 1)) →
+      new ≤ old + append_most course claims
   append_covered claims old new work =
       let rules = length (rules_of kept.book) in
       let pairs : length (setting_in site kept).rules ≡ rules = length-map (rules_of kept.book) pair_of in
       let same = ap (λ (n : ℕ). 8192 * (claims + 1) * (1 + n) * digits_of course claims) pairs in
       let entries = entries_within claims in
-      let more : 8192 * (claims + 1) * (1 + rules) * book_digits ≤ 8192 * (claims + 1) * (1 + rules) * digits_of course claims = mul-le-mul_left (8192 * (claims + 1) * (1 + rules)) (book_within claims) in
+      let more : 8192 * (claims + 1) * (1 + rules) * book_digits ≤ 8192 * (claims + 1) * (1 + rules) * digits_of
+      course claims = mul-le-mul_left (8192 * (claims + 1) * (1 + rules)) (book_within claims) in
       omega (arith, work, entries, more, same)
 
 -- what is told of a candidate, and the entry
-pub commit_covered : (course : Course) (c : Searched) (old mid new : ℕ) → mid ≤ old + judge_most course c → new ≤ mid + append_most course (length (claims_found c.verdict)) → new ≤ old + commit_most course c
+pub commit_covered : (course : Course) (c : Searched) (old mid new : ℕ) → mid ≤ old + judge_most course c →
+    new ≤ mid + append_most course (length (claims_found c.verdict)) → new ≤ old + commit_most course c
 commit_covered course c old mid new told added =
     let claims = length (claims_found c.verdict) in
     let entries = length course.journal - c.place in
@@ -136,5 +151,6 @@ commit_covered course c old mid new told added =
     omega (arith, told, added, j, a, k, e)
 
 -- a candidate that is overtaken
-pub told_covered : (course : Course) (c : Searched) (old new : ℕ) → new ≤ old + judge_most course c → new ≤ old + commit_most course c
+pub told_covered : (course : Course) (c : Searched) (old new : ℕ) →
+    new ≤ old + judge_most course c → new ≤ old + commit_most course c
 told_covered course c old new told = commit_covered course c old new new told (omega arith)

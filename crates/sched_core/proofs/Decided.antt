@@ -30,7 +30,8 @@ given_found g s id ask start claims none r m k em ek h =
 -- what is given by how far a scheduler has come is given by its setting
 pub as_given : (graph : ResourceGraph) (rules : List Rule) (s : State) (id : ℕ) (ask : Ask) (v : Verdict) (r : Reply)
     (h horizon l limit : ℕ) (n none : Reply) → h ≡ horizon → l ≡ limit → n ≡ none →
-    Answers (setting_of graph rules h l) s id ask n v r → Answers (setting_of graph rules horizon limit) s id ask none v r
+    Answers (setting_of graph rules h l) s id ask n v r →
+    Answers (setting_of graph rules horizon limit) s id ask none v r
 as_given graph rules s id ask v r h horizon l limit n none eh el en given =
     subst (λ (x : ℕ). Answers (setting_of graph rules x limit) s id ask none v r) eh
     (subst (λ (x : ℕ). Answers (setting_of graph rules h x) s id ask none v r) el

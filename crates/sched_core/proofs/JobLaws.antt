@@ -1,5 +1,7 @@
 -- Jobs by their ids, and rows of ids.
-use Rattle.std.proofs.Common.{◌≡◌, ◌≢◌, ℕ, suc, ◌<◌, ◌==◌, not, Bool, true, false, cond, if◌then◌else◌, List, [], ◌∷◌, ◌++◌, length, Option, Some, None, MatchOption, inl, inr, refl, sym, ◌∙◌, ap, subst, arith, Contains}
+use Rattle.std.proofs.Common.{◌≡◌, ◌≢◌, ℕ, suc, ◌<◌, ◌==◌, not, Bool, true, false, cond, if◌then◌else◌, List, [], ◌∷◌}
+use Rattle.std.proofs.Common.{◌++◌, length, Option, Some, None, MatchOption, inl, inr, refl, sym, ◌∙◌, ap, subst, arith}
+use Rattle.std.proofs.Common.{Contains}
 use Rattle.std.proofs.lemmas.Bool.{eqb-true}
 use Rattle.std.proofs.lemmas.Bool.Decides.{eqb_tells}
 use Rattle.flux_defs.specs.declared.claims.Job.{Job}
@@ -27,11 +29,13 @@ with_other k [] job ne = ap (λ b. cond b (Some job) None) (other_id job.id k ne
 with_other k (x ∷ xs) job ne = ap (λ r. cond (x.id == k) (Some x) r) (with_other k xs job ne)
 
 -- a job more, whose id none had
-pub with_new : (jobs : List Job) (job : Job) → job_with job.id jobs ≡ None → job_with job.id (jobs ++ job ∷ []) ≡ Some job
+pub with_new : (jobs : List Job) (job : Job) →
+    job_with job.id jobs ≡ None → job_with job.id (jobs ++ job ∷ []) ≡ Some job
 with_new [] job none = ap (λ b. cond b (Some job) None) (same_id job.id)
 with_new (x ∷ xs) job none = go (x.id == job.id) none (with_new xs job)
   where
-    go : (b : Bool) → cond b (Some x) (job_with job.id xs) ≡ None → (job_with job.id xs ≡ None → job_with job.id (xs ++ job ∷ []) ≡ Some job) → cond b (Some x) (job_with job.id (xs ++ job ∷ [])) ≡ Some job
+    go : (b : Bool) → cond b (Some x) (job_with job.id xs) ≡ None → (job_with job.id xs ≡ None →
+        job_with job.id (xs ++ job ∷ []) ≡ Some job) → cond b (Some x) (job_with job.id (xs ++ job ∷ [])) ≡ Some job
     go true e rest = absurd (none_some x (sym e))
     go false e rest = rest e
 
@@ -40,7 +44,8 @@ pub gone : (id : ℕ) (jobs : List Job) → job_with id (without_job id jobs) �
 gone id [] = refl
 gone id (x ∷ xs) = go (x.id == id) refl (gone id xs)
   where
-    go : (b : Bool) → (x.id == id) ≡ b → job_with id (without_job id xs) ≡ None → job_with id (cond (not b) (x ∷ without_job id xs) (without_job id xs)) ≡ None
+    go : (b : Bool) → (x.id == id) ≡ b → job_with id (without_job id xs) ≡ None →
+        job_with id (cond (not b) (x ∷ without_job id xs) (without_job id xs)) ≡ None
     go true e rest = rest
     go false e rest = ap (λ c. cond c (Some x) (job_with id (without_job id xs))) e ∙ rest
 
@@ -49,8 +54,10 @@ stays id k [] ne = refl
 stays id k (x ∷ xs) ne = go (x.id == id) refl (stays id k xs ne)
   where
     go : (b : Bool) → (x.id == id) ≡ b → job_with k (without_job id xs) ≡ job_with k xs →
-        job_with k (cond (not b) (x ∷ without_job id xs) (without_job id xs)) ≡ cond (x.id == k) (Some x) (job_with k xs)
-    go true e rest = rest ∙ sym (ap (λ c. cond c (Some x) (job_with k xs)) (other_id x.id k (λ f. ne (sym f ∙ eqb-true x.id id e))))
+        job_with k (cond (not b) (x ∷ without_job id xs) (without_job id xs))
+        ≡ cond (x.id == k) (Some x) (job_with k xs)
+    go true e rest = rest
+        ∙ sym (ap (λ c. cond c (Some x) (job_with k xs)) (other_id x.id k (λ f. ne (sym f ∙ eqb-true x.id id e))))
     go false e rest = ap (λ r. cond (x.id == k) (Some x) r) rest
 
 -- the job of an id is one of the list
@@ -58,8 +65,10 @@ pub is_there : (id : ℕ) (jobs : List Job) (job : Job) → job_with id jobs ≡
 is_there id [] job e = absurd (none_some job e)
 is_there id (x ∷ xs) job e = go (x.id == id) refl e (is_there id xs job)
   where
-    go : (b : Bool) → (x.id == id) ≡ b → cond b (Some x) (job_with id xs) ≡ Some job → (job_with id xs ≡ Some job → Contains xs job × (job.id ≡ id)) → Contains (x ∷ xs) job × (job.id ≡ id)
-    go true t f rest = let is : x ≡ job = some_is x job f in ((0, omega arith, is), (ap (λ (j : Job). j.id) (sym is) ∙ eqb-true x.id id t))
+    go : (b : Bool) → (x.id == id) ≡ b → cond b (Some x) (job_with id xs) ≡ Some job →
+        (job_with id xs ≡ Some job → Contains xs job × (job.id ≡ id)) → Contains (x ∷ xs) job × (job.id ≡ id)
+    go true t f rest = let is : x ≡ job = some_is x job f in
+        ((0, omega arith, is), (ap (λ (j : Job). j.id) (sym is) ∙ eqb-true x.id id t))
     go false t f rest = let r = rest f in ((suc r.0.0, (let lt : r.0.0 < length xs = r.0.1 in omega arith), r.0.2), r.1)
 
 module _ (journal : List Entry) (s : State) (id : ℕ) where
@@ -78,7 +87,8 @@ module _ (journal : List Entry) (s : State) (id : ℕ) where
   fresh_row (Some row) told fresh = absurd (fresh told.used)
 
   -- the id of a job that is there has a live row
-  pub live_of : (job : Job) → job_with id s.jobs ≡ Some job → (found : Option Row) → Told found → (at : ℕ) × (found ≡ Some (live_row at))
+  pub live_of : (job : Job) →
+      job_with id s.jobs ≡ Some job → (found : Option Row) → Told found → (at : ℕ) × (found ≡ Some (live_row at))
   live_of job there None told = absurd (none_some job (sym told.none ∙ there))
   live_of job there (Some row) told = go row.live refl
     where

@@ -7,7 +7,8 @@ use Rattle.list_laws.proofs.Lists.{all_append}
 use Rattle.book_state.specs.Books.{KeepsSetting}
 use Rattle.sched_core.specs.declared.held.Site.{Site}
 use Rattle.sched_core.specs.declared.held.Kept.{Kept}
-use Rattle.sched_core.specs.Courses.{left_by, graph_at, vertices_at, journal_in, setting_of, setting_in, IsBookOf, IsCore, Grows}
+use Rattle.sched_core.specs.Courses.{left_by, graph_at, vertices_at, journal_in, setting_of, setting_in, IsBookOf}
+use Rattle.sched_core.specs.Courses.{IsCore, Grows}
 use Rattle.sched_core.specs.Answered.{MayFollow, HasRoom}
 use Rattle.sched_core.proofs.Grown.{left_snoc, legal_snoc}
 use Rattle.sched_core.proofs.Accepting.{owed}

@@ -1,9 +1,12 @@
 -- How many steps a search takes.
-use Rattle.std.proofs.Common.{◌≡◌, ℕ, zero, suc, ◌+◌, ◌-◌, ◌*◌, ◌<◌, ◌≤◌, Bool, true, false, cond, ◌||◌, List, [], ◌∷◌, length, get_or, map, is_some, Some, None, Option, ◌⊎◌, slice_get, refl, sym, ◌∙◌, ap, subst, arith, true≢false, Contains}
+use Rattle.std.proofs.Common.{◌≡◌, ℕ, zero, suc, ◌+◌, ◌-◌, ◌*◌, ◌<◌, ◌≤◌, Bool, true, false, cond, ◌||◌, List, [], ◌∷◌}
+use Rattle.std.proofs.Common.{length, get_or, map, is_some, Some, None, Option, ◌⊎◌, slice_get, refl, sym, ◌∙◌, ap}
+use Rattle.std.proofs.Common.{subst, arith, true≢false, Contains}
 use Rattle.std.specs.Prelude.{IsSome, Any}
 use Rattle.std.specs.List.{list_any}
 use Rattle.std.specs.Ordering.{nat_cmp, eq_by_cmp}
-use Rattle.std.specs.FinMap.{FinMap, get, len, remove, entries, get-entries, get-remove, len-entries, len-remove, contains_key}
+use Rattle.std.specs.FinMap.{FinMap, get, len, remove, entries, get-entries, get-remove, len-entries, len-remove}
+use Rattle.std.specs.FinMap.{contains_key}
 use Rattle.std.specs.FinMap.Entries.{find, is_some-find}
 use Rattle.std.proofs.lemmas.Cmp.{nat_cmp_total, eq_by_cmp_equiv}
 use Rattle.std.proofs.Math.Nat.{mul-le-mul_left}
@@ -22,7 +25,8 @@ use Rattle.flux_defs.proofs.DigitLaws.{dig_mono}
 use Rattle.resource_graph.specs.NamedGraph.{NamedGraph}
 use Rattle.book_laws.specs.Grouped.{count_claims}
 use Rattle.earliest_search.proofs.TriedLaws.{enough_more, tries_along, tries_later}
-use Rattle.book_state.specs.Books.{graph_of, rules_of, accounts_of, rows_of, moment_of, StandsFor, KeepsPair, KeepsTotal, cost_of}
+use Rattle.book_state.specs.Books.{graph_of, rules_of, accounts_of, rows_of, moment_of, StandsFor, KeepsPair}
+use Rattle.book_state.specs.Books.{KeepsTotal, cost_of}
 use Rattle.sched_core.specs.declared.held.Site.{Site}
 use Rattle.sched_core.specs.declared.held.Kept.{Kept}
 use Rattle.sched_core.specs.declared.finding.Starts.{Starts}

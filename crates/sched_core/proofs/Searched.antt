@@ -1,5 +1,6 @@
 -- What the steps of a search say together.
-use Rattle.std.proofs.Common.{◌≡◌, ℕ, ◌≤◌, ◌↔◌, Bool, false, List, Option, Some, None, MatchOption, IsSome, inl, inr, refl, sym, ◌∙◌, ap, subst, IsTrue, true≢false, Contains}
+use Rattle.std.proofs.Common.{◌≡◌, ℕ, ◌≤◌, ◌↔◌, Bool, false, List, Option, Some, None, MatchOption, IsSome, inl, inr}
+use Rattle.std.proofs.Common.{refl, sym, ◌∙◌, ap, subst, IsTrue, true≢false, Contains}
 use Rattle.flux_defs.specs.declared.claims.Claim.{Claim}
 use Rattle.flux_defs.specs.declared.claims.Window.{Window}
 use Rattle.flux_defs.specs.declared.requests.Ask.{Ask}

@@ -12,7 +12,8 @@ use Rattle.job_table.specs.declared.tables.Row.{Row}
 use Rattle.book_state.specs.Books.{rules_of, moment_of, rows_of, StandsFor, KeepsSetting}
 use Rattle.sched_core.specs.declared.held.Site.{Site}
 use Rattle.sched_core.specs.declared.held.Kept.{Kept}
-use Rattle.sched_core.specs.Courses.{left_by, graph_at, vertices_at, journal_in, setting_of, setting_in, IsNew, IsRowOf, IsBookOf, IsCore}
+use Rattle.sched_core.specs.Courses.{left_by, graph_at, vertices_at, journal_in, setting_of, setting_in, IsNew, IsRowOf}
+use Rattle.sched_core.specs.Courses.{IsBookOf, IsCore}
 
 pub same_setting : (a b : NamedGraph) (r q : List Rule) (h k l m : ℕ) → a ≡ b → r ≡ q → h ≡ k → l ≡ m →
     setting_of a.resources r h l ≡ setting_of b.resources q k m

@@ -21,21 +21,27 @@ abbrev pub TellsAtMost : ℕ → Judged → Type 0
 TellsAtMost most (judged.Fresh reply) = AddsAtMost most reply
 TellsAtMost most (judged.Overtaken cause) = Unit {0}
 
--- the binary digits of what the trees of a course hold once it has so many claims more: all claims twice, and the entries
+-- the binary digits of what the trees of a course hold once it has so many claims more: all claims twice, and the
+-- entries
 abbrev pub digits_of : Course → ℕ → ℕ
 digits_of course claims = dig (2 * ((state_of course).claim_count + claims) + length course.journal + 4)
 
--- what is told of a candidate: two looks at the view for each claim, three at each entry since the search, and one at the ids
+-- what is told of a candidate: two looks at the view for each claim, three at each entry since the search, and one at
+-- the ids
 abbrev pub judge_most : Course → Searched → ℕ
 judge_most course c =
-    (1024 * length (claims_found c.verdict) + 6 * (length course.journal - c.place) + 16) * digits_of course (length (claims_found c.verdict))
+    (1024 * length (claims_found c.verdict) + 6 * (length course.journal - c.place) + 16) * digits_of course
+    (length (claims_found c.verdict))
 
 -- one entry more, with a job of at most so many claims
 abbrev pub append_most : Course → ℕ → ℕ
-append_most course claims = 8192 * (claims + 1) * (1 + length course.setting.rules) * digits_of course claims + 2 * digits_of course claims
+append_most course claims =
+    8192 * (claims + 1) * (1 + length course.setting.rules) * digits_of course claims + 2 * digits_of course claims
 
--- A commit: by the claims that were found, the filter rules and the entries since the search. The graph's size isn't in it.
+-- A commit: by the claims that were found, the filter rules and the entries since the search. The graph's size isn't in
+-- it.
 abbrev pub commit_most : Course → Searched → ℕ
 commit_most course c =
-    16384 * (length (claims_found c.verdict) + 1) * (1 + length course.setting.rules) * digits_of course (length (claims_found c.verdict))
+    16384 * (length (claims_found c.verdict) + 1) * (1 + length course.setting.rules) * digits_of course
+    (length (claims_found c.verdict))
     + 16 * (length course.journal - c.place) * digits_of course (length (claims_found c.verdict))

@@ -76,7 +76,8 @@ KeepsAt g v kind =
     IsSomeAnd (slice_get g.graph.kinds kind) (λ low.
     Any (λ pair. (pair.1 ≡ low) × ((pair.0 ≡ high) ⊎ (pair.0 ≡ codes "ALL"))) g.rules)))
 
--- the binary digits of what the trees of a course hold: the claims of its jobs twice, and the ids that were ever accepted
+-- the binary digits of what the trees of a course hold: the claims of its jobs twice, and the ids that were ever
+-- accepted
 abbrev pub digits_held : Course → ℕ
 digits_held course = dig (2 * count_claims (state_of course).jobs + length (state_of course).used + 4)
 

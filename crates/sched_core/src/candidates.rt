@@ -55,8 +55,8 @@ impl Candidate {
         &self.verdict
     }
 
-    /// A law: the verdict is what a search finds in the state that was searched, and the command is proper there. It does
-    /// nothing.
+    /// A law: the verdict is what a search finds in the state that was searched, and the command is proper there. It
+    /// does nothing.
     pub fn is_found(&self)
         ensures { IsSearched self.now.command self.now.snap self.now.place self.now.verdict }
     {

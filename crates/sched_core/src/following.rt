@@ -46,7 +46,8 @@ fn after_cancelled<L: Ledger>(
     requires book { IsBookOf entries.now book.now }
     requires there { IsSome (job_with id (left_by entries.now).jobs) }
     ensures setting { IfOk result (KeepsSetting book.now) }
-    ensures book { IfOk result (λ next. (e : Entry) → e.command ≡ command.Cancel id → e.reply ≡ reply.Cancelled → IsBookOf (entries.now ++ e ∷ []) next) }
+    ensures book { IfOk result (λ next. (e : Entry) →
+        e.command ≡ command.Cancel id → e.reply ≡ reply.Cancelled → IsBookOf (entries.now ++ e ∷ []) next) }
 {
     match live_job(entries, book, id, steps) {
         None => unreachable!(),
@@ -60,7 +61,8 @@ fn after_cancelled<L: Ledger>(
 /// The book at another moment.
 fn after_moved(book: &BookState, to: u64) -> Result<BookState, AllocError>
     ensures setting { IfOk result (KeepsSetting book.now) }
-    ensures book { IfOk result (λ next. (journal : List Entry) (e : Entry) → IsBookOf journal book.now → e.reply ≡ reply.Now to → IsBookOf (journal ++ e ∷ []) next) }
+    ensures book { IfOk result (λ next. (journal : List Entry) (e : Entry) →
+        IsBookOf journal book.now → e.reply ≡ reply.Now to → IsBookOf (journal ++ e ∷ []) next) }
 {
     let next = book.after_advance(to)?;
     Ok(next)
@@ -69,7 +71,8 @@ fn after_moved(book: &BookState, to: u64) -> Result<BookState, AllocError>
 /// The same book.
 fn unchanged(book: &BookState) -> Result<BookState, AllocError>
     ensures setting { IfOk result (KeepsSetting book.now) }
-    ensures book { IfOk result (λ next. (journal : List Entry) (e : Entry) → IsBookOf journal book.now → ChangesNothing e.reply → IsBookOf (journal ++ e ∷ []) next) }
+    ensures book { IfOk result (λ next. (journal : List Entry) (e : Entry) →
+        IsBookOf journal book.now → ChangesNothing e.reply → IsBookOf (journal ++ e ∷ []) next) }
 {
     let next = book.share()?;
     Ok(next)
@@ -87,7 +90,8 @@ pub(crate) fn follow<L: Ledger>(
     requires book { IsBookOf entries.now book.now }
     requires may { MayFollow book.now (left_by entries.now) command.now reply.now }
     ensures setting { IfOk result (KeepsSetting book.now) }
-    ensures book { IfOk result (λ next. (e : Entry) → e.command ≡ command.now → e.reply ≡ reply.now → IsBookOf (entries.now ++ e ∷ []) next) }
+    ensures book { IfOk result
+        (λ next. (e : Entry) → e.command ≡ command.now → e.reply ≡ reply.now → IsBookOf (entries.now ++ e ∷ []) next) }
     ensures work { (most : ℕ) → AddsAtMost most reply.now → steps.new ≤ steps.old + change_cost_of book.now most }
 {
     match reply {

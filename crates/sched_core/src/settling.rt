@@ -31,7 +31,8 @@ fn job_at<'a, L: Ledger>(
     at: u64,
     steps: &mut Steps<L>,
 ) -> Option<&'a Job>
-    ensures { (entry : Entry) (job : Job) → HasEntry entries.now at entry → HasAccepted entry job → option_copied result ≡ Some job }
+    ensures { (entry : Entry) (job : Job) →
+        HasEntry entries.now at entry → HasAccepted entry job → option_copied result ≡ Some job }
 {
     match entries.get(at, steps) {
         None => None,

@@ -1,5 +1,5 @@
-//! Runs of the program with two clients that are kept at places, so that what each tells and what is written is known. The
-//! lists of filters change nothing.
+//! Runs of the program with two clients that are kept at places, so that what each tells and what is written is known.
+//! The lists of filters change nothing.
 use crate::gates::{Step, Telling, Turnstile, go, keep};
 use crate::plays::TWO_NODES;
 use flux_defs::{List, Text};

@@ -45,7 +45,8 @@ pub(crate) fn core_over(alloc: Global, graph: &Arc<Graph, Global>) -> Result<Cor
 /// The script of an input.
 fn script_of(alloc: Global, graph: &Graph, input: &[u8]) -> Result<Script, Fail>
     ensures few { IfOk result (λ script. length script.lines < ALL_SHARES) }
-    ensures proper { IfOk result (λ script. AllByRecursion (λ lines. AllByRecursion (λ l. IsProper graph.now.resources.vertices l.command) lines) script.lines) }
+    ensures proper { IfOk result (λ script. AllByRecursion
+        (λ lines. AllByRecursion (λ l. IsProper graph.now.resources.vertices l.command) lines) script.lines) }
     ensures apart { IfOk result (λ script. NumbersApart script) }
 {
     match read_input(alloc, graph, Form::Rfc14, input, &Limits::shipped()) {

@@ -1,5 +1,6 @@
 -- A page after a change of one of its parts.
-use Rattle.std.proofs.Common.{◌≡◌, ℕ, zero, suc, ◌+◌, ◌*◌, ◌^◌, ◌<◌, List, [], ◌∷◌, ◌++◌, refl, ap, sym, ◌∙◌, arith, Some, slice_get, slice_set, subst}
+use Rattle.std.proofs.Common.{◌≡◌, ℕ, zero, suc, ◌+◌, ◌*◌, ◌^◌, ◌<◌, List, [], ◌∷◌, ◌++◌, refl, ap, sym, ◌∙◌, arith}
+use Rattle.std.proofs.Common.{Some, slice_get, slice_set, subst}
 use Rattle.std.proofs.lemmas.Nat.{pow-add}
 use Rattle.node_store.specs.Lending.{with_part}
 use Rattle.node_store.proofs.PartLaws.{parts_with}

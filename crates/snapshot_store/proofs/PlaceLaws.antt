@@ -1,5 +1,7 @@
 -- Where an item stands in parts of one width.
-use Rattle.std.proofs.Common.{◌≡◌, ℕ, zero, suc, ◌+◌, ◌*◌, ◌/◌, ◌%◌, ◌^◌, ◌<◌, ◌≤◌, List, [], ◌∷◌, ◌++◌, length, refl, ap, sym, ◌∙◌, inl, inr, arith, Some, slice_get, slice_set, length-append, append-nil, append_assoc, subst}
+use Rattle.std.proofs.Common.{◌≡◌, ℕ, zero, suc, ◌+◌, ◌*◌, ◌/◌, ◌%◌, ◌^◌, ◌<◌, ◌≤◌, List, [], ◌∷◌, ◌++◌, length, refl}
+use Rattle.std.proofs.Common.{ap, sym, ◌∙◌, inl, inr, arith, Some, slice_get, slice_set, length-append, append-nil}
+use Rattle.std.proofs.Common.{append_assoc, subst}
 use Rattle.std.proofs.Math.Nat.{mod-eq_of_lt, div-add-mod, mod-lt, div-lt_iff_lt-mul}
 use Rattle.std.proofs.Math.Pow.{pow_mono, pow-lt}
 use Rattle.std.proofs.lemmas.Bool.{cases_lt}

@@ -1,5 +1,6 @@
 -- A page of which only the first part is not empty.
-use Rattle.std.proofs.Common.{◌≡◌, ℕ, zero, suc, ◌+◌, ◌*◌, ◌^◌, ◌<◌, ◌≤◌, List, [], ◌∷◌, ◌++◌, replicate, refl, ap, sym, ◌∙◌, arith, slice_set, append-nil, subst}
+use Rattle.std.proofs.Common.{◌≡◌, ℕ, zero, suc, ◌+◌, ◌*◌, ◌^◌, ◌<◌, ◌≤◌, List, [], ◌∷◌, ◌++◌, replicate, refl, ap, sym}
+use Rattle.std.proofs.Common.{◌∙◌, arith, slice_set, append-nil, subst}
 use Rattle.std.proofs.Math.Pow.{pow_mono}
 use Rattle.node_store.specs.Lending.{with_part}
 use Rattle.node_store.proofs.PartLaws.{parts_with}

@@ -1,5 +1,6 @@
 //! Parts of a list, as shared trees: a node of sixteen parts has room for sixteen times as many items as each of them.
-ghost use Rattle.std.specs.Prelude.{◌≡◌, ℕ, ◌+◌, ◌-◌, ◌*◌, ◌/◌, ◌^◌, ◌<◌, ◌≤◌, List, [], ◌∷◌, ◌++◌, length, slice_get, slice_set, replicate, Some, IfOk, IfErr, OnOk, OnErr};
+ghost use Rattle.std.specs.Prelude.{◌≡◌, ℕ, ◌+◌, ◌-◌, ◌*◌, ◌/◌, ◌^◌, ◌<◌, ◌≤◌, List, [], ◌∷◌, ◌++◌, length, slice_get};
+ghost use Rattle.std.specs.Prelude.{slice_set, replicate, Some, IfOk, IfErr, OnOk, OnErr};
 
 use flux_defs::Steps;
 use node_store::{Node, Share, Sixteen, Vacant};

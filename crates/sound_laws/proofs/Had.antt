@@ -1,5 +1,6 @@
 -- What claims that fit valid needs are: available, and their takes are of pools and at least 1.
-use Rattle.std.proofs.Common.{◌≡◌, ℕ, ◌≤◌, true, false, List, [], ◌∷◌, Option, Some, None, slice_get, sym, ◌∙◌, ap, subst}
+use Rattle.std.proofs.Common.{◌≡◌, ℕ, ◌≤◌, true, false, List, [], ◌∷◌, Option, Some, None, slice_get, sym, ◌∙◌, ap}
+use Rattle.std.proofs.Common.{subst}
 use Rattle.std.specs.List.{AllByRecursion}
 use Rattle.std.specs.Option.{IsSomeAnd, option_map_or}
 use mathlib.Core.Path.{transport⁻¹}
@@ -25,7 +26,8 @@ module _ (vertices : List Vertex) (ok : Claim → Type 0) where
   abbrev pub IsHad : Claim → Type 0
   IsHad c = ok c × TakesPool vertices c
 
-  of_kind : (kind : ℕ) (x : Option Vertex) → IsSomeAnd x (λ y. y.kind ≡ kind) → option_map_or (λ y. is_pool_kind vertices y.kind) x false ≡ is_pool_kind vertices kind
+  of_kind : (kind : ℕ) (x : Option Vertex) → IsSomeAnd x (λ y. y.kind ≡ kind) →
+      option_map_or (λ y. is_pool_kind vertices y.kind) x false ≡ is_pool_kind vertices kind
   of_kind kind None h = elim h [ ]
   of_kind kind (Some y) h = ap (is_pool_kind vertices) h
 
@@ -33,11 +35,14 @@ module _ (vertices : List Vertex) (ok : Claim → Type 0) where
   one c cs e h = subst (AllByRecursion IsHad) (sym e) (h, tt)
 
   -- pieces of picks that serve something
-  pieces_had : (piece : ℕ → ℕ → List Claim → Type 0) → ((v q : ℕ) (cs : List Claim) → 1 ≤ q → piece v q cs → AllByRecursion IsHad cs) →
-      (ps : List Pick) (cs : List Claim) → AllByRecursion (λ p. 1 ≤ p.1) ps → Pieces piece ps cs → AllByRecursion IsHad cs
+  pieces_had : (piece : ℕ → ℕ → List Claim → Type 0) →
+      ((v q : ℕ) (cs : List Claim) → 1 ≤ q → piece v q cs → AllByRecursion IsHad cs) →
+      (ps : List Pick) (cs : List Claim) →
+      AllByRecursion (λ p. 1 ≤ p.1) ps → Pieces piece ps cs → AllByRecursion IsHad cs
   pieces_had piece each [] cs some g = subst (AllByRecursion IsHad) (sym g) tt
   pieces_had piece each (p ∷ ps) cs some g =
-      subst (AllByRecursion IsHad) (sym g.2) (all_append IsHad g.0 g.1 (each p.0 p.1 g.0 some.0 g.3) (pieces_had piece each ps g.1 some.1 g.4))
+      subst (AllByRecursion IsHad)
+      (sym g.2) (all_append IsHad g.0 g.1 (each p.0 p.1 g.0 some.0 g.3) (pieces_had piece each ps g.1 some.1 g.4))
 
   mutual
     piece_had : (scope : Scope) (need : Need) → IsValidNeed vertices need → (v q : ℕ) (cs : List Claim) → 1 ≤ q →

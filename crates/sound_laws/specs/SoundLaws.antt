@@ -14,13 +14,15 @@ use Rattle.flux_defs.specs.Sound.{IsSound, IsSoundThroughout}
 
 -- A job with the lowest-first claims of valid needs over its own time joins sound jobs soundly.
 abbrev pub AcceptingKeepsSound : Type 0
-AcceptingKeepsSound = (g : ResourceGraph) (names : List (List ℕ)) → IsValidGraph g names → (jobs : List Job) (ask : Ask) → AreValidNeeds g.vertices ask.needs →
+AcceptingKeepsSound = (g : ResourceGraph) (names : List (List ℕ)) →
+    IsValidGraph g names → (jobs : List Job) (ask : Ask) → AreValidNeeds g.vertices ask.needs →
     (job : Job) → IsLowestFirst g.vertices jobs ask (record { from = job.start; to = job.end }) job.claims →
     IsSound g.vertices jobs → IsSound g.vertices (jobs ++ job ∷ [])
 
 -- Sound jobs are sound without the one that is cancelled.
 abbrev pub CancellingKeepsSound : Type 0
-CancellingKeepsSound = (vertices : List Vertex) (jobs : List Job) (id : ℕ) → IsSound vertices jobs → IsSound vertices (without_job id jobs)
+CancellingKeepsSound =
+    (vertices : List Vertex) (jobs : List Job) (id : ℕ) → IsSound vertices jobs → IsSound vertices (without_job id jobs)
 
 -- A legal history of proper commands over a valid graph leaves a sound state after each of its entries.
 abbrev pub LegalIsSound : Type 0

@@ -1,5 +1,5 @@
-//! Small forms that many crates share: names, decimal numbers, the parts of a text before and behind a byte, what is added
-//! at the end of a list, and where a number stands in a rising one.
+//! Small forms that many crates share: names, decimal numbers, the parts of a text before and behind a byte, what is
+//! added at the end of a list, and where a number stands in a rising one.
 #![tactic(auto)]
 
 mod cuts;

@@ -1,5 +1,6 @@
-//! Runs with several clients, which hand in their lines beside each other. What a run writes has to be the text of one history;
-//! here a plain player of one thread makes that text, by the order that the column LINE of what was written names.
+//! Runs with several clients, which hand in their lines beside each other. What a run writes has to be the text of one
+//! history; here a plain player of one thread makes that text, by the order that the column LINE of what was written
+//! names.
 use crate::graphs::{TWO_NODES, two_nodes};
 use flux_defs::{Limits, List, OpenGate, Text};
 use flux_io::{SureFiles, SureSink, SureSource};

@@ -1,5 +1,5 @@
-//! Runs of the job of two nodes for an hour: each call of the files, of the input and of the output fails in turn, and the
-//! graph file ends at each of its bytes.
+//! Runs of the job of two nodes for an hour: each call of the files, of the input and of the output fails in turn, and
+//! the graph file ends at each of its bytes.
 use crate::graphs::TWO_NODES;
 use flux_defs::{List, OpenGate, Text};
 use flux_io::{MemFiles, MemSink, MemSource};
@@ -18,8 +18,8 @@ const JOB: &str =
 const ANSWER: &str =
     "0 1 a allocated 1 0 {\"execution\":{\"R_lite\":[{\"children\":{\"core\":\"0-3\"},\"rank\":\"0-1\"}],\"expiration\":3600,\"nodelist\":[\"node[0-1]\"],\"starttime\":0},\"version\":1}\n";
 
-/// How many bytes of the graph file there are and for how many bytes the output has room, and which calls fail: of the files,
-/// of the input and of the output. Calls are numbered from 1.
+/// How many bytes of the graph file there are and for how many bytes the output has room, and which calls fail: of the
+/// files, of the input and of the output. Calls are numbered from 1.
 #[derive(Clone, Copy)]
 struct Given {
     graph: usize,

@@ -1,5 +1,6 @@
-//! Trials: tests that need calls. Each library is called here with ample memory, with objects of which a call fails, and with
-//! texts that the program doesn't read or write; what comes from bytes and goes to bytes is a worked row (`worked_rows`).
+//! Trials: tests that need calls. Each library is called here with ample memory, with objects of which a call fails,
+//! and with texts that the program doesn't read or write; what comes from bytes and goes to bytes is a worked row
+//! (`worked_rows`).
 #![tactic(auto)]
 
 #[cfg(test)]

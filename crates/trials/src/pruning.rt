@@ -1,5 +1,5 @@
-//! Lines answered with rules of pruning filters that the program isn't asked for: rules change how far a search looks, and
-//! never what it finds.
+//! Lines answered with rules of pruning filters that the program isn't asked for: rules change how far a search looks,
+//! and never what it finds.
 ghost use Rattle.std.specs.Prelude.{◌<◌};
 
 use crate::graphs::TWO_NODES;

@@ -16,8 +16,8 @@ const MEMORIES: &str =
 const FOUR_NODES: &str =
     r#"{"graph":{"nodes":[{"id":"0","metadata":{"type":"cluster","id":0}},{"id":"1","metadata":{"type":"node","id":0}},{"id":"2","metadata":{"type":"core","id":0}},{"id":"3","metadata":{"type":"node","id":1}},{"id":"4","metadata":{"type":"core","id":0}},{"id":"5","metadata":{"type":"node","id":2}},{"id":"6","metadata":{"type":"core","id":0}},{"id":"7","metadata":{"type":"node","id":3}},{"id":"8","metadata":{"type":"core","id":0}}],"edges":[{"source":"0","target":"1"},{"source":"1","target":"2"},{"source":"0","target":"3"},{"source":"3","target":"4"},{"source":"0","target":"5"},{"source":"5","target":"6"},{"source":"0","target":"7"},{"source":"7","target":"8"}]}}"#;
 
-/// A rack of two nodes, and a storage of 100 units outside it. The first node is of rank 1; it has a socket with two cores, the
-/// first of which has a gpu below it. The second one is of rank 0, and has two cores.
+/// A rack of two nodes, and a storage of 100 units outside it. The first node is of rank 1; it has a socket with two
+/// cores, the first of which has a gpu below it. The second one is of rank 0, and has two cores.
 const RACK: &str =
     r#"{"graph":{"nodes":[{"id":"0","metadata":{"type":"cluster","id":0}},{"id":"1","metadata":{"type":"rack","id":0}},{"id":"2","metadata":{"type":"node","id":0,"rank":1}},{"id":"3","metadata":{"type":"socket","id":0}},{"id":"4","metadata":{"type":"core","id":0}},{"id":"5","metadata":{"type":"gpu","id":0}},{"id":"6","metadata":{"type":"core","id":1}},{"id":"7","metadata":{"type":"node","id":1,"rank":0}},{"id":"8","metadata":{"type":"core","id":0}},{"id":"9","metadata":{"type":"core","id":1}},{"id":"10","metadata":{"type":"storage","id":0,"size":100}}],"edges":[{"source":"0","target":"1"},{"source":"1","target":"2"},{"source":"2","target":"3"},{"source":"3","target":"4"},{"source":"4","target":"5"},{"source":"3","target":"6"},{"source":"1","target":"7"},{"source":"7","target":"8"},{"source":"7","target":"9"},{"source":"0","target":"10"}]}}"#;
 

@@ -1,5 +1,5 @@
-//! Runs of the program over objects in memory of which a call fails, a line that is too long for a row, and the numbers of
-//! all statuses.
+//! Runs of the program over objects in memory of which a call fails, a line that is too long for a row, and the numbers
+//! of all statuses.
 use crate::graphs::TWO_NODES;
 use flux_defs::{List, OpenGate, Text};
 use flux_io::{MemFiles, MemSink, MemSource};

@@ -1,5 +1,6 @@
 -- What the accounts' least values say, and how many steps they take.
-use Rattle.std.proofs.Common.{◌≡◌, ℕ, zero, suc, ◌+◌, ◌-◌, ◌*◌, ◌<◌, ◌≤◌, nat_lt, List, ◌∷◌, length, Option, Some, None, IfSome, MatchOption, slice_get, ◌↔◌, inl, inr, refl, sym, ◌∙◌, ap, subst, arith, IsTrue}
+use Rattle.std.proofs.Common.{◌≡◌, ℕ, zero, suc, ◌+◌, ◌-◌, ◌*◌, ◌<◌, ◌≤◌, nat_lt, List, ◌∷◌, length, Option, Some, None}
+use Rattle.std.proofs.Common.{IfSome, MatchOption, slice_get, ◌↔◌, inl, inr, refl, sym, ◌∙◌, ap, subst, arith, IsTrue}
 use Rattle.std.proofs.lemmas.Bool.Decides.{Decides-ltb}
 use Rattle.flux_defs.specs.declared.vertices.Vertex.{Vertex}
 use Rattle.flux_defs.specs.declared.claims.Job.{Job}
@@ -29,49 +30,64 @@ pub less_tells : (n total : ℕ) (A : Type 0) → (n < total ↔ A) → (IsTrue 
 less_tells n total A t = let d = Decides-ltb n total in (λ h. t.0 (d.0 h), λ a. d.1 (t.1 a))
 
 -- held: less than all holds are left
-pub held_is : (vertices : List Vertex) (jobs : List Job) (w : Window) (v n : ℕ) → IsLeastFree (total_in vertices Holds v) (grouped (amount_in vertices Holds v) jobs) w n →
+pub held_is : (vertices : List Vertex) (jobs : List Job) (w : Window) (v n : ℕ) →
+    IsLeastFree (total_in vertices Holds v) (grouped (amount_in vertices Holds v) jobs) w n →
     (n < most_claims ↔ SomeMoment w (λ m. IsTrue (some_live_claim jobs m (is_hold v))))
 held_is vertices jobs w v n least = held_tells jobs w v most_claims n (omega arith) least
 
 -- some claim counts: less than all claims are left
-pub counted_is : (vertices : List Vertex) (jobs : List Job) (w : Window) (v n : ℕ) → IsLeastFree (total_in vertices Claims v) (grouped (amount_in vertices Claims v) jobs) w n →
+pub counted_is : (vertices : List Vertex) (jobs : List Job) (w : Window) (v n : ℕ) →
+    IsLeastFree (total_in vertices Claims v) (grouped (amount_in vertices Claims v) jobs) w n →
     (n < most_claims ↔ SomeMoment w (λ m. IsTrue (some_live_claim jobs m (counts_at vertices v))))
 counted_is vertices jobs w v n least =
-    least_tells (counts_at vertices v) jobs w most_claims n (omega arith) (least_left (claim_count vertices v) jobs w most_claims n least)
+    least_tells (counts_at vertices v) jobs w most_claims n
+    (omega arith) (least_left (claim_count vertices v) jobs w most_claims n least)
 
 -- along the chain
 abbrev pub HeldAlong : List Job → Window → List Vertex → ℕ → Option ℕ → Type 0
-HeldAlong jobs w vertices most from = SomeMoment w (λ m. IsTrue (some_live_claim jobs m (holds_along (chain vertices most from))))
+HeldAlong jobs w vertices most from =
+    SomeMoment w (λ m. IsTrue (some_live_claim jobs m (holds_along (chain vertices most from))))
 
-pub held_here : (jobs : List Job) (w : Window) (vertices : List Vertex) (most v : ℕ) (from : Option ℕ) → (most ≡ 0 → ⊥) → from ≡ Some v → SomeMoment w (λ m. IsTrue (some_live_claim jobs m (is_hold v))) → HeldAlong jobs w vertices most from
+pub held_here : (jobs : List Job) (w : Window) (vertices : List Vertex) (most v : ℕ) (from : Option ℕ) →
+    (most ≡ 0 → ⊥) → from ≡ Some v →
+    SomeMoment w (λ m. IsTrue (some_live_claim jobs m (is_hold v))) → HeldAlong jobs w vertices most from
 held_here jobs w vertices most v from some is h =
     subst (HeldAlong jobs w vertices most) (sym is)
-    (subst (λ (vs : List ℕ). SomeMoment w (λ m. IsTrue (some_live_claim jobs m (holds_along vs)))) (sym (chain_opens vertices most v some))
+    (subst (λ (vs : List ℕ). SomeMoment w (λ m. IsTrue (some_live_claim jobs m (holds_along vs))))
+    (sym (chain_opens vertices most v some))
     ((held_cons jobs w v (chain vertices (most - 1) (parent_of vertices v))).0 (inl h)))
 
-pub held_above : (jobs : List Job) (w : Window) (vertices : List Vertex) (most v : ℕ) (from above : Option ℕ) → (most ≡ 0 → ⊥) → from ≡ Some v → above ≡ parent_of vertices v →
-    (SomeMoment w (λ m. IsTrue (some_live_claim jobs m (is_hold v))) → ⊥) → (HeldAlong jobs w vertices (most - 1) above ↔ HeldAlong jobs w vertices most from)
+pub held_above : (jobs : List Job) (w : Window) (vertices : List Vertex) (most v : ℕ) (from above : Option ℕ) →
+    (most ≡ 0 → ⊥) → from ≡ Some v → above ≡ parent_of vertices v →
+    (SomeMoment w (λ m. IsTrue (some_live_claim jobs m (is_hold v))) → ⊥) →
+    (HeldAlong jobs w vertices (most - 1) above ↔ HeldAlong jobs w vertices most from)
 held_above jobs w vertices most v from above some is up never =
     let cons = held_cons jobs w v (chain vertices (most - 1) (parent_of vertices v)) in
     let opens = chain_opens vertices most v some in (
       λ h. subst (HeldAlong jobs w vertices most) (sym is)
           (subst (λ (vs : List ℕ). SomeMoment w (λ m. IsTrue (some_live_claim jobs m (holds_along vs)))) (sym opens)
           (cons.0 (inr (subst (HeldAlong jobs w vertices (most - 1)) up h)))),
-      λ h. elim (cons.1 (subst (λ (vs : List ℕ). SomeMoment w (λ m. IsTrue (some_live_claim jobs m (holds_along vs)))) opens (subst (HeldAlong jobs w vertices most) is h))) [
-        | inl here ↦ absurd (never here)
-        | inr later ↦ subst (HeldAlong jobs w vertices (most - 1)) (sym up) later
-      ],
+      λ h. elim (cons.1 (subst (λ (vs : List ℕ). SomeMoment w (λ m. IsTrue (some_live_claim jobs m (holds_along vs))))
+          opens (subst (HeldAlong jobs w vertices most) is h))) [
+            | inl here ↦ absurd (never here)
+            | inr later ↦ subst (HeldAlong jobs w vertices (most - 1)) (sym up) later
+          ],
     )
 
-pub held_none : (jobs : List Job) (w : Window) (vertices : List Vertex) (most : ℕ) (from : Option ℕ) → from ≡ None → HeldAlong jobs w vertices most from → ⊥
+pub held_none : (jobs : List Job) (w : Window) (vertices : List Vertex) (most : ℕ) (from : Option ℕ) →
+    from ≡ None → HeldAlong jobs w vertices most from → ⊥
 held_none jobs w vertices most from e h =
-    held_nil jobs w (subst (λ (vs : List ℕ). SomeMoment w (λ m. IsTrue (some_live_claim jobs m (holds_along vs)))) (ap (chain vertices most) e ∙ chain_none vertices most) h)
+    held_nil jobs w (subst (λ (vs : List ℕ). SomeMoment w (λ m. IsTrue (some_live_claim jobs m (holds_along vs))))
+    (ap (chain vertices most) e ∙ chain_none vertices most) h)
 
-pub held_zero : (jobs : List Job) (w : Window) (vertices : List Vertex) (most : ℕ) (from : Option ℕ) → most ≡ 0 → HeldAlong jobs w vertices most from → ⊥
-held_zero jobs w vertices most from e h = held_nil jobs w (subst (λ (vs : List ℕ). SomeMoment w (λ m. IsTrue (some_live_claim jobs m (holds_along vs)))) (ap (λ (k : ℕ). chain vertices k from) e) h)
+pub held_zero : (jobs : List Job) (w : Window) (vertices : List Vertex) (most : ℕ) (from : Option ℕ) →
+    most ≡ 0 → HeldAlong jobs w vertices most from → ⊥
+held_zero jobs w vertices most from e h = held_nil jobs w (subst (λ (vs : List ℕ).
+    SomeMoment w (λ m. IsTrue (some_live_claim jobs m (holds_along vs)))) (ap (λ (k : ℕ). chain vertices k from) e) h)
 
 -- the steps along the chain
-pub chain_longer : (vertices : List Vertex) (most v : ℕ) (from above : Option ℕ) (c : ℕ) → (most ≡ 0 → ⊥) → from ≡ Some v → above ≡ parent_of vertices v →
+pub chain_longer : (vertices : List Vertex) (most v : ℕ) (from above : Option ℕ) (c : ℕ) →
+    (most ≡ 0 → ⊥) → from ≡ Some v → above ≡ parent_of vertices v →
     length (chain vertices most from) * c ≡ c + length (chain vertices (most - 1) above) * c
 chain_longer vertices most v from above c some is up =
     ap (λ (vs : List ℕ). length vs * c) (ap (chain vertices most) is ∙ chain_opens vertices most v some)
@@ -82,7 +98,8 @@ chain_longer vertices most v from above c some is up =
     more vs = omega arith
 
 -- the next point of the times of the jobs is that of the jobs
-pub next_is : (jobs : List Job) (after : ℕ) (found : Option ℕ) → MatchOption found ((t : ℕ) → after < t → IsEnd (times_of jobs) t → ⊥) (IsNextEnd (times_of jobs) after) →
+pub next_is : (jobs : List Job) (after : ℕ) (found : Option ℕ) →
+    MatchOption found ((t : ℕ) → after < t → IsEnd (times_of jobs) t → ⊥) (IsNextEnd (times_of jobs) after) →
     MatchOption found ((p : ℕ) → after < p → IsPoint jobs p → ⊥) (IsNextPoint jobs after)
 next_is jobs after None h = λ p lt point. h p lt (points_ends jobs p point)
 next_is jobs after (Some t) h = record {
@@ -91,7 +108,8 @@ next_is jobs after (Some t) h = record {
   least = λ q lt point. h.least q lt (points_ends jobs q point);
 }
 
-pub next_later : (spans : List Span) (after : ℕ) (found : Option ℕ) → MatchOption found ((t : ℕ) → after < t → IsEnd spans t → ⊥) (IsNextEnd spans after) → IfSome found (λ p. after < p)
+pub next_later : (spans : List Span) (after : ℕ) (found : Option ℕ) →
+    MatchOption found ((t : ℕ) → after < t → IsEnd spans t → ⊥) (IsNextEnd spans after) → IfSome found (λ p. after < p)
 next_later spans after None h = tt
 next_later spans after (Some t) h = h.later
 
@@ -101,13 +119,16 @@ FirstOrNone total spans from quantity found =
     MatchOption found ((t : ℕ) → from ≤ t → free_at total spans t < quantity) (IsFirstFree total spans from quantity)
 
 -- the steps of a look at one planner of a vertex, whose item was looked up first
-pub look_work : (items vertices looks old mid new : ℕ) → items ≡ vertices → mid ≤ old + (2 * dig (items + 1) + 1) → new ≤ mid + looks → new ≤ old + look_most vertices looks
-look_work items vertices looks old mid new len up look = let same = ap (λ (k : ℕ). 2 * dig (k + 1)) len in omega (arith, up, look, same)
+pub look_work : (items vertices looks old mid new : ℕ) →
+    items ≡ vertices → mid ≤ old + (2 * dig (items + 1) + 1) → new ≤ mid + looks → new ≤ old + look_most vertices looks
+look_work items vertices looks old mid new len up look = let same = ap (λ (k : ℕ). 2 * dig (k + 1)) len in
+    omega (arith, up, look, same)
 
 pub one_work : (old new look rest all : ℕ) → new ≤ old + look → all ≡ look + rest → new ≤ old + all
 one_work old new look rest all a e = omega (arith, a, e)
 
-pub two_work : (old mid new look rest all : ℕ) → mid ≤ old + look → new ≤ mid + rest → all ≡ look + rest → new ≤ old + all
+pub two_work : (old mid new look rest all : ℕ) →
+    mid ≤ old + look → new ≤ mid + rest → all ≡ look + rest → new ≤ old + all
 two_work old mid new look rest all a b e = omega (arith, a, b, e)
 
 mul_most : (a b c : ℕ) → a ≤ b → a * c ≤ b * c
@@ -120,11 +141,15 @@ mul_most (suc a) (suc b) c le =
     omega (arith, rest, x, y)
 
 -- the steps along the chain above a vertex
-pub closed_work : (vertices : List Vertex) (v n old mid new : ℕ) → v < length vertices → length (chain vertices (length vertices) (Some v)) ≤ 16 → mid ≤ old + n →
-    new ≤ mid + length (chain vertices (length vertices - 1) (parent_of vertices v)) * look_most (length vertices) n → new ≤ old + rest_most (length vertices) n
+pub closed_work : (vertices : List Vertex) (v n old mid new : ℕ) →
+    v < length vertices → length (chain vertices (length vertices) (Some v)) ≤ 16 → mid ≤ old + n →
+    new ≤ mid + length (chain vertices (length vertices - 1) (parent_of vertices v)) * look_most (length vertices) n →
+    new ≤ old + rest_most (length vertices) n
 closed_work vertices v n old mid new lt few first work =
-    let opens = ap (λ (vs : List ℕ). length vs) (chain_opens vertices (length vertices) v (λ e. omega (arith, e, lt))) in
-    let most = mul_most (length (chain vertices (length vertices - 1) (parent_of vertices v))) 15 (look_most (length vertices) n) (omega (arith, few, opens)) in
+    let opens =
+    ap (λ (vs : List ℕ). length vs) (chain_opens vertices (length vertices) v (λ e. omega (arith, e, lt))) in
+    let most = mul_most (length (chain vertices (length vertices - 1) (parent_of vertices v))) 15
+    (look_most (length vertices) n) (omega (arith, few, opens)) in
     omega (arith, first, work, most)
 
 pub none_of : (o : Option ℕ) → ((x : ℕ) → o ≡ Some x → ⊥) → o ≡ None
@@ -132,38 +157,53 @@ none_of None h = refl
 none_of (Some x) h = absurd (h x refl)
 
 -- of the units of a type
-pub units_least : (vertices : List Vertex) (jobs : List Job) (w : Window) (kind v n : ℕ) (q : Quantity) → IsUnitsOf kind q → IsLeastFree (total_in vertices q v) (grouped (amount_in vertices q v) jobs) w n →
+pub units_least : (vertices : List Vertex) (jobs : List Job) (w : Window) (kind v n : ℕ) (q : Quantity) →
+    IsUnitsOf kind q → IsLeastFree (total_in vertices q v) (grouped (amount_in vertices q v) jobs) w n →
     IsLeastFree (capacity vertices kind v) (grouped (part_count vertices kind v) jobs) w n
 units_least vertices jobs w kind v n Holds is least = absurd is
 units_least vertices jobs w kind v n Claims is least = absurd is
 units_least vertices jobs w kind v n Takes is least = absurd is
-units_least vertices jobs w kind v n (Units capacities) is least = subst (λ (k : ℕ). IsLeastFree (capacity vertices k v) (grouped (part_count vertices k v) jobs) w n) is least
+units_least vertices jobs w kind v n (Units capacities) is least =
+    subst (λ (k : ℕ). IsLeastFree (capacity vertices k v) (grouped (part_count vertices k v) jobs) w n) is least
 
 -- the planner at a place of a vertex's item is that of the vertex among those of the place
-pub planner_there : {P : Type 0} (places place : ℕ) (items : List (List P)) → AreWide places items → place < places → (v : ℕ) (item : List P) → slice_get items v ≡ Some item →
+pub planner_there : {P : Type 0} (places place : ℕ) (items : List (List P)) →
+    AreWide places items → place < places → (v : ℕ) (item : List P) → slice_get items v ≡ Some item →
     (p : P) × (slice_get item place ≡ Some p) × (slice_get (at_place place items) v ≡ Some p)
 planner_there places place items wide lt v item there =
     let (p, at) = item_at item place (let w = wide v item there in omega (arith, w, lt)) in
     (p, at, in_place places place lt items wide v item p there at)
 
-module _ {P : Type 0} (vertices : List Vertex) (counted : Counted) (items : List (List P)) (is : ArePlanned vertices counted items) (v : ℕ) (item : List P)
-    (there : slice_get items v ≡ Some item) (place : ℕ) (q : Quantity) (of : slice_get counted.quantities place ≡ Some q) where
+module _ {P : Type 0} (vertices : List Vertex)
+    (counted : Counted) (items : List (List P)) (is : ArePlanned vertices counted items) (v : ℕ) (item : List P)
+    (there : slice_get items v ≡ Some item)
+    (place : ℕ) (q : Quantity) (of : slice_get counted.quantities place ≡ Some q) where
   -- a vertex's item has each place
   pub place_in : place < length item
-  place_in = let w = is.places v item there in let lt = within_list counted.quantities place q of in omega (arith, w, lt)
+  place_in = let w = is.places v item there in
+      let lt = within_list counted.quantities place q of in omega (arith, w, lt)
 
   -- the least of the planner at a place of a vertex's item
-  pub least_here : (total_of : P → ℕ) (stands_for : P → List Span → Type 0) (jobs : List Job) (w : Window) (n : ℕ) → AreAllKept total_of stands_for vertices jobs counted items →
-      ((p : P) → slice_get item place ≡ Some p → (spans : List Span) → stands_for p spans → IsLeastFree (total_of p) spans w n) →
+  pub least_here : (total_of : P → ℕ) (stands_for : P → List Span → Type 0) (jobs : List Job) (w : Window) (n : ℕ) →
+      AreAllKept total_of stands_for vertices jobs counted items →
+      ((p : P) → slice_get item place ≡ Some p →
+      (spans : List Span) → stands_for p spans → IsLeastFree (total_of p) spans w n) →
       IsLeastFree (total_in vertices q v) (grouped (amount_in vertices q v) jobs) w n
   least_here total_of stands_for jobs w n kept least =
-      let (p, at, among) = planner_there (length counted.quantities) place items is.places (within_list counted.quantities place q of) v item there in
-      subst (λ (t : ℕ). IsLeastFree t (grouped (amount_in vertices q v) jobs) w n) ((kept place q of).totals v p among) (least p at (grouped (amount_in vertices q v) jobs) ((kept place q of).spans v p among))
+      let (p, at, among) = planner_there
+      (length counted.quantities) place items is.places (within_list counted.quantities place q of) v item there in
+      subst (λ (t : ℕ). IsLeastFree t (grouped (amount_in vertices q v) jobs) w n) ((kept place q of).totals v p among)
+      (least p at (grouped (amount_in vertices q v) jobs) ((kept place q of).spans v p among))
 
   -- the first second of the planner at a place of a vertex's item at which so much is left
-  pub first_here : (total_of : P → ℕ) (stands_for : P → List Span → Type 0) (jobs : List Job) (from quantity : ℕ) (found : Option ℕ) → AreAllKept total_of stands_for vertices jobs counted items →
-      ((p : P) → slice_get item place ≡ Some p → (spans : List Span) → stands_for p spans → FirstOrNone (total_of p) spans from quantity found) →
+  pub first_here : (total_of : P → ℕ) (stands_for : P → List Span → Type 0) (jobs : List Job)
+      (from quantity : ℕ) (found : Option ℕ) → AreAllKept total_of stands_for vertices jobs counted items →
+      ((p : P) → slice_get item place ≡ Some p →
+      (spans : List Span) → stands_for p spans → FirstOrNone (total_of p) spans from quantity found) →
       FirstOrNone (total_in vertices q v) (grouped (amount_in vertices q v) jobs) from quantity found
   first_here total_of stands_for jobs from quantity found kept first =
-      let (p, at, among) = planner_there (length counted.quantities) place items is.places (within_list counted.quantities place q of) v item there in
-      subst (λ (t : ℕ). FirstOrNone t (grouped (amount_in vertices q v) jobs) from quantity found) ((kept place q of).totals v p among) (first p at (grouped (amount_in vertices q v) jobs) ((kept place q of).spans v p among))
+      let (p, at, among) = planner_there
+      (length counted.quantities) place items is.places (within_list counted.quantities place q of) v item there in
+      subst (λ (t : ℕ). FirstOrNone t (grouped (amount_in vertices q v) jobs) from quantity found)
+      ((kept place q of).totals v p among)
+      (first p at (grouped (amount_in vertices q v) jobs) ((kept place q of).spans v p among))

@@ -1,5 +1,7 @@
 -- What is counted, place by place.
-use Rattle.std.proofs.Common.{◌≡◌, ℕ, zero, suc, ◌+◌, ◌*◌, ◌<◌, ◌≤◌, List, [], ◌∷◌, ◌++◌, length, length-append, take, Option, Some, None, is_some, IsSome, slice_get, slice_index_or, inl, inr, refl, sym, ◌∙◌, ap, subst, arith}
+use Rattle.std.proofs.Common.{◌≡◌, ℕ, zero, suc, ◌+◌, ◌*◌, ◌<◌, ◌≤◌, List, [], ◌∷◌, ◌++◌, length, length-append, take}
+use Rattle.std.proofs.Common.{Option, Some, None, is_some, IsSome, slice_get, slice_index_or, inl, inr, refl, sym, ◌∙◌}
+use Rattle.std.proofs.Common.{ap, subst, arith}
 use Rattle.std.specs.List.{sum_by}
 use Rattle.std.proofs.lemmas.Bool.{cases_lt}
 use Rattle.std.proofs.lemmas.List.Sums.{sum_by-cons, sum_by-append, sum_by_more}
@@ -37,17 +39,20 @@ module _ (vertices : List Vertex) (old new : Counted) (is : AreCounted vertices 
         holds = moved old.quantities new.quantities 0 Holds same is.holds;
         claims = moved old.quantities new.quantities 1 Claims same is.claims;
         takes = moved old.quantities new.quantities 2 Takes same is.takes;
-        units = λ kind place at. elim (slice_push old.places none (Some place) kind (moved new.places _ kind (Some place) (sym pushed) at)) [
-          | inl earlier ↦ (let (q, of, units) = is.units kind place earlier in (q, moved old.quantities new.quantities place q same of, units))
-          | inr here ↦ absurd (let e : none ≡ Some place = here.1 in cc)
-        ];
+        units = λ kind place at.
+            elim (slice_push old.places none (Some place) kind (moved new.places _ kind (Some place) (sym pushed) at)) [
+              | inl earlier ↦ (let (q, of, units) = is.units kind place earlier in
+                  (q, moved old.quantities new.quantities place q same of, units))
+              | inr here ↦ absurd (let e : none ≡ Some place = here.1 in cc)
+            ];
         capacities = λ k q at. is.capacities k q (moved new.quantities old.quantities k q (sym same) at);
         reach = omega (arith, reach, sums, counts, last);
       }
 
   -- a type whose units have a place of their own, behind the others
   pub own_place : (q : Quantity) → IsUnitsOf (length old.places) q → KnowsCapacities vertices q → reach_of q ≡ 16 →
-      new.quantities ≡ old.quantities ++ q ∷ [] → new.places ≡ old.places ++ Some (length old.quantities) ∷ [] → AreCounted vertices new
+      new.quantities ≡ old.quantities ++ q ∷ [] →
+      new.places ≡ old.places ++ Some (length old.quantities) ∷ [] → AreCounted vertices new
   own_place q units knows far quantities places =
       let entry : Option ℕ = Some (length old.quantities) in
       let reach = is.reach in
@@ -55,21 +60,24 @@ module _ (vertices : List Vertex) (old new : Counted) (is : AreCounted vertices 
       let more = sum_by-cons reach_of q [] in
       let counts = ap kept_count places ∙ sum_by-append kept_one old.places (entry ∷ []) in
       let last = sum_by-cons kept_one entry [] in
-      let earlier = λ (k : ℕ) (r : Quantity) (at : slice_get old.quantities k ≡ Some r). moved (old.quantities ++ q ∷ []) new.quantities k r quantities (old_there old.quantities q r k at) in
+      let earlier = λ (k : ℕ) (r : Quantity) (at : slice_get old.quantities k ≡ Some r).
+      moved (old.quantities ++ q ∷ []) new.quantities k r quantities (old_there old.quantities q r k at) in
       record {
         holds = earlier 0 Holds is.holds;
         claims = earlier 1 Claims is.claims;
         takes = earlier 2 Takes is.takes;
-        units = λ kind place at. elim (slice_push old.places entry (Some place) kind (moved new.places _ kind (Some place) (sym places) at)) [
-          | inl before ↦ (let (r, of, is_units) = is.units kind place before in (r, earlier place r of, is_units))
-          | inr here ↦ (
-              let e : entry ≡ Some place = here.1 in
-              let behind : length old.quantities ≡ place = cc in (
-                q,
-                moved (old.quantities ++ q ∷ []) new.quantities place q quantities (ap (slice_get (old.quantities ++ q ∷ [])) (sym behind) ∙ new_there old.quantities q),
-                subst (λ (j : ℕ). IsUnitsOf j q) (sym here.0) units,
-              ))
-        ];
+        units = λ kind place at. elim (slice_push old.places entry
+            (Some place) kind (moved new.places _ kind (Some place) (sym places) at)) [
+              | inl before ↦ (let (r, of, is_units) = is.units kind place before in (r, earlier place r of, is_units))
+              | inr here ↦ (
+                  let e : entry ≡ Some place = here.1 in
+                  let behind : length old.quantities ≡ place = cc in (
+                    q,
+                    moved (old.quantities ++ q ∷ []) new.quantities place q quantities
+                        (ap (slice_get (old.quantities ++ q ∷ [])) (sym behind) ∙ new_there old.quantities q),
+                    subst (λ (j : ℕ). IsUnitsOf j q) (sym here.0) units,
+                  ))
+            ];
         capacities = λ k r at. elim (slice_push old.quantities q r k (moved new.quantities _ k r (sym quantities) at)) [
           | inl before ↦ is.capacities k r before
           | inr here ↦ subst (KnowsCapacities vertices) here.1 knows
@@ -78,11 +86,14 @@ module _ (vertices : List Vertex) (old new : Counted) (is : AreCounted vertices 
       }
 
 -- the types so far: those that are named have places, and only these
-pub record HavePlaces (names : List (List ℕ)) (Named : List ℕ → Type 0) (kind : ℕ) (places : List (Option ℕ)) : Type 0 where
+pub record HavePlaces
+    (names : List (List ℕ)) (Named : List ℕ → Type 0) (kind : ℕ) (places : List (Option ℕ)) : Type 0 where
   pub within : kind ≤ length names
   pub len : length places ≡ kind
-  pub counted : (k : ℕ) (name : List ℕ) → k < kind → slice_get names k ≡ Some name → Named name → (place : ℕ) × (slice_get places k ≡ Some (Some place))
-  pub only : (k place : ℕ) → slice_get places k ≡ Some (Some place) → (name : List ℕ) × (slice_get names k ≡ Some name) × Named name
+  pub counted : (k : ℕ) (name : List ℕ) →
+      k < kind → slice_get names k ≡ Some name → Named name → (place : ℕ) × (slice_get places k ≡ Some (Some place))
+  pub only : (k place : ℕ) →
+      slice_get places k ≡ Some (Some place) → (name : List ℕ) × (slice_get names k ≡ Some name) × Named name
 
 pub past_list : {X : Type 0} (xs : List X) (i : ℕ) → slice_get xs i ≡ None → length xs ≤ i
 past_list [] i e = omega arith
@@ -93,7 +104,8 @@ some_of : (o : Option ℕ) → IsSome o → (n : ℕ) × (o ≡ Some n)
 some_of None h = absurd (cc)
 some_of (Some n) h = (n, refl)
 
-pub one_type : (names : List (List ℕ)) (Named : List ℕ → Type 0) (kind : ℕ) (name : List ℕ) (old new : List (Option ℕ)) → HavePlaces names Named kind old → slice_get names kind ≡ Some name →
+pub one_type : (names : List (List ℕ)) (Named : List ℕ → Type 0) (kind : ℕ)
+    (name : List ℕ) (old new : List (Option ℕ)) → HavePlaces names Named kind old → slice_get names kind ≡ Some name →
     IsPlaceAdded (Named name) old new → HavePlaces names Named (kind + 1) new
 one_type names Named kind name old new so_far at (entry, pushed, tells) =
     let inside = within_list names kind name at in
@@ -102,13 +114,17 @@ one_type names Named kind name old new so_far at (entry, pushed, tells) =
       within = omega (arith, inside);
       len = ap length pushed ∙ length-append old (entry ∷ []) ∙ ap (λ n. n + 1) len;
       counted = λ k other lt there named. elim (cases_lt k kind) [
-        | inl before ↦ (let (place, was) = so_far.counted k other before there named in (place, moved _ new k (Some place) pushed (old_there old entry (Some place) k was)))
+        | inl before ↦ (let (place, was) = so_far.counted k other before there named in
+            (place, moved _ new k (Some place) pushed (old_there old entry (Some place) k was)))
         | inr past ↦ (
             let same : k ≡ kind = omega (arith, lt, past) in
             let both : Some other ≡ Some name = sym there ∙ (ap (slice_get names) same ∙ at) in
             let is : other ≡ name = cc in
-            let (place, e) = some_of entry (tells.0 (subst Named is named)) in
-            (place, moved _ new k (Some place) pushed (ap (slice_get (old ++ entry ∷ [])) (same ∙ sym len) ∙ new_there old entry ∙ ap Some e)))
+            let (place, e) = some_of entry (tells.0 (subst Named is named)) in (
+              place,
+              moved _ new k (Some place) pushed
+                  (ap (slice_get (old ++ entry ∷ [])) (same ∙ sym len) ∙ new_there old entry ∙ ap Some e),
+            ))
       ];
       only = λ k place got. elim (slice_push old entry (Some place) k (moved new _ k (Some place) (sym pushed) got)) [
         | inl before ↦ so_far.only k place before
@@ -117,20 +133,26 @@ one_type names Named kind name old new so_far at (entry, pushed, tells) =
     }
 
 -- the numbers of the quantities so far
-pub record NumbersSoFar (vertices : List Vertex) (quantities : List Quantity) (claims : List Claim) (i : ℕ) (places : List Amounts) : Type 0 where
+pub record NumbersSoFar (vertices : List Vertex)
+    (quantities : List Quantity) (claims : List Claim) (i : ℕ) (places : List Amounts) : Type 0 where
   pub len : length places ≡ i
-  pub sums : (k : ℕ) (q : Quantity) (amounts : Amounts) → slice_get quantities k ≡ Some q → slice_get places k ≡ Some amounts → (v : ℕ) → amount_at amounts v ≡ sum_by (amount_in vertices q v) claims
+  pub sums : (k : ℕ) (q : Quantity) (amounts : Amounts) → slice_get quantities k ≡ Some q →
+      slice_get places k ≡ Some amounts → (v : ℕ) → amount_at amounts v ≡ sum_by (amount_in vertices q v) claims
   pub keys : HaveKeysBelow (length vertices) places
   pub few : count_all places ≤ sum_by reach_of (take i quantities) * length claims
 
-pub one_number : (vertices : List Vertex) (quantities : List Quantity) (claims : List Claim) (i : ℕ) (old new : List Amounts) (q : Quantity) (amounts : Amounts) →
-    NumbersSoFar vertices quantities claims i old → slice_get quantities i ≡ Some q → new ≡ old ++ amounts ∷ [] → ((v : ℕ) → amount_at amounts v ≡ sum_by (amount_in vertices q v) claims) →
-    HasKeysBelow (length vertices) amounts → count_of amounts ≤ reach_of q * length claims → NumbersSoFar vertices quantities claims (i + 1) new
+pub one_number : (vertices : List Vertex) (quantities : List Quantity)
+    (claims : List Claim) (i : ℕ) (old new : List Amounts) (q : Quantity) (amounts : Amounts) →
+    NumbersSoFar vertices quantities claims i old → slice_get quantities i ≡ Some q →
+    new ≡ old ++ amounts ∷ [] → ((v : ℕ) → amount_at amounts v ≡ sum_by (amount_in vertices q v) claims) →
+    HasKeysBelow (length vertices) amounts →
+    count_of amounts ≤ reach_of q * length claims → NumbersSoFar vertices quantities claims (i + 1) new
 one_number vertices quantities claims i old new q amounts so_far at pushed sums keys few =
     let before = so_far.few in
     let counts = ap count_all pushed ∙ sum_by-append count_of old (amounts ∷ []) in
     let last = sum_by-cons count_of amounts [] in
-    let reach = sum_by_more reach_of quantities i q (within_list quantities i q at) ∙ ap (λ (y : Quantity). sum_by reach_of (take i quantities) + reach_of y) (get_or_from_slice_get quantities i q q at) in
+    let reach = sum_by_more reach_of quantities i q (within_list quantities i q at) ∙ ap (λ (y : Quantity).
+    sum_by reach_of (take i quantities) + reach_of y) (get_or_from_slice_get quantities i q q at) in
     let product = ap (λ (r : ℕ). r * length claims) reach in
     let parts = sum_times (sum_by reach_of (take i quantities)) (reach_of q) (length claims) in
     record {
@@ -140,7 +162,8 @@ one_number vertices quantities claims i old new q amounts so_far at pushed sums 
         | inr here ↦ (
             let both : Some q ≡ Some r = sym at ∙ (ap (slice_get quantities) (sym (here.0 ∙ so_far.len)) ∙ of) in
             let same : q ≡ r = cc in
-            ap (λ a. amount_at a v) (sym here.1) ∙ sums v ∙ ap (λ (y : Quantity). sum_by (amount_in vertices y v) claims) same)
+            ap (λ a. amount_at a v) (sym here.1)
+            ∙ sums v ∙ ap (λ (y : Quantity). sum_by (amount_in vertices y v) claims) same)
       ];
       keys = λ k some there. elim (slice_push old amounts some k (moved new _ k some (sym pushed) there)) [
         | inl earlier ↦ so_far.keys k some earlier
@@ -153,30 +176,41 @@ one_number vertices quantities claims i old new q amounts so_far at pushed sums 
     sum_times a b c = grind arith
 
 -- the planners of one vertex more
-module _ {P : Type 0} (places v : ℕ) (old new : List (List P)) (item : List P) (len : length old ≡ v) (pushed : new ≡ old ++ item ∷ []) where
+module _ {P : Type 0} (places v : ℕ)
+    (old new : List (List P)) (item : List P) (len : length old ≡ v) (pushed : new ≡ old ++ item ∷ []) where
   pub one_wide : AreWide places old → length item ≡ places → AreWide places new
   one_wide wide as_many u x at = elim (slice_push old item x u (moved new _ u x (sym pushed) at)) [
     | inl earlier ↦ wide u x earlier
     | inr here ↦ ap length (sym here.1) ∙ as_many
   ]
 
-  pub one_new : (total_of : P → ℕ) (stands_for : P → List Span → Type 0) (vertices : List Vertex) (quantities : List Quantity) (totals : List ℕ) → AreNew total_of stands_for vertices quantities old →
+  pub one_new : (total_of : P → ℕ) (stands_for : P → List Span → Type 0) (vertices : List Vertex)
+      (quantities : List Quantity) (totals : List ℕ) → AreNew total_of stands_for vertices quantities old →
       ((k : ℕ) (q : Quantity) → slice_get quantities k ≡ Some q → slice_index_or totals k 0 ≡ total_in vertices q v) →
-      ((k : ℕ) (p : P) → slice_get item k ≡ Some p → total_of p ≡ slice_index_or totals k 0) → ((k : ℕ) (p : P) → slice_get item k ≡ Some p → stands_for p []) →
+      ((k : ℕ) (p : P) → slice_get item k ≡ Some p → total_of p ≡ slice_index_or totals k 0) →
+      ((k : ℕ) (p : P) → slice_get item k ≡ Some p → stands_for p []) →
       AreNew total_of stands_for vertices quantities new
-  one_new total_of stands_for vertices quantities totals is sums of_totals none u k x p q at has of = elim (slice_push old item x u (moved new _ u x (sym pushed) at)) [
-    | inl earlier ↦ is u k x p q earlier has of
-    | inr here ↦ (
-        let mine : slice_get item k ≡ Some p = ap (λ y. slice_get y k) here.1 ∙ has in
-        (of_totals k p mine ∙ sums k q of ∙ ap (λ (w : ℕ). total_in vertices q w) (sym (here.0 ∙ len)), none k p mine))
-  ]
+  one_new total_of stands_for vertices quantities totals is sums of_totals none u k x p q at has of =
+      elim (slice_push old item x u (moved new _ u x (sym pushed) at)) [
+        | inl earlier ↦ is u k x p q earlier has of
+        | inr here ↦ (
+            let mine : slice_get item k ≡ Some p = ap (λ y. slice_get y k) here.1 ∙ has in (
+              of_totals k p mine
+                  ∙ sums k q of ∙ ap (λ (w : ℕ). total_in vertices q w) (sym (here.0 ∙ len)),
+              none k p mine,
+            ))
+      ]
 
 -- planners without spans are those of no jobs
-pub new_kept : {P : Type 0} (total_of : P → ℕ) (stands_for : P → List Span → Type 0) (vertices : List Vertex) (counted : Counted) (items : List (List P)) →
-    AreWide (length counted.quantities) items → AreNew total_of stands_for vertices counted.quantities items → AreAllKept total_of stands_for vertices [] counted items
+pub new_kept : {P : Type 0} (total_of : P → ℕ)
+    (stands_for : P → List Span → Type 0) (vertices : List Vertex) (counted : Counted) (items : List (List P)) →
+    AreWide (length counted.quantities) items → AreNew total_of stands_for vertices counted.quantities items →
+    AreAllKept total_of stands_for vertices [] counted items
 new_kept total_of stands_for vertices counted items wide new k q of =
     let lt = within_list counted.quantities k q of in
     record {
-      totals = λ v p at. (let (item, there, has) = of_place (length counted.quantities) k lt items wide v p at in (new v k item p q there has of).0);
-      spans = λ v p at. (let (item, there, has) = of_place (length counted.quantities) k lt items wide v p at in (new v k item p q there has of).1);
+      totals = λ v p at. (let (item, there, has) = of_place (length counted.quantities) k lt items wide v p at in
+          (new v k item p q there has of).0);
+      spans = λ v p at. (let (item, there, has) = of_place (length counted.quantities) k lt items wide v p at in
+          (new v k item p q there has of).1);
     }

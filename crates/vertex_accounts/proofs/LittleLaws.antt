@@ -1,5 +1,6 @@
 -- When the least over a window is below an amount, and when the least total of a type is.
-use Rattle.std.proofs.Common.{◌≡◌, ℕ, zero, suc, ◌+◌, ◌-◌, ◌<◌, ◌≤◌, ◌↔◌, Bool, true, false, not, is_some, List, Option, Some, None, MatchOption, unwrap_or, inl, inr, refl, sym, subst, arith, IsTrue, true≢false}
+use Rattle.std.proofs.Common.{◌≡◌, ℕ, zero, suc, ◌+◌, ◌-◌, ◌<◌, ◌≤◌, ◌↔◌, Bool, true, false, not, is_some, List, Option}
+use Rattle.std.proofs.Common.{Some, None, MatchOption, unwrap_or, inl, inr, refl, sym, subst, arith, IsTrue, true≢false}
 use Rattle.std.proofs.lemmas.Bool.{cases_lt}
 use Rattle.flux_defs.specs.declared.claims.Job.{Job}
 use Rattle.flux_defs.specs.declared.claims.Window.{Window}
@@ -111,7 +112,8 @@ less_left g o jobs fair w kind v n amount lt least =
     let vertices = g.vertices in
     let (m, lo, hi, left) = least.reached in
     let used = used_grouped (part_count vertices kind v) jobs m in
-    let most = live_most (part_count vertices kind v) (part_within vertices kind v) jobs m (part_less vertices kind v) in
+    let most =
+    live_most (part_count vertices kind v) (part_within vertices kind v) jobs m (part_less vertices kind v) in
     let less : total_at vertices jobs kind m v < amount = elim (bool_of (is_closed (no_bars vertices jobs) m v)) [
       | inl closed ↦ (let none = total_closed g o kind v jobs m closed in omega (arith, none, lt))
       | inr open_ ↦ (

@@ -1,5 +1,6 @@
 -- Holds that count above the vertex alone that they hold: that the vertex is held says it there.
-use Rattle.std.proofs.Common.{◌≡◌, ◌+◌, ℕ, ◌-◌, ◌<◌, ◌≤◌, nat_lt, Bool, true, false, ◌||◌, ◌&&◌, cond, List, length, ◌⊎◌, ◌↔◌, inl, inr, refl, sym, ◌∙◌, ap, subst, arith, IsTrue, true≢false}
+use Rattle.std.proofs.Common.{◌≡◌, ◌+◌, ℕ, ◌-◌, ◌<◌, ◌≤◌, nat_lt, Bool, true, false, ◌||◌, ◌&&◌, cond, List, length}
+use Rattle.std.proofs.Common.{◌⊎◌, ◌↔◌, inl, inr, refl, sym, ◌∙◌, ap, subst, arith, IsTrue, true≢false}
 use Rattle.std.proofs.lemmas.Bool.{and_parts, or_cases, or_left}
 use Rattle.std.proofs.lemmas.Bool.Decides.{eqb_tells}
 use Rattle.flux_defs.specs.declared.vertices.Vertex.{Vertex}
@@ -120,8 +121,10 @@ module _ (vertices : List Vertex) (first : ParentsFirst vertices) (v : ℕ) (ins
       ≡ live_sum (claim_count vertices v) jobs m + cond (nat_lt 0 v) (live_sum (hold_of v) jobs m) 0
   within_is jobs m =
       let both = live_add (claim_count vertices v) own jobs m in
-      let most = live_most (claim_within vertices v) (λ c. claim_count vertices v c + own c) jobs m (λ c. (parts c).0) in
-      let least = live_most (λ c. claim_count vertices v c + own c) (claim_within vertices v) jobs m (λ c. (parts c).1) in
+      let most =
+      live_most (claim_within vertices v) (λ c. claim_count vertices v c + own c) jobs m (λ c. (parts c).0) in
+      let least =
+      live_most (λ c. claim_count vertices v c + own c) (claim_within vertices v) jobs m (λ c. (parts c).1) in
       let held = own_sum (nat_lt 0 v) in
       omega (arith, both, most, least, held)
     where

@@ -1,5 +1,6 @@
 -- The capacity of a kind at a vertex is a difference of two sums: the vertices at and below it follow it without a gap.
-use Rattle.std.proofs.Common.{◌≡◌, ℕ, zero, suc, ◌+◌, ◌<◌, ◌≤◌, ◌==◌, nat_le, nat_lt, Bool, true, false, ◌&&◌, cond, List, [], ◌∷◌, length, take, Some, slice_get, inl, inr, refl, ◌∙◌, ap, arith, IsTrue}
+use Rattle.std.proofs.Common.{◌≡◌, ℕ, zero, suc, ◌+◌, ◌<◌, ◌≤◌, ◌==◌, nat_le, nat_lt, Bool, true, false, ◌&&◌, cond}
+use Rattle.std.proofs.Common.{List, [], ◌∷◌, length, take, Some, slice_get, inl, inr, refl, ◌∙◌, ap, arith, IsTrue}
 use Rattle.std.specs.List.{sum_by, enumerate_from}
 use Rattle.std.specs.Option.{option_map_or}
 use Rattle.std.proofs.lemmas.Bool.{and_parts, and_from}
@@ -23,7 +24,8 @@ module _ (kind low past : ℕ) (le : low ≤ past) where
   ranged u x = cond (nat_le low u && nat_lt u past) (units_in kind x) 0
 
   within_range : (u : ℕ) (x : Vertex) → low ≤ u → u < past → ranged u x ≡ units_in kind x
-  within_range u x lo hi = ap (λ b. cond b (units_in kind x) 0) (and_from (nat_le low u) (nat_lt u past) (grind (arith, nat_tests)) (grind (arith, nat_tests)))
+  within_range u x lo hi = ap (λ b. cond b (units_in kind x) 0)
+      (and_from (nat_le low u) (nat_lt u past) (grind (arith, nat_tests)) (grind (arith, nat_tests)))
 
   before_range : (u : ℕ) (x : Vertex) → u < low → ranged u x ≡ 0
   before_range u x lt = elim (leb_tells low u) [
@@ -38,7 +40,8 @@ module _ (kind low past : ℕ) (le : low ≤ past) where
   after_range : (u : ℕ) (x : Vertex) → past ≤ u → ranged u x ≡ 0
   after_range u x ge = elim (leb_tells (suc u) past) [
     | inl within ↦ absurd (let h : suc u ≤ past = within.1 in omega arith)
-    | inr over ↦ ap (λ b. cond (nat_le low u && b) (units_in kind x) 0) over.0 ∙ ap (λ b. cond b (units_in kind x) 0) (and_false (nat_le low u))
+    | inr over ↦ ap (λ b. cond (nat_le low u && b) (units_in kind x) 0) over.0
+        ∙ ap (λ b. cond b (units_in kind x) 0) (and_false (nat_le low u))
   ]
 
   none_after : (at : ℕ) (xs : List Vertex) → past ≤ at → sum_by (λ (u, x). ranged u x) (enumerate_from at xs) ≡ 0
@@ -50,7 +53,8 @@ module _ (kind low past : ℕ) (le : low ≤ past) where
       omega arith
 
   -- from one of them on
-  range_from : (at : ℕ) (xs : List Vertex) (n : ℕ) → low ≤ at → at + n ≡ past → sum_by (λ (u, x). ranged u x) (enumerate_from at xs) ≡ sum_by (units_in kind) (take n xs)
+  range_from : (at : ℕ) (xs : List Vertex) (n : ℕ) → low ≤ at →
+      at + n ≡ past → sum_by (λ (u, x). ranged u x) (enumerate_from at xs) ≡ sum_by (units_in kind) (take n xs)
   range_from at [] zero lo e = refl
   range_from at [] (suc n) lo e = refl
   range_from at (x ∷ xs) zero lo e = none_after at (x ∷ xs) (omega arith)
@@ -62,8 +66,10 @@ module _ (kind low past : ℕ) (le : low ≤ past) where
       omega arith
 
   range_sum : (at : ℕ) (xs : List Vertex) (m n : ℕ) → at + m ≡ low → at + n ≡ past →
-      sum_by (λ (u, x). ranged u x) (enumerate_from at xs) + sum_by (units_in kind) (take m xs) ≡ sum_by (units_in kind) (take n xs)
-  range_sum at xs zero n e f = let a = range_from at xs n (omega arith) f in let b : sum_by (units_in kind) (take 0 xs) ≡ 0 = none xs in omega arith
+      sum_by (λ (u, x). ranged u x) (enumerate_from at xs) + sum_by (units_in kind) (take m xs)
+      ≡ sum_by (units_in kind) (take n xs)
+  range_sum at xs zero n e f = let a = range_from at xs n (omega arith) f in
+      let b : sum_by (units_in kind) (take 0 xs) ≡ 0 = none xs in omega arith
     where
       none : (xs : List Vertex) → sum_by (units_in kind) (take 0 xs) ≡ 0
       none [] = refl
@@ -110,20 +116,26 @@ module _ (g : ResourceGraph) (o : StandsInPreorder g) (kind v : ℕ) where
             let hi : u < past = grind (arith, nat_tests) in
             is.covered u lo hi
 
-    pub capacity_between : capacity g.vertices kind v + units_before g.vertices kind v ≡ units_before g.vertices kind past
+    pub capacity_between : capacity g.vertices kind v + units_before g.vertices kind v
+        ≡ units_before g.vertices kind past
     capacity_between =
         let later : v ≤ past = (let h = is.later in omega arith) in
-        let same : capacity g.vertices kind v ≡ sum_by (λ (u, x). ranged kind v past later u x) (enumerate_from 0 g.vertices) =
-        all_same g.vertices (λ u x. cond ((x.kind == kind) && is_at_or_below g.vertices u v) (size_of g.vertices u) 0) (λ u x. ranged kind v past later u x)
-        (λ u x e. by_tests (x.kind == kind) (is_at_or_below g.vertices u v) (nat_le v u && nat_lt u past) (size_of g.vertices u) x.size (size_here u x e) (below_is u (inside u x g.vertices e))) in
+        let same : capacity g.vertices kind v
+        ≡ sum_by (λ (u, x). ranged kind v past later u x) (enumerate_from 0 g.vertices) =
+        all_same g.vertices (λ u x. cond ((x.kind == kind) && is_at_or_below g.vertices u v) (size_of g.vertices u) 0)
+        (λ u x. ranged kind v past later u x)
+        (λ u x e. by_tests (x.kind == kind) (is_at_or_below g.vertices u v) (nat_le v u && nat_lt u past)
+        (size_of g.vertices u) x.size (size_here u x e) (below_is u (inside u x g.vertices e))) in
         let sum = range_sum kind v past later 0 g.vertices v past (omega arith) (omega arith) in
         omega arith
 
   -- past the last vertex nothing stands
   pub capacity_past : length g.vertices ≤ v → capacity g.vertices kind v ≡ 0
   capacity_past over =
-      all_same g.vertices (λ u x. cond ((x.kind == kind) && is_at_or_below g.vertices u v) (size_of g.vertices u) 0) (λ u x. 0)
-      (λ u x e. by_none (x.kind == kind) (is_at_or_below g.vertices u v) (size_of g.vertices u) (none u (inside u x g.vertices e)))
+      all_same g.vertices
+      (λ u x. cond ((x.kind == kind) && is_at_or_below g.vertices u v) (size_of g.vertices u) 0) (λ u x. 0)
+      (λ u x e. by_none (x.kind == kind)
+      (is_at_or_below g.vertices u v) (size_of g.vertices u) (none u (inside u x g.vertices e)))
       ∙ sum_none (enumerate_from 0 g.vertices)
     where
       by_none : (a b : Bool) (n : ℕ) → b ≡ false → cond (a && b) n 0 ≡ 0
@@ -131,4 +143,5 @@ module _ (g : ResourceGraph) (o : StandsInPreorder g) (kind v : ℕ) where
       by_none false b n e = refl
 
       none : (u : ℕ) → u < length g.vertices → is_at_or_below g.vertices u v ≡ false
-      none u lt = false_from (is_at_or_below g.vertices u v) (λ h. (let le : v ≤ u = below_le g.vertices (parents_first g o) u v h in omega arith))
+      none u lt = false_from (is_at_or_below g.vertices u v)
+          (λ h. (let le : v ≤ u = below_le g.vertices (parents_first g o) u v h in omega arith))

@@ -1,5 +1,6 @@
 -- What jobs leave of a type at the root, moment by moment, and from when on it is so much.
-use Rattle.std.proofs.Common.{◌≡◌, ℕ, zero, suc, ◌≤◌, List, [], ◌∷◌, ◌++◌, Option, Some, None, ◌⊎◌, inl, inr, sym, ◌∙◌, subst, arith, IsTrue, true≢false}
+use Rattle.std.proofs.Common.{◌≡◌, ℕ, zero, suc, ◌≤◌, List, [], ◌∷◌, ◌++◌, Option, Some, None, ◌⊎◌, inl, inr, sym, ◌∙◌}
+use Rattle.std.proofs.Common.{subst, arith, IsTrue, true≢false}
 use Rattle.std.specs.Prelude.{sum_by}
 use Rattle.std.proofs.lemmas.Bool.{cases_lt}
 use Rattle.flux_defs.specs.declared.vertices.Vertex.{Vertex}
@@ -30,17 +31,20 @@ use Rattle.vertex_accounts.specs.Quantities.{amount_in, total_in, IsUnitsOf}
 use Rattle.vertex_accounts.proofs.AskingLaws.{FirstOrNone}
 
 -- of the units of a type
-pub units_first : (vertices : List Vertex) (jobs : List Job) (kind from quantity : ℕ) (found : Option ℕ) (q : Quantity) → IsUnitsOf kind q →
+pub units_first : (vertices : List Vertex)
+    (jobs : List Job) (kind from quantity : ℕ) (found : Option ℕ) (q : Quantity) → IsUnitsOf kind q →
     FirstOrNone (total_in vertices q 0) (grouped (amount_in vertices q 0) jobs) from quantity found →
     FirstOrNone (capacity vertices kind 0) (grouped (part_within vertices kind 0) jobs) from quantity found
 units_first vertices jobs kind from quantity found Holds is first = absurd is
 units_first vertices jobs kind from quantity found Claims is first = absurd is
 units_first vertices jobs kind from quantity found Takes is first = absurd is
 units_first vertices jobs kind from quantity found (Units capacities) is first =
-    subst (λ (k : ℕ). FirstOrNone (capacity vertices k 0) (grouped (part_within vertices k 0) jobs) from quantity found) is first
+    subst (λ (k : ℕ). FirstOrNone (capacity vertices k 0) (grouped (part_within vertices k 0) jobs) from quantity found)
+    is first
 
 -- a start or end of the jobs' spans is one of the jobs
-ends_here : (w : Window) (n : ℕ) (spans : List Span) (t : ℕ) → IsEnd (some_span w n ++ spans) t → ((t ≡ w.from) ⊎ (t ≡ w.to)) ⊎ IsEnd spans t
+ends_here : (w : Window) (n : ℕ) (spans : List Span) (t : ℕ) →
+    IsEnd (some_span w n ++ spans) t → ((t ≡ w.from) ⊎ (t ≡ w.to)) ⊎ IsEnd spans t
 ends_here w zero spans t end = inr end
 ends_here w (suc n) spans t end = end
 
@@ -51,9 +55,11 @@ grouped_ends f (job ∷ jobs) t end = elim (ends_here (time_of job) (sum_by f jo
   | inr later ↦ inr (grouped_ends f jobs t later)
 ]
 
-module _ (g : ResourceGraph) (o : StandsInPreorder g) (jobs : List Job) (fair : AreFair g.vertices jobs) (kind : ℕ) where
+module _ (g : ResourceGraph)
+    (o : StandsInPreorder g) (jobs : List Job) (fair : AreFair g.vertices jobs) (kind : ℕ) where
   -- a claim that holds the root, or a vertex above it, holds the root
-  root_held : (c : Claim) → IsTrue (holds_over g.vertices 0 c) → capacity g.vertices kind 0 ≤ part_within g.vertices kind 0 c
+  root_held : (c : Claim) →
+      IsTrue (holds_over g.vertices 0 c) → capacity g.vertices kind 0 ≤ part_within g.vertices kind 0 c
   root_held (Take u q) h = absurd (true≢false (sym h))
   root_held (Hold u) h =
       let le = below_le g.vertices (parents_first g o) 0 u h in
@@ -62,13 +68,15 @@ module _ (g : ResourceGraph) (o : StandsInPreorder g) (jobs : List Job) (fair : 
   root_held (Pass u) h = absurd (true≢false (sym h))
 
   -- so what jobs leave of the root's capacity is its total, whether it is held or not
-  pub root_total : (m : ℕ) → total_at g.vertices jobs kind m 0 ≡ free_at (capacity g.vertices kind 0) (grouped (part_within g.vertices kind 0) jobs) m
+  pub root_total : (m : ℕ) → total_at g.vertices jobs kind m 0
+      ≡ free_at (capacity g.vertices kind 0) (grouped (part_within g.vertices kind 0) jobs) m
   root_total m =
       let used = used_grouped (part_within g.vertices kind 0) jobs m in
       elim (bool_of (is_closed (no_bars g.vertices jobs) m 0)) [
         | inl held ↦ (
             let none = total_closed g o kind 0 jobs m held in
-            let all = live_where (holds_over g.vertices 0) (part_within g.vertices kind 0) (capacity g.vertices kind 0) root_held jobs m
+            let all = live_where
+            (holds_over g.vertices 0) (part_within g.vertices kind 0) (capacity g.vertices kind 0) root_held jobs m
             (sym (closed_is g.vertices jobs m 0) ∙ held) in
             omega (arith, none, all, used))
         | inr open_ ↦ (

@@ -38,8 +38,10 @@ abbrev pub AreAccountsOf : {P : Type 0} → List Vertex → Accounts P → Type 
 AreAccountsOf vertices book = ArePlanned vertices (arc_value book.counted) (items_of book.planners)
 
 -- the planners of each place have at each vertex what the claims of the jobs amount to there
-abbrev pub AreAllKept : {P : Type 0} → (P → ℕ) → (P → List Span → Type 0) → List Vertex → List Job → Counted → List (List P) → Type 0
-AreAllKept total_of stands_for vertices jobs counted items = (k : ℕ) (q : Quantity) → slice_get counted.quantities k ≡ Some q →
+abbrev pub AreAllKept : {P : Type 0} →
+    (P → ℕ) → (P → List Span → Type 0) → List Vertex → List Job → Counted → List (List P) → Type 0
+AreAllKept total_of stands_for vertices jobs counted items =
+    (k : ℕ) (q : Quantity) → slice_get counted.quantities k ≡ Some q →
     AreKept total_of stands_for (total_in vertices q) (amount_in vertices q) jobs (at_place k items)
 
 -- a job begins before it ends, and its claims are on vertices of the graph
@@ -47,8 +49,10 @@ pub record IsOnGraph (vertices : List Vertex) (job : Job) : Type 0 where
   pub begins : job.start < job.end
   pub on_vertices : AllByRecursion (λ c. vertex_of c < length vertices) job.claims
 
--- the planners have what the claims of the jobs amount to, the planner of times has the time of each, and their claims are counted
-pub record AreAccounts {P : Type 0} (total_of : P → ℕ) (stands_for : P → List Span → Type 0) (vertices : List Vertex) (jobs : List Job) (book : Accounts P) : Type 0 where
+-- the planners have what the claims of the jobs amount to, the planner of times has the time of each, and their claims
+-- are counted
+pub record AreAccounts {P : Type 0} (total_of : P → ℕ)
+    (stands_for : P → List Span → Type 0) (vertices : List Vertex) (jobs : List Job) (book : Accounts P) : Type 0 where
   pub graph : AreAccountsOf vertices book
   pub kept : AreAllKept total_of stands_for vertices jobs (arc_value book.counted) (items_of book.planners)
   pub times : stands_for book.times (times_of jobs)

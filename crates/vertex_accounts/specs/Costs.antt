@@ -24,7 +24,7 @@ reach_of Claims = 16
 reach_of Takes = 1
 reach_of (Units capacities) = 16
 
--- a change by so many claims: of one planner for each vertex where a claim counts, of holds and of takes, of claims, and of
--- the units of so many types
+-- a change by so many claims: of one planner for each vertex where a claim counts, of holds and of takes, of claims,
+-- and of the units of so many types
 abbrev pub accounts_most : ℕ → ℕ → ℕ → ℕ → ℕ
 accounts_most vertices changes types claims = (18 + 16 * types) * claims * change_most vertices changes

@@ -45,7 +45,8 @@ KnowsCapacities vertices (Units capacities) = AreOf vertices capacities.kind cap
 
 -- the capacities of each quantity are those of the graph of these vertices
 abbrev pub KnowCapacities : List Vertex → List Quantity → Type 0
-KnowCapacities vertices quantities = (k : ℕ) (q : Quantity) → slice_get quantities k ≡ Some q → KnowsCapacities vertices q
+KnowCapacities vertices quantities =
+    (k : ℕ) (q : Quantity) → slice_get quantities k ≡ Some q → KnowsCapacities vertices q
 
 -- the quantity is the units of this type
 abbrev pub IsUnitsOf : ℕ → Quantity → Type 0

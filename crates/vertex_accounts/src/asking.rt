@@ -1,5 +1,6 @@
 //! What the accounts say of a vertex over a window.
-ghost use Rattle.std.specs.Prelude.{◌≡◌, ℕ, ◌+◌, ◌*◌, ◌<◌, ◌≤◌, ◌↔◌, IsTrue, List, length, Option, Some, slice_get, IfSome, IsSome, MatchOption};
+ghost use Rattle.std.specs.Prelude.{◌≡◌, ℕ, ◌+◌, ◌*◌, ◌<◌, ◌≤◌, ◌↔◌, IsTrue, List, length, Option, Some, slice_get};
+ghost use Rattle.std.specs.Prelude.{IfSome, IsSome, MatchOption};
 ghost use Rattle.flux_defs.specs.declared.vertices.Vertex.{Vertex};
 ghost use Rattle.flux_defs.specs.declared.claims.Job.{Job};
 ghost use Rattle.flux_defs.specs.Digits.{dig};
@@ -43,7 +44,8 @@ impl<P: Planner + Drop> Accounts<P> {
         requires parents { ParentsIn vertices.now }
         requires inside { IfSome from (λ v. v < length vertices.now) }
         ensures answer { (jobs : List Job) → AreAccounts P.total_of P.stands_for vertices.now jobs self.now →
-            (IsTrue result ↔ SomeMoment window (λ m. IsTrue (some_live_claim jobs m (holds_along (chain vertices.now most from))))) }
+            (IsTrue result ↔ SomeMoment window
+            (λ m. IsTrue (some_live_claim jobs m (holds_along (chain vertices.now most from))))) }
         ensures counted { steps.old ≤ steps.new }
         ensures work { (most_looks : ℕ) → CostWithin P.look_cost most_looks (items_of self.now.planners) →
             steps.new ≤ steps.old + length (chain vertices.now most from) * look_most (length vertices.now) most_looks }
@@ -94,11 +96,13 @@ impl<P: Planner + Drop> Accounts<P> {
         requires item { slice_get (items_of self.now.planners) vertex ≡ Some item.now }
         requires place { place < length item.now }
         requires window { window.from < window.to }
-        ensures least { (vertices : List Vertex) (jobs : List Job) (q : Quantity) → AreAccounts P.total_of P.stands_for vertices jobs self.now →
+        ensures least { (vertices : List Vertex) (jobs : List Job) (q : Quantity) →
+            AreAccounts P.total_of P.stands_for vertices jobs self.now →
             slice_get (counted_of self.now).quantities place ≡ Some q →
             IsLeastFree (total_in vertices q vertex) (grouped (amount_in vertices q vertex) jobs) window result }
         ensures counted { steps.old ≤ steps.new }
-        ensures work { (most_looks : ℕ) → CostWithin P.look_cost most_looks (items_of self.now.planners) → steps.new ≤ steps.old + most_looks }
+        ensures work { (most_looks : ℕ) →
+            CostWithin P.look_cost most_looks (items_of self.now.planners) → steps.new ≤ steps.old + most_looks }
     {
         item.least(place, window, steps)
     }
@@ -116,7 +120,8 @@ impl<P: Planner + Drop> Accounts<P> {
         requires item { slice_get (items_of self.now.planners) vertex ≡ Some item.now }
         requires window { window.from < window.to }
         requires inside { vertex < length graph.now.resources.vertices }
-        ensures answer { (jobs : List Job) → AreAccounts P.total_of P.stands_for graph.now.resources.vertices jobs self.now →
+        ensures answer { (jobs : List Job) →
+            AreAccounts P.total_of P.stands_for graph.now.resources.vertices jobs self.now →
             (IsTrue result ↔ IsClosedOver graph.now.resources.vertices jobs window vertex) }
         ensures counted { steps.old ≤ steps.new }
         ensures work { (most_looks : ℕ) → CostWithin P.look_cost most_looks (items_of self.now.planners) →
@@ -147,7 +152,8 @@ impl<P: Planner + Drop> Accounts<P> {
         requires graph { AreAccountsOf graph.now.resources.vertices self.now }
         requires window { window.from < window.to }
         requires inside { vertex < length graph.now.resources.vertices }
-        ensures answer { (jobs : List Job) → AreAccounts P.total_of P.stands_for graph.now.resources.vertices jobs self.now →
+        ensures answer { (jobs : List Job) →
+            AreAccounts P.total_of P.stands_for graph.now.resources.vertices jobs self.now →
             (IsTrue result ↔ IsClosedOver graph.now.resources.vertices jobs window vertex) }
         ensures some_work { steps.old < steps.new }
         ensures work { (most_looks : ℕ) → CostWithin P.look_cost most_looks (items_of self.now.planners) →
@@ -168,7 +174,8 @@ impl<P: Planner + Drop> Accounts<P> {
         requires graph { AreAccountsOf graph.now.resources.vertices self.now }
         requires window { window.from < window.to }
         requires inside { vertex < length graph.now.resources.vertices }
-        ensures answer { (jobs : List Job) → AreAccounts P.total_of P.stands_for graph.now.resources.vertices jobs self.now →
+        ensures answer { (jobs : List Job) →
+            AreAccounts P.total_of P.stands_for graph.now.resources.vertices jobs self.now →
             (IsTrue result ↔ IsTouchedOver graph.now.resources.vertices jobs window vertex) }
         ensures some_work { steps.old < steps.new }
         ensures work { (most_looks : ℕ) → CostWithin P.look_cost most_looks (items_of self.now.planners) →
@@ -193,7 +200,8 @@ impl<P: Planner + Drop> Accounts<P> {
         requires graph { AreAccountsOf graph.now.resources.vertices self.now }
         requires window { window.from < window.to }
         requires inside { vertex < length graph.now.resources.vertices }
-        ensures answer { (jobs : List Job) → AreAccounts P.total_of P.stands_for graph.now.resources.vertices jobs self.now →
+        ensures answer { (jobs : List Job) →
+            AreAccounts P.total_of P.stands_for graph.now.resources.vertices jobs self.now →
             IsFreeOver graph.now.resources.vertices jobs window vertex result }
         ensures some_work { steps.old < steps.new }
         ensures work { (most_looks : ℕ) → CostWithin P.look_cost most_looks (items_of self.now.planners) →
@@ -222,7 +230,8 @@ impl<P: Planner + Drop> Accounts<P> {
         requires graph { AreAccountsOf graph.now.resources.vertices self.now }
         requires window { window.from < window.to }
         requires inside { vertex < length graph.now.resources.vertices }
-        ensures answer { (jobs : List Job) → AreAccounts P.total_of P.stands_for graph.now.resources.vertices jobs self.now →
+        ensures answer { (jobs : List Job) →
+            AreAccounts P.total_of P.stands_for graph.now.resources.vertices jobs self.now →
             IfSome result (IsTotalOver graph.now.resources.vertices jobs window kind vertex) }
         ensures kept { KeepsKind self.now kind → IsSome result }
         ensures some_work { steps.old < steps.new }
@@ -251,7 +260,8 @@ impl<P: Planner + Drop> Accounts<P> {
         requires graph { AreAccountsOf graph.now.resources.vertices self.now }
         requires window { window.from < window.to }
         requires inside { vertex < length graph.now.resources.vertices }
-        ensures answer { (jobs : List Job) → AreAccounts P.total_of P.stands_for graph.now.resources.vertices jobs self.now →
+        ensures answer { (jobs : List Job) →
+            AreAccounts P.total_of P.stands_for graph.now.resources.vertices jobs self.now →
             (IsTrue result ↔
             (KeepsKind self.now kind × IsTooLittle graph.now.resources.vertices jobs window vertex kind amount)) }
         ensures kept { IsTrue result → KeepsKind self.now kind }
@@ -309,8 +319,10 @@ impl<P: Planner + Drop> Accounts<P> {
 
     /// The least start or end of a job that is later than the moment; `None` exactly where there is none.
     pub fn next_point<L: Ledger>(&self, after: u64, steps: &mut Steps<L>) -> Option<u64>
-        ensures later { ((vertices : List Vertex) × (jobs : List Job) × AreAccounts P.total_of P.stands_for vertices jobs self.now) → IfSome result (λ p. after < p) }
-        ensures answer { (vertices : List Vertex) (jobs : List Job) → AreAccounts P.total_of P.stands_for vertices jobs self.now →
+        ensures later { ((vertices : List Vertex) × (jobs : List Job)
+            × AreAccounts P.total_of P.stands_for vertices jobs self.now) → IfSome result (λ p. after < p) }
+        ensures answer { (vertices : List Vertex) (jobs : List Job) →
+            AreAccounts P.total_of P.stands_for vertices jobs self.now →
             MatchOption result ((p : ℕ) → after < p → IsPoint jobs p → ⊥) (IsNextPoint jobs after) }
         ensures some_work { steps.old < steps.new }
         ensures work { steps.new ≤ steps.old + (P.look_cost self.now.times + 1) }
@@ -331,11 +343,13 @@ impl<P: Planner + Drop> Accounts<P> {
     ) -> Option<u64>
         requires graph { AreAccountsOf graph.now.resources.vertices self.now }
         requires kept { KeepsKind self.now kind }
-        ensures answer { (jobs : List Job) → AreAccounts P.total_of P.stands_for graph.now.resources.vertices jobs self.now →
+        ensures answer { (jobs : List Job) →
+            AreAccounts P.total_of P.stands_for graph.now.resources.vertices jobs self.now →
             IsNextAmpleOrNone graph.now.resources.vertices jobs kind amount after result }
         ensures some_work { steps.old < steps.new }
         ensures work { (most_looks : ℕ) → CostWithin P.look_cost most_looks (items_of self.now.planners) →
-            steps.new ≤ steps.old + (P.look_cost self.now.times + 1 + look_most (length graph.now.resources.vertices) most_looks) }
+            steps.new ≤ steps.old
+            + (P.look_cost self.now.times + 1 + look_most (length graph.now.resources.vertices) most_looks) }
     {
         let Some(next) = self.next_point(after, steps) else {
             return None;

@@ -18,8 +18,8 @@ use std::sync::Arc;
 use std::sync::ledger::Ledger;
 
 impl<P: Planner + Drop> Accounts<P> {
-    /// The accounts of one job more, which oversubscribes no vertex beside the others. The planners that change are made ready
-    /// before for questions from that second on. More claims than 2^64 - 1 are answered as want of memory.
+    /// The accounts of one job more, which oversubscribes no vertex beside the others. The planners that change are
+    /// made ready before for questions from that second on. More claims than 2^64 - 1 are answered as want of memory.
     pub fn with_job<L: Ledger>(
         &self,
         alloc: Global,
@@ -29,14 +29,19 @@ impl<P: Planner + Drop> Accounts<P> {
         steps: &mut Steps<L>,
     ) -> Result<Accounts<P>, AllocError>
         requires on_graph { IsOnGraph graph.now.resources.vertices job.now }
-        requires there { (jobs : List Job) × AreAccounts P.total_of P.stands_for graph.now.resources.vertices jobs self.now
+        requires there { (jobs : List Job)
+            × AreAccounts P.total_of P.stands_for graph.now.resources.vertices jobs self.now
             × AreFair graph.now.resources.vertices (jobs ++ job.now ∷ []) }
-        ensures accounts { IfOk result (λ book. (jobs : List Job) → AreAccounts P.total_of P.stands_for graph.now.resources.vertices jobs self.now →
-            AreFair graph.now.resources.vertices (jobs ++ job.now ∷ []) → AreAccounts P.total_of P.stands_for graph.now.resources.vertices (jobs ++ job.now ∷ []) book) }
+        ensures accounts { IfOk result (λ book. (jobs : List Job) →
+            AreAccounts P.total_of P.stands_for graph.now.resources.vertices jobs self.now →
+            AreFair graph.now.resources.vertices (jobs ++ job.now ∷ []) →
+            AreAccounts P.total_of P.stands_for graph.now.resources.vertices (jobs ++ job.now ∷ []) book) }
         ensures kinds { IfOk result (λ book. (kind : ℕ) → KeepsKind self.now kind → KeepsKind book kind) }
         ensures types { IfOk result (λ book. types_of book ≡ types_of self.now) }
-        ensures work { (most : ℕ) → CostWithin (renew_cost P.settle_cost P.change_cost) most (items_of self.now.planners) → steps.new ≤ steps.old +
-            (accounts_most (length graph.now.resources.vertices) most (types_of self.now) (length job.now.claims) + renew_cost P.settle_cost P.change_cost self.now.times) }
+        ensures work { (most : ℕ) → CostWithin
+            (renew_cost P.settle_cost P.change_cost) most (items_of self.now.planners) → steps.new ≤ steps.old +
+            (accounts_most (length graph.now.resources.vertices) most
+            (types_of self.now) (length job.now.claims) + renew_cost P.settle_cost P.change_cost self.now.times) }
         ensures count { IfOk result (λ book. book.count ≡ self.now.count + length job.now.claims) }
     {
         graph.is_valid();
@@ -70,14 +75,17 @@ impl<P: Planner + Drop> Accounts<P> {
         steps: &mut Steps<L>,
     ) -> Result<Accounts<P>, AllocError>
         requires on_graph { IsOnGraph graph.now.resources.vertices job.now }
-        requires there { (before : List Job) × (after : List Job) × AreAccounts P.total_of P.stands_for graph.now.resources.vertices (before ++ job.now ∷ after) self.now }
+        requires there { (before : List Job) × (after : List Job)
+            × AreAccounts P.total_of P.stands_for graph.now.resources.vertices (before ++ job.now ∷ after) self.now }
         ensures accounts { IfOk result (λ book. (before after : List Job) →
             AreAccounts P.total_of P.stands_for graph.now.resources.vertices (before ++ job.now ∷ after) self.now →
             AreAccounts P.total_of P.stands_for graph.now.resources.vertices (before ++ after) book) }
         ensures kinds { IfOk result (λ book. (kind : ℕ) → KeepsKind self.now kind → KeepsKind book kind) }
         ensures types { IfOk result (λ book. types_of book ≡ types_of self.now) }
-        ensures work { (most : ℕ) → CostWithin (renew_cost P.settle_cost P.change_cost) most (items_of self.now.planners) → steps.new ≤ steps.old +
-            (accounts_most (length graph.now.resources.vertices) most (types_of self.now) (length job.now.claims) + renew_cost P.settle_cost P.change_cost self.now.times) }
+        ensures work { (most : ℕ) → CostWithin
+            (renew_cost P.settle_cost P.change_cost) most (items_of self.now.planners) → steps.new ≤ steps.old +
+            (accounts_most (length graph.now.resources.vertices) most
+            (types_of self.now) (length job.now.claims) + renew_cost P.settle_cost P.change_cost self.now.times) }
     {
         let count = self.count - job.claims.len() as u64;
         let window = Window {

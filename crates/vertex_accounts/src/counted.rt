@@ -1,5 +1,6 @@
 //! What is counted at each place of a vertex's planners.
-ghost use Rattle.std.specs.Prelude.{◌≡◌, ℕ, ◌+◌, ◌*◌, ◌<◌, ◌≤◌, List, [], ◌∷◌, ◌++◌, length, Option, Some, sum_by, slice_get, slice_index_or, IfOk, IfSome, OnOk, IsSome};
+ghost use Rattle.std.specs.Prelude.{◌≡◌, ℕ, ◌+◌, ◌*◌, ◌<◌, ◌≤◌, List, [], ◌∷◌, ◌++◌, length, Option, Some, sum_by};
+ghost use Rattle.std.specs.Prelude.{slice_get, slice_index_or, IfOk, IfSome, OnOk, IsSome};
 ghost use Rattle.std.specs.List.{AllByRecursion};
 ghost use Rattle.flux_defs.specs.Jobs.{vertex_of};
 ghost use Rattle.prune_filters.specs.Filters.{IsCounted};
@@ -36,7 +37,8 @@ impl Counted {
     /// Holds, claims and takes, and the units of the types that the rules name.
     pub(crate) fn new(alloc: Global, graph: &Graph, rules: &Rules) -> Result<Counted, AllocError>
         ensures counted { IfOk result (AreCounted graph.now.resources.vertices) }
-        ensures kinds { IfOk result (λ counted. (kind : ℕ) (name : List ℕ) → slice_get graph.now.resources.kinds kind ≡ Some name → IsCounted rules.now name →
+        ensures kinds { IfOk result (λ counted. (kind : ℕ) (name : List ℕ) →
+            slice_get graph.now.resources.kinds kind ≡ Some name → IsCounted rules.now name →
             (place : ℕ) × (slice_get counted.places kind ≡ Some (Some place))) }
         ensures types { IfOk result (λ counted. types_in counted ≤ length rules.now) }
     {
@@ -133,9 +135,11 @@ pub(crate) fn rows_of(
 ) -> Result<Rows, AllocError>
     requires capacities { KnowCapacities graph.now.resources.vertices quantities.now }
     requires on_vertices { AllByRecursion (λ c. vertex_of c < length graph.now.resources.vertices) claims.now }
-    ensures numbers { IfOk result (λ rows. AreNumbers graph.now.resources.vertices quantities.now claims.now (places_of rows)) }
+    ensures numbers { IfOk result
+        (λ rows. AreNumbers graph.now.resources.vertices quantities.now claims.now (places_of rows)) }
     ensures keys { IfOk result (λ rows. HaveKeysBelow (length graph.now.resources.vertices) (places_of rows)) }
-    ensures few { IfOk result (λ rows. count_all (places_of rows) ≤ sum_by reach_of quantities.now * length claims.now) }
+    ensures few { IfOk result
+        (λ rows. count_all (places_of rows) ≤ sum_by reach_of quantities.now * length claims.now) }
 {
     let mut rows = Rows::new(alloc);
     for quantity in quantities {

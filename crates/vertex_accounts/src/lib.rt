@@ -1,5 +1,5 @@
-//! What jobs have of a graph over time, by vertices: who holds it, who has a claim on it or below it, what is taken of it,
-//! and how much of a type is left at it and below it.
+//! What jobs have of a graph over time, by vertices: who holds it, who has a claim on it or below it, what is taken of
+//! it, and how much of a type is left at it and below it.
 #![tactic(auto)]
 
 mod asking;

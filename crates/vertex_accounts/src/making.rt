@@ -30,7 +30,8 @@ fn planners_new<P: Planner + Drop, L: Ledger>(
     requires { KnowCapacities graph.now.resources.vertices quantities.now }
     ensures len { IfOk result (λ all. length (items_of all) ≡ length graph.now.resources.vertices) }
     ensures places { IfOk result (λ all. AreWide (length quantities.now) (items_of all)) }
-    ensures planners { IfOk result (λ all. AreNew P.total_of P.stands_for graph.now.resources.vertices quantities.now (items_of all)) }
+    ensures planners { IfOk result
+        (λ all. AreNew P.total_of P.stands_for graph.now.resources.vertices quantities.now (items_of all)) }
 {
     let mut planners = VertexPlanners::empty();
     for vertex in 0..graph.len() {
@@ -50,8 +51,10 @@ impl<P: Planner + Drop> Accounts<P> {
         horizon: u64,
         steps: &mut Steps<L>,
     ) -> Result<Accounts<P>, AllocError>
-        ensures accounts { IfOk result (λ book. AreAccounts P.total_of P.stands_for graph.now.resources.vertices [] book) }
-        ensures kinds { IfOk result (λ book. (kind : ℕ) (name : List ℕ) → slice_get graph.now.resources.kinds kind ≡ Some name → IsCounted rules.now name → KeepsKind book kind) }
+        ensures accounts { IfOk result
+            (λ book. AreAccounts P.total_of P.stands_for graph.now.resources.vertices [] book) }
+        ensures kinds { IfOk result (λ book. (kind : ℕ) (name : List ℕ) →
+            slice_get graph.now.resources.kinds kind ≡ Some name → IsCounted rules.now name → KeepsKind book kind) }
         ensures types { IfOk result (λ book. types_of book ≤ length rules.now) }
     {
         let counted = Counted::new(alloc, graph, rules)?;

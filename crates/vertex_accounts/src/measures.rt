@@ -80,7 +80,8 @@ impl<'a> Parts<'a> {
 
     /// The quantity, where the vertex is of the type.
     fn part_taken(&self, vertex: u32, quantity: u64) -> u64
-        ensures { result ≡ (if is_of_kind self.now.graph.now.resources.vertices self.now.capacities.now.kind vertex then quantity else 0) }
+        ensures { result ≡ (if is_of_kind self.now.graph.now.resources.vertices self.now.capacities.now.kind vertex
+            then quantity else 0) }
     {
         match self.graph.vertices().get(vertex as usize) {
             Some(found) => {

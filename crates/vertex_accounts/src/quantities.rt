@@ -23,8 +23,8 @@ pub enum Quantity {
     Claims,
     /// Units that are taken of the vertex.
     Takes,
-    /// Units of one type that jobs have at the vertex and below it, but for holds of the vertex itself, which close it; of
-    /// the root these too.
+    /// Units of one type that jobs have at the vertex and below it, but for holds of the vertex itself, which close it;
+    /// of the root these too.
     Units(Capacities),
 }
 
@@ -37,10 +37,13 @@ impl Quantity {
         claims: &[Claim],
     ) -> Result<Amounts, AllocError>
         requires { KnowsCapacities graph.now.resources.vertices self.now }
-        ensures sums { IfOk result (λ amounts. (v : ℕ) → amount_at amounts v ≡ sum_by (amount_in graph.now.resources.vertices self.now v) claims.now) }
-        ensures keys { IfOk result (λ amounts. AllByRecursion (λ c. vertex_of c < length graph.now.resources.vertices) claims.now →
+        ensures sums { IfOk result (λ amounts. (v : ℕ) →
+            amount_at amounts v ≡ sum_by (amount_in graph.now.resources.vertices self.now v) claims.now) }
+        ensures keys { IfOk result
+            (λ amounts. AllByRecursion (λ c. vertex_of c < length graph.now.resources.vertices) claims.now →
             HasKeysBelow (length graph.now.resources.vertices) amounts) }
-        ensures few { IfOk result (λ amounts. AllByRecursion (λ c. vertex_of c < length graph.now.resources.vertices) claims.now →
+        ensures few { IfOk result
+            (λ amounts. AllByRecursion (λ c. vertex_of c < length graph.now.resources.vertices) claims.now →
             count_of amounts ≤ reach_of self.now * length claims.now) }
     {
         match self {

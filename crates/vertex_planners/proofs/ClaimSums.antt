@@ -1,5 +1,7 @@
 -- Sums over claims, and along chains of parents.
-use Rattle.std.proofs.Common.{◌≡◌, ◌≢◌, ℕ, zero, suc, ◌+◌, ◌-◌, ◌<◌, ◌==◌, nat_eq, Bool, true, false, ◌||◌, ◌&&◌, nat_lt, cond, List, [], ◌∷◌, length, take, get_or, Option, Some, None, IfSome, inl, inr, refl, sym, ◌∙◌, ap, subst, arith}
+use Rattle.std.proofs.Common.{◌≡◌, ◌≢◌, ℕ, zero, suc, ◌+◌, ◌-◌, ◌<◌, ◌==◌, nat_eq, Bool, true, false, ◌||◌, ◌&&◌}
+use Rattle.std.proofs.Common.{nat_lt, cond, List, [], ◌∷◌, length, take, get_or, Option, Some, None, IfSome, inl, inr}
+use Rattle.std.proofs.Common.{refl, sym, ◌∙◌, ap, subst, arith}
 use Rattle.std.specs.List.{AllByRecursion, sum_by}
 use Rattle.std.proofs.lemmas.Bool.Decides.{eqb_tells}
 use Rattle.std.proofs.lemmas.List.Sums.{sum_by-cons, sum_by_more}
@@ -17,19 +19,24 @@ use Rattle.book_laws.specs.Amounts.{is_hold}
 use Rattle.std.proofs.lemmas.Bool.{cases_lt, lt-ltb}
 
 -- one claim more
-pub claim_step : (f : Claim → ℕ) (xs : List Claim) (i : ℕ) (d : Claim) (old new more : ℕ) → i < length xs → new ≡ old + more → old ≡ sum_by f (take i xs) → more ≡ f (get_or xs i d) →
+pub claim_step : (f : Claim → ℕ) (xs : List Claim) (i : ℕ) (d : Claim) (old new more : ℕ) →
+    i < length xs → new ≡ old + more → old ≡ sum_by f (take i xs) → more ≡ f (get_or xs i d) →
     new ≡ sum_by f (take (i + 1) xs)
 claim_step f xs i d old new more lt e was is = omega (arith, sum_by_more f xs i d lt)
 
-pub on_step : (f : Claim → ℕ) (v : ℕ) (xs : List Claim) (i : ℕ) (d : Claim) (old new x n : ℕ) → i < length xs → new ≡ old + cond (x == v) n 0 →
-    old ≡ sum_by (λ c. cond (vertex_of c == v) (f c) 0) (take i xs) → x ≡ vertex_of (get_or xs i d) → n ≡ f (get_or xs i d) →
+pub on_step : (f : Claim → ℕ) (v : ℕ) (xs : List Claim) (i : ℕ) (d : Claim) (old new x n : ℕ) →
+    i < length xs → new ≡ old + cond (x == v) n 0 →
+    old ≡ sum_by (λ c. cond (vertex_of c == v) (f c) 0) (take i xs) →
+    x ≡ vertex_of (get_or xs i d) → n ≡ f (get_or xs i d) →
     new ≡ sum_by (λ c. cond (vertex_of c == v) (f c) 0) (take (i + 1) xs)
 on_step f v xs i d old new x n lt e was at is =
     claim_step (λ c. cond (vertex_of c == v) (f c) 0) xs i d old new (cond (x == v) n 0) lt e was
     (ap (λ y. cond (y == v) n 0) at ∙ ap (λ k. cond (vertex_of (get_or xs i d) == v) k 0) is)
 
-pub counts_step : (vertices : List Vertex) (f : Claim → ℕ) (v : ℕ) (xs : List Claim) (i : ℕ) (d x : Claim) (old new n : ℕ) → i < length xs →
-    new ≡ old + cond (counts_at vertices v x) n 0 → old ≡ sum_by (λ c. cond (counts_at vertices v c) (f c) 0) (take i xs) → x ≡ get_or xs i d → n ≡ f (get_or xs i d) →
+pub counts_step : (vertices : List Vertex)
+    (f : Claim → ℕ) (v : ℕ) (xs : List Claim) (i : ℕ) (d x : Claim) (old new n : ℕ) → i < length xs →
+    new ≡ old + cond (counts_at vertices v x) n 0 → old
+    ≡ sum_by (λ c. cond (counts_at vertices v c) (f c) 0) (take i xs) → x ≡ get_or xs i d → n ≡ f (get_or xs i d) →
     new ≡ sum_by (λ c. cond (counts_at vertices v c) (f c) 0) (take (i + 1) xs)
 counts_step vertices f v xs i d x old new n lt e was at is =
     claim_step (λ c. cond (counts_at vertices v c) (f c) 0) xs i d old new (cond (counts_at vertices v x) n 0) lt e was
@@ -43,20 +50,27 @@ none_more false n more e = omega arith
 pub parents_in : (vertices : List Vertex) → ParentsFirst vertices → ParentsIn vertices
 parents_in vertices first v p e = let below = first v p e in let within = has_parent vertices v p e in omega arith
 
-pub inside_item : (most : ℕ) (xs : List Claim) (i : ℕ) (d : Claim) (x : ℕ) → i < length xs → x ≡ vertex_of (get_or xs i d) → AllByRecursion (λ c. vertex_of c < most) xs → x < most
-inside_item most xs i d x lt e all = subst (λ (n : ℕ). n < most) (sym e) (All-from_recursion (λ c. vertex_of c < most) xs all i d lt)
+pub inside_item : (most : ℕ) (xs : List Claim) (i : ℕ) (d : Claim) (x : ℕ) →
+    i < length xs → x ≡ vertex_of (get_or xs i d) → AllByRecursion (λ c. vertex_of c < most) xs → x < most
+inside_item most xs i d x lt e all =
+    subst (λ (n : ℕ). n < most) (sym e) (All-from_recursion (λ c. vertex_of c < most) xs all i d lt)
 
 -- along a chain
-pub chain_opens : (vertices : List Vertex) (most v : ℕ) → (most ≡ 0 → ⊥) → chain vertices most (Some v) ≡ v ∷ chain vertices (most - 1) (parent_of vertices v)
+pub chain_opens : (vertices : List Vertex) (most v : ℕ) →
+    (most ≡ 0 → ⊥) → chain vertices most (Some v) ≡ v ∷ chain vertices (most - 1) (parent_of vertices v)
 chain_opens vertices zero v h = absurd (h refl)
-chain_opens vertices (suc k) v h = let e : k ≡ suc k - 1 = omega arith in ap (λ n. v ∷ chain vertices n (parent_of vertices v)) e
+chain_opens vertices (suc k) v h = let e : k ≡ suc k - 1 = omega arith in
+    ap (λ n. v ∷ chain vertices n (parent_of vertices v)) e
 
-pub chain_step : (vertices : List Vertex) (most u v more old mid new : ℕ) (above : Option ℕ) → (most ≡ 0 → ⊥) → mid ≡ old + cond (u == v) more 0 → above ≡ parent_of vertices u →
-    new ≡ mid + sum_on v more (chain vertices (most - 1) above) → new ≡ old + sum_on v more (chain vertices most (Some u))
+pub chain_step : (vertices : List Vertex) (most u v more old mid new : ℕ) (above : Option ℕ) →
+    (most ≡ 0 → ⊥) → mid ≡ old + cond (u == v) more 0 → above ≡ parent_of vertices u →
+    new ≡ mid + sum_on v more (chain vertices (most - 1) above) →
+    new ≡ old + sum_on v more (chain vertices most (Some u))
 chain_step vertices most u v more old mid new above some e up f =
     let opens = ap (sum_on v more) (chain_opens vertices most u some) in
     let first = sum_by-cons (λ (w : ℕ). cond (w == v) more 0) u (chain vertices (most - 1) (parent_of vertices u)) in
-    let same : sum_on v more (chain vertices (most - 1) above) ≡ sum_on v more (chain vertices (most - 1) (parent_of vertices u)) =
+    let same : sum_on v more (chain vertices (most - 1) above)
+    ≡ sum_on v more (chain vertices (most - 1) (parent_of vertices u)) =
     ap (λ (o : Option ℕ). sum_on v more (chain vertices (most - 1) o)) up in
     omega arith
 
@@ -64,7 +78,8 @@ pub chain_none : (vertices : List Vertex) (most : ℕ) → chain vertices most N
 chain_none vertices zero = refl
 chain_none vertices (suc most) = refl
 
-pub parent_inside : (vertices : List Vertex) (u : ℕ) (above : Option ℕ) → above ≡ parent_of vertices u → ParentsIn vertices → IfSome above (λ p. p < length vertices)
+pub parent_inside : (vertices : List Vertex) (u : ℕ) (above : Option ℕ) →
+    above ≡ parent_of vertices u → ParentsIn vertices → IfSome above (λ p. p < length vertices)
 parent_inside vertices u None e inside = tt
 parent_inside vertices u (Some p) e inside = inside u p (sym e)
 
@@ -74,7 +89,8 @@ module _ (vertices : List Vertex) (first : ParentsFirst vertices) (v more : ℕ)
   below_all zero u lt = refl
   below_all (suc most) u lt = step (parent_of vertices u) refl (below_all most)
     where
-      step : (o : Option ℕ) → parent_of vertices u ≡ o → ((w : ℕ) → w < v → sum_on v more (chain vertices most (Some w)) ≡ 0) → sum_on v more (u ∷ chain vertices most o) ≡ 0
+      step : (o : Option ℕ) → parent_of vertices u ≡ o → ((w : ℕ) →
+          w < v → sum_on v more (chain vertices most (Some w)) ≡ 0) → sum_on v more (u ∷ chain vertices most o) ≡ 0
       step o e rest =
           let a = sum_by-cons (λ (w : ℕ). cond (w == v) more 0) u (chain vertices most o) in
           let b : cond (u == v) more 0 ≡ 0 = other u (λ h. omega arith) in
@@ -82,26 +98,33 @@ module _ (vertices : List Vertex) (first : ParentsFirst vertices) (v more : ℕ)
           omega arith
         where
           other : (w : ℕ) → w ≢ v → cond (w == v) more 0 ≡ 0
-          other w ne = elim (eqb_tells w v) [ inl same ↦ absurd (ne same.1) | inr differ ↦ ap (λ b. cond b more 0) differ.0 ]
+          other w ne = elim (eqb_tells w v) [
+            | inl same ↦ absurd (ne same.1)
+            | inr differ ↦ ap (λ b. cond b more 0) differ.0
+          ]
 
-          up : (o : Option ℕ) → parent_of vertices u ≡ o → ((w : ℕ) → w < v → sum_on v more (chain vertices most (Some w)) ≡ 0) → sum_on v more (chain vertices most o) ≡ 0
+          up : (o : Option ℕ) → parent_of vertices u ≡ o → ((w : ℕ) →
+              w < v → sum_on v more (chain vertices most (Some w)) ≡ 0) → sum_on v more (chain vertices most o) ≡ 0
           up None e rest = ap (sum_on v more) (chain_none vertices most)
           up (Some p) e rest = rest p (let below = first u p e in omega arith)
 
-  once : (most : ℕ) (o : Option ℕ) → sum_on v more (chain vertices most o) ≡ cond (has_on_chain vertices most o v) more 0
+  once : (most : ℕ) (o : Option ℕ) →
+      sum_on v more (chain vertices most o) ≡ cond (has_on_chain vertices most o v) more 0
   once zero o = refl
   once (suc most) None = refl
   once (suc most) (Some u) =
       sum_by-cons (λ (w : ℕ). cond (w == v) more 0) u (chain vertices most (parent_of vertices u))
       ∙ elim (eqb_tells u v) [
         | inl same ↦ (let a : cond (u == v) more 0 ≡ more = ap (λ b. cond b more 0) same.0 in
-            let none : sum_on v more (chain vertices most (parent_of vertices u)) ≡ 0 = above (parent_of vertices u) refl same.1 in
+            let none : sum_on v more (chain vertices most (parent_of vertices u)) ≡ 0 =
+            above (parent_of vertices u) refl same.1 in
             let t : cond (nat_eq v u || has_on_chain vertices most (parent_of vertices u) v) more 0 ≡ more =
             ap (λ b. cond (b || has_on_chain vertices most (parent_of vertices u) v) more 0) (turned u v same.1) in
             omega arith)
         | inr differ ↦ (let a : cond (u == v) more 0 ≡ 0 = ap (λ b. cond b more 0) differ.0 in
             let rest = once most (parent_of vertices u) in
-            let t : cond (nat_eq v u || has_on_chain vertices most (parent_of vertices u) v) more 0 ≡ cond (has_on_chain vertices most (parent_of vertices u) v) more 0 =
+            let t : cond (nat_eq v u || has_on_chain vertices most (parent_of vertices u) v) more 0
+            ≡ cond (has_on_chain vertices most (parent_of vertices u) v) more 0 =
             ap (λ b. cond (b || has_on_chain vertices most (parent_of vertices u) v) more 0) (parted u v differ.1) in
             omega arith)
       ]
@@ -116,22 +139,27 @@ module _ (vertices : List Vertex) (first : ParentsFirst vertices) (v more : ℕ)
       above None e same = ap (sum_on v more) (chain_none vertices most)
       above (Some p) e same = below_all most p (let below = first u p e in omega arith)
 
-  pub once_above : (u : ℕ) → sum_on v more (chain vertices (length vertices) (Some u)) ≡ cond (is_at_or_below vertices u v) more 0
+  pub once_above : (u : ℕ) →
+      sum_on v more (chain vertices (length vertices) (Some u)) ≡ cond (is_at_or_below vertices u v) more 0
   once_above u = once (length vertices) (Some u) ∙ ap (λ b. cond b more 0) (sym (at_or_below-opens vertices u v))
 
   -- what is above a vertex is what its chain has but for the vertex
   pub above_once : (u : ℕ) (above : Option ℕ) → above ≡ parent_of vertices u →
-      sum_on v more (chain vertices (length vertices - 1) above) ≡ cond (u == v) 0 (cond (is_at_or_below vertices u v) more 0)
+      sum_on v more (chain vertices (length vertices - 1) above)
+      ≡ cond (u == v) 0 (cond (is_at_or_below vertices u v) more 0)
   above_once u above up = elim (cases_lt 0 (length vertices)) [
-    | inl some ↦ parted (u == v) (is_at_or_below vertices u v) (sum_on v more (chain vertices (length vertices - 1) above)) (
+    | inl some ↦
+        parted (u == v) (is_at_or_below vertices u v) (sum_on v more (chain vertices (length vertices - 1) above)) (
         let opens = ap (sum_on v more) (chain_opens vertices (length vertices) u (λ e. omega (arith, e, some))) in
-        let first = sum_by-cons (λ (w : ℕ). cond (w == v) more 0) u (chain vertices (length vertices - 1) (parent_of vertices u)) in
+        let first = sum_by-cons
+        (λ (w : ℕ). cond (w == v) more 0) u (chain vertices (length vertices - 1) (parent_of vertices u)) in
         let same = ap (λ (o : Option ℕ). sum_on v more (chain vertices (length vertices - 1) o)) up in
         let all = once_above u in
         omega (arith, opens, first, same, all))
     | inr none ↦ (let zero_is : length vertices ≡ 0 = omega (arith, none) in
         let all = sym (once_above u) ∙ ap (λ (k : ℕ). sum_on v more (chain vertices k (Some u))) zero_is in
-        ap (λ (k : ℕ). sum_on v more (chain vertices (k - 1) above)) zero_is ∙ sym (both_none (u == v) (cond (is_at_or_below vertices u v) more 0) all))
+        ap (λ (k : ℕ). sum_on v more (chain vertices (k - 1) above)) zero_is
+        ∙ sym (both_none (u == v) (cond (is_at_or_below vertices u v) more 0) all))
   ]
     where
       parted : (own there : Bool) (s : ℕ) → cond own more 0 + s ≡ cond there more 0 → s ≡ cond own 0 (cond there more 0)

@@ -1,5 +1,6 @@
 -- The planners of one vertex, changed place by place.
-use Rattle.std.proofs.Common.{◌≡◌, ℕ, zero, suc, ◌+◌, ◌*◌, ◌≤◌, List, [], ◌∷◌, ◌++◌, length, take, Some, slice_get, inl, inr, refl, sym, ◌∙◌, ap, subst, arith}
+use Rattle.std.proofs.Common.{◌≡◌, ℕ, zero, suc, ◌+◌, ◌*◌, ◌≤◌, List, [], ◌∷◌, ◌++◌, length, take, Some, slice_get, inl}
+use Rattle.std.proofs.Common.{inr, refl, sym, ◌∙◌, ap, subst, arith}
 use Rattle.std.proofs.Math.Nat.{mul-le-mul_right}
 use Rattle.std.proofs.lemmas.List.Sums.{sum_by_more, sum_by-take-le}
 use Rattle.std.proofs.lemmas.Option.{get_or_from_slice_get}
@@ -8,9 +9,11 @@ use Rattle.vertex_planners.proofs.PlaceLaws.{within_list, slice_push}
 
 -- the planners so far are changed by their numbers
 abbrev pub AtSoFar : {P : Type 0} → (ℕ → P → P → Type 0) → List ℕ → List P → List P → Type 0
-AtSoFar {P = P} Q row old now = (k n : ℕ) (p r : P) → slice_get row k ≡ Some n → slice_get old k ≡ Some p → slice_get now k ≡ Some r → Q n p r
+AtSoFar {P = P} Q row old now =
+    (k n : ℕ) (p r : P) → slice_get row k ≡ Some n → slice_get old k ≡ Some p → slice_get now k ≡ Some r → Q n p r
 
-pub one_more : {P : Type 0} (Q : ℕ → P → P → Type 0) (row : List ℕ) (old now next : List P) (i n : ℕ) (p r : P) → length now ≡ i → AtSoFar Q row old now →
+pub one_more : {P : Type 0} (Q : ℕ → P → P → Type 0) (row : List ℕ) (old now next : List P) (i n : ℕ) (p r : P) →
+    length now ≡ i → AtSoFar Q row old now →
     slice_get row i ≡ Some n → slice_get old i ≡ Some p → Q n p r → next ≡ now ++ r ∷ [] → AtSoFar Q row old next
 one_more Q row old now next i n p r len so_far number there q pushed k m u w a b c =
     elim (slice_push now r w k (ap (λ xs. slice_get xs k) (sym pushed) ∙ c)) [
@@ -20,12 +23,14 @@ one_more Q row old now next i n p r len so_far number there q pushed k m u w a b
           let olds : Some p ≡ Some u = sym there ∙ (ap (slice_get old) (sym place) ∙ b) in
           let same_number : n ≡ m = cc in
           let same_old : p ≡ u = cc in
-          subst (λ (z : _). Q m u z) here.1 (subst (λ (z : _). Q m z r) same_old (subst (λ (z : ℕ). Q z p r) same_number q)))
+          subst (λ (z : _). Q m u z) here.1
+          (subst (λ (z : _). Q m z r) same_old (subst (λ (z : ℕ). Q z p r) same_number q)))
     ]
 
 -- the steps so far: those of the planners whose numbers aren't 0
 module _ (row : List ℕ) (i n most start before after cost : ℕ) (number : slice_get row i ≡ Some n) (few : cost ≤ most)
-    (none : n ≡ 0 → after ≤ before) (one : after ≤ before + cost) (so_far : before ≤ start + count_some (take i row) * most) where
+    (none : n ≡ 0 → after ≤ before)
+    (one : after ≤ before + cost) (so_far : before ≤ start + count_some (take i row) * most) where
   step_of : (m : ℕ) → (m ≡ 0 → after ≤ before) → after ≤ before + some_one m * most
   step_of zero h = let same = h refl in omega (arith, same)
   step_of (suc m) h = let e : some_one (suc m) * most ≡ most = omega arith in omega (arith, one, few, e)

@@ -1,5 +1,7 @@
 -- The numbers of one vertex, taken off place by place.
-use Rattle.std.proofs.Common.{◌≡◌, ℕ, zero, suc, ◌+◌, ◌<◌, ◌≤◌, cond, is_some, List, [], ◌∷◌, ◌++◌, length, length-append, unwrap_or, Option, Some, None, IsSome, true≢false, slice_get, inl, inr, refl, sym, ◌∙◌, ap, subst, arith}
+use Rattle.std.proofs.Common.{◌≡◌, ℕ, zero, suc, ◌+◌, ◌<◌, ◌≤◌, cond, is_some, List, [], ◌∷◌, ◌++◌, length}
+use Rattle.std.proofs.Common.{length-append, unwrap_or, Option, Some, None, IsSome, true≢false, slice_get, inl, inr}
+use Rattle.std.proofs.Common.{refl, sym, ◌∙◌, ap, subst, arith}
 use Rattle.std.specs.Prelude.{slice_set}
 use Rattle.std.proofs.lemmas.Bool.Decides.{eqb_tells}
 use Rattle.std.proofs.lemmas.List.Sums.{sum_by-cons, sum_by-append, sum_by-set}
@@ -17,7 +19,8 @@ pub record TakenSoFar (old now : List Amounts) (v i : ℕ) (row : List ℕ) : Ty
       (rest : Amounts) × (n : ℕ) × (slice_get now k ≡ Some rest) × (slice_get row k ≡ Some n) × IsTaken amounts rest v n
   pub later : (k : ℕ) → i ≤ k → slice_get now k ≡ slice_get old k
   pub fewer : count_all now + count_some row ≤ count_all old
-  pub less : (k : ℕ) (amounts : Amounts) → k < i → slice_get old k ≡ Some amounts → IsSome (kept_at amounts v) → count_all now < count_all old
+  pub less : (k : ℕ) (amounts : Amounts) →
+      k < i → slice_get old k ≡ Some amounts → IsSome (kept_at amounts v) → count_all now < count_all old
 
 pub none_taken : (old : List Amounts) (v : ℕ) → TakenSoFar old old v 0 []
 none_taken old v = record {
@@ -40,7 +43,8 @@ counts_one None h = absurd (true≢false (sym h))
 counts_one (Some n) h = omega arith
 
 module _ (old now next : List Amounts) (v i : ℕ) (row more : List ℕ) (amounts rest : Amounts) (n : ℕ) where
-  pub one_taken : TakenSoFar old now v i row → slice_get now i ≡ Some amounts → next ≡ slice_set now i rest → IsTaken amounts rest v n → more ≡ row ++ n ∷ [] →
+  pub one_taken : TakenSoFar old now v i row →
+      slice_get now i ≡ Some amounts → next ≡ slice_set now i rest → IsTaken amounts rest v n → more ≡ row ++ n ∷ [] →
       TakenSoFar old next v (i + 1) more
   one_taken so_far at stored taken pushed =
       let lt = within_list now i amounts at in
@@ -55,30 +59,37 @@ module _ (old now next : List Amounts) (v i : ℕ) (row more : List ℕ) (amount
       let same_old : slice_get old i ≡ Some amounts = sym (so_far.later i (omega arith)) ∙ at in
       record {
         len = ap length stored ∙ set_len now i rest ∙ so_far.len;
-        places = ap length pushed ∙ (let l = length-append row (n ∷ []) in let p = so_far.places in omega (arith, l, p));
+        places = ap length pushed
+            ∙ (let l = length-append row (n ∷ []) in let p = so_far.places in omega (arith, l, p));
         done = λ k a lk was. elim (eqb_tells k i) [
           | inl same ↦ (
             rest,
             n,
             ap (slice_get next) same.1 ∙ ap (λ xs. slice_get xs i) stored ∙ set_there now i rest lt,
-            ap (slice_get more) (same.1 ∙ sym so_far.places) ∙ ap (λ xs. slice_get xs (length row)) pushed ∙ new_there row n,
-            (let is : amounts ≡ a = (let both : Some amounts ≡ Some a = sym same_old ∙ sym (ap (slice_get old) same.1) ∙ was in cc) in
+            ap (slice_get more) (same.1 ∙ sym so_far.places)
+                ∙ ap (λ xs. slice_get xs (length row)) pushed ∙ new_there row n,
+            (let is : amounts
+                ≡ a = (let both : Some amounts ≡ Some a = sym same_old ∙ sym (ap (slice_get old) same.1) ∙ was in cc) in
                 subst (λ (x : Amounts). IsTaken x rest v n) is taken),
           )
-          | inr differ ↦ (let (r, m, there, number, is) = so_far.done k a (let ne = differ.1 in omega (arith, lk, ne)) was in (
-            r,
-            m,
-            ap (λ xs. slice_get xs k) stored ∙ set_others now i k rest differ.1 ∙ there,
-            ap (λ xs. slice_get xs k) pushed ∙ old_there row n m k number,
-            is,
-          ))
+          | inr differ ↦
+              (let (r, m, there, number, is) = so_far.done k a (let ne = differ.1 in omega (arith, lk, ne)) was in (
+                r,
+                m,
+                ap (λ xs. slice_get xs k) stored ∙ set_others now i k rest differ.1 ∙ there,
+                ap (λ xs. slice_get xs k) pushed ∙ old_there row n m k number,
+                is,
+              ))
         ];
         later = λ k le.
-            ap (λ xs. slice_get xs k) stored ∙ set_others now i k rest (λ e. omega (arith, e, le)) ∙ so_far.later k (omega (arith, le));
+            ap (λ xs. slice_get xs k) stored
+            ∙ set_others now i k rest (λ e. omega (arith, e, le)) ∙ so_far.later k (omega (arith, le));
         fewer = omega (arith, before, one, some, kept, sums, here, numbers, last);
         less = λ k a lk was some_kept. elim (eqb_tells k i) [
-          | inl same ↦ (let is : amounts ≡ a = (let both : Some amounts ≡ Some a = sym same_old ∙ sym (ap (slice_get old) same.1) ∙ was in cc) in
-              let counted = counts_one (kept_at amounts v) (subst (λ (x : Amounts). IsSome (kept_at x v)) (sym is) some_kept) in
+          | inl same ↦ (let is : amounts
+              ≡ a = (let both : Some amounts ≡ Some a = sym same_old ∙ sym (ap (slice_get old) same.1) ∙ was in cc) in
+              let counted =
+              counts_one (kept_at amounts v) (subst (λ (x : Amounts). IsSome (kept_at x v)) (sym is) some_kept) in
               omega (arith, before, one, counted, kept, sums, here))
           | inr differ ↦ (let earlier = so_far.less k a (let ne = differ.1 in omega (arith, lk, ne)) was some_kept in
               omega (arith, earlier, one, kept, sums, here))
@@ -86,11 +97,13 @@ module _ (old now next : List Amounts) (v i : ℕ) (row more : List ℕ) (amount
       }
 
 -- all places
-pub all_taken : (old now : List Amounts) (v i : ℕ) (row : List ℕ) → TakenSoFar old now v i row → i ≡ length old → IsRow old now v row
+pub all_taken : (old now : List Amounts) (v i : ℕ) (row : List ℕ) →
+    TakenSoFar old now v i row → i ≡ length old → IsRow old now v row
 all_taken old now v i row so_far all = record {
   len = so_far.len;
   places = so_far.places ∙ all;
   each = λ k amounts at. so_far.done k amounts (let lt = within_list old k amounts at in omega (arith, lt, all)) at;
   fewer = so_far.fewer;
-  less = λ (k, amounts, at, some). so_far.less k amounts (let lt = within_list old k amounts at in omega (arith, lt, all)) at some;
+  less = λ (k, amounts, at, some).
+      so_far.less k amounts (let lt = within_list old k amounts at in omega (arith, lt, all)) at some;
 }

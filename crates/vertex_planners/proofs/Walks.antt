@@ -1,5 +1,6 @@
 -- A walk over the vertices that have numbers, which changes their items one by one.
-use Rattle.std.proofs.Common.{◌≡◌, ◌≢◌, ℕ, ◌+◌, ◌*◌, ◌<◌, ◌≤◌, List, length, Option, Some, None, is_some, true≢false, unwrap_or, slice_get, IsSome, IfSome, IfNone, inl, inr, refl, sym, ◌∙◌, ap, subst, arith}
+use Rattle.std.proofs.Common.{◌≡◌, ◌≢◌, ℕ, ◌+◌, ◌*◌, ◌<◌, ◌≤◌, List, length, Option, Some, None, is_some, true≢false}
+use Rattle.std.proofs.Common.{unwrap_or, slice_get, IsSome, IfSome, IfNone, inl, inr, refl, sym, ◌∙◌, ap, subst, arith}
 use Rattle.std.proofs.Math.Nat.{mul-le-mul_right}
 use Rattle.std.proofs.lemmas.Bool.Decides.{eqb_tells}
 use Rattle.flux_defs.specs.declared.claims.Window.{Window}
@@ -14,16 +15,20 @@ use Rattle.vertex_planners.specs.Work.{change_most, CostWithin}
 use Rattle.vertex_planners.proofs.PlaceLaws.{item_at, within_list, same_place, of_place, in_place}
 
 -- what the planners of one vertex become by its number at each place
-pub record AtVertex {P : Type 0} (Q : ℕ → P → P → Type 0) (numbers : List Amounts) (v : ℕ) (old new : List P) : Type 0 where
+pub record AtVertex {P : Type 0}
+    (Q : ℕ → P → P → Type 0) (numbers : List Amounts) (v : ℕ) (old new : List P) : Type 0 where
   pub len : length new ≡ length old
-  pub each : (k : ℕ) (amounts : Amounts) (p r : P) → slice_get numbers k ≡ Some amounts → slice_get old k ≡ Some p → slice_get new k ≡ Some r → Q (amount_at amounts v) p r
+  pub each : (k : ℕ) (amounts : Amounts) (p r : P) → slice_get numbers k ≡ Some amounts →
+      slice_get old k ≡ Some p → slice_get new k ≡ Some r → Q (amount_at amounts v) p r
 
 -- the items whose vertices aren't left any more are changed, and the others and their numbers are as they were
-pub record Walked {P : Type 0} (Q : ℕ → P → P → Type 0) (old now : List (List P)) (numbers left : List Amounts) : Type 0 where
+pub record Walked {P : Type 0}
+    (Q : ℕ → P → P → Type 0) (old now : List (List P)) (numbers left : List Amounts) : Type 0 where
   pub len : length now ≡ length old
   pub places : length left ≡ length numbers
   pub keys : HaveKeysBelow (length old) left
-  pub done : (v : ℕ) (x y : List P) → slice_get old v ≡ Some x → slice_get now v ≡ Some y → IsGone left v → AtVertex Q numbers v x y
+  pub done : (v : ℕ) (x y : List P) →
+      slice_get old v ≡ Some x → slice_get now v ≡ Some y → IsGone left v → AtVertex Q numbers v x y
   pub same : (v : ℕ) → IsLeft left v → slice_get now v ≡ slice_get old v
   pub rest : (v : ℕ) → IsLeft left v → (k : ℕ) (amounts : Amounts) → slice_get numbers k ≡ Some amounts →
       (still : Amounts) × (slice_get left k ≡ Some still) × (amount_at amounts v ≡ amount_at still v)
@@ -52,13 +57,17 @@ module _ {P : Type 0} (Q : ℕ → P → P → Type 0) (old : List (List P)) (nu
   }
 
   -- the numbers of the vertex that is told of are taken off
-  pub row_of : (left fewer : List Amounts) (found : Option (ℕ × List ℕ)) (v : ℕ) (row : List ℕ) → found ≡ Some (v, row) →
+  pub row_of : (left fewer : List Amounts) (found : Option (ℕ × List ℕ)) (v : ℕ) (row : List ℕ) →
+      found ≡ Some (v, row) →
       IfSome found (λ first. IsRowTaken left fewer first.0 first.1) → IsRowTaken left fewer v row
-  row_of left fewer found v row e h = subst (λ (o : Option (ℕ × List ℕ)). IfSome o (λ first. IsRowTaken left fewer first.0 first.1)) e h
+  row_of left fewer found v row e h =
+      subst (λ (o : Option (ℕ × List ℕ)). IfSome o (λ first. IsRowTaken left fewer first.0 first.1)) e h
 
-  module _ (now : List (List P)) (left fewer : List Amounts) (v : ℕ) (row : List ℕ) (w : Walked Q old now numbers left) (off : IsRowTaken left fewer v row) where
+  module _ (now : List (List P)) (left fewer : List Amounts)
+      (v : ℕ) (row : List ℕ) (w : Walked Q old now numbers left) (off : IsRowTaken left fewer v row) where
     -- the number of the vertex at a place is that of the row
-    number_is : (k : ℕ) (amounts : Amounts) → slice_get numbers k ≡ Some amounts → (n : ℕ) × (slice_get row k ≡ Some n) × (amount_at amounts v ≡ n)
+    number_is : (k : ℕ) (amounts : Amounts) →
+        slice_get numbers k ≡ Some amounts → (n : ℕ) × (slice_get row k ≡ Some n) × (amount_at amounts v ≡ n)
     number_is k amounts at =
         let (still, there, same) = w.rest v off.was k amounts at in
         let (rest, n, after, number, taken) = off.row_is.each k still there in
@@ -79,9 +88,11 @@ module _ {P : Type 0} (Q : ℕ → P → P → Type 0) (old : List (List P)) (nu
         omega (arith, was, places, row_len)
 
     -- what is so of each place's numbers is so of the row
-    pub row_before : (R : ℕ → P → Type 0) → AreWide (length numbers) old → AtAmounts R numbers old → (x : List P) → slice_get now v ≡ Some x → AtNumbers R row x
+    pub row_before : (R : ℕ → P → Type 0) → AreWide (length numbers) old →
+        AtAmounts R numbers old → (x : List P) → slice_get now v ≡ Some x → AtNumbers R row x
     row_before R wide all x at k n p number there =
-        let lt : k < length numbers = (let in_row = within_list row k n number in let places = w.places in let row_len = off.row_is.places in omega (arith, in_row, places, row_len)) in
+        let lt : k < length numbers = (let in_row = within_list row k n number in
+        let places = w.places in let row_len = off.row_is.places in omega (arith, in_row, places, row_len)) in
         let (amounts, of) = item_at numbers k lt in
         let (m, also, is) = number_is k amounts of in
         let both : Some m ≡ Some n = sym also ∙ number in
@@ -90,7 +101,8 @@ module _ {P : Type 0} (Q : ℕ → P → P → Type 0) (old : List (List P)) (nu
         (all k amounts of v p (in_place (length numbers) k lt old wide v x p (sym (w.same v off.was) ∙ at) there))
 
     pub walk_steps : (next : List (List P)) → length next ≡ length now →
-        ((x y : List P) → slice_get now v ≡ Some x → slice_get next v ≡ Some y → AtRow Q row x y) → ((u : ℕ) → u ≢ v → slice_get next u ≡ slice_get now u) → Walked Q old next numbers fewer
+        ((x y : List P) → slice_get now v ≡ Some x → slice_get next v ≡ Some y → AtRow Q row x y) →
+        ((u : ℕ) → u ≢ v → slice_get next u ≡ slice_get now u) → Walked Q old next numbers fewer
     walk_steps next len here others = record {
       len = len ∙ w.len;
       places = off.row_is.len ∙ w.places;
@@ -101,17 +113,21 @@ module _ {P : Type 0} (Q : ℕ → P → P → Type 0) (old : List (List P)) (nu
             | inr differ ↦ w.keys k still was u (subst (λ (o : Option ℕ). IsSome o) (other.0 u differ.1) some)
           ];
       done = λ u x y a b gone. elim (eqb_tells u v) [
-        | inl same ↦ (let at_v = changed x y (sym (ap (slice_get old) same.1) ∙ a) (sym (ap (slice_get next) same.1) ∙ b) in
+        | inl same ↦
+            (let at_v = changed x y (sym (ap (slice_get old) same.1) ∙ a) (sym (ap (slice_get next) same.1) ∙ b) in
             subst (λ (z : ℕ). AtVertex Q numbers z x y) (sym same.1) at_v)
         | inr differ ↦ w.done u x y a (sym (others u differ.1) ∙ b)
-            (λ k still was. (let (rest, n, after, number, taken) = off.row_is.each k still was in sym (taken.others u differ.1) ∙ gone k rest after))
+            (λ k still was. (let (rest, n, after, number, taken) = off.row_is.each k still was in
+            sym (taken.others u differ.1) ∙ gone k rest after))
       ];
       same = λ u (k, amounts, at, some). elim (eqb_tells u v) [
-        | inl is ↦ (let (still, was, other) = before k amounts at in absurd (none_is amounts u (ap (kept_at amounts) is.1 ∙ other.1) some))
+        | inl is ↦ (let (still, was, other) = before k amounts at in
+            absurd (none_is amounts u (ap (kept_at amounts) is.1 ∙ other.1) some))
         | inr differ ↦ others u differ.1 ∙ w.same u (left_before u differ.1 (k, amounts, at, some))
       ];
       rest = λ u (j, others_amounts, there, some) k amounts at. elim (eqb_tells u v) [
-        | inl is ↦ (let (still, was, other) = before j others_amounts there in absurd (none_is others_amounts u (ap (kept_at others_amounts) is.1 ∙ other.1) some))
+        | inl is ↦ (let (still, was, other) = before j others_amounts there in
+            absurd (none_is others_amounts u (ap (kept_at others_amounts) is.1 ∙ other.1) some))
         | inr differ ↦ (
             let (still, was, same) = w.rest u (left_before u differ.1 (j, others_amounts, there, some)) k amounts at in
             let (rest, n, after, number, taken) = off.row_is.each k still was in
@@ -121,13 +137,21 @@ module _ {P : Type 0} (Q : ℕ → P → P → Type 0) (old : List (List P)) (nu
       where
         -- a place had numbers before, which are the same but for this vertex
         before : (k : ℕ) (amounts : Amounts) → slice_get fewer k ≡ Some amounts →
-            (still : Amounts) × (slice_get left k ≡ Some still) × (((u : ℕ) → u ≢ v → kept_at amounts u ≡ kept_at still u) × (kept_at amounts v ≡ None))
+            (still : Amounts) × (slice_get left k ≡ Some still)
+            × (((u : ℕ) → u ≢ v → kept_at amounts u ≡ kept_at still u) × (kept_at amounts v ≡ None))
         before k amounts at =
             let (still, was) = same_place fewer left k amounts off.row_is.len at in
             let (rest, n, after, number, taken) = off.row_is.each k still was in
             let both : Some rest ≡ Some amounts = sym after ∙ at in
-            let is : rest ≡ amounts = cc in
-            (still, was, (λ u ne. ap (λ a. kept_at a u) (sym is) ∙ taken.others u ne, ap (λ a. kept_at a v) (sym is) ∙ taken.gone))
+            let is : rest ≡ amounts = cc in (
+              still,
+              was,
+              (
+                λ u ne. ap (λ a. kept_at a u) (sym is)
+                    ∙ taken.others u ne,
+                ap (λ a. kept_at a v) (sym is) ∙ taken.gone,
+              ),
+            )
 
         left_before : (u : ℕ) → u ≢ v → IsLeft fewer u → IsLeft left u
         left_before u ne (k, amounts, at, some) =
@@ -146,8 +170,10 @@ module _ {P : Type 0} (Q : ℕ → P → P → Type 0) (old : List (List P)) (nu
 
     -- the item of the vertex that is taken off is changed within the bound
     pub walk_counts : (change_cost : P → ℕ) (most start after all : ℕ) → CostWithin change_cost most old →
-        (((x : List P) (k : ℕ) (p : P) → slice_get now v ≡ Some x → slice_get x k ≡ Some p → change_cost p ≤ most) → after ≤ start + (4 * dig (length now + 1) + count_some row * most)) →
-        start + count_all left * change_most (length old) most ≤ all → after + count_all fewer * change_most (length old) most ≤ all
+        (((x : List P) (k : ℕ) (p : P) → slice_get now v ≡ Some x → slice_get x k ≡ Some p → change_cost p ≤ most) →
+        after ≤ start + (4 * dig (length now + 1) + count_some row * most)) →
+        start + count_all left * change_most (length old) most ≤ all →
+        after + count_all fewer * change_most (length old) most ≤ all
     walk_counts change_cost most start after all within work so_far =
         let step = work (λ x k p at there. within v k x p (sym (w.same v off.was) ∙ at) there) in
         let len = ap (λ (n : ℕ). 4 * dig (n + 1)) w.len in
@@ -155,12 +181,14 @@ module _ {P : Type 0} (Q : ℕ → P → P → Type 0) (old : List (List P)) (nu
         off.row_is.fewer (off.row_is.less off.was) (omega (arith, step, len)) so_far
       where
         times_more : (a b c d : ℕ) → a + b ≤ c → a * d + b * d ≤ c * d
-        times_more a b c d le = let m = mul-le-mul_right d le in let e : (a + b) * d ≡ a * d + b * d = grind arith in omega (arith, m, e)
+        times_more a b c d le = let m = mul-le-mul_right d le in
+            let e : (a + b) * d ≡ a * d + b * d = grind arith in omega (arith, m, e)
 
         parts : (a b c : ℕ) → a * (b + c) ≡ a * b + a * c
         parts a b c = grind arith
 
-        counts_down : (had has some look each start end all : ℕ) → has + some ≤ had → has < had → end ≤ start + (look + some * each) →
+        counts_down : (had has some look each start end all : ℕ) →
+            has + some ≤ had → has < had → end ≤ start + (look + some * each) →
             start + had * (look + each) ≤ all → end + has * (look + each) ≤ all
         counts_down had has some look each start end all fewer_numbers less one rest =
             let looks = times_more has 1 had look (omega (arith, less)) in
@@ -171,11 +199,13 @@ module _ {P : Type 0} (Q : ℕ → P → P → Type 0) (old : List (List P)) (nu
             omega (arith, looks, changes, a, b, c, one, rest)
 
   -- no vertex is told of
-  pub none_of : (left : List Amounts) (found : Option (ℕ × List ℕ)) → found ≡ None → IfNone found (HasNoneLeft left) → HasNoneLeft left
+  pub none_of : (left : List Amounts) (found : Option (ℕ × List ℕ)) →
+      found ≡ None → IfNone found (HasNoneLeft left) → HasNoneLeft left
   none_of left found e h = subst (λ (o : Option (ℕ × List ℕ)). IfNone o (HasNoneLeft left)) e h
 
   -- no vertex is left
-  module _ (now : List (List P)) (left : List Amounts) (w : Walked Q old now numbers left) (none : HasNoneLeft left) where
+  module _ (now : List (List P))
+      (left : List Amounts) (w : Walked Q old now numbers left) (none : HasNoneLeft left) where
     pub still_wide : AreWide (length numbers) old → AreWide (length numbers) now
     still_wide wide v y at =
         let (x, was) = same_place now old v y w.len at in

@@ -1,5 +1,5 @@
--- At which vertices a claim counts: at its own and those above it, but a hold only above the vertex that it holds, since
--- that it is held says it there.
+-- At which vertices a claim counts: at its own and those above it, but a hold only above the vertex that it holds,
+-- since that it is held says it there.
 use Rattle.std.specs.Prelude.{ℕ, Bool, false, ◌&&◌, nat_lt, if◌then◌else◌, List}
 use Rattle.flux_defs.specs.declared.vertices.Vertex.{Vertex}
 use Rattle.flux_defs.specs.declared.claims.Claim.{Claim}

@@ -12,12 +12,14 @@ module _ {P : Type 0} (total_of : P → ℕ) (stands_for : P → List Span → T
   -- r has the total of p, and stands for the spans of p with so much over the window among them
   pub record Gains (window : Window) (n : ℕ) (p r : P) : Type 0 where
     pub total : total_of r ≡ total_of p
-    pub spans : (before after : List Span) → stands_for p (before ++ after) → stands_for r (before ++ (some_span window n ++ after))
+    pub spans : (before after : List Span) →
+        stands_for p (before ++ after) → stands_for r (before ++ (some_span window n ++ after))
 
   -- r has the total of p, and stands for the spans of p without so much over the window
   pub record Loses (window : Window) (n : ℕ) (p r : P) : Type 0 where
     pub total : total_of r ≡ total_of p
-    pub spans : (before after : List Span) → stands_for p (before ++ (some_span window n ++ after)) → stands_for r (before ++ after)
+    pub spans : (before after : List Span) →
+        stands_for p (before ++ (some_span window n ++ after)) → stands_for r (before ++ after)
 
   -- so much is free over the window beside every list of spans for which p stands
   abbrev pub HasRoomFor : Window → ℕ → P → Type 0
@@ -25,7 +27,8 @@ module _ {P : Type 0} (total_of : P → ℕ) (stands_for : P → List Span → T
 
 -- p stands for a list of spans that has so much over the window
 abbrev pub HasSpanOf : {P : Type 0} → (P → List Span → Type 0) → Window → ℕ → P → Type 0
-HasSpanOf stands_for window n p = (before : List Span) × (after : List Span) × stands_for p (before ++ (some_span window n ++ after))
+HasSpanOf stands_for window n p =
+    (before : List Span) × (after : List Span) × stands_for p (before ++ (some_span window n ++ after))
 
 -- the planners of one vertex are so of the numbers of a row, place by place
 abbrev pub AtNumbers : {P : Type 0} → (ℕ → P → Type 0) → List ℕ → List P → Type 0
@@ -42,7 +45,8 @@ HaveSpans stands_for window row item = AtNumbers (HasSpanOf stands_for window) r
 -- what each planner of one vertex becomes by its number of a row
 pub record AtRow {P : Type 0} (Q : ℕ → P → P → Type 0) (row : List ℕ) (old new : List P) : Type 0 where
   pub len : length new ≡ length old
-  pub each : (k n : ℕ) (p r : P) → slice_get row k ≡ Some n → slice_get old k ≡ Some p → slice_get new k ≡ Some r → Q n p r
+  pub each : (k n : ℕ) (p r : P) →
+      slice_get row k ≡ Some n → slice_get old k ≡ Some p → slice_get new k ≡ Some r → Q n p r
 
 -- at each vertex the two lists have planners of which this is so
 abbrev pub AtEach : {P : Type 0} → (ℕ → P → P → Type 0) → List P → List P → Type 0

@@ -2,11 +2,12 @@
 use Rattle.std.specs.Prelude.{◌≡◌, ℕ, ◌+◌, ◌*◌, ◌≤◌, List, Some, slice_get}
 use Rattle.flux_defs.specs.Digits.{dig}
 
--- a change of one planner of one of so many vertices, which itself takes at most so many steps: the vertex's item is looked
--- up, changed and put back
+-- a change of one planner of one of so many vertices, which itself takes at most so many steps: the vertex's item is
+-- looked up, changed and put back
 abbrev pub change_most : ℕ → ℕ → ℕ
 change_most vertices changes = 4 * dig (vertices + 1) + changes
 
 -- this cost of any planner of any vertex is at most so many steps
 abbrev pub CostWithin : {P : Type 0} → (P → ℕ) → ℕ → List (List P) → Type 0
-CostWithin {P = P} cost most items = (v k : ℕ) (item : List P) (p : P) → slice_get items v ≡ Some item → slice_get item k ≡ Some p → cost p ≤ most
+CostWithin {P = P} cost most items =
+    (v k : ℕ) (item : List P) (p : P) → slice_get items v ≡ Some item → slice_get item k ≡ Some p → cost p ≤ most

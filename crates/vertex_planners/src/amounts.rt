@@ -1,5 +1,6 @@
 //! Numbers by vertices.
-ghost use Rattle.std.specs.Prelude.{◌≡◌, ℕ, ◌+◌, ◌<◌, ◌≤◌, ◌==◌, if◌then◌else◌, length, List, Option, Some, None, IfSome, IfNone, OnErr, OnOk, IsSome};
+ghost use Rattle.std.specs.Prelude.{◌≡◌, ℕ, ◌+◌, ◌<◌, ◌≤◌, ◌==◌, if◌then◌else◌, length, List, Option, Some, None};
+ghost use Rattle.std.specs.Prelude.{IfSome, IfNone, OnErr, OnOk, IsSome};
 ghost use Rattle.flux_defs.specs.Graph.{chain, has_on_chain, is_at_or_below, parent_of};
 ghost use Rattle.graph_laws.proofs.Containment.{ParentsFirst};
 ghost use Rattle.vertex_planners.specs.Numbers.{kept_at, amount_at, count_of, HasKeysBelow, IsTaken};
@@ -29,7 +30,8 @@ impl Amounts {
     /// So much more for one vertex. A sum past the greatest number is answered as want of memory. After that answer all
     /// numbers are as before.
     pub fn add(&mut self, vertex: u32, more: u64) -> Result<(), AllocError>
-        ensures sum { OnOk result ((v : ℕ) → amount_at self.new v ≡ amount_at self.old v + (if vertex == v then more else 0)) }
+        ensures sum { OnOk result
+            ((v : ℕ) → amount_at self.new v ≡ amount_at self.old v + (if vertex == v then more else 0)) }
         ensures same { OnErr result ((v : ℕ) → amount_at self.new v ≡ amount_at self.old v) }
         ensures keys { (most : ℕ) → vertex < most → HasKeysBelow most self.old → HasKeysBelow most self.new }
         ensures count { count_of self.new ≤ count_of self.old + 1 }

@@ -1,5 +1,6 @@
 //! The planners of one vertex.
-ghost use Rattle.std.specs.Prelude.{◌≡◌, ℕ, ◌+◌, ◌*◌, ◌<◌, ◌≤◌, List, [], ◌∷◌, ◌++◌, length, slice_get, slice_index_or, Some, IfOk, MatchOption};
+ghost use Rattle.std.specs.Prelude.{◌≡◌, ℕ, ◌+◌, ◌*◌, ◌<◌, ◌≤◌, List, [], ◌∷◌, ◌++◌, length, slice_get, slice_index_or};
+ghost use Rattle.std.specs.Prelude.{Some, IfOk, MatchOption};
 ghost use Rattle.planner_points.specs.declared.spans.Span.{Span};
 ghost use Rattle.planner_points.specs.Spans.{free_at, HasRoom, IsLeastFree, IsFirstFree};
 ghost use Rattle.planner_points.specs.Work.{renew_cost};
@@ -32,7 +33,8 @@ impl<P: Planner + Drop> Item<P> {
     /// A planner without spans for each of these totals.
     pub fn of_totals(alloc: Global, totals: &[u64], horizon: u64) -> Result<Item<P>, AllocError>
         ensures len { IfOk result (λ item. length item ≡ length totals.now) }
-        ensures totals { IfOk result (λ item. (k : ℕ) (p : P) → slice_get item k ≡ Some p → P.total_of p ≡ slice_index_or totals.now k 0) }
+        ensures totals { IfOk result
+            (λ item. (k : ℕ) (p : P) → slice_get item k ≡ Some p → P.total_of p ≡ slice_index_or totals.now k 0) }
         ensures spans { IfOk result (λ item. (k : ℕ) (p : P) → slice_get item k ≡ Some p → P.stands_for p []) }
     {
         let mut planners = List::new(alloc);
@@ -72,7 +74,8 @@ impl<P: Planner + Drop> Item<P> {
     ) -> Option<u64>
         requires place { place < length self.now }
         ensures first { (p : P) → slice_get self.now place ≡ Some p → (spans : List Span) → P.stands_for p spans →
-            MatchOption result ((t : ℕ) → from ≤ t → free_at (P.total_of p) spans t < quantity) (IsFirstFree (P.total_of p) spans from quantity) }
+            MatchOption result ((t : ℕ) →
+            from ≤ t → free_at (P.total_of p) spans t < quantity) (IsFirstFree (P.total_of p) spans from quantity) }
         ensures counted { steps.old ≤ steps.new }
         ensures work { (p : P) → slice_get self.now place ≡ Some p → steps.new ≤ steps.old + P.look_cost p }
     {
@@ -82,8 +85,8 @@ impl<P: Planner + Drop> Item<P> {
         planner.first_free(from, quantity, steps)
     }
 
-    /// The item, of which each planner gains a span over the window of its place's number, if that isn't 0, made ready before for
-    /// questions from that second on.
+    /// The item, of which each planner gains a span over the window of its place's number, if that isn't 0, made ready
+    /// before for questions from that second on.
     pub(crate) fn gained<L: Ledger>(
         &self,
         alloc: Global,
@@ -96,7 +99,8 @@ impl<P: Planner + Drop> Item<P> {
         requires window { window.from < window.to }
         requires room { HaveRoom P.total_of P.stands_for window row.now self.now }
         ensures gains { IfOk result (AtRow (Gains P.total_of P.stands_for window) row.now self.now) }
-        ensures work { (most : ℕ) → ((k : ℕ) (p : P) → slice_get self.now k ≡ Some p → renew_cost P.settle_cost P.change_cost p ≤ most) →
+        ensures work { (most : ℕ) →
+            ((k : ℕ) (p : P) → slice_get self.now k ≡ Some p → renew_cost P.settle_cost P.change_cost p ≤ most) →
             steps.new ≤ steps.old + count_some row.now * most }
     {
         let mut planners = List::new(alloc);
@@ -116,8 +120,8 @@ impl<P: Planner + Drop> Item<P> {
         Ok(Item { planners })
     }
 
-    /// The item, of which each planner loses a span over the window of its place's number, if that isn't 0, made ready before for
-    /// questions from that second on.
+    /// The item, of which each planner loses a span over the window of its place's number, if that isn't 0, made ready
+    /// before for questions from that second on.
     pub(crate) fn lost<L: Ledger>(
         &self,
         alloc: Global,
@@ -130,7 +134,8 @@ impl<P: Planner + Drop> Item<P> {
         requires window { window.from < window.to }
         requires span { HaveSpans P.stands_for window row.now self.now }
         ensures loses { IfOk result (AtRow (Loses P.total_of P.stands_for window) row.now self.now) }
-        ensures work { (most : ℕ) → ((k : ℕ) (p : P) → slice_get self.now k ≡ Some p → renew_cost P.settle_cost P.change_cost p ≤ most) →
+        ensures work { (most : ℕ) →
+            ((k : ℕ) (p : P) → slice_get self.now k ≡ Some p → renew_cost P.settle_cost P.change_cost p ≤ most) →
             steps.new ≤ steps.old + count_some row.now * most }
     {
         let mut planners = List::new(alloc);
@@ -151,7 +156,8 @@ impl<P: Planner + Drop> Item<P> {
     }
 }
 
-/// The planner with a span more, made ready before for questions from that second on; the same one where the quantity is 0.
+/// The planner with a span more, made ready before for questions from that second on; the same one where the quantity
+/// is 0.
 fn gain<P: Planner + Drop, L: Ledger>(
     alloc: Global,
     planner: &P,
@@ -161,7 +167,8 @@ fn gain<P: Planner + Drop, L: Ledger>(
     steps: &mut Steps<L>,
 ) -> Result<P, AllocError>
     requires window { window.from < window.to }
-    requires room { (spans : List Span) → P.stands_for planner.now spans → HasRoom (P.total_of planner.now) spans window quantity }
+    requires room { (spans : List Span) →
+        P.stands_for planner.now spans → HasRoom (P.total_of planner.now) spans window quantity }
     ensures gains { IfOk result (Gains P.total_of P.stands_for window quantity planner.now) }
     ensures none { quantity ≡ 0 → steps.new ≤ steps.old }
     ensures work { steps.new ≤ steps.old + renew_cost P.settle_cost P.change_cost planner.now }
@@ -172,7 +179,8 @@ fn gain<P: Planner + Drop, L: Ledger>(
     renewed_with(planner, alloc, moment, window, quantity, steps)
 }
 
-/// The planner with a span less, made ready before for questions from that second on; the same one where the quantity is 0.
+/// The planner with a span less, made ready before for questions from that second on; the same one where the quantity
+/// is 0.
 fn lose<P: Planner + Drop, L: Ledger>(
     alloc: Global,
     planner: &P,
@@ -182,7 +190,8 @@ fn lose<P: Planner + Drop, L: Ledger>(
     steps: &mut Steps<L>,
 ) -> Result<P, AllocError>
     requires window { window.from < window.to }
-    requires span { (before : List Span) × (after : List Span) × P.stands_for planner.now (before ++ (some_span window quantity ++ after)) }
+    requires span { (before : List Span)
+        × (after : List Span) × P.stands_for planner.now (before ++ (some_span window quantity ++ after)) }
     ensures loses { IfOk result (Loses P.total_of P.stands_for window quantity planner.now) }
     ensures none { quantity ≡ 0 → steps.new ≤ steps.old }
     ensures work { steps.new ≤ steps.old + renew_cost P.settle_cost P.change_cost planner.now }

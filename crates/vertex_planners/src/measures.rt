@@ -1,5 +1,6 @@
 //! What claims amount to, by vertices.
-ghost use Rattle.std.specs.Prelude.{◌≡◌, ℕ, ◌+◌, ◌*◌, ◌<◌, ◌≤◌, ◌==◌, if◌then◌else◌, List, sum_by, length, IfOk, OnOk, IfSome};
+ghost use Rattle.std.specs.Prelude.{◌≡◌, ℕ, ◌+◌, ◌*◌, ◌<◌, ◌≤◌, ◌==◌, if◌then◌else◌, List, sum_by, length, IfOk, OnOk};
+ghost use Rattle.std.specs.Prelude.{IfSome};
 ghost use Rattle.std.specs.List.{AllByRecursion};
 ghost use Rattle.flux_defs.specs.declared.claims.Claim.{Claim};
 ghost use Rattle.flux_defs.specs.Graph.{chain, parent_of, is_at_or_below};
@@ -23,14 +24,17 @@ pub trait Measure {
         ensures { result ≡ amount self.now claim.now };
 }
 
-/// By the vertices of the claims, the sum of their numbers. A sum past the greatest number is answered as want of memory.
+/// By the vertices of the claims, the sum of their numbers. A sum past the greatest number is answered as want of
+/// memory.
 pub fn amounts_on<M: Measure>(
     alloc: Global,
     measure: &M,
     claims: &[Claim],
 ) -> Result<Amounts, AllocError>
-    ensures sums { IfOk result (λ amounts. (v : ℕ) → amount_at amounts v ≡ sum_by (λ c. if vertex_of c == v then M.amount measure.now c else 0) claims.now) }
-    ensures keys { IfOk result (λ amounts. (most : ℕ) → AllByRecursion (λ c. vertex_of c < most) claims.now → HasKeysBelow most amounts) }
+    ensures sums { IfOk result (λ amounts. (v : ℕ) →
+        amount_at amounts v ≡ sum_by (λ c. if vertex_of c == v then M.amount measure.now c else 0) claims.now) }
+    ensures keys { IfOk result
+        (λ amounts. (most : ℕ) → AllByRecursion (λ c. vertex_of c < most) claims.now → HasKeysBelow most amounts) }
     ensures few { IfOk result (λ amounts. count_of amounts ≤ length claims.now) }
 {
     let mut amounts = Amounts::new(alloc);
@@ -48,7 +52,8 @@ fn raise(
     from: Option<u32>,
     more: u64,
 ) -> Result<(), AllocError>
-    ensures sums { OnOk result ((v : ℕ) → amount_at amounts.new v ≡ amount_at amounts.old v + sum_on v more (chain vertices.now most from)) }
+    ensures sums { OnOk result
+        ((v : ℕ) → amount_at amounts.new v ≡ amount_at amounts.old v + sum_on v more (chain vertices.now most from)) }
     ensures keys { OnOk result (ParentsIn vertices.now → IfSome from (λ v. v < length vertices.now) →
         HasKeysBelow (length vertices.now) amounts.old → HasKeysBelow (length vertices.now) amounts.new) }
     ensures few { OnOk result (count_of amounts.new ≤ count_of amounts.old + length (chain vertices.now most from)) }
@@ -75,9 +80,9 @@ pub fn parent_in(vertices: &[Vertex], vertex: u32) -> Option<u32>
     }
 }
 
-/// By vertices, the sum of the numbers of the claims that count there: those on the vertex and below it, but for holds of
-/// the vertex itself, which count above it alone; at the root these count too. A sum past the greatest number is answered
-/// as want of memory.
+/// By vertices, the sum of the numbers of the claims that count there: those on the vertex and below it, but for holds
+/// of the vertex itself, which count above it alone; at the root these count too. A sum past the greatest number is
+/// answered as want of memory.
 pub fn amounts_within<M: Measure>(
     alloc: Global,
     graph: &Graph,
@@ -86,9 +91,11 @@ pub fn amounts_within<M: Measure>(
 ) -> Result<Amounts, AllocError>
     ensures sums { IfOk result (λ amounts. (v : ℕ) → amount_at amounts v ≡
         sum_by (λ c. if counts_at graph.now.resources.vertices v c then M.amount measure.now c else 0) claims.now) }
-    ensures keys { IfOk result (λ amounts. AllByRecursion (λ c. vertex_of c < length graph.now.resources.vertices) claims.now →
+    ensures keys { IfOk result
+        (λ amounts. AllByRecursion (λ c. vertex_of c < length graph.now.resources.vertices) claims.now →
         HasKeysBelow (length graph.now.resources.vertices) amounts) }
-    ensures few { IfOk result (λ amounts. AllByRecursion (λ c. vertex_of c < length graph.now.resources.vertices) claims.now →
+    ensures few { IfOk result
+        (λ amounts. AllByRecursion (λ c. vertex_of c < length graph.now.resources.vertices) claims.now →
         count_of amounts ≤ 16 * length claims.now) }
 {
     let mut amounts = Amounts::new(alloc);
@@ -108,7 +115,8 @@ fn raise_for(
     ensures sums { OnOk result ((v : ℕ) → amount_at amounts.new v ≡
         amount_at amounts.old v + (if counts_at graph.now.resources.vertices v claim.now then more else 0)) }
     ensures keys { OnOk result (vertex_of claim.now < length graph.now.resources.vertices →
-        HasKeysBelow (length graph.now.resources.vertices) amounts.old → HasKeysBelow (length graph.now.resources.vertices) amounts.new) }
+        HasKeysBelow (length graph.now.resources.vertices) amounts.old →
+        HasKeysBelow (length graph.now.resources.vertices) amounts.new) }
     ensures few { OnOk result (vertex_of claim.now < length graph.now.resources.vertices →
         count_of amounts.new ≤ count_of amounts.old + 16) }
 {
@@ -137,8 +145,10 @@ fn raise_from(
     ensures sums { OnOk result ((v : ℕ) → amount_at amounts.new v ≡
         amount_at amounts.old v + (if is_at_or_below graph.now.resources.vertices vertex v then more else 0)) }
     ensures keys { OnOk result (vertex < length graph.now.resources.vertices →
-        HasKeysBelow (length graph.now.resources.vertices) amounts.old → HasKeysBelow (length graph.now.resources.vertices) amounts.new) }
-    ensures few { OnOk result (vertex < length graph.now.resources.vertices → count_of amounts.new ≤ count_of amounts.old + 16) }
+        HasKeysBelow (length graph.now.resources.vertices) amounts.old →
+        HasKeysBelow (length graph.now.resources.vertices) amounts.new) }
+    ensures few { OnOk result
+        (vertex < length graph.now.resources.vertices → count_of amounts.new ≤ count_of amounts.old + 16) }
 {
     let vertices = graph.vertices().items();
     raise(amounts, vertices, vertices.len(), Some(vertex), more)?;
@@ -156,7 +166,8 @@ fn raise_above(
         (if vertex == v then 0 else (if is_at_or_below graph.now.resources.vertices vertex v then more else 0))) }
     ensures keys { OnOk result (HasKeysBelow (length graph.now.resources.vertices) amounts.old →
         HasKeysBelow (length graph.now.resources.vertices) amounts.new) }
-    ensures few { OnOk result (vertex < length graph.now.resources.vertices → count_of amounts.new ≤ count_of amounts.old + 16) }
+    ensures few { OnOk result
+        (vertex < length graph.now.resources.vertices → count_of amounts.new ≤ count_of amounts.old + 16) }
 {
     let vertices = graph.vertices().items();
     let above = parent_in(vertices, vertex);

@@ -1,5 +1,6 @@
 //! Planners by vertices.
-ghost use Rattle.std.specs.Prelude.{◌≡◌, ◌≢◌, ℕ, ◌+◌, ◌*◌, ◌<◌, ◌≤◌, List, [], ◌∷◌, ◌++◌, length, slice_get, Some, IfOk, OnOk, OnErr};
+ghost use Rattle.std.specs.Prelude.{◌≡◌, ◌≢◌, ℕ, ◌+◌, ◌*◌, ◌<◌, ◌≤◌, List, [], ◌∷◌, ◌++◌, length, slice_get, Some};
+ghost use Rattle.std.specs.Prelude.{IfOk, OnOk, OnErr};
 ghost use Rattle.flux_defs.specs.Digits.{dig};
 ghost use Rattle.planner_points.specs.Work.{renew_cost};
 ghost use Rattle.vertex_planners.specs.Kept.{Gains, Loses, HaveRoom, HaveSpans, AtRow, RoomAt, SpansAt, AtPlaces};
@@ -14,8 +15,8 @@ use snapshot_store::Pages;
 use std::alloc::{AllocError, Global};
 use std::sync::ledger::Ledger;
 
-/// One item a vertex, by the vertices' numbers, each with a planner for each place. No list of items changes: a call that
-/// changes something gives a new one, which shares what stays.
+/// One item a vertex, by the vertices' numbers, each with a planner for each place. No list of items changes: a call
+/// that changes something gives a new one, which shares what stays.
 #[derive(Drop)]
 pub struct VertexPlanners<P: Planner + Drop> {
     items: Pages<Item<P>>,
@@ -63,8 +64,8 @@ impl<P: Planner + Drop> VertexPlanners<P> {
         }
     }
 
-    /// The planners, of which each gains a span over the window of its vertex's number at its place, if that isn't 0. Each that
-    /// does is made ready before for questions from that second on.
+    /// The planners, of which each gains a span over the window of its vertex's number at its place, if that isn't 0.
+    /// Each that does is made ready before for questions from that second on.
     pub fn gained<L: Ledger>(
         &self,
         alloc: Global,
@@ -79,7 +80,8 @@ impl<P: Planner + Drop> VertexPlanners<P> {
         requires room { RoomAt P.total_of P.stands_for window (places_of rows) (items_of self.now) }
         ensures len { IfOk result (λ all. length (items_of all) ≡ length (items_of self.now)) }
         ensures places { IfOk result (λ all. AreWide (length (places_of rows)) (items_of all)) }
-        ensures gains { IfOk result (λ all. AtPlaces (Gains P.total_of P.stands_for window) (places_of rows) (items_of self.now) (items_of all)) }
+        ensures gains { IfOk result (λ all.
+            AtPlaces (Gains P.total_of P.stands_for window) (places_of rows) (items_of self.now) (items_of all)) }
         ensures work { (most : ℕ) → CostWithin (renew_cost P.settle_cost P.change_cost) most (items_of self.now) →
             steps.new ≤ steps.old + count_all (places_of rows) * change_most (length (items_of self.now)) most }
     {
@@ -91,8 +93,8 @@ impl<P: Planner + Drop> VertexPlanners<P> {
         Ok(VertexPlanners { items })
     }
 
-    /// The planners, of which each loses a span over the window of its vertex's number at its place, if that isn't 0. Each that
-    /// does is made ready before for questions from that second on.
+    /// The planners, of which each loses a span over the window of its vertex's number at its place, if that isn't 0.
+    /// Each that does is made ready before for questions from that second on.
     pub fn lost<L: Ledger>(
         &self,
         alloc: Global,
@@ -107,7 +109,8 @@ impl<P: Planner + Drop> VertexPlanners<P> {
         requires span { SpansAt P.stands_for window (places_of rows) (items_of self.now) }
         ensures len { IfOk result (λ all. length (items_of all) ≡ length (items_of self.now)) }
         ensures places { IfOk result (λ all. AreWide (length (places_of rows)) (items_of all)) }
-        ensures loses { IfOk result (λ all. AtPlaces (Loses P.total_of P.stands_for window) (places_of rows) (items_of self.now) (items_of all)) }
+        ensures loses { IfOk result (λ all.
+            AtPlaces (Loses P.total_of P.stands_for window) (places_of rows) (items_of self.now) (items_of all)) }
         ensures work { (most : ℕ) → CostWithin (renew_cost P.settle_cost P.change_cost) most (items_of self.now) →
             steps.new ≤ steps.old + count_all (places_of rows) * change_most (length (items_of self.now)) most }
     {
@@ -133,12 +136,15 @@ fn gain_at<P: Planner + Drop, L: Ledger>(
     requires vertex { vertex < length items.old }
     requires window { window.from < window.to }
     requires places { (x : List P) → slice_get items.old vertex ≡ Some x → length row.now ≡ length x }
-    requires room { (x : List P) → slice_get items.old vertex ≡ Some x → HaveRoom P.total_of P.stands_for window row.now x }
+    requires room { (x : List P) →
+        slice_get items.old vertex ≡ Some x → HaveRoom P.total_of P.stands_for window row.now x }
     ensures len { OnOk result (length items.new ≡ length items.old) }
-    ensures here { OnOk result ((x y : List P) → slice_get items.old vertex ≡ Some x → slice_get items.new vertex ≡ Some y →
+    ensures here { OnOk result
+        ((x y : List P) → slice_get items.old vertex ≡ Some x → slice_get items.new vertex ≡ Some y →
         AtRow (Gains P.total_of P.stands_for window) row.now x y) }
     ensures others { OnOk result ((u : ℕ) → u ≢ vertex → slice_get items.new u ≡ slice_get items.old u) }
-    ensures work { (most : ℕ) → ((x : List P) (k : ℕ) (p : P) → slice_get items.old vertex ≡ Some x → slice_get x k ≡ Some p → renew_cost P.settle_cost P.change_cost p ≤ most) →
+    ensures work { (most : ℕ) → ((x : List P) (k : ℕ) (p : P) → slice_get items.old vertex ≡ Some x →
+        slice_get x k ≡ Some p → renew_cost P.settle_cost P.change_cost p ≤ most) →
         steps.new ≤ steps.old + (4 * dig (length items.old + 1) + count_some row.now * most) }
 {
     let item = match items.get(vertex as u64, steps) {
@@ -166,10 +172,12 @@ fn lose_at<P: Planner + Drop, L: Ledger>(
     requires places { (x : List P) → slice_get items.old vertex ≡ Some x → length row.now ≡ length x }
     requires span { (x : List P) → slice_get items.old vertex ≡ Some x → HaveSpans P.stands_for window row.now x }
     ensures len { OnOk result (length items.new ≡ length items.old) }
-    ensures here { OnOk result ((x y : List P) → slice_get items.old vertex ≡ Some x → slice_get items.new vertex ≡ Some y →
+    ensures here { OnOk result
+        ((x y : List P) → slice_get items.old vertex ≡ Some x → slice_get items.new vertex ≡ Some y →
         AtRow (Loses P.total_of P.stands_for window) row.now x y) }
     ensures others { OnOk result ((u : ℕ) → u ≢ vertex → slice_get items.new u ≡ slice_get items.old u) }
-    ensures work { (most : ℕ) → ((x : List P) (k : ℕ) (p : P) → slice_get items.old vertex ≡ Some x → slice_get x k ≡ Some p → renew_cost P.settle_cost P.change_cost p ≤ most) →
+    ensures work { (most : ℕ) → ((x : List P) (k : ℕ) (p : P) → slice_get items.old vertex ≡ Some x →
+        slice_get x k ≡ Some p → renew_cost P.settle_cost P.change_cost p ≤ most) →
         steps.new ≤ steps.old + (4 * dig (length items.old + 1) + count_some row.now * most) }
 {
     let item = match items.get(vertex as u64, steps) {

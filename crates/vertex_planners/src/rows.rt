@@ -1,5 +1,6 @@
 //! Numbers by places and vertices.
-ghost use Rattle.std.specs.Prelude.{◌≡◌, ℕ, ◌+◌, ◌<◌, ◌≤◌, List, [], ◌∷◌, ◌++◌, length, Option, Some, None, IfSome, IfNone, IfOk, OnOk, OnErr, IsSome, slice_get};
+ghost use Rattle.std.specs.Prelude.{◌≡◌, ℕ, ◌+◌, ◌<◌, ◌≤◌, List, [], ◌∷◌, ◌++◌, length, Option, Some, None, IfSome};
+ghost use Rattle.std.specs.Prelude.{IfNone, IfOk, OnOk, OnErr, IsSome, slice_get};
 ghost use Rattle.vertex_planners.specs.Rows.{places_of, count_all, IsLeft, HasNoneLeft, IsRow, IsRowTaken};
 
 use crate::amounts::Amounts;
@@ -36,7 +37,8 @@ impl Rows {
     /// Takes the numbers of one vertex off that has some, with the numbers by place; `None` exactly where no vertex is
     /// left.
     pub(crate) fn pop(&mut self, alloc: Global) -> Result<Option<(u32, List<u64>)>, AllocError>
-        ensures taken { IfOk result (λ found. IfSome found (λ first. IsRowTaken (places_of self.old) (places_of self.new) first.0 first.1)) }
+        ensures taken { IfOk result
+            (λ found. IfSome found (λ first. IsRowTaken (places_of self.old) (places_of self.new) first.0 first.1)) }
         ensures none { IfOk result (λ found. IfNone found (HasNoneLeft (places_of self.old))) }
     {
         match first_of(self.places.as_slice()) {

@@ -1,5 +1,5 @@
-//! Plays the worked rows in the folder where it runs: each folder with a file `args` is one. It writes a line for each row,
-//! in the order of their names. docs/WORKING.md says what stands in the files of a row.
+//! Plays the worked rows in the folder where it runs: each folder with a file `args` is one. It writes a line for each
+//! row, in the order of their names. docs/WORKING.md says what stands in the files of a row.
 #![tactic(auto)]
 
 mod judging;

@@ -22,9 +22,12 @@ pub returns-in-Take-clause-answer : goal.returns-in-Take-clause-answer
 returns-in-Take-clause-answer g c = λ jobs stands.
     let scene = no_bars (g.F.FreeView.graph c.args.view.now) jobs in
     let take = c.in-Take in
-    let told = available_take scene c.args.window take.vertex take.quantity c.free_over.result (c.free_over.ensures.answer jobs stands) in
-    of_equal scene c.args.window (nat_le take.quantity c.free_over.result) c.args.claim _ take.is
-    (λ t. told.0 (at_most take.quantity c.free_over.result t), λ a. at_most_told take.quantity c.free_over.result (told.1 a))
+    let told = available_take scene c.args.window take.vertex take.quantity c.free_over.result
+    (c.free_over.ensures.answer jobs stands) in
+    of_equal scene c.args.window (nat_le take.quantity c.free_over.result) c.args.claim _ take.is (
+      λ t. told.0 (at_most take.quantity c.free_over.result t),
+      λ a. at_most_told take.quantity c.free_over.result (told.1 a),
+    )
 
 pub returns-in-Pass-clause-answer : goal.returns-in-Pass-clause-answer
 returns-in-Pass-clause-answer g c = λ jobs stands.
@@ -37,7 +40,8 @@ pub returns-then-closed_over-clause-answer : goal.returns-then-closed_over-claus
 returns-then-closed_over-clause-answer g c = λ jobs stands.
     let scene = no_bars (g.F.FreeView.graph c.args.view.now) jobs in
     of_equal scene c.args.window false c.args.claim _ c.in-Hold.is
-    (admits_none scene c.args.window c.in-Hold.vertex true c.closed_over.result c.if-closed_over.true (c.closed_over.ensures.answer jobs stands))
+    (admits_none scene c.args.window c.in-Hold.vertex true c.closed_over.result c.if-closed_over.true
+    (c.closed_over.ensures.answer jobs stands))
 
 pub returns-else-closed_over-clause-answer : goal.returns-else-closed_over-clause-answer
 returns-else-closed_over-clause-answer g c = λ jobs stands.

@@ -12,20 +12,24 @@ pub loop-index-preserved : goal.loop-index-preserved
 loop-index-preserved g c = record {
   free = λ jobs stands.
       let told = (c.is_available.ensures.answer jobs stands).0 in
-      All-more (IsAvailable (no_bars (g.F.FreeView.graph c.args.view.now) jobs) c.args.window) c.items-claim-items.result.now c.loop-index.index _ c.loop-index-test.true (c.loop-index.invariant.free jobs stands) (told c.if-not-is_available.false);
+      All-more (IsAvailable (no_bars (g.F.FreeView.graph c.args.view.now) jobs) c.args.window)
+      c.items-claim-items.result.now c.loop-index.index _ c.loop-index-test.true
+      (c.loop-index.invariant.free jobs stands) (told c.if-not-is_available.false);
   work = omega arith;
 }
 
 pub returns-clause-answer : goal.returns-clause-answer
 returns-clause-answer g c = λ jobs stands.
     let Each = All (IsAvailable (no_bars (g.F.FreeView.graph c.args.view.now) jobs) c.args.window) in
-    subst Each (take_all c.loop-index.index c.items-claim-items.result.now c.loop-index-test.false ∙ c.items-claim-items.ensures) (c.loop-index.invariant.free jobs stands)
+    subst Each (take_all c.loop-index.index c.items-claim-items.result.now c.loop-index-test.false
+    ∙ c.items-claim-items.ensures) (c.loop-index.invariant.free jobs stands)
 
 pub returns-then-not-is_available-clause-answer : goal.returns-then-not-is_available-clause-answer
 returns-then-not-is_available-clause-answer g c = λ jobs stands.
     let vertices = g.F.FreeView.graph c.args.view.now in
     let told = (c.is_available.ensures.answer jobs stands).1 in
-    subst (λ (claims : List Claim). IsFirstGone vertices jobs c.args.window claims c.loop-index.index) c.items-claim-items.ensures (
+    subst (λ (claims : List Claim). IsFirstGone vertices jobs c.args.window claims c.loop-index.index)
+    c.items-claim-items.ensures (
       _,
       record {
         there = slice_get-get_or c.items-claim-items.result.now c.loop-index.index _ c.loop-index-test.true;

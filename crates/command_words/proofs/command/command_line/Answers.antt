@@ -29,7 +29,9 @@ returns c =
     ap app_of_fields (c.disable_version_flag.ensures ∙ ap no_version
     (c.disable_help_flag.ensures ∙ ap no_help c.no_binary_name.ensures))
     ∙ ap (on_top settings) c.new-5.ensures.app in
-    let three : app_of c.in_ok-arg-3.field-0 ≡ with_rule (with_rule (with_rule (on_top settings (new_app (codes "fluxion"))) (option_rule (codes "horizon"))) (option_rule (codes "filters"))) (option_rule (codes "jobspec")) =
+    let three : app_of c.in_ok-arg-3.field-0
+    ≡ with_rule (with_rule (with_rule (on_top settings (new_app (codes "fluxion"))) (option_rule (codes "horizon")))
+    (option_rule (codes "filters"))) (option_rule (codes "jobspec")) =
     c.in_ok-arg-3.ensures.shape (search rules)
     ∙ ap₂ with_rule (c.in_ok-arg-2.ensures.shape (search rules) ∙ ap₂ with_rule
     (c.in_ok-arg.ensures.shape (search rules) ∙ ap₂ with_rule base horizon_is) filters_is) jobspec_is in

@@ -28,7 +28,8 @@ returns-in-Some-eq61 c =
     let is = strips text word c.strip_prefix.result
     (strip_prefix_is Decides-eqb word text c.strip_prefix.result c.strip_prefix.ensures.cases) in
     sym (behind_some text word c.strip_prefix.result c.in-Some.rest is c.in-Some.is
-    ∙ value_behind c.in-Some.rest.now c.in-Some-eq61.field-0.now c.in-Some-eq61.ensures.value c.in-Some-eq61.field-0-test)
+    ∙ value_behind c.in-Some.rest.now
+    c.in-Some-eq61.field-0.now c.in-Some-eq61.ensures.value c.in-Some-eq61.field-0-test)
 
 pub returns-in-Some-first : goal.returns-in-Some-first
 returns-in-Some-first c =
@@ -37,4 +38,5 @@ returns-in-Some-first c =
     let is = strips text word c.strip_prefix.result
     (strip_prefix_is Decides-eqb word text c.strip_prefix.result c.strip_prefix.ensures.cases) in
     sym (behind_some text word c.strip_prefix.result c.in-Some.rest is c.in-Some.is
-    ∙ other_behind c.in-Some.rest.now c.in-Some-first.field-0.now c.in-Some-first.ensures.value c.in-Some-first.field-0-test.1)
+    ∙ other_behind c.in-Some.rest.now
+    c.in-Some-first.field-0.now c.in-Some-first.ensures.value c.in-Some-first.field-0-test.1)

@@ -1,4 +1,5 @@
-use Rattle.std.proofs.Common.{◌≡◌, ℕ, ◌+◌, ◌++◌, ◌∷◌, [], List, All, IsUtf8, map, string_bytes, take, String, Global, sym, ◌∙◌, ap, subst}
+use Rattle.std.proofs.Common.{◌≡◌, ℕ, ◌+◌, ◌++◌, ◌∷◌, [], List, All, IsUtf8, map, string_bytes, take, String, Global}
+use Rattle.std.proofs.Common.{sym, ◌∙◌, ap, subst}
 use Rattle.std.proofs.lemmas.List.Elements.{All-more}
 use Rattle.std.proofs.lemmas.List.{take_more, map-append}
 use Rattle.std.proofs.Common.{take_all}
@@ -29,7 +30,8 @@ loop-word-preserved c =
     let utf8 = subst IsUtf8 (c.bytes.ensures ∙ c.word-item.is) c.in-Ok.ensures.cases.1 in
     record {
       utf8 = All-more IsUtf8 items at item c.loop-word-test.true c.loop-word.invariant.utf8 utf8;
-      same = pushed c.loop-word.texts.items c.push.new.self.items c.in_ok-from_str.field-0 items at item c.in_ok-push.ensures.items c.loop-word.invariant.same
+      same = pushed c.loop-word.texts.items c.push.new.self.items
+          c.in_ok-from_str.field-0 items at item c.in_ok-push.ensures.items c.loop-word.invariant.same
           (c.in_ok-from_str.ensures.ok ∙ (c.in-Ok.ensures.cases.0 ∙ c.bytes.ensures))
           (more ∙ ap (λ x. take at items ++ x ∷ []) (sym c.word-item.is));
     }

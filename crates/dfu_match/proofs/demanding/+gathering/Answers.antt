@@ -1,4 +1,5 @@
-use Rattle.std.proofs.Common.{◌≡◌, ◌+◌, inl, inr, ℕ, List, ◌∷◌, length, length-append, drop, ap, ◌∙◌, arith, subst, Contains}
+use Rattle.std.proofs.Common.{◌≡◌, ◌+◌, inl, inr, ℕ, List, ◌∷◌, length, length-append, drop, ap, ◌∙◌, arith, subst}
+use Rattle.std.proofs.Common.{Contains}
 use Rattle.std.proofs.lemmas.List.{drop_all}
 use Rattle.flux_defs.specs.declared.requests.Need.{Need}
 use Rattle.dfu_match.specs.Tables.{all_of, needs_all}

@@ -7,7 +7,8 @@ use Rattle.match_laws.specs.Offers.{Extends}
 use Rattle.match_laws.proofs.Walk.{Filled}
 use Rattle.match_laws.proofs.NeedLists.{Completes}
 use Rattle.dfu_match.specs.Tables.{needs_all, StandAt}
-use Rattle.dfu_match.specs.Pairs.{HasEachOpen, IsClearScope, IsPlaceOf, IsPlaceOfAll, IsSpanOf, Looks, LooksAll, TakesEach, asked_totals}
+use Rattle.dfu_match.specs.Pairs.{HasEachOpen, IsClearScope, IsPlaceOf, IsPlaceOfAll, IsSpanOf, Looks, LooksAll}
+use Rattle.dfu_match.specs.Pairs.{TakesEach, asked_totals}
 use Rattle.dfu_match.proofs.StepLaws.{Walked}
 use Rattle.dfu_match.specs.Searches.{open_to, scope_of}
 use Rattle.dfu_match.proofs.writing.+writing.Given as goal

@@ -37,14 +37,19 @@ the_items_listed X xs = list-listed X xs
 
 -- as the code has it: a `Vec` in its one field
 abbrev fields : Former {0}
-fields = via (vec.the_former this Global) Inside (λ X it. it.held) (λ X v. record { held = v }) (λ X it. refl) (λ X v. refl)
+fields =
+    via (vec.the_former this Global) Inside (λ X it. it.held) (λ X v. record { held = v }) (λ X it. refl) (λ X v. refl)
 
 module _ (R S : RattleType) (along : R.Denot → S.Denot) where
-  pub the_places : Alike R S along → Alike (seen.the_row R) (seen.the_row S) ((the_former this).map R.Denot S.Denot along)
-  the_places alike = view_places fields (list this) view (λ X Y k u. refl) (λ X u. refl) R.Denot S.Denot along (seen.the_row R).coded (seen.the_row S).coded
+  pub the_places : Alike R S along →
+      Alike (seen.the_row R) (seen.the_row S) ((the_former this).map R.Denot S.Denot along)
+  the_places alike = view_places fields (list this) view
+      (λ X Y k u. refl) (λ X u. refl) R.Denot S.Denot along (seen.the_row R).coded (seen.the_row S).coded
       (invariant R.Denot) (invariant S.Denot) (λ u p q. refl) (λ u p q. refl) (λ u e. tt) (λ u e. tt)
       (over (inside.the_row R)) (over (inside.the_row S))
-      (struct_places (inside.the_type R) (inside.the_type S) (vec.mapped along, tt) _ (λ d. refl) refl (laid _ _ _ (vec.the_places heap.the_row ghosts R S along alike), tt))
+      (struct_places (inside.the_type R) (inside.the_type S) (vec.mapped along, tt) _
+      (λ d. refl) refl (laid _ _ _ (vec.the_places heap.the_row ghosts R S along alike), tt))
 
-  pub the_codes_placed : Recodes R S along → Recodes (seen.the_row R) (seen.the_row S) ((the_former this).map R.Denot S.Denot along)
+  pub the_codes_placed : Recodes R S along →
+      Recodes (seen.the_row R) (seen.the_row S) ((the_former this).map R.Denot S.Denot along)
   the_codes_placed recodes xs = sym (code_map R.coded.code S.coded.code along (λ x. sym (recodes x)) xs)

@@ -12,9 +12,11 @@ abbrev pub invariant-lines : goal.invariant-lines
 invariant-lines l = record {
   few : length l.lines.items + length l.rest ≤ length l.bytes;
   clients : with_texts l.table (map client_in (lines_of l.rest)) ≡ clients_of l.bytes;
-  lines : l.lines.items ++ lines_from l.graph l.form l.table (length l.lines.items + 1) (lines_of l.rest) ≡ numbered_lines l.graph l.form l.bytes;
+  lines : l.lines.items ++ lines_from l.graph l.form l.table (length l.lines.items + 1) (lines_of l.rest)
+      ≡ numbered_lines l.graph l.form l.bytes;
   bars : l.bars ≤ l.limits.barred;
-  over : over_from l.limits l.graph l.form l.table l.bars (length l.lines.items + 1) (lines_of l.rest) ≡ over_in l.limits l.graph l.form l.bytes;
+  over : over_from l.limits l.graph l.form l.table l.bars (length l.lines.items + 1) (lines_of l.rest)
+      ≡ over_in l.limits l.graph l.form l.bytes;
   proper : AllByRecursion (λ x. IsProper l.graph.resources.vertices x.command) l.lines.items;
 }
 

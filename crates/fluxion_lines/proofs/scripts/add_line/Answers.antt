@@ -10,4 +10,5 @@ returns-in-Ok c =
     c.put-empty.ensures.new
     ∙ (ap (λ (xs : List (List Line)). slice_set xs client c.push.new.self) c.put-own.ensures.new
     ∙ (set_twice old client c.new.result c.push.new.self
-    ∙ ap (slice_set old client) (c.in-Ok.ensures.ok ∙ ap (λ (o : Option (List Line)). unwrap_or o [] ++ c.args.line ∷ []) (sym c.put-own.ensures.old))))
+    ∙ ap (slice_set old client) (c.in-Ok.ensures.ok
+    ∙ ap (λ (o : Option (List Line)). unwrap_or o [] ++ c.args.line ∷ []) (sym c.put-own.ensures.old))))

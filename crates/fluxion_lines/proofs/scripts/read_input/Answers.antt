@@ -19,5 +19,6 @@ by_client-requires c =
 pub returns-clause-proper : goal.returns-clause-proper
 returns-clause-proper c =
     let vertices = c.args.graph.now.resources.vertices in
-    subst (AllByRecursion (λ (lines : List Line). AllByRecursion (λ (l : Line). IsProper vertices l.command) lines)) (sym c.in_ok-lines.ensures)
+    subst (AllByRecursion (λ (lines : List Line). AllByRecursion (λ (l : Line). IsProper vertices l.command) lines))
+    (sym c.in_ok-lines.ensures)
     (proper_lists (IsProper vertices) c.len.result c.in-Ok.read.lines c.in-Ok.ensures.proper)

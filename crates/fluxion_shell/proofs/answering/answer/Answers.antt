@@ -19,12 +19,14 @@ played-requires-clause-few g c = λ κs l.
     let input = c.args.input.now in
     let within = ap (λ l. over_in l graph form input) (sym c.shipped.ensures) ∙ c.in-Ok.ensures.within refl in
     let few : length c.in-Ok.script.lines ≤ SHIPPED.clients =
-    subst (λ (s : Script). length s.lines ≤ SHIPPED.clients) (sym c.in-Ok.ensures.script) (few_clients_within SHIPPED graph form input within) in
+    subst (λ (s : Script). length s.lines ≤ SHIPPED.clients)
+    (sym c.in-Ok.ensures.script) (few_clients_within SHIPPED graph form input within) in
     omega (arith, few)
 
 pub played-requires-clause-proper : goal.played-requires-clause-proper
 played-requires-clause-proper g c = λ κs l.
-    subst (λ (h : NamedGraph). AllByRecursion (λ lines. AllByRecursion (λ l. IsProper h.resources.vertices l.command) lines)
+    subst (λ (h : NamedGraph).
+    AllByRecursion (λ lines. AllByRecursion (λ l. IsProper h.resources.vertices l.command) lines)
     c.in-Ok.script.lines) (sym c.in_ok-graph.ensures.ok) c.in-Ok.ensures.proper
 
 pub played-requires-clause-apart : goal.played-requires-clause-apart
@@ -36,9 +38,11 @@ returns-clause-output g c =
     let graph = c.args.graph in
     let input = c.args.input.now in
     let together = c.in_ok-clients.field-0.core in
-    let within = ap (λ l. over_in l graph c.args.serving.form input) (sym c.shipped.ensures) ∙ c.in-Ok.ensures.within refl in
+    let within = ap (λ l. over_in l graph c.args.serving.form input) (sym c.shipped.ensures)
+    ∙ c.in-Ok.ensures.within refl in
     held_output (served_held c.args.serving) graph (arc_value c.in_ok-graph.graph) c.deref.result.now input
-    c.in-Ok.script together c.in_ok-clients.field-0.clients c.entries.result.now c.in_ok-text.text c.in_ok-graph.ensures.ok c.deref.ensures
+    c.in-Ok.script together
+    c.in_ok-clients.field-0.clients c.entries.result.now c.in_ok-text.text c.in_ok-graph.ensures.ok c.deref.ensures
     c.in_ok-clients.ensures.together c.in-Ok.ensures.script c.in_ok-clients.ensures.clients
     c.entries.ensures
     c.in_ok-text.ensures.text c.in_ok-text.ensures.lines (c.in_ok-text.ensures.few refl) within

@@ -87,7 +87,8 @@ returns-in-Ok-write_all-clause-answered g c =
     let F = Rose (g.F.Files.faults c.args.files.now) (g.F.Files.faults c.load.new.files) in
     let R = Rose (g.F.Files.refused c.args.files.now) (g.F.Files.refused c.load.new.files) in
     let loaded = c.in-Ok.ensures.loaded in
-    let prints : Prints loaded.0 c.in-Ok-printed.text = record { graph = c.in-Ok.graph; graph-is = loaded.2; text-is = c.in-Ok-printed.ensures } in
+    let prints : Prints loaded.0 c.in-Ok-printed.text =
+    record { graph = c.in-Ok.graph; graph-is = loaded.2; text-is = c.in-Ok-printed.ensures } in
     λ same. where_file F told name loaded.0 loaded.1 c.in-Ok.graph loaded.2
     (λ file. AppendsSome (g.O.Sink.held c.args.out.now) (g.O.Sink.held c.write_all.new.out) (Prints file))
     (c.in-Ok-printed.text, prints, c.in-Ok-write_all.ensures.whole)
@@ -99,7 +100,8 @@ returns-clause-front g c =
     let F = Rose (g.F.Files.faults c.args.files.now) (g.F.Files.faults c.load.new.files) in
     let R = Rose (g.F.Files.refused c.args.files.now) (g.F.Files.refused c.load.new.files) in
     let loaded = c.in-Ok.ensures.loaded in
-    let prints : Prints loaded.0 c.in-Ok-printed.text = record { graph = c.in-Ok.graph; graph-is = loaded.2; text-is = c.in-Ok-printed.ensures } in
+    let prints : Prints loaded.0 c.in-Ok-printed.text =
+    record { graph = c.in-Ok.graph; graph-is = loaded.2; text-is = c.in-Ok-printed.ensures } in
     λ same. where_file F told name loaded.0 loaded.1 c.in-Ok.graph loaded.2
     (λ file. AppendsFrontOfSome (g.O.Sink.held c.args.out.now) (g.O.Sink.held c.write_all.new.out) (Prints file))
     (front_of _ _ _ _ c.in-Ok-printed.text (Prints loaded.0) c.write_all.ensures.front prints)
@@ -111,7 +113,8 @@ returns-in-Ok-write_all-clause-room g c =
     let F = Rose (g.F.Files.faults c.args.files.now) (g.F.Files.faults c.load.new.files) in
     let R = Rose (g.F.Files.refused c.args.files.now) (g.F.Files.refused c.load.new.files) in
     let loaded = c.in-Ok.ensures.loaded in
-    let prints : Prints loaded.0 c.in-Ok-printed.text = record { graph = c.in-Ok.graph; graph-is = loaded.2; text-is = c.in-Ok-printed.ensures } in
+    let prints : Prints loaded.0 c.in-Ok-printed.text =
+    record { graph = c.in-Ok.graph; graph-is = loaded.2; text-is = c.in-Ok-printed.ensures } in
     where_file F told name loaded.0 loaded.1 c.in-Ok.graph loaded.2
     (λ file. IfSome (g.O.Sink.room c.args.out.now) (λ room. ((x : List ℕ) → Prints file x → length x ≤ room) →
     g.O.Sink.faults c.write_all.new.out ≡ g.O.Sink.faults c.args.out.now))
@@ -127,7 +130,8 @@ returns-clause-room g c =
     let F = Rose (g.F.Files.faults c.args.files.now) (g.F.Files.faults c.load.new.files) in
     let R = Rose (g.F.Files.refused c.args.files.now) (g.F.Files.refused c.load.new.files) in
     let loaded = c.in-Ok.ensures.loaded in
-    let prints : Prints loaded.0 c.in-Ok-printed.text = record { graph = c.in-Ok.graph; graph-is = loaded.2; text-is = c.in-Ok-printed.ensures } in
+    let prints : Prints loaded.0 c.in-Ok-printed.text =
+    record { graph = c.in-Ok.graph; graph-is = loaded.2; text-is = c.in-Ok-printed.ensures } in
     where_file F told name loaded.0 loaded.1 c.in-Ok.graph loaded.2
     (λ file. IfSome (g.O.Sink.room c.args.out.now) (λ room. ((x : List ℕ) → Prints file x → length x ≤ room) →
     g.O.Sink.faults c.write_all.new.out ≡ g.O.Sink.faults c.args.out.now))

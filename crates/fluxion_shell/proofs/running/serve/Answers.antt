@@ -6,9 +6,11 @@ use Rattle.fluxion_lines.specs.Inputs.{over_in}
 use Rattle.fluxion_shell.specs.declared.status.Status.{Status}
 use Rattle.fluxion_shell.specs.declared.status.Status.TheVariants as status
 use Rattle.asked_calls.specs.Calls.{serve, served_held}
-use Rattle.fluxion_shell.specs.Causes.{AppendsSome, AppendsFrontOfSome, IsLoaded, FailsWith, ShowsInput, IsPastLimit, HasCause, IsFirstShown, limit_of, long_input}
+use Rattle.fluxion_shell.specs.Causes.{AppendsSome, AppendsFrontOfSome, IsLoaded, FailsWith, ShowsInput, IsPastLimit}
+use Rattle.fluxion_shell.specs.Causes.{HasCause, IsFirstShown, limit_of, long_input}
 use Rattle.fluxion_shell.specs.Outputs.{IsOutput, Answers}
-use Rattle.fluxion_shell.proofs.Shown.{fails_cause, fails_first, shows_then, earlier_input, long_shown, written_shown, over_shown, over_cause, size_shown, where_both, front_of, no_fault}
+use Rattle.fluxion_shell.proofs.Shown.{fails_cause, fails_first, shows_then, earlier_input, long_shown, written_shown}
+use Rattle.fluxion_shell.proofs.Shown.{over_shown, over_cause, size_shown, where_both, front_of, no_fault}
 use Rattle.fluxion_shell.proofs.running.serve.Goals as goal
 
 -- a graph that was not read is no answer that went well, nor one that the output spoils
@@ -26,7 +28,8 @@ returns-in-Err-clause-answered g c =
     let R = Rose (g.F.Files.refused c.args.files.now) (g.F.Files.refused c.load.new.files) in
     let I = Rose (g.S.Source.faults c.args.input.now) (g.S.Source.faults c.args.input.now) in
     let O = Rose (g.O.Sink.faults c.args.out.now) (g.O.Sink.faults c.args.out.now) in
-    let fails = subst (λ (n : List ℕ). FailsWith told n F R c.in-Err.status) c.as_str.ensures.value c.in-Err.ensures.failed in
+    let fails =
+    subst (λ (n : List ℕ). FailsWith told n F R c.in-Err.status) c.as_str.ensures.value c.in-Err.ensures.failed in
     λ same. absurd (no_ok told _ F R c.in-Err.status fails same)
 
 pub returns-in-Err-clause-front : goal.returns-in-Err-clause-front
@@ -36,7 +39,8 @@ returns-in-Err-clause-front g c =
     let R = Rose (g.F.Files.refused c.args.files.now) (g.F.Files.refused c.load.new.files) in
     let I = Rose (g.S.Source.faults c.args.input.now) (g.S.Source.faults c.args.input.now) in
     let O = Rose (g.O.Sink.faults c.args.out.now) (g.O.Sink.faults c.args.out.now) in
-    let fails = subst (λ (n : List ℕ). FailsWith told n F R c.in-Err.status) c.as_str.ensures.value c.in-Err.ensures.failed in
+    let fails =
+    subst (λ (n : List ℕ). FailsWith told n F R c.in-Err.status) c.as_str.ensures.value c.in-Err.ensures.failed in
     λ same. absurd (no_write told _ F R c.in-Err.status fails same)
 
 pub returns-in-Err-clause-end : goal.returns-in-Err-clause-end
@@ -46,7 +50,8 @@ returns-in-Err-clause-end g c =
     let R = Rose (g.F.Files.refused c.args.files.now) (g.F.Files.refused c.load.new.files) in
     let I = Rose (g.S.Source.faults c.args.input.now) (g.S.Source.faults c.args.input.now) in
     let O = Rose (g.O.Sink.faults c.args.out.now) (g.O.Sink.faults c.args.out.now) in
-    let fails = subst (λ (n : List ℕ). FailsWith told n F R c.in-Err.status) c.as_str.ensures.value c.in-Err.ensures.failed in
+    let fails =
+    subst (λ (n : List ℕ). FailsWith told n F R c.in-Err.status) c.as_str.ensures.value c.in-Err.ensures.failed in
     λ same. absurd (no_ok told _ F R c.in-Err.status fails same)
 
 pub returns-in-Err-clause-cause : goal.returns-in-Err-clause-cause
@@ -56,7 +61,8 @@ returns-in-Err-clause-cause g c =
     let R = Rose (g.F.Files.refused c.args.files.now) (g.F.Files.refused c.load.new.files) in
     let I = Rose (g.S.Source.faults c.args.input.now) (g.S.Source.faults c.args.input.now) in
     let O = Rose (g.O.Sink.faults c.args.out.now) (g.O.Sink.faults c.args.out.now) in
-    let fails = subst (λ (n : List ℕ). FailsWith told n F R c.in-Err.status) c.as_str.ensures.value c.in-Err.ensures.failed in
+    let fails =
+    subst (λ (n : List ℕ). FailsWith told n F R c.in-Err.status) c.as_str.ensures.value c.in-Err.ensures.failed in
     fails_cause F R I O (serve (served_held c.args.serving)) (served_held c.args.serving).name told
     (g.S.Source.left c.args.input.now) (λ P p. p) c.in-Err.status fails
 
@@ -67,7 +73,8 @@ returns-in-Err-clause-first g c =
     let R = Rose (g.F.Files.refused c.args.files.now) (g.F.Files.refused c.load.new.files) in
     let I = Rose (g.S.Source.faults c.args.input.now) (g.S.Source.faults c.args.input.now) in
     let O = Rose (g.O.Sink.faults c.args.out.now) (g.O.Sink.faults c.args.out.now) in
-    let fails = subst (λ (n : List ℕ). FailsWith told n F R c.in-Err.status) c.as_str.ensures.value c.in-Err.ensures.failed in
+    let fails =
+    subst (λ (n : List ℕ). FailsWith told n F R c.in-Err.status) c.as_str.ensures.value c.in-Err.ensures.failed in
     fails_first F R I (serve (served_held c.args.serving)) told (g.S.Source.left c.args.input.now) c.in-Err.status fails
 
 pub returns-in-Err-Failed-clause-first : goal.returns-in-Err-Failed-clause-first
@@ -153,7 +160,8 @@ returns-in-Err-Over-clause-first g c =
     subst (λ (r : Status). IsFirstShown (serve served) told left F I r) (sym c.limit_of.ensures)
     (shows_then F told served.name loaded.0 loaded.1 c.in-Ok.graph loaded.2 (limit_of over)
     (λ h. IfSome left (ShowsInput (F ⊎ I) served.form (limit_of over) h))
-    (over_shown (F ⊎ I) served.form c.in-Ok.graph left input over c.in-Ok-read_all.ensures.most c.in-Ok-read_all.ensures.whole past))
+    (over_shown (F ⊎ I)
+    served.form c.in-Ok.graph left input over c.in-Ok-read_all.ensures.most c.in-Ok-read_all.ensures.whole past))
 
 pub returns-in-Err-Over-clause-cause : goal.returns-in-Err-Over-clause-cause
 returns-in-Err-Over-clause-cause g c =
@@ -189,7 +197,8 @@ returns-in-Ok-write_all-clause-first g c =
     ∙ c.in-Ok-answer.ensures.within refl in
     shows_then F told served.name loaded.0 loaded.1 c.in-Ok.graph loaded.2 status.Ok
     (λ h. IfSome left (ShowsInput (F ⊎ I) served.form status.Ok h))
-    (written_shown (F ⊎ I) served.form c.in-Ok.graph left input status.Ok c.in-Ok-read_all.ensures.most c.in-Ok-read_all.ensures.whole within (inl refl))
+    (written_shown (F ⊎ I) served.form c.in-Ok.graph
+    left input status.Ok c.in-Ok-read_all.ensures.most c.in-Ok-read_all.ensures.whole within (inl refl))
 
 pub returns-clause-first : goal.returns-clause-first
 returns-clause-first g c =
@@ -204,7 +213,8 @@ returns-clause-first g c =
     ∙ c.in-Ok-answer.ensures.within refl in
     shows_then F told served.name loaded.0 loaded.1 c.in-Ok.graph loaded.2 status.Write
     (λ h. IfSome left (ShowsInput (F ⊎ I) served.form status.Write h))
-    (written_shown (F ⊎ I) served.form c.in-Ok.graph left input status.Write c.in-Ok-read_all.ensures.most c.in-Ok-read_all.ensures.whole within (inr refl))
+    (written_shown (F ⊎ I) served.form c.in-Ok.graph
+    left input status.Write c.in-Ok-read_all.ensures.most c.in-Ok-read_all.ensures.whole within (inr refl))
 
 pub returns-in-Ok-write_all-clause-answered : goal.returns-in-Ok-write_all-clause-answered
 returns-in-Ok-write_all-clause-answered g c =
@@ -215,8 +225,10 @@ returns-in-Ok-write_all-clause-answered g c =
     let I = Rose (g.S.Source.faults c.args.input.now) (g.S.Source.faults c.read_all.new.source) in
     let loaded = subst (λ (n : List ℕ). IsLoaded told n c.in-Ok.graph) c.as_str.ensures.value c.in-Ok.ensures.loaded in
     let input = c.in-Ok-read_all.lines in
-    let output = subst (λ (i : List ℕ). IsOutput served c.in-Ok.graph i c.in-Ok-answer.text) c.bytes.ensures c.in-Ok-answer.ensures.output in
-    let answers : Answers served loaded.0 input c.in-Ok-answer.text = record { graph = c.in-Ok.graph; graph-is = loaded.2; output = output } in
+    let output = subst (λ (i : List ℕ). IsOutput served c.in-Ok.graph i c.in-Ok-answer.text)
+    c.bytes.ensures c.in-Ok-answer.ensures.output in
+    let answers : Answers served loaded.0 input c.in-Ok-answer.text =
+    record { graph = c.in-Ok.graph; graph-is = loaded.2; output = output } in
     λ same.
     where_both F told served.name loaded.0 loaded.1 c.in-Ok.graph loaded.2 left input
     (λ file lines. AppendsSome (g.O.Sink.held c.args.out.now) (g.O.Sink.held c.write_all.new.out)
@@ -232,8 +244,10 @@ returns-clause-front g c =
     let I = Rose (g.S.Source.faults c.args.input.now) (g.S.Source.faults c.read_all.new.source) in
     let loaded = subst (λ (n : List ℕ). IsLoaded told n c.in-Ok.graph) c.as_str.ensures.value c.in-Ok.ensures.loaded in
     let input = c.in-Ok-read_all.lines in
-    let output = subst (λ (i : List ℕ). IsOutput served c.in-Ok.graph i c.in-Ok-answer.text) c.bytes.ensures c.in-Ok-answer.ensures.output in
-    let answers : Answers served loaded.0 input c.in-Ok-answer.text = record { graph = c.in-Ok.graph; graph-is = loaded.2; output = output } in
+    let output = subst (λ (i : List ℕ). IsOutput served c.in-Ok.graph i c.in-Ok-answer.text)
+    c.bytes.ensures c.in-Ok-answer.ensures.output in
+    let answers : Answers served loaded.0 input c.in-Ok-answer.text =
+    record { graph = c.in-Ok.graph; graph-is = loaded.2; output = output } in
     λ same.
     where_both F told served.name loaded.0 loaded.1 c.in-Ok.graph loaded.2 left input
     (λ file lines. AppendsFrontOfSome (g.O.Sink.held c.args.out.now) (g.O.Sink.held c.write_all.new.out)
@@ -249,8 +263,10 @@ returns-in-Ok-write_all-clause-room g c =
     let I = Rose (g.S.Source.faults c.args.input.now) (g.S.Source.faults c.read_all.new.source) in
     let loaded = subst (λ (n : List ℕ). IsLoaded told n c.in-Ok.graph) c.as_str.ensures.value c.in-Ok.ensures.loaded in
     let input = c.in-Ok-read_all.lines in
-    let output = subst (λ (i : List ℕ). IsOutput served c.in-Ok.graph i c.in-Ok-answer.text) c.bytes.ensures c.in-Ok-answer.ensures.output in
-    let answers : Answers served loaded.0 input c.in-Ok-answer.text = record { graph = c.in-Ok.graph; graph-is = loaded.2; output = output } in
+    let output = subst (λ (i : List ℕ). IsOutput served c.in-Ok.graph i c.in-Ok-answer.text)
+    c.bytes.ensures c.in-Ok-answer.ensures.output in
+    let answers : Answers served loaded.0 input c.in-Ok-answer.text =
+    record { graph = c.in-Ok.graph; graph-is = loaded.2; output = output } in
     where_both F told served.name loaded.0 loaded.1 c.in-Ok.graph loaded.2 left input
     (λ file lines. IfSome (g.O.Sink.room c.args.out.now) (λ room.
     ((x : List ℕ) → Answers served file lines x → length x ≤ room) →
@@ -270,8 +286,10 @@ returns-clause-room g c =
     let I = Rose (g.S.Source.faults c.args.input.now) (g.S.Source.faults c.read_all.new.source) in
     let loaded = subst (λ (n : List ℕ). IsLoaded told n c.in-Ok.graph) c.as_str.ensures.value c.in-Ok.ensures.loaded in
     let input = c.in-Ok-read_all.lines in
-    let output = subst (λ (i : List ℕ). IsOutput served c.in-Ok.graph i c.in-Ok-answer.text) c.bytes.ensures c.in-Ok-answer.ensures.output in
-    let answers : Answers served loaded.0 input c.in-Ok-answer.text = record { graph = c.in-Ok.graph; graph-is = loaded.2; output = output } in
+    let output = subst (λ (i : List ℕ). IsOutput served c.in-Ok.graph i c.in-Ok-answer.text)
+    c.bytes.ensures c.in-Ok-answer.ensures.output in
+    let answers : Answers served loaded.0 input c.in-Ok-answer.text =
+    record { graph = c.in-Ok.graph; graph-is = loaded.2; output = output } in
     where_both F told served.name loaded.0 loaded.1 c.in-Ok.graph loaded.2 left input
     (λ file lines. IfSome (g.O.Sink.room c.args.out.now) (λ room.
     ((x : List ℕ) → Answers served file lines x → length x ≤ room) →

@@ -24,7 +24,8 @@ pub vertices_of-requires-clause-numbered : goal.vertices_of-requires-clause-numb
 vertices_of-requires-clause-numbered c =
     let shapes = c.args.shapes.now in
     let indices : IsOrderOf (length shapes) c.as_slice-2.result.now =
-    subst (λ (l : List ℕ). IsOrderOf (length shapes) l) (sym c.as_slice-2.ensures.value) c.in_ok-order.ensures.indices in
+    subst (λ (l : List ℕ). IsOrderOf (length shapes) l)
+    (sym c.as_slice-2.ensures.value) c.in_ok-order.ensures.indices in
     subst (HasKindNumbers shapes) (sym c.as_slice-5.ensures.value)
     (kind_numbers c.args.kinds.now shapes c.as_slice-2.result.now indices c.in_ok-numbering.numbering
     c.in_ok-numbering.ensures)

@@ -1,7 +1,8 @@
 use Rattle.std.proofs.Common.{◌≡◌, ◌<◌, length, true, false, Some, None, sym, ◌∙◌, ap, arith, below_more}
 use Rattle.std.proofs.lemmas.Bool.{not-true, not-false}
 use Rattle.std.specs.BTreeSet as tree
-use Rattle.graph_build.proofs.RepeatLaws.{read_at, sees_skip, sees_more, repeated_here, new_here, no_key_here, repeated_within}
+use Rattle.graph_build.proofs.RepeatLaws.{read_at, sees_skip, sees_more, repeated_here, new_here, no_key_here}
+use Rattle.graph_build.proofs.RepeatLaws.{repeated_within}
 use Rattle.graph_build.proofs.repeats.first_repeated.Goals as goal
 use Rattle.graph_build.proofs.repeats.first_repeated.Goals.{in-Some+in_ok-insert+else-not-branch, in_default}
 

@@ -8,7 +8,8 @@ use Rattle.graph_json.proofs.TextLaws.{one_answer}
 use Rattle.graph_json.proofs.reading.read_graph.Goals as goal
 
 module _ (bytes : List ℕ) (d : Data) (is : IsValueOf bytes d) where
-  graph_told : (r : Result NamedGraph ReadFault) → IfOk r (λ g. (bytes : List ℕ) → IsValueOf bytes d → IsGraphText bytes g) → IfOk r (IsGraphText bytes)
+  graph_told : (r : Result NamedGraph ReadFault) →
+      IfOk r (λ g. (bytes : List ℕ) → IsValueOf bytes d → IsGraphText bytes g) → IfOk r (IsGraphText bytes)
   graph_told (Ok g) told = told bytes is
   graph_told (Err e) told = tt
 
@@ -21,4 +22,5 @@ pub returns-in-Ok-clause-only : goal.returns-in-Ok-clause-only
 returns-in-Ok-clause-only c =
     let bytes = c.args.bytes.now in
     let d = view c.in-Ok.value in
-    one_answer bytes c.graph_of.result (graph_told bytes d c.in-Ok.ensures.value c.graph_of.result c.graph_of.ensures.graph) (fault_told bytes d c.in-Ok.ensures.value c.graph_of.result c.graph_of.ensures.fault)
+    one_answer bytes c.graph_of.result (graph_told bytes d c.in-Ok.ensures.value c.graph_of.result
+    c.graph_of.ensures.graph) (fault_told bytes d c.in-Ok.ensures.value c.graph_of.result c.graph_of.ensures.fault)

@@ -7,4 +7,5 @@ use Rattle.json_written.specs.Texts.{readable}
 use Rattle.graph_json.proofs.writing.ordered_properties.Given as goal
 
 abbrev pub invariant-texts : goal.invariant-texts
-invariant-texts l = fold (insert_key (slice_cmp nat_cmp)) (map (λ s. s.now) l.set.keys) (map readable (drop l.text-index l.properties)) ≡ in_order (map readable l.properties)
+invariant-texts l = fold (insert_key (slice_cmp nat_cmp))
+    (map (λ s. s.now) l.set.keys) (map readable (drop l.text-index l.properties)) ≡ in_order (map readable l.properties)

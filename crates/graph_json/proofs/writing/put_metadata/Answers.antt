@@ -10,7 +10,9 @@ use Rattle.graph_json.proofs.writing.put_metadata.Goals as goal
 
 pub returns : goal.returns
 returns c =
-    let properties = subst (λ ps. Adds c.put_names.new.writer c.put_properties.new.writer (key (codes "properties") ∷ value_tokens (object (keys_object (in_order (map readable ps)))))) c.properties_of.ensures c.in_ok-put_properties.ensures in
+    let properties = subst (λ ps. Adds c.put_names.new.writer c.put_properties.new.writer
+    (key (codes "properties") ∷ value_tokens (object (keys_object (in_order (map readable ps))))))
+    c.properties_of.ensures c.in_ok-put_properties.ensures in
     let kind = subst (λ s. Adds c.put_number.new.writer c.put_text.new.writer
     (key (codes "type") ∷ string s ∷ [])) c.type_of.ensures c.in_ok-put_text.ensures.ok in
     let unit = subst (λ s. Adds c.put_text.new.writer c.put_text-2.new.writer

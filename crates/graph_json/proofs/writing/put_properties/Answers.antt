@@ -13,5 +13,8 @@ closed (k ∷ ks) = ap (λ ts. Token.key k ∷ Token.string [] ∷ ts) (closed k
 pub returns : goal.returns
 returns c =
     let keys = map (λ s. s.now) c.in_ok-set.set.keys in
-    let all = and_then (wrote c.in_ok-key.ensures) (and_then (wrote c.in_ok-begin_object.ensures) (and_then c.in_ok-put_keys.ensures (wrote c.in_ok-end_object.ensures))) in
-    subst (λ ts. Adds c.args.writer.now c.end_object.new.self (Token.key (codes "properties") ∷ Token.begin_object ∷ ts)) (closed keys ∙ ap (λ ks. member_tokens (keys_object ks)) c.in_ok-set.ensures) all
+    let all = and_then (wrote c.in_ok-key.ensures) (and_then
+    (wrote c.in_ok-begin_object.ensures) (and_then c.in_ok-put_keys.ensures (wrote c.in_ok-end_object.ensures))) in
+    subst
+    (λ ts. Adds c.args.writer.now c.end_object.new.self (Token.key (codes "properties") ∷ Token.begin_object ∷ ts))
+    (closed keys ∙ ap (λ ks. member_tokens (keys_object ks)) c.in_ok-set.ensures) all

@@ -13,8 +13,10 @@ decide-requires c =
     let at = c.saturating_sub.result in
     let line = c.in-Some-get.line.now in
     let there : slice_get c.args.lines.now at ≡ Some line = sym c.in-Some-get.ensures.value in
-    let proper = all_at (λ (l : ClientLine). IsProper graph.vertices l.command) c.args.lines.now at line c.requires there in
+    let proper =
+    all_at (λ (l : ClientLine). IsProper graph.vertices l.command) c.args.lines.now at line c.requires there in
     let copied = subst (λ (k : Command). IsProper graph.vertices k) (sym c.in_ok-command.ensures) proper in
     record {
-      proper = subst (λ (g : ResourceGraph). IsProper g.vertices c.in_ok-command.command) (sym c.loop-at.invariant) copied;
+      proper =
+          subst (λ (g : ResourceGraph). IsProper g.vertices c.in_ok-command.command) (sym c.loop-at.invariant) copied;
     }

@@ -8,11 +8,14 @@ use Rattle.json_fields.specs.Values.{keys_of}
 use Rattle.jobspec_v1.specs.Requests.{is_vertex_key}
 use Rattle.jobspec_v1.proofs.headers.has_own_keys.Goals as goal
 
-by_entries : (es : List Entry) → list_all (λ k. is_vertex_key (string_bytes k)) (map (λ e. e.0) es) ≡ list_all is_vertex_key (keys_of (members_view es))
+by_entries : (es : List Entry) → list_all (λ k. is_vertex_key (string_bytes k)) (map (λ e. e.0) es)
+    ≡ list_all is_vertex_key (keys_of (members_view es))
 by_entries [] = refl
 by_entries (e ∷ es) = ap (λ b. is_vertex_key (string_bytes e.0) && b) (by_entries es)
 
 pub returns : goal.returns
 returns c =
-    let all = all_from_yields_List (λ k. is_vertex_key (string_bytes k)) _ _ c.all.result c.all.ensures.ran (YieldsList-from_rest c.keys.result refl) (λ x b q k. search (rules, tests)) in
-    all ∙ ap (list_all (λ k. is_vertex_key (string_bytes k))) c.keys.ensures.rest ∙ by_entries c.args.members.now.entries
+    let all = all_from_yields_List (λ k. is_vertex_key (string_bytes k)) _ _ c.all.result c.all.ensures.ran
+    (YieldsList-from_rest c.keys.result refl) (λ x b q k. search (rules, tests)) in
+    all ∙ ap (list_all (λ k. is_vertex_key (string_bytes k))) c.keys.ensures.rest
+    ∙ by_entries c.args.members.now.entries

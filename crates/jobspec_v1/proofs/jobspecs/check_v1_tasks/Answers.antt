@@ -7,14 +7,17 @@ use Rattle.jobspec_v1.proofs.jobspecs.check_v1_tasks.Goals as goal
 pub returns-in_ok-of-in-Ok-clause-told : goal.returns-in_ok-of-in-Ok-clause-told
 returns-in_ok-of-in-Ok-clause-told c =
     let many = sym c.is_one.ensures ∙ c.if-not-is_one.true in
-    inr (not_one c.args.labels.now (view c.args.value.now) (items_view c.in-Ok.values.now) c.in-Ok.ensures.read many ∙ ap (λ p. Err (Task p)) (sym c.in_ok-of-in-Ok.ensures))
+    inr (not_one c.args.labels.now (view c.args.value.now) (items_view c.in-Ok.values.now) c.in-Ok.ensures.read many
+    ∙ ap (λ p. Err (Task p)) (sym c.in_ok-of-in-Ok.ensures))
 
 pub returns-in-Ok-2-clause-fine : goal.returns-in-Ok-2-clause-fine
 returns-in-Ok-2-clause-fine c = λ ok.
     let one = sym c.is_one.ensures ∙ c.if-not-is_one.false in
-    one_fine c.args.labels.now (view c.args.value.now) (items_view c.in-Ok.values.now) c.in-Ok.ensures.read one (c.check_tasks.ensures.fine ok)
+    one_fine c.args.labels.now
+    (view c.args.value.now) (items_view c.in-Ok.values.now) c.in-Ok.ensures.read one (c.check_tasks.ensures.fine ok)
 
 pub returns-in-Ok-2-clause-told : goal.returns-in-Ok-2-clause-told
 returns-in-Ok-2-clause-told c =
     let one = sym c.is_one.ensures ∙ c.if-not-is_one.false in
-    if_err c.check_tasks.result c.check_tasks.ensures.told (one_told c.args.labels.now (view c.args.value.now) (items_view c.in-Ok.values.now) c.in-Ok.ensures.read one)
+    if_err c.check_tasks.result c.check_tasks.ensures.told
+    (one_told c.args.labels.now (view c.args.value.now) (items_view c.in-Ok.values.now) c.in-Ok.ensures.read one)

@@ -1,4 +1,5 @@
-use Rattle.std.proofs.Common.{rules, ◌≡◌, ◌∙◌, sym, ap, ◌++◌, ◌∷◌, ◌+◌, ◌*◌, ◌<◌, ◌≤◌, ◌||◌, [], Ok, Result, drop, subst, arith}
+use Rattle.std.proofs.Common.{rules, ◌≡◌, ◌∙◌, sym, ap, ◌++◌, ◌∷◌, ◌+◌, ◌*◌, ◌<◌, ◌≤◌, ◌||◌, [], Ok, Result, drop}
+use Rattle.std.proofs.Common.{subst, arith}
 use Rattle.std.proofs.lemmas.List.{drop_more}
 use Rattle.std.specs.Result.{result_map_both}
 use Rattle.serde_json.specs.Data.{depth, items_depth}
@@ -17,9 +18,11 @@ use Rattle.jobspec_v1.proofs.requests.+requests.Goals as goal
 
 pub read_request-read_requests-requires : goal.read_request-read_requests-requires
 read_request-read_requests-requires t c =
-    let facts = said_is c.args.in_slot c.args.labels.now (view c.args.value.now) (said_held c.in-Ok.header) (sym c.in-Ok.ensures) in
+    let facts = said_is c.args.in_slot c.args.labels.now
+    (view c.args.value.now) (said_held c.in-Ok.header) (sym c.in-Ok.ensures) in
     let less = facts.less in
-    let smaller : 2 * items_depth (items_view c.in-Ok.header.with.now) + 1 < 2 * depth (view c.args.value.now) = omega (arith, less) in
+    let smaller : 2 * items_depth (items_view c.in-Ok.header.with.now) + 1 < 2 * depth (view c.args.value.now) =
+    omega (arith, less) in
     search rules
 
 pub read_request-returns-in-Err-clause-told : goal.read_request-returns-in-Err-clause-told
@@ -88,7 +91,9 @@ read_request-returns-in-Err-read_requests-clause-told t c =
 pub read_requests-read_request-requires : goal.read_requests-read_request-requires
 read_requests-read_request-requires t c =
     let x = c.index-values-at.result in
-    let low : depth (view x) ≤ items_depth (items_view c.args.values.now) = subst (λ y. depth (view y) ≤ items_depth (items_view c.args.values.now)) (sym c.index-values-at.is) (at_depth c.args.values.now c.values.at x (omega arith)) in
+    let low : depth (view x) ≤ items_depth (items_view c.args.values.now) =
+    subst (λ y. depth (view y) ≤ items_depth (items_view c.args.values.now))
+    (sym c.index-values-at.is) (at_depth c.args.values.now c.values.at x (omega arith)) in
     let smaller : 2 * depth (view x) < 2 * items_depth (items_view c.args.values.now) + 1 = omega (arith, low) in
     search rules
 

@@ -4,4 +4,5 @@ use Rattle.jobspec_v1.specs.Tasks.{tasks_fault}
 use Rattle.jobspec_v1.proofs.tasks.check_tasks.Given as goal
 
 abbrev pub invariant-values : goal.invariant-values
-invariant-values l = tasks_fault l.labels l.at (items_view (drop l.at l.values)) ≡ tasks_fault l.labels 0 (items_view l.values)
+invariant-values l =
+    tasks_fault l.labels l.at (items_view (drop l.at l.values)) ≡ tasks_fault l.labels 0 (items_view l.values)

@@ -3,7 +3,8 @@ use Rattle.json_whole.specs.Plain.{plain_of}
 use Rattle.json_whole.proofs.plain_form.plain.Given as goal
 
 abbrev pub invariant-pieces : goal.invariant-pieces
-invariant-pieces l = record { within : l.at ≤ length l.bytes; so_far : l.out.items ++ plain_of (drop l.at l.bytes) ≡ plain_of l.bytes }
+invariant-pieces l =
+    record { within : l.at ≤ length l.bytes; so_far : l.out.items ++ plain_of (drop l.at l.bytes) ≡ plain_of l.bytes }
 
 abbrev pub decreases-pieces : goal.decreases-pieces
 decreases-pieces l = length l.bytes - l.at

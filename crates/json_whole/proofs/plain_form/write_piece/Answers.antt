@@ -4,4 +4,9 @@ use Rattle.json_whole.proofs.Steps.{run_written}
 use Rattle.json_whole.proofs.plain_form.write_piece.Goals as goal
 
 pub returns-clause-written : goal.returns-clause-written
-returns-clause-written c = grind (arith, common_steps, run_written c.args.out.now.items c.args.text.now c.kept_front-len.result.0 c.kept_front-len.ensures.same c.kept_front-len.ensures.run)
+returns-clause-written c = grind (
+  arith,
+  common_steps,
+  run_written c.args.out.now.items
+      c.args.text.now c.kept_front-len.result.0 c.kept_front-len.ensures.same c.kept_front-len.ensures.run,
+)

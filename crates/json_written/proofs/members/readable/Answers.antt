@@ -10,7 +10,8 @@ not_readable text false e none = refl
 pub returns-in-Ok : goal.returns-in-Ok
 returns-in-Ok c =
     let bytes = c.args.bytes.now in
-    c.in-Ok.ensures.cases.0 ∙ ap (λ b. if b then bytes else []) (sym (is_utf8-from_IsUtf8 bytes c.in-Ok.ensures.cases.1))
+    c.in-Ok.ensures.cases.0
+    ∙ ap (λ b. if b then bytes else []) (sym (is_utf8-from_IsUtf8 bytes c.in-Ok.ensures.cases.1))
 
 pub returns-in-Err : goal.returns-in-Err
 returns-in-Err c = not_readable c.args.bytes.now (is_utf8 c.args.bytes.now) refl c.in-Err.ensures.cases.0

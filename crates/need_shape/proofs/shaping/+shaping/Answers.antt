@@ -16,8 +16,12 @@ pub add_member-returns-then-is_slot-clause-ok : goal.add_member-returns-then-is_
 add_member-returns-then-is_slot-clause-ok t c =
     let types = types_at c.args.graph.now c.args.table.now in
     let slot = ap is_slot (sym c.bytes.ensures) ∙ (sym c.is_slot.ensures ∙ c.if-is_slot.true) in
-    subst (λ (ns : List Need). OnOk c.add_slot.result ((c.add_slot.new.out.items ≡ c.args.out.now.items ++ ns) × (fault_of types c.args.within c.args.raw.now ≡ None))) (sym (needs_of_slot types c.args.within c.args.raw.now slot))
-    (subst (λ (f : Option ShapeFault). OnOk c.add_slot.result ((c.add_slot.new.out.items ≡ c.args.out.now.items ++ slot_needs_in types c.args.within (out-RawNeed c.args.raw.now).count (out-RawNeed c.args.raw.now).with) × (f ≡ None)))
+    subst (λ (ns : List Need). OnOk c.add_slot.result ((c.add_slot.new.out.items ≡ c.args.out.now.items ++ ns)
+    × (fault_of types c.args.within c.args.raw.now ≡ None)))
+    (sym (needs_of_slot types c.args.within c.args.raw.now slot))
+    (subst (λ (f : Option ShapeFault).
+    OnOk c.add_slot.result ((c.add_slot.new.out.items ≡ c.args.out.now.items ++ slot_needs_in types c.args.within
+    (out-RawNeed c.args.raw.now).count (out-RawNeed c.args.raw.now).with) × (f ≡ None)))
     (sym (fault_of_slot types c.args.within c.args.raw.now slot)) c.add_slot.ensures.ok)
 
 pub add_member-returns-then-is_slot-clause-told : goal.add_member-returns-then-is_slot-clause-told
@@ -30,14 +34,16 @@ add_member-returns-then-is_slot-clause-told t c =
 pub shape_type-returns-then-is_pool-clause-told : goal.shape_type-returns-then-is_pool-clause-told
 shape_type-returns-then-is_pool-clause-told t c =
     let types = types_at c.args.graph.now c.args.table.now in
-    let pool = ap (λ k. is_pool_kind types.vertices (index_of types.names k)) (sym c.bytes.ensures) ∙ (ap (is_pool_kind types.vertices) (sym c.number_of-kind.ensures) ∙ (sym c.is_pool.ensures ∙ c.if-is_pool.true)) in
+    let pool = ap (λ k. is_pool_kind types.vertices (index_of types.names k)) (sym c.bytes.ensures) ∙ (ap
+    (is_pool_kind types.vertices) (sym c.number_of-kind.ensures) ∙ (sym c.is_pool.ensures ∙ c.if-is_pool.true)) in
     pool_told types c.args.within c.args.raw.now c.shape_pool.result pool c.shape_pool.ensures.told
 
 pub add_member-returns-in_ok-push_need-in-Ok-clause-ok : goal.add_member-returns-in_ok-push_need-in-Ok-clause-ok
 add_member-returns-in_ok-push_need-in-Ok-clause-ok t c =
     let types = types_at c.args.graph.now c.args.table.now in
     let slot = ap is_slot (sym c.bytes.ensures) ∙ (sym c.is_slot.ensures ∙ c.if-is_slot.false) in (
-      c.in_ok-push_need-in-Ok.ensures ∙ ap (λ ns. c.args.out.now.items ++ ns) (ap (λ n. n ∷ []) c.in-Ok.ensures.need ∙ sym (needs_of_type types c.args.within c.args.raw.now slot)),
+      c.in_ok-push_need-in-Ok.ensures ∙ ap (λ ns. c.args.out.now.items ++ ns)
+          (ap (λ n. n ∷ []) c.in-Ok.ensures.need ∙ sym (needs_of_type types c.args.within c.args.raw.now slot)),
       fault_of_type types c.args.within c.args.raw.now slot ∙ c.in-Ok.ensures.fine refl,
     )
 
@@ -51,22 +57,28 @@ add_member-returns-in-Err-clause-told t c =
 pub shape_type-returns-in-Ok-clause-need : goal.shape_type-returns-in-Ok-clause-need
 shape_type-returns-in-Ok-clause-need t c =
     let types = types_at c.args.graph.now c.args.table.now in
-    let pool = ap (λ k. is_pool_kind types.vertices (index_of types.names k)) (sym c.bytes.ensures) ∙ (ap (is_pool_kind types.vertices) (sym c.number_of-kind.ensures) ∙ (sym c.is_pool.ensures ∙ c.if-is_pool.false)) in
+    let pool = ap (λ k. is_pool_kind types.vertices (index_of types.names k)) (sym c.bytes.ensures) ∙ (ap
+    (is_pool_kind types.vertices) (sym c.number_of-kind.ensures) ∙ (sym c.is_pool.ensures ∙ c.if-is_pool.false)) in
     let inside = c.in_type-inside.ensures ∙ ap (in_type types c.args.within) c.bytes-2.ensures in
-    vert_need types c.args.within c.args.raw.now c.number_of-kind.result c.unwrap_or.result c.in-Ok.needs pool (c.number_of-kind.ensures ∙ ap (index_of types.names) c.bytes.ensures) c.unwrap_or.ensures
+    vert_need types c.args.within c.args.raw.now c.number_of-kind.result c.unwrap_or.result c.in-Ok.needs pool
+    (c.number_of-kind.ensures ∙ ap (index_of types.names) c.bytes.ensures) c.unwrap_or.ensures
     (c.in-Ok.ensures.needs ∙ ap (λ w. needs_in types w (out-RawNeed c.args.raw.now).with) inside)
 
 pub shape_type-returns-in-Ok-clause-fine : goal.shape_type-returns-in-Ok-clause-fine
 shape_type-returns-in-Ok-clause-fine t c = λ _.
     let types = types_at c.args.graph.now c.args.table.now in
-    let pool = ap (λ k. is_pool_kind types.vertices (index_of types.names k)) (sym c.bytes.ensures) ∙ (ap (is_pool_kind types.vertices) (sym c.number_of-kind.ensures) ∙ (sym c.is_pool.ensures ∙ c.if-is_pool.false)) in
+    let pool = ap (λ k. is_pool_kind types.vertices (index_of types.names k)) (sym c.bytes.ensures) ∙ (ap
+    (is_pool_kind types.vertices) (sym c.number_of-kind.ensures) ∙ (sym c.is_pool.ensures ∙ c.if-is_pool.false)) in
     let inside = c.in_type-inside.ensures ∙ ap (in_type types c.args.within) c.bytes-2.ensures in
-    sym (vert_fault types c.args.within c.args.raw.now pool) ∙ (ap (λ w. list_fault types w (out-RawNeed c.args.raw.now).with) (sym inside) ∙ c.in-Ok.ensures.fine refl)
+    sym (vert_fault types c.args.within c.args.raw.now pool)
+    ∙ (ap (λ w. list_fault types w (out-RawNeed c.args.raw.now).with) (sym inside) ∙ c.in-Ok.ensures.fine refl)
 
 pub shape_type-returns-in-Err-clause-told : goal.shape_type-returns-in-Err-clause-told
 shape_type-returns-in-Err-clause-told t c =
     let types = types_at c.args.graph.now c.args.table.now in
-    let pool = ap (λ k. is_pool_kind types.vertices (index_of types.names k)) (sym c.bytes.ensures) ∙ (ap (is_pool_kind types.vertices) (sym c.number_of-kind.ensures) ∙ (sym c.is_pool.ensures ∙ c.if-is_pool.false)) in
+    let pool = ap (λ k. is_pool_kind types.vertices (index_of types.names k)) (sym c.bytes.ensures) ∙ (ap
+    (is_pool_kind types.vertices) (sym c.number_of-kind.ensures) ∙ (sym c.is_pool.ensures ∙ c.if-is_pool.false)) in
     let inside = c.in_type-inside.ensures ∙ ap (in_type types c.args.within) c.bytes-2.ensures in
     subst (λ (o : Option ShapeFault). IsFirstFault o c.in-Err.fault)
-    (ap (λ w. list_fault types w (out-RawNeed c.args.raw.now).with) inside ∙ vert_fault types c.args.within c.args.raw.now pool) c.in-Err.ensures.told
+    (ap (λ w. list_fault types w (out-RawNeed c.args.raw.now).with) inside
+    ∙ vert_fault types c.args.within c.args.raw.now pool) c.in-Err.ensures.told

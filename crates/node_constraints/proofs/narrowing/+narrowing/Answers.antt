@@ -1,4 +1,5 @@
-use Rattle.std.proofs.Common.{rules, ◌≡◌, ◌∙◌, sym, ap, ◌++◌, ◌∷◌, ◌+◌, ◌&&◌, [], max, not, drop, arith, string_bytes, Some}
+use Rattle.std.proofs.Common.{rules, ◌≡◌, ◌∙◌, sym, ap, ◌++◌, ◌∷◌, ◌+◌, ◌&&◌, [], max, not, drop, arith, string_bytes}
+use Rattle.std.proofs.Common.{Some}
 use Rattle.std.proofs.lemmas.List.{drop_all}
 use Rattle.std.specs.Option.{option_or}
 use Rattle.serde_json.specs.Data.{depth, members_depth}
@@ -9,7 +10,8 @@ use Rattle.node_constraints.specs.Truth.{facts_of, key_of, is_true, each_key, ke
 use Rattle.node_constraints.specs.Faults.{fault_at, keys_fault, key_fault, items_fault}
 use Rattle.node_constraints.specs.Narrowing.{where_true}
 use Rattle.node_constraints.proofs.FilterLaws.{filter_all, others_of_others}
-use Rattle.node_constraints.proofs.FaultLaws.{later_is, means_same, no_object, no_list, rest_here, member_less, told_at, none_at}
+use Rattle.node_constraints.proofs.FaultLaws.{later_is, means_same, no_object, no_list, rest_here, member_less, told_at}
+use Rattle.node_constraints.proofs.FaultLaws.{none_at}
 use Rattle.node_constraints.proofs.StepLaws.{is_object, narrowed_twice, neither_left, none_given, some_given}
 use Rattle.node_constraints.proofs.narrowing.+narrowing.Goals as goal
 
@@ -25,14 +27,16 @@ narrow-members-preserved t c =
     record {
       kept = ap (where_true g (λ n. each_key n (members_view left))) c.in_ok-narrow_by_key.ensures.kept
           ∙ (narrowed_twice g (λ n. key_is_true n (key_of text) (view e.1)) (λ n. each_key n (members_view left)) old
-          ∙ (ap (λ k. where_true g (λ n. key_is_true n (key_of k) (view e.1) && each_key n (members_view left)) old) name
+          ∙ (ap
+          (λ k. where_true g (λ n. key_is_true n (key_of k) (view e.1) && each_key n (members_view left)) old) name
           ∙ (ap (λ es. where_true g (λ n. each_key n (members_view es)) old) (sym steps) ∙ c.members.invariant.kept)));
       found = λ path. sym (later_is (key_fault path text (key_of text) (view e.1)) (keys_fault path (members_view left))
           (c.in_ok-narrow_by_key.ensures.found path))
           ∙ (ap (λ k. option_or (key_fault path k (key_of k) (view e.1)) (keys_fault path (members_view left))) name
           ∙ (ap (λ es. keys_fault path (members_view es)) (sym steps) ∙ c.members.invariant.found path));
       less =
-          let here : members_depth (members_view c.members.key-iterator) ≡ max (depth (view e.1)) (members_depth (members_view left)) = ap (λ es. members_depth (members_view es)) steps in
+          let here : members_depth (members_view c.members.key-iterator) ≡ max (depth (view e.1))
+          (members_depth (members_view left)) = ap (λ es. members_depth (members_view es)) steps in
           omega (arith, here, c.members.invariant.less);
     }
 
@@ -41,7 +45,8 @@ narrow-returns-clause-kept t c =
     let g = c.args.graph.now in
     let nodes = c.members.nodes.items in
     let all : c.into_iter-key-iterator.result ≡ c.in-Some.members.now.entries = search rules in
-    let whole = is_object (view c.args.constraint.now) (members_view c.in-Some.members.now.entries) (sym c.in-Some.ensures) in
+    let whole =
+    is_object (view c.args.constraint.now) (members_view c.in-Some.members.now.entries) (sym c.in-Some.ensures) in
     sym (filter_all nodes)
     ∙ (ap (λ es. where_true g (λ n. each_key n (members_view es)) nodes) (sym c.in-None.ensures.steps.0)
     ∙ (c.members.invariant.kept
@@ -75,7 +80,8 @@ pub narrow_by_each-returns-clause-kept : goal.narrow_by_each-returns-clause-kept
 narrow_by_each-returns-clause-kept t c =
     let none : drop c.values.at c.args.values.now ≡ [] = drop_all c.values.at c.args.values.now (omega arith) in
     sym (filter_all c.values.nodes.items)
-    ∙ (ap (λ ys. where_true c.args.graph.now (λ n. each_true n (items_view ys)) c.values.nodes.items) (sym none) ∙ c.values.invariant.kept)
+    ∙ (ap (λ ys. where_true c.args.graph.now (λ n. each_true n (items_view ys)) c.values.nodes.items) (sym none)
+    ∙ c.values.invariant.kept)
 
 pub narrow_by_none-narrow-requires : goal.narrow_by_none-narrow-requires
 narrow_by_none-narrow-requires t c =
@@ -98,7 +104,8 @@ narrow_by_none-values-preserved t c =
     record {
       kept = ap (where_true g (λ n. not (some_true n rest))) taken
           ∙ (neither_left g (λ n. is_true n (view x)) (λ n. some_true n rest) old
-          ∙ (ap (λ ys. where_true g (λ n. not (some_true n (items_view ys))) old) (sym here) ∙ c.values.invariant.kept));
+          ∙ (ap (λ ys. where_true g (λ n. not (some_true n (items_view ys))) old) (sym here)
+          ∙ c.values.invariant.kept));
       found = λ list. none_at vs at x (omega arith) c.index-values-at.is list (c.values.invariant.found list)
           (c.in-Ok.ensures.found (list ++ index at));
     }
@@ -107,18 +114,22 @@ pub narrow_by_none-returns-clause-kept : goal.narrow_by_none-returns-clause-kept
 narrow_by_none-returns-clause-kept t c =
     let none : drop c.values.at c.args.values.now ≡ [] = drop_all c.values.at c.args.values.now (omega arith) in
     sym (filter_all c.values.nodes.items)
-    ∙ (ap (λ ys. where_true c.args.graph.now (λ n. not (some_true n (items_view ys))) c.values.nodes.items) (sym none) ∙ c.values.invariant.kept)
+    ∙ (ap (λ ys. where_true c.args.graph.now (λ n. not (some_true n (items_view ys))) c.values.nodes.items) (sym none)
+    ∙ c.values.invariant.kept)
 
 pub narrow_by_some-returns-then-is_empty-clause-kept : goal.narrow_by_some-returns-then-is_empty-clause-kept
-narrow_by_some-returns-then-is_empty-clause-kept t c = none_given c.args.graph.now c.args.values.now (sym c.is_empty.ensures ∙ c.if-is_empty.true) c.args.nodes.now.items
+narrow_by_some-returns-then-is_empty-clause-kept t c =
+    none_given c.args.graph.now c.args.values.now (sym c.is_empty.ensures ∙ c.if-is_empty.true) c.args.nodes.now.items
 
 pub narrow_by_some-returns-clause-kept : goal.narrow_by_some-returns-clause-kept
 narrow_by_some-returns-clause-kept t c =
     let g = c.args.graph.now in
     let vs = c.args.values.now in
     let nodes = c.args.nodes.now.items in
-    let others = c.as_slice.ensures.value ∙ (c.in_ok-narrow_by_none.ensures.kept ∙ ap (where_true g (λ n. not (some_true n (items_view vs)))) c.in_ok-others.ensures) in
-    others_of_others nodes c.as_slice.result.now c.take_away.new.nodes.items (λ v. some_true (facts_of g v) (items_view vs)) others c.in_ok-take_away.ensures
+    let others = c.as_slice.ensures.value ∙ (c.in_ok-narrow_by_none.ensures.kept
+    ∙ ap (where_true g (λ n. not (some_true n (items_view vs)))) c.in_ok-others.ensures) in
+    others_of_others nodes c.as_slice.result.now c.take_away.new.nodes.items
+    (λ v. some_true (facts_of g v) (items_view vs)) others c.in_ok-take_away.ensures
     ∙ some_given g vs (sym c.is_empty.ensures ∙ c.if-is_empty.false) nodes
 
 pub narrow-returns-in_default-clause-found : goal.narrow-returns-in_default-clause-found

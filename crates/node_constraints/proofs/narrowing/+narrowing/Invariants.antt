@@ -29,21 +29,24 @@ decreases-narrow l = 4 * depth (view l.constraint.now)
 
 abbrev pub invariant-narrow_by_each-values : goal.invariant-narrow_by_each-values
 invariant-narrow_by_each-values l = record {
-  kept : where_true l.graph (λ n. each_true n (items_view (drop l.at l.values))) l.nodes.items ≡ where_true l.graph (λ n. each_true n (items_view l.values)) l.initial.nodes.items;
+  kept : where_true l.graph (λ n. each_true n (items_view (drop l.at l.values))) l.nodes.items
+      ≡ where_true l.graph (λ n. each_true n (items_view l.values)) l.initial.nodes.items;
   found : (list : List ℕ) → items_fault list l.at (items_view (drop l.at l.values)) ≡ items_fault list 0
       (items_view l.values);
 }
 
 abbrev pub invariant-narrow_by_none-values : goal.invariant-narrow_by_none-values
 invariant-narrow_by_none-values l = record {
-  kept : where_true l.graph (λ n. not (some_true n (items_view (drop l.at l.values)))) l.nodes.items ≡ where_true l.graph (λ n. not (some_true n (items_view l.values))) l.initial.nodes.items;
+  kept : where_true l.graph (λ n. not (some_true n (items_view (drop l.at l.values)))) l.nodes.items
+      ≡ where_true l.graph (λ n. not (some_true n (items_view l.values))) l.initial.nodes.items;
   found : (list : List ℕ) → items_fault list l.at (items_view (drop l.at l.values)) ≡ items_fault list 0
       (items_view l.values);
 }
 
 abbrev pub invariant-narrow-members : goal.invariant-narrow-members
 invariant-narrow-members l = record {
-  kept : where_true l.graph (λ n. each_key n (members_view l.key-iterator)) l.nodes.items ≡ where_true l.graph (λ n. each_key n (members_view l.initial.key-iterator)) l.initial.nodes.items;
+  kept : where_true l.graph (λ n. each_key n (members_view l.key-iterator)) l.nodes.items
+      ≡ where_true l.graph (λ n. each_key n (members_view l.initial.key-iterator)) l.initial.nodes.items;
   found : (path : List ℕ) → keys_fault path (members_view l.key-iterator) ≡ keys_fault path
       (members_view l.initial.key-iterator);
   less : members_depth (members_view l.key-iterator) ≤ members_depth (members_view l.initial.key-iterator);

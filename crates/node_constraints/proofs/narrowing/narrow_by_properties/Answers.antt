@@ -8,7 +8,9 @@ use Rattle.node_constraints.proofs.narrowing.narrow_by_properties.Goals as goal
 
 pub returns-clause-kept : goal.returns-clause-kept
 returns-clause-kept c =
-    filter_same _ (λ v. each_text (has_property (facts_of c.args.graph.now v).properties) (items_view c.args.values.now)) _ (λ x b f' k. search rules) c.args.nodes.now.items c.retain.new.self.items c.retain.ensures.filtered
+    filter_same _
+    (λ v. each_text (has_property (facts_of c.args.graph.now v).properties) (items_view c.args.values.now)) _
+    (λ x b f' k. search rules) c.args.nodes.now.items c.retain.new.self.items c.retain.ensures.filtered
 
 pub returns-then-not-are_texts-clause-found : goal.returns-then-not-are_texts-clause-found
 returns-then-not-are_texts-clause-found c = λ path.

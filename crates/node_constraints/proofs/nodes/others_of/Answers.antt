@@ -16,9 +16,17 @@ nodes-preserved c = λ holds are.
     let before = c.nodes.invariant holds are in
     elim c.if-stands_at.branch [
       | then-stands_at w ↦
-          let step = passed_over holds xs some c.nodes.others.items at c.nodes.next x all here (c.stands_at.ensures.0 w.if-stands_at.true) before in
-          (ap (λ n. drop n some) w.next-is ∙ step.0, ap (λ v. v.items ++ filter (λ y. not (holds y)) (drop (at + 1) xs)) w.others-is ∙ step.1)
+          let step = passed_over holds xs some c.nodes.others.items at c.nodes.next x all here
+          (c.stands_at.ensures.0 w.if-stands_at.true) before in (
+            ap (λ n. drop n some) w.next-is
+                ∙ step.0,
+            ap (λ v. v.items ++ filter (λ y. not (holds y)) (drop (at + 1) xs)) w.others-is ∙ step.1,
+          )
       | else-stands_at+in_ok-push w ↦
-          let step = kept_one holds xs some c.nodes.others.items at c.nodes.next x all here (λ is. true≢false (sym (c.stands_at.ensures.1 is) ∙ w.if-stands_at.false)) before in
-          (ap (λ n. drop n some) w.next-is ∙ step.0, ap (λ ys. ys ++ filter (λ y. not (holds y)) (drop (at + 1) xs)) (ap (λ v. v.items) w.others-is ∙ w.in_ok-push.ensures.items) ∙ step.1)
+          let step = kept_one holds xs some c.nodes.others.items at c.nodes.next x all here
+          (λ is. true≢false (sym (c.stands_at.ensures.1 is) ∙ w.if-stands_at.false)) before in (
+            ap (λ n. drop n some) w.next-is ∙ step.0,
+            ap (λ ys. ys ++ filter (λ y. not (holds y)) (drop (at + 1) xs))
+                (ap (λ v. v.items) w.others-is ∙ w.in_ok-push.ensures.items) ∙ step.1,
+          )
     ]

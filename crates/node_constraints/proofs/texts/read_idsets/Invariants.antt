@@ -6,4 +6,5 @@ use Rattle.node_constraints.specs.Reading.{read_all}
 use Rattle.node_constraints.proofs.texts.read_idsets.Given as goal
 
 abbrev pub invariant-values : goal.invariant-values
-invariant-values l = option_map (λ xs. l.sets.items ++ xs) (read_all idset_of (items_view (drop l.value-index l.values))) ≡ read_all idset_of (items_view l.values)
+invariant-values l = option_map (λ xs. l.sets.items ++ xs)
+    (read_all idset_of (items_view (drop l.value-index l.values))) ≡ read_all idset_of (items_view l.values)

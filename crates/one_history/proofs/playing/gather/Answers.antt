@@ -4,7 +4,8 @@ use Rattle.one_history.proofs.playing.gather.Goals as goal
 
 pub loop-session-preserved : goal.loop-session-preserved
 loop-session-preserved c =
-    gathers_one _ _ _ _ _ _ _ c.in-Some.session c.loop-session.invariant (search rules) c.join.ensures.own c.join.ensures.seen
+    gathers_one _ _ _ _ _ _ _ c.in-Some.session c.loop-session.invariant
+    (search rules) c.join.ensures.own c.join.ensures.seen
     c.join.ensures.mine c.join.ensures.share
 
 pub returns-clause-seen : goal.returns-clause-seen

@@ -19,7 +19,8 @@ returns-in-Allocate-clause-answer g c = λ set ev eh.
     let place = c.args.place in
     let told = subst (λ (vs : List Vertex).
     MatchOption o (IsFree vs (window_of c.args.horizon ask start) claims None journal place)
-    (IsWhy vs (window_of c.args.horizon ask start) claims None journal place)) (sym ev) c.found_overtaken.ensures.answer in
+    (IsWhy vs (window_of c.args.horizon ask start) claims None journal place))
+    (sym ev) c.found_overtaken.ensures.answer in
     let here = subst (λ (h : ℕ).
     MatchOption o (IsFree set.graph.vertices (window_of h ask start) claims None journal place)
     (IsWhy set.graph.vertices (window_of h ask start) claims None journal place)) (sym eh) told in

@@ -7,14 +7,17 @@ use Rattle.overtaken_check.proofs.scans.first_block.Goals as goal
 
 pub loop-at-preserved : goal.loop-at-preserved
 loop-at-preserved g c = record {
-  none = none_next (Blocks c.args.graph.now.resources.vertices c.args.window c.args.claim c.args.journal.now) c.args.place
-      c.loop-at.at c.loop-at.invariant.none (λ h. true≢false (sym (c.blocks_at.ensures.answer.1 h) ∙ c.if-blocks_at.false));
+  none =
+      none_next (Blocks c.args.graph.now.resources.vertices c.args.window c.args.claim c.args.journal.now) c.args.place
+      c.loop-at.at c.loop-at.invariant.none
+      (λ h. true≢false (sym (c.blocks_at.ensures.answer.1 h) ∙ c.if-blocks_at.false));
   low = (let low = c.loop-at.invariant.low in omega (arith, low));
   within = (let low = c.loop-at.invariant.low in
       let here : c.loop-at.at < c.len-at-end.result = c.loop-at-test.true in
       let len : c.len-at-end.result ≡ length c.args.journal.now = c.len-at-end.ensures in
       omega (arith, low, here, len));
-  work = scan_next c.args.place c.loop-at.at (2 * dig (length c.args.journal.now + 1)) c.args.steps.now c.loop-at.steps c.blocks_at.new.steps c.loop-at.invariant.low c.loop-at.invariant.work c.blocks_at.ensures.work;
+  work = scan_next c.args.place c.loop-at.at (2 * dig (length c.args.journal.now + 1)) c.args.steps.now
+      c.loop-at.steps c.blocks_at.new.steps c.loop-at.invariant.low c.loop-at.invariant.work c.blocks_at.ensures.work;
 }
 
 pub returns-clause-answer : goal.returns-clause-answer
@@ -27,4 +30,5 @@ returns-clause-answer g c =
 
 pub returns-clause-work : goal.returns-clause-work
 returns-clause-work g c =
-    scan_ends c.args.place c.loop-at.at (length c.args.journal.now) (2 * dig (length c.args.journal.now + 1)) c.args.steps.now c.loop-at.steps c.loop-at.invariant.within c.loop-at.invariant.work
+    scan_ends c.args.place c.loop-at.at (length c.args.journal.now) (2 * dig (length c.args.journal.now + 1))
+    c.args.steps.now c.loop-at.steps c.loop-at.invariant.within c.loop-at.invariant.work

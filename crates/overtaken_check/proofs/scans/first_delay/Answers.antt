@@ -15,7 +15,8 @@ loop-at-preserved g c = record {
       let here : c.loop-at.at < c.len-at-end.result = c.loop-at-test.true in
       let len : c.len-at-end.result ≡ length c.args.journal.now = c.len-at-end.ensures in
       omega (arith, low, here, len));
-  work = scan_next c.args.place c.loop-at.at (2 * dig (length c.args.journal.now + 1)) c.args.steps.now c.loop-at.steps c.moment_past.new.steps c.loop-at.invariant.low c.loop-at.invariant.work c.moment_past.ensures.work;
+  work = scan_next c.args.place c.loop-at.at (2 * dig (length c.args.journal.now + 1)) c.args.steps.now c.loop-at.steps
+      c.moment_past.new.steps c.loop-at.invariant.low c.loop-at.invariant.work c.moment_past.ensures.work;
 }
 
 pub returns-clause-answer : goal.returns-clause-answer
@@ -28,4 +29,5 @@ returns-clause-answer g c =
 
 pub returns-clause-work : goal.returns-clause-work
 returns-clause-work g c =
-    scan_ends c.args.place c.loop-at.at (length c.args.journal.now) (2 * dig (length c.args.journal.now + 1)) c.args.steps.now c.loop-at.steps c.loop-at.invariant.within c.loop-at.invariant.work
+    scan_ends c.args.place c.loop-at.at (length c.args.journal.now) (2 * dig (length c.args.journal.now + 1))
+    c.args.steps.now c.loop-at.steps c.loop-at.invariant.within c.loop-at.invariant.work

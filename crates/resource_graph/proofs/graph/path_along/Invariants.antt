@@ -4,7 +4,8 @@ use Rattle.resource_graph.specs.NamedGraph.{name_step}
 use Rattle.resource_graph.proofs.graph.path_along.Given as goal
 
 abbrev pub invariant-loop-left : goal.invariant-loop-left
-invariant-loop-left l = (l.left ≤ length l.line) × (l.path.items ≡ flat_map (name_step l.names) (reverse (drop l.left l.line)))
+invariant-loop-left l =
+    (l.left ≤ length l.line) × (l.path.items ≡ flat_map (name_step l.names) (reverse (drop l.left l.line)))
 
 abbrev pub decreases-loop-left : goal.decreases-loop-left
 decreases-loop-left l = l.left

@@ -12,19 +12,25 @@ loop-at-preserved c =
     let within : v < length vertices = c.loop-at.invariant.known v c.in-Some.is in
     let parent = parent_at vertices v (record { kind = 0; size = 0; parent = None; id = None; rank = None }) within in
     record {
-      climbed = climb_step vertices c.min-most.result (vec_len c.loop-at.line) (vec_len c.push.new.self) v c.loop-at.line.items c.push.new.self.items _ c.loop-at.at _ (omega arith) c.in-Some.is parent c.in_ok-push.ensures.items c.in_ok-push.ensures.len c.loop-at.invariant.climbed;
+      climbed = climb_step vertices c.min-most.result (vec_len c.loop-at.line)
+          (vec_len c.push.new.self) v c.loop-at.line.items c.push.new.self.items _ c.loop-at.at _ (omega arith)
+          c.in-Some.is parent c.in_ok-push.ensures.items c.in_ok-push.ensures.len c.loop-at.invariant.climbed;
       within = omega (arith, c.in_ok-push.ensures.len);
       known = λ p e. c.requires.known v p (sym parent ∙ e);
       below = let items : c.push.new.self.items ≡ c.loop-at.line.items ++ v ∷ [] = c.in_ok-push.ensures.items in
-          subst (λ (l : List ℕ). AllBelow (length vertices) l) (sym items) (AllBelow-push (length vertices) v c.loop-at.line.items within c.loop-at.invariant.below);
+          subst (λ (l : List ℕ). AllBelow (length vertices) l)
+          (sym items) (AllBelow-push (length vertices) v c.loop-at.line.items within c.loop-at.invariant.below);
     }
 
 pub returns-clause-line : goal.returns-clause-line
 returns-clause-line c =
     let vertices = c.args.vertices.now in
     let whole : chain vertices c.min-most.result (Some c.args.vertex) ≡ line_of vertices c.args.vertex =
-    ap (λ m. chain vertices m (Some c.args.vertex)) c.min-most.ensures ∙ chain_min vertices 16 c.args.vertex c.requires.short in
+    ap (λ m. chain vertices m (Some c.args.vertex)) c.min-most.ensures
+    ∙ chain_min vertices 16 c.args.vertex c.requires.short in
     elim c.loop-at-test.branch [
-      | else-loop-at-test w ↦ climb_all vertices c.min-most.result (vec_len c.loop-at.line) c.loop-at.line.items _ c.loop-at.at (omega arith) c.loop-at.invariant.climbed ∙ whole
-      | then-loop-at-test+in_default w ↦ climb_past vertices _ c.loop-at.line.items _ c.loop-at.at w.in_default.not-Some c.loop-at.invariant.climbed ∙ whole
+      | else-loop-at-test w ↦ climb_all vertices c.min-most.result
+          (vec_len c.loop-at.line) c.loop-at.line.items _ c.loop-at.at (omega arith) c.loop-at.invariant.climbed ∙ whole
+      | then-loop-at-test+in_default w ↦ climb_past
+          vertices _ c.loop-at.line.items _ c.loop-at.at w.in_default.not-Some c.loop-at.invariant.climbed ∙ whole
     ]

@@ -12,14 +12,23 @@ loop-vertex-preserved c =
     let at = c.loop-vertex.vertex-index in
     let kind = (get_or vertices at no_vertex).kind in
     let within : at < length vertices = omega arith in
-    let kind_in : kind < length c.loop-vertex.pools.items = omega (arith, c.loop-vertex.invariant.0, c.requires.known at (get_or vertices at no_vertex) (slice_get-get_or vertices at no_vertex within)) in
+    let kind_in : kind < length c.loop-vertex.pools.items = omega (
+      arith,
+      c.loop-vertex.invariant.0,
+      c.requires.known at (get_or vertices at no_vertex) (slice_get-get_or vertices at no_vertex within),
+    ) in
     elim c.if-vertex-ne1.branch [
       | then-vertex-ne1 w ↦
-          subst (λ (p : Vec Bool Global). (length p.items ≡ c.args.kinds) × PoolsTo vertices (at + 1) p.items) (sym w.pools-is) (
+          subst (λ (p : Vec Bool Global). (length p.items ≡ c.args.kinds) × PoolsTo vertices (at + 1) p.items)
+          (sym w.pools-is) (
             length-set c.loop-vertex.pools.items kind true ∙ c.loop-vertex.invariant.0,
-            pools_more vertices at c.loop-vertex.pools.items kind within refl kind_in w.if-vertex-ne1.true c.loop-vertex.invariant.1,
+            pools_more vertices
+                at c.loop-vertex.pools.items kind within refl kind_in w.if-vertex-ne1.true c.loop-vertex.invariant.1,
           )
       | else-vertex-ne1 w ↦
-          subst (λ (p : Vec Bool Global). (length p.items ≡ c.args.kinds) × PoolsTo vertices (at + 1) p.items) (sym w.pools-is)
-          (c.loop-vertex.invariant.0, pools_same vertices at c.loop-vertex.pools.items within w.if-vertex-ne1.false c.loop-vertex.invariant.1)
+          subst (λ (p : Vec Bool Global). (length p.items ≡ c.args.kinds) × PoolsTo vertices (at + 1) p.items)
+          (sym w.pools-is) (
+            c.loop-vertex.invariant.0,
+            pools_same vertices at c.loop-vertex.pools.items within w.if-vertex-ne1.false c.loop-vertex.invariant.1,
+          )
     ]

@@ -5,4 +5,5 @@ use Rattle.resource_graph.proofs.tables.pool_table.Given as goal
 abbrev pub invariant-loop-vertex : goal.invariant-loop-vertex
 invariant-loop-vertex l =
     (length l.pools.items ≡ l.kinds)
-    × ((k : ℕ) → get_or l.pools.items k false ≡ list_any (λ x. (x.kind == k) && not (x.size == 1)) (take l.vertex-index l.vertices))
+    × ((k : ℕ) → get_or l.pools.items k false
+    ≡ list_any (λ x. (x.kind == k) && not (x.size == 1)) (take l.vertex-index l.vertices))

@@ -16,7 +16,8 @@ returns-then-vertex-len c =
     let len : c.len.result ≡ length g.vertices = c.len.ensures ∙ ap length c.vertices.ensures.value in
     let le : c.len.result ≤ c.vertex-vertex.result = c.if-vertex-len.true in
     let is : c.vertex-vertex.result ≡ vertex_of c.args.claim.now = c.vertex-vertex.ensures in
-    ap (fold (insert_key nat_cmp) c.args.set.now.keys) (sym (given_past g.vertices first c.args.claim.now (omega arith)))
+    ap (fold (insert_key nat_cmp) c.args.set.now.keys)
+    (sym (given_past g.vertices first c.args.claim.now (omega arith)))
 
 pub returns-in-Hold : goal.returns-in-Hold
 returns-in-Hold c =
@@ -24,9 +25,12 @@ returns-in-Hold c =
     let first = parents_first g c.vertices.ensures.valid.valid.preorder in
     let v = c.in-Hold.vertex in
     let is : c.vertex-vertex.result ≡ v = c.vertex-vertex.ensures ∙ ap vertex_of c.in-Hold.is in
-    let past : IsPast g.vertices v c.past.result = subst (λ (v : ℕ). IsPast g.vertices v c.past.result) is c.past.ensures in
-    let all = ap (λ v. ids_from (c.past.result - v) v) is ∙ sym (given_hold g.vertices first v c.past.result past) ∙ ap (given_by g.vertices) (sym c.in-Hold.is) in
-    subst (λ ns. OnOk c.add_all.result (c.add_all.new.set.keys ≡ fold (insert_key nat_cmp) c.args.set.now.keys ns)) all c.add_all.ensures
+    let past : IsPast g.vertices v c.past.result =
+    subst (λ (v : ℕ). IsPast g.vertices v c.past.result) is c.past.ensures in
+    let all = ap (λ v. ids_from (c.past.result - v) v) is
+    ∙ sym (given_hold g.vertices first v c.past.result past) ∙ ap (given_by g.vertices) (sym c.in-Hold.is) in
+    subst (λ ns. OnOk c.add_all.result (c.add_all.new.set.keys ≡ fold (insert_key nat_cmp) c.args.set.now.keys ns))
+    all c.add_all.ensures
 
 pub returns-in-Take : goal.returns-in-Take
 returns-in-Take c =
@@ -36,8 +40,10 @@ returns-in-Take c =
     let is : c.vertex-vertex.result ≡ v = c.vertex-vertex.ensures ∙ ap vertex_of c.in-Take.is in
     let len : c.len.result ≡ length g.vertices = c.len.ensures ∙ ap length c.vertices.ensures.value in
     let lt : c.vertex-vertex.result < c.len.result = c.if-vertex-len.false in
-    let one = ap (λ v. v ∷ []) is ∙ sym (given_take g.vertices first v c.in-Take.quantity (omega arith)) ∙ ap (given_by g.vertices) (sym c.in-Take.is) in
-    subst (λ ns. OnOk c.add.result (c.add.new.set.keys ≡ fold (insert_key nat_cmp) c.args.set.now.keys ns)) one c.add.ensures
+    let one = ap (λ v. v ∷ []) is ∙ sym (given_take g.vertices first v c.in-Take.quantity (omega arith))
+    ∙ ap (given_by g.vertices) (sym c.in-Take.is) in
+    subst (λ ns. OnOk c.add.result (c.add.new.set.keys ≡ fold (insert_key nat_cmp) c.args.set.now.keys ns))
+    one c.add.ensures
 
 pub returns-in-Pass : goal.returns-in-Pass
 returns-in-Pass c =
@@ -47,5 +53,7 @@ returns-in-Pass c =
     let is : c.vertex-vertex.result ≡ v = c.vertex-vertex.ensures ∙ ap vertex_of c.in-Pass.is in
     let len : c.len.result ≡ length g.vertices = c.len.ensures ∙ ap length c.vertices.ensures.value in
     let lt : c.vertex-vertex.result < c.len.result = c.if-vertex-len.false in
-    let one = ap (λ v. v ∷ []) is ∙ sym (given_pass g.vertices first v (omega arith)) ∙ ap (given_by g.vertices) (sym c.in-Pass.is) in
-    subst (λ ns. OnOk c.add-in-Pass.result (c.add-in-Pass.new.set.keys ≡ fold (insert_key nat_cmp) c.args.set.now.keys ns)) one c.add-in-Pass.ensures
+    let one = ap (λ v. v ∷ []) is
+    ∙ sym (given_pass g.vertices first v (omega arith)) ∙ ap (given_by g.vertices) (sym c.in-Pass.is) in
+    subst (λ ns. OnOk c.add-in-Pass.result
+    (c.add-in-Pass.new.set.keys ≡ fold (insert_key nat_cmp) c.args.set.now.keys ns)) one c.add-in-Pass.ensures

@@ -6,4 +6,6 @@ use Rattle.resource_set_r.specs.Rows.{given_by, given}
 use Rattle.resource_set_r.proofs.given.given_of.Given as goal
 
 abbrev pub invariant-claims : goal.invariant-claims
-invariant-claims l = fold (insert_key nat_cmp) l.set.keys (flat_map (given_by l.graph.resources.vertices) (drop l.claim-index l.claims)) ≡ given l.graph.resources.vertices l.claims
+invariant-claims l =
+    fold (insert_key nat_cmp) l.set.keys (flat_map (given_by l.graph.resources.vertices) (drop l.claim-index l.claims))
+    ≡ given l.graph.resources.vertices l.claims

@@ -24,11 +24,13 @@ returns-in-Some c =
       | inr le ↦ le
       | inl lt ↦ absurd (
           let below : get_or xs b 0 < n = low.before b lt in
-          let above : c.past.result ≤ get_or xs b 0 = high.after b (omega arith) (let bound : a ≤ length xs = low.within in omega arith) in
+          let above : c.past.result ≤ get_or xs b 0 =
+          high.after b (omega arith) (let bound : a ≤ length xs = low.within in omega arith) in
           let later : n < c.past.result = past.later in omega arith)
     ] in
     filter_slice (is_in_rank g.vertices rank) xs a b le high.within
-    (λ i lo hi. in_rank_inside g names valid rank n c.past.result has past (get_or xs i 0) (low.after i lo (let bound : b ≤ length xs = high.within in omega arith)) (high.before i hi))
+    (λ i lo hi. in_rank_inside g names valid rank n c.past.result has past
+    (get_or xs i 0) (low.after i lo (let bound : b ≤ length xs = high.within in omega arith)) (high.before i hi))
     (λ i lt. in_rank_before g names valid rank n c.past.result has past (get_or xs i 0) (low.before i lt))
     (λ i lo hi. in_rank_after g names valid rank n c.past.result has past (get_or xs i 0) (high.after i lo hi))
 
@@ -38,4 +40,5 @@ returns-in-None c =
     let names = c.args.graph.now.names in
     let valid = c.is_valid.ensures.valid in
     let none = subst (λ (o : Option ℕ). IsRanked g c.args.rank o) c.in-None.is c.node_of_rank.ensures in
-    sym (filter_fails (is_in_rank g.vertices c.args.rank) c.args.given.now (λ i lt. in_no_rank g names valid c.args.rank none (get_or c.args.given.now i 0)))
+    sym (filter_fails (is_in_rank g.vertices c.args.rank) c.args.given.now
+    (λ i lt. in_no_rank g names valid c.args.rank none (get_or c.args.given.now i 0)))

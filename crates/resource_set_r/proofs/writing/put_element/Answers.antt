@@ -2,4 +2,5 @@ use Rattle.json_written.proofs.WriterLaws.{wrote, and_then}
 use Rattle.resource_set_r.proofs.writing.put_element.Goals as goal
 
 pub returns : goal.returns
-returns c = and_then (wrote c.in_ok-begin_object.ensures) (and_then (wrote c.in_ok-key.ensures) (and_then c.in_ok-put_children.ensures (and_then c.in_ok-put_idset.ensures (wrote c.in_ok-end_object.ensures))))
+returns c = and_then (wrote c.in_ok-begin_object.ensures) (and_then (wrote c.in_ok-key.ensures)
+    (and_then c.in_ok-put_children.ensures (and_then c.in_ok-put_idset.ensures (wrote c.in_ok-end_object.ensures))))

@@ -11,5 +11,7 @@ returns-clause-book g c = λ e accepted.
     let journal = c.args.entries.now in
     let job = c.args.job.now in
     let of = c.requires.book in
-    book_accepted journal e c.args.book.now c.in_ok-next.next of job accepted c.requires.may.fresh c.in_ok-next.ensures.moment
-    (c.in_ok-next.ensures.rows ∙ ap (λ n. insert (rows_of c.args.book.now) job.id (live_row n)) c.len.ensures) (c.in_ok-next.ensures.jobs (left_by journal).jobs of.jobs)
+    book_accepted journal
+    e c.args.book.now c.in_ok-next.next of job accepted c.requires.may.fresh c.in_ok-next.ensures.moment
+    (c.in_ok-next.ensures.rows ∙ ap (λ n. insert (rows_of c.args.book.now) job.id (live_row n)) c.len.ensures)
+    (c.in_ok-next.ensures.jobs (left_by journal).jobs of.jobs)

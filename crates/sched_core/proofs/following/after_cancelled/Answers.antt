@@ -21,7 +21,8 @@ after_remove-requires-clause-live g c =
     let of = c.requires.book in
     let job : Job = c.in-Some.job.now in
     let there = is_there c.args.id s.jobs job (sym c.in-Some.ensures) in
-    let live = live_of c.args.entries.now s c.args.id job (sym c.in-Some.ensures) (get (rows_of c.args.book.now) c.args.id) (of.table c.args.id) in
+    let live = live_of c.args.entries.now s c.args.id job
+    (sym c.in-Some.ensures) (get (rows_of c.args.book.now) c.args.id) (of.table c.args.id) in
     (live.0, subst (λ (n : ℕ). get (rows_of c.args.book.now) n ≡ Some (live_row live.0)) (sym there.1) live.1)
 
 pub returns-clause-book : goal.returns-clause-book
@@ -37,5 +38,7 @@ returns-clause-book g c = λ e commanded replied.
     let live = live_of journal s id job (sym c.in-Some.ensures) (get (rows_of book) id) (of.table id) in
     let row = subst (λ (n : ℕ). get (rows_of book) n ≡ Some (live_row live.0)) (sym same) live.1 in
     book_cancelled journal e book next of id live.0 commanded replied live.1 c.in_ok-next-in-Some.ensures.moment
-    (subst (λ (n : ℕ). rows_of next ≡ insert (rows_of book) n (cancelled_row live.0)) same (c.in_ok-next-in-Some.ensures.rows live.0 row))
-    (subst (λ (n : ℕ). StandsFor next (without_job n s.jobs)) same (c.in_ok-next-in-Some.ensures.jobs s.jobs of.jobs (is_there id s.jobs job (sym c.in-Some.ensures)).0))
+    (subst (λ (n : ℕ). rows_of next ≡ insert (rows_of book) n (cancelled_row live.0)) same
+    (c.in_ok-next-in-Some.ensures.rows live.0 row))
+    (subst (λ (n : ℕ). StandsFor next (without_job n s.jobs)) same
+    (c.in_ok-next-in-Some.ensures.jobs s.jobs of.jobs (is_there id s.jobs job (sym c.in-Some.ensures)).0))

@@ -7,4 +7,5 @@ use Rattle.sched_core.proofs.settling.job_at.Goals as goal
 pub returns-in-Some : goal.returns-in-Some
 returns-in-Some g c = λ entry job there accepted.
     let here : Entry = c.in-Some.entry.now in
-    c.accepted_job.ensures job (subst (λ (e : Entry). HasAccepted e job) (sym (some_is here entry (c.in-Some.ensures.value ∙ there))) accepted)
+    c.accepted_job.ensures job
+    (subst (λ (e : Entry). HasAccepted e job) (sym (some_is here entry (c.in-Some.ensures.value ∙ there))) accepted)

@@ -8,5 +8,6 @@ use Rattle.session_trials.proofs.plays.played.Goals as goal
 pub play_script-requires-clause-proper : goal.play_script-requires-clause-proper
 play_script-requires-clause-proper g c κs within =
     let same : c.in_ok-core.core.setting.graph ≡ c.deref.result.now.resources = search rules in
-    subst (λ (k : ResourceGraph). AllByRecursion (λ lines. AllByRecursion (λ (l : Line). IsProper k.vertices l.command) lines)
+    subst (λ (k : ResourceGraph).
+    AllByRecursion (λ lines. AllByRecursion (λ (l : Line). IsProper k.vertices l.command) lines)
     c.in_ok-script.script.lines) (sym same) c.in_ok-script.ensures.proper

@@ -8,7 +8,8 @@ use Rattle.session_trials.proofs.plays.script_of.Goals as goal
 
 pub returns-in-Ok-clause-few : goal.returns-in-Ok-clause-few
 returns-in-Ok-clause-few c =
-    let few = few_clients_within c.shipped.result c.args.graph.now form.Rfc14 c.args.input.now (c.in-Ok.ensures.within refl) in
+    let few = few_clients_within c.shipped.result c.args.graph.now form.Rfc14 c.args.input.now
+    (c.in-Ok.ensures.within refl) in
     let long = ap (λ (s : Script). length s.lines) c.in-Ok.ensures.script in
     let clients = ap (λ (l : Limits). l.clients) c.shipped.ensures in omega arith
 

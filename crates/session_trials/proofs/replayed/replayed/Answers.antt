@@ -14,5 +14,6 @@ decide-requires c =
     c.in-Some.entry.now c.is_sound.ensures.proper there in
     let copied = subst (λ (k : Command). IsProper graph.vertices k) (sym c.in_ok-command.ensures) proper in
     record {
-      proper = subst (λ (k : ResourceGraph). IsProper k.vertices c.in_ok-command.command) (c.requires ∙ sym c.loop-at.invariant) copied;
+      proper = subst (λ (k : ResourceGraph). IsProper k.vertices c.in_ok-command.command)
+          (c.requires ∙ sym c.loop-at.invariant) copied;
     }

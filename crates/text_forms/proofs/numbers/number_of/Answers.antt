@@ -8,7 +8,8 @@ use Rattle.text_forms.proofs.Decimals.{parsed}
 use Rattle.text_forms.proofs.numbers.number_of.Goals as goal
 
 pub returns-in_default-clause-none : goal.returns-in_default-clause-none
-returns-in_default-clause-none c = λ n small is. c.in_default.not-Ok n (parse-decimal 64 n c.args.digits.now c.parse_u64.result small small is c.parse_u64.ensures)
+returns-in_default-clause-none c = λ n small is.
+    c.in_default.not-Ok n (parse-decimal 64 n c.args.digits.now c.parse_u64.result small small is c.parse_u64.ensures)
 
 pub returns-clause-none : goal.returns-clause-none
 returns-clause-none c = λ n small is.

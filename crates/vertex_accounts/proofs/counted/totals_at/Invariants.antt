@@ -7,5 +7,6 @@ use Rattle.vertex_accounts.proofs.counted.totals_at.Given as goal
 abbrev pub invariant-loop-quantity : goal.invariant-loop-quantity
 invariant-loop-quantity l = record {
   len : length l.totals.items ≡ l.quantity-index;
-  totals : (k : ℕ) (q : Quantity) → k < l.quantity-index → slice_get l.quantities k ≡ Some q → slice_index_or l.totals.items k 0 ≡ total_in l.graph.resources.vertices q l.vertex;
+  totals : (k : ℕ) (q : Quantity) → k < l.quantity-index → slice_get l.quantities k ≡ Some q →
+      slice_index_or l.totals.items k 0 ≡ total_in l.graph.resources.vertices q l.vertex;
 }

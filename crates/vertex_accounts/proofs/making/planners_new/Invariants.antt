@@ -8,5 +8,6 @@ abbrev pub invariant-loop-vertex : goal.invariant-loop-vertex
 invariant-loop-vertex g l = record {
   len : length (items_of l.planners) ≡ l.vertex;
   places : AreWide (length l.quantities) (items_of l.planners);
-  planners : AreNew g.P.Planner.total_of g.P.Planner.stands_for l.graph.resources.vertices l.quantities (items_of l.planners);
+  planners : AreNew g.P.Planner.total_of g.P.Planner.stands_for l.graph.resources.vertices l.quantities
+      (items_of l.planners);
 }

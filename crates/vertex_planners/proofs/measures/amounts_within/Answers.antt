@@ -9,7 +9,8 @@ loop-claim-preserved g c =
     let here = c.loop-claim-test.true in
     let most = length c.args.graph.now.resources.vertices in
     record {
-      sums = λ v. counts_step c.args.graph.now.resources.vertices (g.M.Measure.amount c.args.measure.now) v claims at _ _ _
+      sums =
+          λ v. counts_step c.args.graph.now.resources.vertices (g.M.Measure.amount c.args.measure.now) v claims at _ _ _
           _ _ here (c.in_ok-raise_for.ensures.sums v) (c.loop-claim.invariant.sums v) refl c.amount_of.ensures;
       few = λ all. omega (
         arith,

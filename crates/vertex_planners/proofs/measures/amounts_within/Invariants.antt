@@ -8,7 +8,10 @@ use Rattle.vertex_planners.proofs.measures.amounts_within.Given as goal
 -- the numbers of the claims so far, at their vertices and above them
 abbrev pub invariant-loop-claim : goal.invariant-loop-claim
 invariant-loop-claim g l = record {
-  sums : (v : ℕ) → amount_at l.amounts v ≡ sum_by (λ c. cond (counts_at l.graph.resources.vertices v c) (g.M.Measure.amount l.measure c) 0) (take l.claim-index l.claims);
-  keys : AllByRecursion (λ c. vertex_of c < length l.graph.resources.vertices) l.claims → HasKeysBelow (length l.graph.resources.vertices) l.amounts;
-  few : AllByRecursion (λ c. vertex_of c < length l.graph.resources.vertices) l.claims → count_of l.amounts ≤ 16 * l.claim-index;
+  sums : (v : ℕ) → amount_at l.amounts v ≡ sum_by (λ c.
+      cond (counts_at l.graph.resources.vertices v c) (g.M.Measure.amount l.measure c) 0) (take l.claim-index l.claims);
+  keys : AllByRecursion (λ c. vertex_of c < length l.graph.resources.vertices) l.claims →
+      HasKeysBelow (length l.graph.resources.vertices) l.amounts;
+  few : AllByRecursion (λ c. vertex_of c < length l.graph.resources.vertices) l.claims →
+      count_of l.amounts ≤ 16 * l.claim-index;
 }

@@ -25,7 +25,8 @@ returns-clause-keys c = λ keys.
     let g = c.args.graph.now.resources in
     let same = c.items-vertices.ensures ∙ c.vertices.ensures.value in
     let n = ap (λ (vs : List Vertex). length vs) same in
-    let inside = subst ParentsIn (sym same) (parents_in g.vertices (parents_first g c.vertices.ensures.valid.valid.preorder)) in
+    let inside =
+    subst ParentsIn (sym same) (parents_in g.vertices (parents_first g c.vertices.ensures.valid.valid.preorder)) in
     subst (λ (most : ℕ). HasKeysBelow most c.raise.new.amounts) n
     (c.in_ok-raise.ensures.keys inside
     (parent_inside c.items-vertices.result.now c.args.vertex c.parent_in-above.result c.parent_in-above.ensures inside)
@@ -38,9 +39,11 @@ returns-clause-few c = λ within.
     let (x, at) = item_at g.vertices c.args.vertex within in
     let shallow = c.vertices.ensures.valid.valid.shallow c.args.vertex x at in
     let few = c.in_ok-raise.ensures.few in
-    let opens = ap (λ (vs : List ℕ). length vs) (chain_opens g.vertices (length g.vertices) c.args.vertex (λ e. omega (arith, e, within))) in
+    let opens = ap (λ (vs : List ℕ). length vs)
+    (chain_opens g.vertices (length g.vertices) c.args.vertex (λ e. omega (arith, e, within))) in
     let up = c.parent_in-above.ensures ∙ ap (λ (vs : List Vertex). parent_of vs c.args.vertex) same in
-    let less = ap (λ (k : ℕ). length (chain c.items-vertices.result.now k c.parent_in-above.result)) c.saturating_sub.ensures
+    let less =
+    ap (λ (k : ℕ). length (chain c.items-vertices.result.now k c.parent_in-above.result)) c.saturating_sub.ensures
     ∙ ap (λ (vs : List Vertex). length (chain vs (length vs - 1) c.parent_in-above.result)) same
     ∙ ap (λ o. length (chain g.vertices (length g.vertices - 1) o)) up in
     omega (arith, shallow, few, opens, less)

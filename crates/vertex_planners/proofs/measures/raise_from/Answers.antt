@@ -31,7 +31,8 @@ returns-clause-keys c = λ within keys.
 pub returns-clause-few : goal.returns-clause-few
 returns-clause-few c = λ within.
     let g = c.args.graph.now.resources in
-    let same = ap (λ (vs : List Vertex). length (chain vs (length vs) (Some c.args.vertex))) (c.items-vertices.ensures ∙ c.vertices.ensures.value) in
+    let same = ap (λ (vs : List Vertex). length (chain vs (length vs) (Some c.args.vertex)))
+    (c.items-vertices.ensures ∙ c.vertices.ensures.value) in
     let (x, at) = item_at g.vertices c.args.vertex within in
     let shallow = c.vertices.ensures.valid.valid.shallow c.args.vertex x at in
     let few = c.in_ok-raise.ensures.few in

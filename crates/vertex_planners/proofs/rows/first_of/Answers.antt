@@ -11,8 +11,10 @@ pub loop-amounts-preserved : goal.loop-amounts-preserved
 loop-amounts-preserved c = record {
   none = λ k amounts lt at v. elim (eqb_tells k c.loop-amounts.amounts-index) [
     | inl same ↦ (
-        let there = slice_get_read c.args.places.now (length c.args.places.now) c.loop-amounts.amounts-index c.amounts-item.result refl c.loop-amounts-test.true c.amounts-item.is in
-        let both : Some c.amounts-item.result ≡ Some amounts = sym there ∙ (ap (slice_get c.args.places.now) (sym same.1) ∙ at) in
+        let there = slice_get_read c.args.places.now (length c.args.places.now)
+        c.loop-amounts.amounts-index c.amounts-item.result refl c.loop-amounts-test.true c.amounts-item.is in
+        let both : Some c.amounts-item.result ≡ Some amounts =
+        sym there ∙ (ap (slice_get c.args.places.now) (sym same.1) ∙ at) in
         let is : c.amounts-item.result ≡ amounts = cc in
         subst (λ (a : Amounts). kept_at a v ≡ None) is (c.in_default.ensures.none v))
     | inr differ ↦ c.loop-amounts.invariant.none k amounts (let ne = differ.1 in omega (arith, lt, ne)) at v
@@ -21,4 +23,5 @@ loop-amounts-preserved c = record {
 
 pub returns-clause-none : goal.returns-clause-none
 returns-clause-none c = λ v k amounts at.
-    c.loop-amounts.invariant.none k amounts (let lt = within_list c.args.places.now k amounts at in let past = c.loop-amounts-test.false in omega (arith, lt, past)) at v
+    c.loop-amounts.invariant.none k amounts (let lt = within_list c.args.places.now k amounts at in
+    let past = c.loop-amounts-test.false in omega (arith, lt, past)) at v

@@ -15,6 +15,7 @@ returns-in-None c =
 pub returns-in-Some : goal.returns-in-Some
 returns-in-Some c =
     let it = c.self.inside in
-    subst (λ (x : Filtered). IsTrue c.told_in.result ↔ KeepsPair x.graph x.rules c.args.upper c.args.lower) c.self.view_is
+    subst
+    (λ (x : Filtered). IsTrue c.told_in.result ↔ KeepsPair x.graph x.rules c.args.upper c.args.lower) c.self.view_is
     (row_tells (arc_value it.graph).resources.kinds it.rules it.rows c.args.upper c.args.lower c.in-Some.row.now
     c.told_in.result c.self.invariant (sym c.get.ensures.value ∙ ap option_copied c.in-Some.is) c.told_in.ensures)

@@ -20,15 +20,19 @@ use Rattle.book_state.proofs.held.BookState.after_add.Goals as goal
 pub with_job-requires-clause-on_graph : goal.with_job-requires-clause-on_graph
 with_job-requires-clause-on_graph g c = record {
   begins = c.requires.begins;
-  on_vertices = subst (λ (h : NamedGraph). AllByRecursion (λ d. vertex_of d < length h.resources.vertices) c.args.job.now.claims) (sym c.graph-graph.ensures.value) c.requires.on_vertices;
+  on_vertices =
+      subst (λ (h : NamedGraph). AllByRecursion (λ d. vertex_of d < length h.resources.vertices) c.args.job.now.claims)
+      (sym c.graph-graph.ensures.value) c.requires.on_vertices;
 }
 
 pub with_job-requires-clause-there : goal.with_job-requires-clause-there
 with_job-requires-clause-there g c =
     let is = c.accounts-old.ensures.book in (
       is.0,
-      accounts_at c.graph-graph.result.now c.accounts-old.result.now c.args.self.now c.graph-graph.ensures.value c.accounts-old.ensures.value is.0 is.1,
-      fair_with c.graph-graph.result.now c.args.self.now c.graph-graph.ensures.value c.graph-graph.ensures.valid c.args.job.now c.requires is.0 is.1,
+      accounts_at c.graph-graph.result.now
+          c.accounts-old.result.now c.args.self.now c.graph-graph.ensures.value c.accounts-old.ensures.value is.0 is.1,
+      fair_with c.graph-graph.result.now
+          c.args.self.now c.graph-graph.ensures.value c.graph-graph.ensures.valid c.args.job.now c.requires is.0 is.1,
     )
 
 pub returns-clause-jobs : goal.returns-clause-jobs
@@ -39,8 +43,10 @@ returns-clause-jobs g c = λ jobs x.
     let eg = c.graph-graph.ensures.value in
     let ea = c.accounts-old.ensures.value in
     let new : Accounts Plan = c.in_ok-accounts.accounts in
-    let acc = subst (λ (h : NamedGraph). AreAccounts (λ (p : Plan). p.total) Plans.StandsFor h.resources.vertices (jobs ++ job ∷ []) new) eg
-    (c.in_ok-accounts.ensures.accounts jobs (accounts_at G c.accounts-old.result.now k eg ea jobs x) (fair_with G k eg c.graph-graph.ensures.valid job c.requires jobs x)) in
+    let acc = subst (λ (h : NamedGraph).
+    AreAccounts (λ (p : Plan). p.total) Plans.StandsFor h.resources.vertices (jobs ++ job ∷ []) new) eg
+    (c.in_ok-accounts.ensures.accounts jobs (accounts_at G c.accounts-old.result.now k eg ea jobs x)
+    (fair_with G k eg c.graph-graph.ensures.valid job c.requires jobs x)) in
     moved (graph_of k) _ (rules_of k) _ new _ (insert (rows_of k) job.id (live_row c.args.at)) _ (jobs ++ job ∷ [])
     (ap (λ (x : Filtered). x.graph) c.in_ok-try_clone.ensures ∙ ap graph_of c.self.view_is)
     (ap (λ (x : Filtered). x.rules) c.in_ok-try_clone.ensures ∙ ap rules_of c.self.view_is)
@@ -59,14 +65,17 @@ invariant_of-result g c =
     let eg = c.graph-graph.ensures.value in
     let ea = c.accounts-old.ensures.value in
     let new : Accounts Plan = c.in_ok-accounts.accounts in
-    let acc = subst (λ (h : NamedGraph). AreAccounts (λ (p : Plan). p.total) Plans.StandsFor h.resources.vertices (jobs ++ job ∷ []) new) eg
-    (c.in_ok-accounts.ensures.accounts jobs (accounts_at G c.accounts-old.result.now k eg ea jobs x) (fair_with G k eg c.graph-graph.ensures.valid job c.requires jobs x)) in (
+    let acc = subst (λ (h : NamedGraph).
+    AreAccounts (λ (p : Plan). p.total) Plans.StandsFor h.resources.vertices (jobs ++ job ∷ []) new) eg
+    (c.in_ok-accounts.ensures.accounts jobs (accounts_at G c.accounts-old.result.now k eg ea jobs x)
+    (fair_with G k eg c.graph-graph.ensures.valid job c.requires jobs x)) in (
       jobs ++ job ∷ [],
       moved (graph_of k) _ (rules_of k) _ new _ (insert (rows_of k) job.id (live_row c.args.at)) _ (jobs ++ job ∷ [])
           (ap (λ (x : Filtered). x.graph) c.in_ok-try_clone.ensures ∙ ap graph_of c.self.view_is)
           (ap (λ (x : Filtered). x.rules) c.in_ok-try_clone.ensures ∙ ap rules_of c.self.view_is)
           c.in_ok-new.ensures.ok
-          (c.in_ok-with_new.ensures.added ∙ ap (λ (b : Kept). insert (rows_of b) job.id (live_row c.args.at)) c.self.view_is)
+          (c.in_ok-with_new.ensures.added
+          ∙ ap (λ (b : Kept). insert (rows_of b) job.id (live_row c.args.at)) c.self.view_is)
           (added (graph_of k) (rules_of k) (accounts_of k) new (rows_of k) jobs job c.args.at c.requires.fresh acc
           (λ kind h. c.in_ok-accounts.ensures.kinds kind (subst (λ (a : Accounts Plan). KeepsKind a kind) (sym ea) h))
           (c.in_ok-accounts.ensures.types ∙ ap (λ (a : Accounts Plan). types_of a) ea) x),
@@ -74,27 +83,37 @@ invariant_of-result g c =
 
 pub returns-in_err-accounts-clause-work : goal.returns-in_err-accounts-clause-work
 returns-in_err-accounts-clause-work g c =
-    change_at c.graph-graph.result.now c.accounts-old.result.now c.args.self.now c.graph-graph.ensures.value c.accounts-old.ensures.value c.accounts-old.ensures.book c.graph-graph.ensures.valid
-    (length c.args.job.now.claims) c.args.steps.now c.with_job.new.steps c.with_job.new.steps c.with_job.ensures.work (omega arith)
+    change_at c.graph-graph.result.now c.accounts-old.result.now c.args.self.now
+    c.graph-graph.ensures.value c.accounts-old.ensures.value c.accounts-old.ensures.book c.graph-graph.ensures.valid
+    (length c.args.job.now.claims)
+    c.args.steps.now c.with_job.new.steps c.with_job.new.steps c.with_job.ensures.work (omega arith)
 
 pub returns-in_err-try_clone-clause-work : goal.returns-in_err-try_clone-clause-work
 returns-in_err-try_clone-clause-work g c =
-    change_at c.graph-graph.result.now c.accounts-old.result.now c.args.self.now c.graph-graph.ensures.value c.accounts-old.ensures.value c.accounts-old.ensures.book c.graph-graph.ensures.valid
-    (length c.args.job.now.claims) c.args.steps.now c.with_job.new.steps c.with_job.new.steps c.with_job.ensures.work (omega arith)
+    change_at c.graph-graph.result.now c.accounts-old.result.now c.args.self.now
+    c.graph-graph.ensures.value c.accounts-old.ensures.value c.accounts-old.ensures.book c.graph-graph.ensures.valid
+    (length c.args.job.now.claims)
+    c.args.steps.now c.with_job.new.steps c.with_job.new.steps c.with_job.ensures.work (omega arith)
 
 pub returns-in_err-new-clause-work : goal.returns-in_err-new-clause-work
 returns-in_err-new-clause-work g c =
-    change_at c.graph-graph.result.now c.accounts-old.result.now c.args.self.now c.graph-graph.ensures.value c.accounts-old.ensures.value c.accounts-old.ensures.book c.graph-graph.ensures.valid
-    (length c.args.job.now.claims) c.args.steps.now c.with_job.new.steps c.with_job.new.steps c.with_job.ensures.work (omega arith)
+    change_at c.graph-graph.result.now c.accounts-old.result.now c.args.self.now
+    c.graph-graph.ensures.value c.accounts-old.ensures.value c.accounts-old.ensures.book c.graph-graph.ensures.valid
+    (length c.args.job.now.claims)
+    c.args.steps.now c.with_job.new.steps c.with_job.new.steps c.with_job.ensures.work (omega arith)
 
 pub returns-in_err-with_new-clause-work : goal.returns-in_err-with_new-clause-work
 returns-in_err-with_new-clause-work g c =
-    change_at c.graph-graph.result.now c.accounts-old.result.now c.args.self.now c.graph-graph.ensures.value c.accounts-old.ensures.value c.accounts-old.ensures.book c.graph-graph.ensures.valid
+    change_at c.graph-graph.result.now c.accounts-old.result.now c.args.self.now
+    c.graph-graph.ensures.value c.accounts-old.ensures.value c.accounts-old.ensures.book c.graph-graph.ensures.valid
     (length c.args.job.now.claims) c.args.steps.now c.with_job.new.steps c.with_new.new.steps c.with_job.ensures.work
-    (subst (λ (b : Kept). c.with_new.new.steps ≤ c.with_job.new.steps + 256 * dig (len (rows_of b) + 2)) c.self.view_is c.with_new.ensures.work)
+    (subst (λ (b : Kept). c.with_new.new.steps ≤ c.with_job.new.steps + 256 * dig (len (rows_of b) + 2))
+    c.self.view_is c.with_new.ensures.work)
 
 pub returns-clause-work : goal.returns-clause-work
 returns-clause-work g c =
-    change_at c.graph-graph.result.now c.accounts-old.result.now c.args.self.now c.graph-graph.ensures.value c.accounts-old.ensures.value c.accounts-old.ensures.book c.graph-graph.ensures.valid
+    change_at c.graph-graph.result.now c.accounts-old.result.now c.args.self.now
+    c.graph-graph.ensures.value c.accounts-old.ensures.value c.accounts-old.ensures.book c.graph-graph.ensures.valid
     (length c.args.job.now.claims) c.args.steps.now c.with_job.new.steps c.with_new.new.steps c.with_job.ensures.work
-    (subst (λ (b : Kept). c.with_new.new.steps ≤ c.with_job.new.steps + 256 * dig (len (rows_of b) + 2)) c.self.view_is c.with_new.ensures.work)
+    (subst (λ (b : Kept). c.with_new.new.steps ≤ c.with_job.new.steps + 256 * dig (len (rows_of b) + 2))
+    c.self.view_is c.with_new.ensures.work)

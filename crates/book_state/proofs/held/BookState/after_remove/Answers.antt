@@ -32,7 +32,8 @@ without_job-requires-clause-there g c =
     let (before, after, e) = split_at jobs c.args.job.now has in (
       before,
       after,
-      accounts_at c.graph-graph.result.now c.accounts-old.result.now c.args.self.now c.graph-graph.ensures.value c.accounts-old.ensures.value
+      accounts_at c.graph-graph.result.now
+          c.accounts-old.result.now c.args.self.now c.graph-graph.ensures.value c.accounts-old.ensures.value
           (before ++ c.args.job.now ∷ after) (subst (StandsFor c.args.self.now) e x),
     )
 
@@ -44,13 +45,16 @@ returns-clause-once g c = λ before after x.
     let ea = c.accounts-old.ensures.value in
     let new : Accounts Plan = c.in_ok-accounts.accounts in
     let (at, live) = c.requires.live in
-    let acc = subst (λ (h : NamedGraph). AreAccounts (λ (p : Plan). p.total) Plans.StandsFor h.resources.vertices (before ++ after) new) eg
-    (c.in_ok-accounts.ensures.accounts before after (accounts_at c.graph-graph.result.now c.accounts-old.result.now k eg ea (before ++ job ∷ after) x)) in
+    let acc = subst (λ (h : NamedGraph).
+    AreAccounts (λ (p : Plan). p.total) Plans.StandsFor h.resources.vertices (before ++ after) new) eg
+    (c.in_ok-accounts.ensures.accounts before after
+    (accounts_at c.graph-graph.result.now c.accounts-old.result.now k eg ea (before ++ job ∷ after) x)) in
     moved (graph_of k) _ (rules_of k) _ new _ (insert (rows_of k) job.id (cancelled_row at)) _ (before ++ after)
     (ap (λ (x : Filtered). x.graph) c.in_ok-try_clone.ensures ∙ ap graph_of c.self.view_is)
     (ap (λ (x : Filtered). x.rules) c.in_ok-try_clone.ensures ∙ ap rules_of c.self.view_is)
     c.in_ok-new.ensures.ok
-    (c.in_ok-with_cancelled.ensures.cancelled at (subst (λ (b : Kept). get (rows_of b) job.id ≡ Some (live_row at)) (sym c.self.view_is) live)
+    (c.in_ok-with_cancelled.ensures.cancelled at
+    (subst (λ (b : Kept). get (rows_of b) job.id ≡ Some (live_row at)) (sym c.self.view_is) live)
     ∙ ap (λ (b : Kept). insert (rows_of b) job.id (cancelled_row at)) c.self.view_is)
     (removed (graph_of k) (rules_of k) (accounts_of k) new (rows_of k) before job after at live acc
     (λ kind h. c.in_ok-accounts.ensures.kinds kind (subst (λ (a : Accounts Plan). KeepsKind a kind) (sym ea) h))
@@ -60,20 +64,25 @@ pub returns-clause-jobs : goal.returns-clause-jobs
 returns-clause-jobs g c = λ jobs y has.
     let (before, after, e) = split_at jobs c.args.job.now has in
     let x = subst (StandsFor c.args.self.now) e y in
-    let same : without_job c.args.job.now.id jobs ≡ before ++ after = ap (without_job c.args.job.now.id) e ∙ without_middle before after c.args.job.now x.ties.own in
+    let same : without_job c.args.job.now.id jobs ≡ before ++ after =
+    ap (without_job c.args.job.now.id) e ∙ without_middle before after c.args.job.now x.ties.own in
     let k = c.args.self.now in
     let job : Job = c.args.job.now in
     let eg = c.graph-graph.ensures.value in
     let ea = c.accounts-old.ensures.value in
     let new : Accounts Plan = c.in_ok-accounts.accounts in
     let (at, live) = c.requires.live in
-    let acc = subst (λ (h : NamedGraph). AreAccounts (λ (p : Plan). p.total) Plans.StandsFor h.resources.vertices (before ++ after) new) eg
-    (c.in_ok-accounts.ensures.accounts before after (accounts_at c.graph-graph.result.now c.accounts-old.result.now k eg ea (before ++ job ∷ after) x)) in
-    moved_to (graph_of k) _ (rules_of k) _ new _ (insert (rows_of k) job.id (cancelled_row at)) _ (before ++ after) (without_job job.id jobs) same
+    let acc = subst (λ (h : NamedGraph).
+    AreAccounts (λ (p : Plan). p.total) Plans.StandsFor h.resources.vertices (before ++ after) new) eg
+    (c.in_ok-accounts.ensures.accounts before after
+    (accounts_at c.graph-graph.result.now c.accounts-old.result.now k eg ea (before ++ job ∷ after) x)) in
+    moved_to (graph_of k) _ (rules_of k) _ new _
+    (insert (rows_of k) job.id (cancelled_row at)) _ (before ++ after) (without_job job.id jobs) same
     (ap (λ (x : Filtered). x.graph) c.in_ok-try_clone.ensures ∙ ap graph_of c.self.view_is)
     (ap (λ (x : Filtered). x.rules) c.in_ok-try_clone.ensures ∙ ap rules_of c.self.view_is)
     c.in_ok-new.ensures.ok
-    (c.in_ok-with_cancelled.ensures.cancelled at (subst (λ (b : Kept). get (rows_of b) job.id ≡ Some (live_row at)) (sym c.self.view_is) live)
+    (c.in_ok-with_cancelled.ensures.cancelled at
+    (subst (λ (b : Kept). get (rows_of b) job.id ≡ Some (live_row at)) (sym c.self.view_is) live)
     ∙ ap (λ (b : Kept). insert (rows_of b) job.id (cancelled_row at)) c.self.view_is)
     (removed (graph_of k) (rules_of k) (accounts_of k) new (rows_of k) before job after at live acc
     (λ kind h. c.in_ok-accounts.ensures.kinds kind (subst (λ (a : Accounts Plan). KeepsKind a kind) (sym ea) h))
@@ -90,14 +99,17 @@ invariant_of-result g c =
     let ea = c.accounts-old.ensures.value in
     let new : Accounts Plan = c.in_ok-accounts.accounts in
     let (at, live) = c.requires.live in
-    let acc = subst (λ (h : NamedGraph). AreAccounts (λ (p : Plan). p.total) Plans.StandsFor h.resources.vertices (before ++ after) new) eg
-    (c.in_ok-accounts.ensures.accounts before after (accounts_at c.graph-graph.result.now c.accounts-old.result.now k eg ea (before ++ job ∷ after) x)) in (
+    let acc = subst (λ (h : NamedGraph).
+    AreAccounts (λ (p : Plan). p.total) Plans.StandsFor h.resources.vertices (before ++ after) new) eg
+    (c.in_ok-accounts.ensures.accounts before after
+    (accounts_at c.graph-graph.result.now c.accounts-old.result.now k eg ea (before ++ job ∷ after) x)) in (
       before ++ after,
       moved (graph_of k) _ (rules_of k) _ new _ (insert (rows_of k) job.id (cancelled_row at)) _ (before ++ after)
           (ap (λ (x : Filtered). x.graph) c.in_ok-try_clone.ensures ∙ ap graph_of c.self.view_is)
           (ap (λ (x : Filtered). x.rules) c.in_ok-try_clone.ensures ∙ ap rules_of c.self.view_is)
           c.in_ok-new.ensures.ok
-          (c.in_ok-with_cancelled.ensures.cancelled at (subst (λ (b : Kept). get (rows_of b) job.id ≡ Some (live_row at)) (sym c.self.view_is) live)
+          (c.in_ok-with_cancelled.ensures.cancelled at
+          (subst (λ (b : Kept). get (rows_of b) job.id ≡ Some (live_row at)) (sym c.self.view_is) live)
           ∙ ap (λ (b : Kept). insert (rows_of b) job.id (cancelled_row at)) c.self.view_is)
           (removed (graph_of k) (rules_of k) (accounts_of k) new (rows_of k) before job after at live acc
           (λ kind h. c.in_ok-accounts.ensures.kinds kind (subst (λ (a : Accounts Plan). KeepsKind a kind) (sym ea) h))
@@ -106,27 +118,39 @@ invariant_of-result g c =
 
 pub returns-in_err-accounts-clause-work : goal.returns-in_err-accounts-clause-work
 returns-in_err-accounts-clause-work g c =
-    change_at c.graph-graph.result.now c.accounts-old.result.now c.args.self.now c.graph-graph.ensures.value c.accounts-old.ensures.value c.accounts-old.ensures.book c.graph-graph.ensures.valid
-    (length c.args.job.now.claims) c.args.steps.now c.without_job.new.steps c.without_job.new.steps c.without_job.ensures.work (omega arith)
+    change_at c.graph-graph.result.now c.accounts-old.result.now c.args.self.now
+    c.graph-graph.ensures.value c.accounts-old.ensures.value c.accounts-old.ensures.book c.graph-graph.ensures.valid
+    (length c.args.job.now.claims)
+    c.args.steps.now c.without_job.new.steps c.without_job.new.steps c.without_job.ensures.work (omega arith)
 
 pub returns-in_err-try_clone-clause-work : goal.returns-in_err-try_clone-clause-work
 returns-in_err-try_clone-clause-work g c =
-    change_at c.graph-graph.result.now c.accounts-old.result.now c.args.self.now c.graph-graph.ensures.value c.accounts-old.ensures.value c.accounts-old.ensures.book c.graph-graph.ensures.valid
-    (length c.args.job.now.claims) c.args.steps.now c.without_job.new.steps c.without_job.new.steps c.without_job.ensures.work (omega arith)
+    change_at c.graph-graph.result.now c.accounts-old.result.now c.args.self.now
+    c.graph-graph.ensures.value c.accounts-old.ensures.value c.accounts-old.ensures.book c.graph-graph.ensures.valid
+    (length c.args.job.now.claims)
+    c.args.steps.now c.without_job.new.steps c.without_job.new.steps c.without_job.ensures.work (omega arith)
 
 pub returns-in_err-new-clause-work : goal.returns-in_err-new-clause-work
 returns-in_err-new-clause-work g c =
-    change_at c.graph-graph.result.now c.accounts-old.result.now c.args.self.now c.graph-graph.ensures.value c.accounts-old.ensures.value c.accounts-old.ensures.book c.graph-graph.ensures.valid
-    (length c.args.job.now.claims) c.args.steps.now c.without_job.new.steps c.without_job.new.steps c.without_job.ensures.work (omega arith)
+    change_at c.graph-graph.result.now c.accounts-old.result.now c.args.self.now
+    c.graph-graph.ensures.value c.accounts-old.ensures.value c.accounts-old.ensures.book c.graph-graph.ensures.valid
+    (length c.args.job.now.claims)
+    c.args.steps.now c.without_job.new.steps c.without_job.new.steps c.without_job.ensures.work (omega arith)
 
 pub returns-in_err-with_cancelled-clause-work : goal.returns-in_err-with_cancelled-clause-work
 returns-in_err-with_cancelled-clause-work g c =
-    change_at c.graph-graph.result.now c.accounts-old.result.now c.args.self.now c.graph-graph.ensures.value c.accounts-old.ensures.value c.accounts-old.ensures.book c.graph-graph.ensures.valid
-    (length c.args.job.now.claims) c.args.steps.now c.without_job.new.steps c.with_cancelled.new.steps c.without_job.ensures.work
-    (subst (λ (b : Kept). c.with_cancelled.new.steps ≤ c.without_job.new.steps + 256 * dig (len (rows_of b) + 2)) c.self.view_is c.with_cancelled.ensures.work)
+    change_at c.graph-graph.result.now c.accounts-old.result.now c.args.self.now
+    c.graph-graph.ensures.value c.accounts-old.ensures.value c.accounts-old.ensures.book c.graph-graph.ensures.valid
+    (length c.args.job.now.claims)
+    c.args.steps.now c.without_job.new.steps c.with_cancelled.new.steps c.without_job.ensures.work
+    (subst (λ (b : Kept). c.with_cancelled.new.steps ≤ c.without_job.new.steps + 256 * dig (len (rows_of b) + 2))
+    c.self.view_is c.with_cancelled.ensures.work)
 
 pub returns-clause-work : goal.returns-clause-work
 returns-clause-work g c =
-    change_at c.graph-graph.result.now c.accounts-old.result.now c.args.self.now c.graph-graph.ensures.value c.accounts-old.ensures.value c.accounts-old.ensures.book c.graph-graph.ensures.valid
-    (length c.args.job.now.claims) c.args.steps.now c.without_job.new.steps c.with_cancelled.new.steps c.without_job.ensures.work
-    (subst (λ (b : Kept). c.with_cancelled.new.steps ≤ c.without_job.new.steps + 256 * dig (len (rows_of b) + 2)) c.self.view_is c.with_cancelled.ensures.work)
+    change_at c.graph-graph.result.now c.accounts-old.result.now c.args.self.now
+    c.graph-graph.ensures.value c.accounts-old.ensures.value c.accounts-old.ensures.book c.graph-graph.ensures.valid
+    (length c.args.job.now.claims)
+    c.args.steps.now c.without_job.new.steps c.with_cancelled.new.steps c.without_job.ensures.work
+    (subst (λ (b : Kept). c.with_cancelled.new.steps ≤ c.without_job.new.steps + 256 * dig (len (rows_of b) + 2))
+    c.self.view_is c.with_cancelled.ensures.work)

@@ -13,7 +13,8 @@ invariant_of-result c = (
       (ap (λ (x : Filtered). x.graph) c.in_ok-new.ensures.ok ∙ (c.in_ok-filtered.ensures.graph ∙ sym c.deref.ensures))
       (ap (λ (x : Filtered). x.rules) c.in_ok-new.ensures.ok ∙ c.in_ok-filtered.ensures.rules)
       c.in_ok-new-2.ensures.ok c.empty.ensures
-      (none_stands c.deref.result.now c.args.rules c.in_ok-accounts.accounts c.in_ok-accounts.ensures.accounts c.in_ok-accounts.ensures.kinds c.in_ok-accounts.ensures.types),
+      (none_stands c.deref.result.now c.args.rules c.in_ok-accounts.accounts
+      c.in_ok-accounts.ensures.accounts c.in_ok-accounts.ensures.kinds c.in_ok-accounts.ensures.types),
 )
 
 pub returns-clause-jobs : goal.returns-clause-jobs
@@ -23,4 +24,5 @@ returns-clause-jobs c =
     (ap (λ (x : Filtered). x.graph) c.in_ok-new.ensures.ok ∙ (c.in_ok-filtered.ensures.graph ∙ sym c.deref.ensures))
     (ap (λ (x : Filtered). x.rules) c.in_ok-new.ensures.ok ∙ c.in_ok-filtered.ensures.rules)
     c.in_ok-new-2.ensures.ok c.empty.ensures
-    (none_stands c.deref.result.now c.args.rules c.in_ok-accounts.accounts c.in_ok-accounts.ensures.accounts c.in_ok-accounts.ensures.kinds c.in_ok-accounts.ensures.types)
+    (none_stands c.deref.result.now c.args.rules c.in_ok-accounts.accounts
+    c.in_ok-accounts.ensures.accounts c.in_ok-accounts.ensures.kinds c.in_ok-accounts.ensures.types)

@@ -4,15 +4,21 @@ use Rattle.book_state.proofs.ViewLaws.{graph_at, answer_at, inside_at, work_at}
 use Rattle.book_state.proofs.view.BookStateFreeView.free_over.Goals as goal
 
 pub free_over-requires-clause-graph : goal.free_over-requires-clause-graph
-free_over-requires-clause-graph g c = graph_at c.graph-graph.result.now c.accounts-accounts.result.now c.args.self.now c.graph-graph.ensures.value c.accounts-accounts.ensures.value c.accounts-accounts.ensures.book
+free_over-requires-clause-graph g c = graph_at c.graph-graph.result.now c.accounts-accounts.result.now
+    c.args.self.now c.graph-graph.ensures.value c.accounts-accounts.ensures.value c.accounts-accounts.ensures.book
 
 pub free_over-requires-clause-inside : goal.free_over-requires-clause-inside
-free_over-requires-clause-inside g c = inside_at c.graph-graph.result.now c.accounts-accounts.result.now c.args.self.now c.graph-graph.ensures.value c.accounts-accounts.ensures.value c.args.vertex c.requires.vertex
+free_over-requires-clause-inside g c = inside_at c.graph-graph.result.now c.accounts-accounts.result.now
+    c.args.self.now c.graph-graph.ensures.value c.accounts-accounts.ensures.value c.args.vertex c.requires.vertex
 
 pub returns-clause-answer : goal.returns-clause-answer
-returns-clause-answer g c = answer_at c.graph-graph.result.now c.accounts-accounts.result.now c.args.self.now c.graph-graph.ensures.value c.accounts-accounts.ensures.value (λ vs js. IsFreeOver vs js c.args.window c.args.vertex c.free_over.result) c.free_over.ensures.answer
+returns-clause-answer g c = answer_at c.graph-graph.result.now
+    c.accounts-accounts.result.now c.args.self.now c.graph-graph.ensures.value c.accounts-accounts.ensures.value
+    (λ vs js. IsFreeOver vs js c.args.window c.args.vertex c.free_over.result) c.free_over.ensures.answer
 
 pub returns-clause-work : goal.returns-clause-work
 returns-clause-work g c =
-    work_at c.graph-graph.result.now c.accounts-accounts.result.now c.args.self.now c.graph-graph.ensures.value c.accounts-accounts.ensures.value c.accounts-accounts.ensures.book c.graph-graph.ensures.valid c.args.steps.now c.free_over.new.steps
+    work_at c.graph-graph.result.now
+    c.accounts-accounts.result.now c.args.self.now c.graph-graph.ensures.value c.accounts-accounts.ensures.value
+    c.accounts-accounts.ensures.book c.graph-graph.ensures.valid c.args.steps.now c.free_over.new.steps
     (λ n looks. let w = c.free_over.ensures.work n looks in omega (arith, w))

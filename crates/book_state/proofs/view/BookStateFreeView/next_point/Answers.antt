@@ -5,10 +5,16 @@ use Rattle.book_state.proofs.view.BookStateFreeView.next_point.Goals as goal
 pub returns-clause-later : goal.returns-clause-later
 returns-clause-later g c =
     let is = c.accounts-accounts.ensures.book in
-    c.next_point.ensures.later (vertices_of c.args.self.now, is.0, accounts_in c.accounts-accounts.result.now c.args.self.now c.accounts-accounts.ensures.value is.0 is.1)
+    c.next_point.ensures.later (
+      vertices_of c.args.self.now,
+      is.0,
+      accounts_in c.accounts-accounts.result.now c.args.self.now c.accounts-accounts.ensures.value is.0 is.1,
+    )
 
 pub returns-clause-answer : goal.returns-clause-answer
-returns-clause-answer g c = λ jobs x. c.next_point.ensures.answer (vertices_of c.args.self.now) jobs (accounts_in c.accounts-accounts.result.now c.args.self.now c.accounts-accounts.ensures.value jobs x)
+returns-clause-answer g c = λ jobs x. c.next_point.ensures.answer (vertices_of c.args.self.now) jobs
+    (accounts_in c.accounts-accounts.result.now c.args.self.now c.accounts-accounts.ensures.value jobs x)
 
 pub returns-clause-work : goal.returns-clause-work
-returns-clause-work g c = next_at c.accounts-accounts.result.now c.args.self.now c.accounts-accounts.ensures.value c.accounts-accounts.ensures.book c.args.steps.now c.next_point.new.steps c.next_point.ensures.work
+returns-clause-work g c = next_at c.accounts-accounts.result.now c.args.self.now c.accounts-accounts.ensures.value
+    c.accounts-accounts.ensures.book c.args.steps.now c.next_point.new.steps c.next_point.ensures.work

@@ -14,20 +14,32 @@ returns-then-not-keeps_total-clause-work g c =
     omega (arith, some, tick)
 
 pub total_below-requires-clause-graph : goal.total_below-requires-clause-graph
-total_below-requires-clause-graph g c = graph_at c.graph-graph.result.now c.accounts-accounts.result.now c.args.self.now c.graph-graph.ensures.value c.accounts-accounts.ensures.value c.accounts-accounts.ensures.book
+total_below-requires-clause-graph g c = graph_at c.graph-graph.result.now c.accounts-accounts.result.now
+    c.args.self.now c.graph-graph.ensures.value c.accounts-accounts.ensures.value c.accounts-accounts.ensures.book
 
 pub total_below-requires-clause-inside : goal.total_below-requires-clause-inside
-total_below-requires-clause-inside g c = inside_at c.graph-graph.result.now c.accounts-accounts.result.now c.args.self.now c.graph-graph.ensures.value c.accounts-accounts.ensures.value c.args.vertex c.requires.vertex
+total_below-requires-clause-inside g c = inside_at c.graph-graph.result.now c.accounts-accounts.result.now
+    c.args.self.now c.graph-graph.ensures.value c.accounts-accounts.ensures.value c.args.vertex c.requires.vertex
 
 pub returns-clause-answer : goal.returns-clause-answer
 returns-clause-answer g c = λ jobs is.
     let accounts = c.accounts-accounts.result.now in
-    let told = answer_at c.graph-graph.result.now accounts c.args.self.now c.graph-graph.ensures.value c.accounts-accounts.ensures.value
-    (λ vs js. IsTrue c.total_below.result ↔ (KeepsKind accounts c.args.kind × IsTooLittle vs js c.args.window c.args.vertex c.args.kind c.args.amount)) c.total_below.ensures.answer jobs is in
-    let keeps = c.keeps_total.ensures.0 c.if-not-keeps_total.false in
-    (λ t. (keeps, (told.0 t).1), λ h. told.1 (kind_kept accounts c.args.self.now c.accounts-accounts.ensures.value jobs is c.args.vertex c.args.kind keeps, h.1))
+    let told = answer_at
+    c.graph-graph.result.now accounts c.args.self.now c.graph-graph.ensures.value c.accounts-accounts.ensures.value
+    (λ vs js. IsTrue c.total_below.result ↔ (KeepsKind accounts c.args.kind × IsTooLittle
+    vs js c.args.window c.args.vertex c.args.kind c.args.amount)) c.total_below.ensures.answer jobs is in
+    let keeps = c.keeps_total.ensures.0 c.if-not-keeps_total.false in (
+      λ t. (keeps, (told.0 t).1),
+      λ h. told.1 (
+        kind_kept
+            accounts c.args.self.now c.accounts-accounts.ensures.value jobs is c.args.vertex c.args.kind keeps,
+        h.1,
+      ),
+    )
 
 pub returns-clause-work : goal.returns-clause-work
 returns-clause-work g c =
-    work_at c.graph-graph.result.now c.accounts-accounts.result.now c.args.self.now c.graph-graph.ensures.value c.accounts-accounts.ensures.value c.accounts-accounts.ensures.book c.graph-graph.ensures.valid c.args.steps.now c.total_below.new.steps
+    work_at c.graph-graph.result.now
+    c.accounts-accounts.result.now c.args.self.now c.graph-graph.ensures.value c.accounts-accounts.ensures.value
+    c.accounts-accounts.ensures.book c.graph-graph.ensures.valid c.args.steps.now c.total_below.new.steps
     c.total_below.ensures.work

@@ -13,17 +13,23 @@ returns-then-not-keeps_total-clause-work g c =
     omega (arith, some, tick)
 
 pub total_over-requires-clause-graph : goal.total_over-requires-clause-graph
-total_over-requires-clause-graph g c = graph_at c.graph-graph.result.now c.accounts-accounts.result.now c.args.self.now c.graph-graph.ensures.value c.accounts-accounts.ensures.value c.accounts-accounts.ensures.book
+total_over-requires-clause-graph g c = graph_at c.graph-graph.result.now c.accounts-accounts.result.now
+    c.args.self.now c.graph-graph.ensures.value c.accounts-accounts.ensures.value c.accounts-accounts.ensures.book
 
 pub total_over-requires-clause-inside : goal.total_over-requires-clause-inside
-total_over-requires-clause-inside g c = inside_at c.graph-graph.result.now c.accounts-accounts.result.now c.args.self.now c.graph-graph.ensures.value c.accounts-accounts.ensures.value c.args.vertex c.requires.vertex
+total_over-requires-clause-inside g c = inside_at c.graph-graph.result.now c.accounts-accounts.result.now
+    c.args.self.now c.graph-graph.ensures.value c.accounts-accounts.ensures.value c.args.vertex c.requires.vertex
 
 pub returns-clause-answer : goal.returns-clause-answer
 returns-clause-answer g c =
-    answer_at c.graph-graph.result.now c.accounts-accounts.result.now c.args.self.now c.graph-graph.ensures.value c.accounts-accounts.ensures.value
-    (λ vs js. IfSome c.total_over.result (IsTotalOver vs js c.args.window c.args.kind c.args.vertex)) c.total_over.ensures.answer
+    answer_at c.graph-graph.result.now
+    c.accounts-accounts.result.now c.args.self.now c.graph-graph.ensures.value c.accounts-accounts.ensures.value
+    (λ vs js. IfSome c.total_over.result (IsTotalOver vs js c.args.window c.args.kind c.args.vertex))
+    c.total_over.ensures.answer
 
 pub returns-clause-work : goal.returns-clause-work
 returns-clause-work g c =
-    work_at c.graph-graph.result.now c.accounts-accounts.result.now c.args.self.now c.graph-graph.ensures.value c.accounts-accounts.ensures.value c.accounts-accounts.ensures.book c.graph-graph.ensures.valid c.args.steps.now c.total_over.new.steps
+    work_at c.graph-graph.result.now
+    c.accounts-accounts.result.now c.args.self.now c.graph-graph.ensures.value c.accounts-accounts.ensures.value
+    c.accounts-accounts.ensures.book c.graph-graph.ensures.valid c.args.steps.now c.total_over.new.steps
     c.total_over.ensures.work

@@ -4,15 +4,21 @@ use Rattle.book_state.proofs.ViewLaws.{graph_at, answer_at, inside_at, work_at}
 use Rattle.book_state.proofs.view.BookStateFreeView.touched_over.Goals as goal
 
 pub touched_over-requires-clause-graph : goal.touched_over-requires-clause-graph
-touched_over-requires-clause-graph g c = graph_at c.graph-graph.result.now c.accounts-accounts.result.now c.args.self.now c.graph-graph.ensures.value c.accounts-accounts.ensures.value c.accounts-accounts.ensures.book
+touched_over-requires-clause-graph g c = graph_at c.graph-graph.result.now c.accounts-accounts.result.now
+    c.args.self.now c.graph-graph.ensures.value c.accounts-accounts.ensures.value c.accounts-accounts.ensures.book
 
 pub touched_over-requires-clause-inside : goal.touched_over-requires-clause-inside
-touched_over-requires-clause-inside g c = inside_at c.graph-graph.result.now c.accounts-accounts.result.now c.args.self.now c.graph-graph.ensures.value c.accounts-accounts.ensures.value c.args.vertex c.requires.vertex
+touched_over-requires-clause-inside g c = inside_at c.graph-graph.result.now c.accounts-accounts.result.now
+    c.args.self.now c.graph-graph.ensures.value c.accounts-accounts.ensures.value c.args.vertex c.requires.vertex
 
 pub returns-clause-answer : goal.returns-clause-answer
-returns-clause-answer g c = answer_at c.graph-graph.result.now c.accounts-accounts.result.now c.args.self.now c.graph-graph.ensures.value c.accounts-accounts.ensures.value (λ vs js. IsTrue c.touched_over.result ↔ IsTouchedOver vs js c.args.window c.args.vertex) c.touched_over.ensures.answer
+returns-clause-answer g c = answer_at c.graph-graph.result.now c.accounts-accounts.result.now
+    c.args.self.now c.graph-graph.ensures.value c.accounts-accounts.ensures.value (λ vs js. IsTrue c.touched_over.result
+    ↔ IsTouchedOver vs js c.args.window c.args.vertex) c.touched_over.ensures.answer
 
 pub returns-clause-work : goal.returns-clause-work
 returns-clause-work g c =
-    work_at c.graph-graph.result.now c.accounts-accounts.result.now c.args.self.now c.graph-graph.ensures.value c.accounts-accounts.ensures.value c.accounts-accounts.ensures.book c.graph-graph.ensures.valid c.args.steps.now c.touched_over.new.steps
+    work_at c.graph-graph.result.now
+    c.accounts-accounts.result.now c.args.self.now c.graph-graph.ensures.value c.accounts-accounts.ensures.value
+    c.accounts-accounts.ensures.book c.graph-graph.ensures.valid c.args.steps.now c.touched_over.new.steps
     (λ n looks. let w = c.touched_over.ensures.work n looks in omega (arith, w))

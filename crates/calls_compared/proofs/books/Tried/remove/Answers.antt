@@ -1,4 +1,5 @@
-use Rattle.std.proofs.Common.{◌≡◌, ℕ, ◌<◌, ◌==◌, ◌∙◌, List, Some, length, slice_get, true, inl, inr, refl, ap, subst, sym, arith}
+use Rattle.std.proofs.Common.{◌≡◌, ℕ, ◌<◌, ◌==◌, ◌∙◌, List, Some, length, slice_get, true, inl, inr, refl, ap, subst}
+use Rattle.std.proofs.Common.{sym, arith}
 use Rattle.std.proofs.lemmas.Bool.Decides.{eqb_tells}
 use Rattle.std.proofs.lemmas.Map.Keys.{any_passes_from_place}
 use Rattle.std.proofs.lemmas.Option.{slice_get-get_or}
@@ -18,7 +19,8 @@ after_remove-requires-clause-live g c =
     let left : List Job = c.into_vec-left.result.items in
     let items : left ≡ jobs = c.into_vec-left.ensures in
     let inside : c.args.at < length left =
-    (let f = c.if-at-len.false in let n = c.len.ensures in let l = ap (λ (xs : List Job). length xs) items in omega (arith, f, n, l)) in
+    (let f = c.if-at-len.false in
+    let n = c.len.ensures in let l = ap (λ (xs : List Job). length xs) items in omega (arith, f, n, l)) in
     let there : slice_get left c.args.at ≡ Some job =
     slice_get-get_or left c.args.at job inside ∙ ap Some (sym c.remove-job.ensures.value) in
     (live_tells (rows_of c.self.inside.book) jobs c.self.invariant.0.ties job.id).1
@@ -32,7 +34,8 @@ invariant_of-result g c =
     let left : List Job = c.into_vec-left.result.items in
     let items : left ≡ jobs = c.into_vec-left.ensures in
     let inside : c.args.at < length left =
-    (let f = c.if-at-len.false in let n = c.len.ensures in let l = ap (λ (xs : List Job). length xs) items in omega (arith, f, n, l)) in
+    (let f = c.if-at-len.false in
+    let n = c.len.ensures in let l = ap (λ (xs : List Job). length xs) items in omega (arith, f, n, l)) in
     let s = split left c.args.at job inside c.remove-job.ensures.value in
     let stands = subst (λ (xs : List Job). StandsFor c.self.inside.book xs) (sym items ∙ s.2) c.self.invariant.0 in
     let e = c.of_vec.ensures ∙ (c.remove-job.ensures.items ∙ s.3) in (

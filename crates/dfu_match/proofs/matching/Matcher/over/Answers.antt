@@ -24,7 +24,8 @@ walked-requires-clause-enough g c = λ jobs stands root.
     let vs = matcher.graph.now.resources.vertices in
     let keeps = g.F.FreeView.keeps c.args.view.now in
     let none = rw c.in-None.is at (c.first_short.ensures.answer jobs stands) in
-    none (rw c.requires.over (below_from vs jobs c.args.window keeps 0 (λ kind. needs_demand vs kind matcher.ask.now.needs)
+    none (rw c.requires.over
+    (below_from vs jobs c.args.window keeps 0 (λ kind. needs_demand vs kind matcher.ask.now.needs)
     matcher.whole matcher.demands.each matcher.demands.all root.0 root.1))
 
 pub returns-in-Some-clause-work : goal.returns-in-Some-clause-work

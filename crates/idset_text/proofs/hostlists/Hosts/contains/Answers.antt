@@ -14,8 +14,10 @@ returns-in-Some c =
     let many = Many c.in-Many.prefix c.in-Many.lo c.in-Many.hi c.in-Many.width in
     let P : Hosts → Type 0 = λ hosts. Contains (own_names hosts) name in
     let D : List ℕ → Type 0 = λ ds. IsOneOf c.in-Many.lo c.in-Many.hi c.in-Many.width ds in
-    let parts : name ≡ c.in-Many.prefix ++ digits = c.in-Some.ensures ∙ ap (λ (p : List ℕ). p ++ digits) c.bytes-in-Many.ensures in (
-      λ h. subst P (sym c.in-Many.is) (many_has c.in-Many.prefix digits name c.in-Many.lo c.in-Many.hi c.in-Many.width parts (c.is_number_within.ensures.0 h)),
+    let parts : name ≡ c.in-Many.prefix ++ digits =
+    c.in-Some.ensures ∙ ap (λ (p : List ℕ). p ++ digits) c.bytes-in-Many.ensures in (
+      λ h. subst P (sym c.in-Many.is) (many_has c.in-Many.prefix
+          digits name c.in-Many.lo c.in-Many.hi c.in-Many.width parts (c.is_number_within.ensures.0 h)),
       λ h.
           let had = many_had c.in-Many.prefix name c.in-Many.lo c.in-Many.hi c.in-Many.width (subst P c.in-Many.is h) in
           let same : had.0 ≡ digits = append_cancel_left c.in-Many.prefix had.0 digits (sym had.1 ∙ parts) in

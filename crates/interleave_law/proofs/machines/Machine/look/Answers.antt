@@ -8,20 +8,23 @@ use Rattle.interleave_law.proofs.machines.Machine.look.Goals as goal
 pub returns-in_default-clause-ok : goal.returns-in_default-clause-ok
 returns-in_default-clause-ok c =
     let m = c.self.inside in
-    stays _ _ (Look c.args.client) c.self.view_is (no_look m.core m.script m.clients.items c.args.client c.in_default.ensures.none)
+    stays _ _ (Look c.args.client) c.self.view_is
+    (no_look m.core m.script m.clients.items c.args.client c.in_default.ensures.none)
 
 pub returns-then-not-is_idle-clause-ok : goal.returns-then-not-is_idle-clause-ok
 returns-then-not-is_idle-clause-ok c =
     let m = c.self.inside in
     let next = c.in-Some.field-0 in
-    stays _ _ (Look c.args.client) c.self.view_is (closed_look m.core m.script m.clients.items c.args.client next.progress.now
+    stays _ _ (Look c.args.client) c.self.view_is
+    (closed_look m.core m.script m.clients.items c.args.client next.progress.now
     next.line.now c.in-Some.ensures.some (λ idle searchable. untrue (c.if-not-is_idle.ensures.1 idle)))
 
 pub returns-then-not-is_searched_for-clause-ok : goal.returns-then-not-is_searched_for-clause-ok
 returns-then-not-is_searched_for-clause-ok c =
     let m = c.self.inside in
     let next = c.in-Some.field-0 in
-    stays _ _ (Look c.args.client) c.self.view_is (closed_look m.core m.script m.clients.items c.args.client next.progress.now
+    stays _ _ (Look c.args.client) c.self.view_is
+    (closed_look m.core m.script m.clients.items c.args.client next.progress.now
     next.line.now c.in-Some.ensures.some (λ idle searchable. untrue (c.if-not-is_searched_for.ensures.1 searchable)))
 
 pub put-requires : goal.put-requires
@@ -37,11 +40,14 @@ invariant_of-self c =
     let snap = c.in_ok-snap.snap in
     let n = c.in-Some.ensures.some in
     subst (IsRunning m.core m.script) (sym c.put.ensures)
-    (goes_on m.core m.script m.clients.items c.args.client next.progress.now next.line.now n c.self.invariant (Look c.args.client) m.core
+    (goes_on m.core m.script m.clients.items c.args.client next.progress.now next.line.now n c.self.invariant
+    (Look c.args.client) m.core
     (record { done = next.progress.now.done; flight = flight.Looked snap })
-    (looks m.core m.script m.clients.items c.args.client next.progress.now next.line.now n c.self.invariant snap c.in_ok-snap.ensures
+    (looks m.core m.script
+    m.clients.items c.args.client next.progress.now next.line.now n c.self.invariant snap c.in_ok-snap.ensures
     (c.if-not-is_idle.ensures.0 refl) (c.if-not-is_searched_for.ensures.0 refl))
-    (looked m.core m.script m.clients.items c.args.client next.progress.now next.line.now n c.self.invariant snap c.in_ok-snap.ensures
+    (looked m.core m.script
+    m.clients.items c.args.client next.progress.now next.line.now n c.self.invariant snap c.in_ok-snap.ensures
     (c.if-not-is_searched_for.ensures.0 refl)))
 
 pub returns-clause-ok : goal.returns-clause-ok
@@ -49,5 +55,6 @@ returns-clause-ok c =
     let m = c.self.inside in
     let next = c.in-Some.field-0 in
     happened _ _ (Look c.args.client) m.core m.script _ _ c.self.view_is c.put.ensures
-    (looks m.core m.script m.clients.items c.args.client next.progress.now next.line.now c.in-Some.ensures.some c.self.invariant
+    (looks m.core m.script
+    m.clients.items c.args.client next.progress.now next.line.now c.in-Some.ensures.some c.self.invariant
     c.in_ok-snap.snap c.in_ok-snap.ensures (c.if-not-is_idle.ensures.0 refl) (c.if-not-is_searched_for.ensures.0 refl))

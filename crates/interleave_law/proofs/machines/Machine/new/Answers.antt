@@ -5,10 +5,12 @@ use Rattle.interleave_law.proofs.machines.Machine.new.Goals as goal
 
 pub invariant_of-result : goal.invariant_of-result
 invariant_of-result c =
-    running_first c.args.core c.args.script c.in_ok-clients.clients.items c.requires.empty c.requires.proper (c.in_ok-clients.ensures.count ∙ c.len-count.ensures)
+    running_first c.args.core c.args.script c.in_ok-clients.clients.items c.requires.empty c.requires.proper
+    (c.in_ok-clients.ensures.count ∙ c.len-count.ensures)
     c.in_ok-clients.ensures.rest
 
 pub returns-clause-machine : goal.returns-clause-machine
 returns-clause-machine c =
     ap (λ h. machine_of h c.in_ok-clients.clients.items) c.requires.empty
-    ∙ machine_first c.args.script c.in_ok-clients.clients.items (c.in_ok-clients.ensures.count ∙ c.len-count.ensures) c.in_ok-clients.ensures.rest
+    ∙ machine_first c.args.script c.in_ok-clients.clients.items
+    (c.in_ok-clients.ensures.count ∙ c.len-count.ensures) c.in_ok-clients.ensures.rest

@@ -1,7 +1,8 @@
 use Rattle.std.proofs.Common.{rules, ◌≡◌, ◌∙◌, ◌+◌, ◌-◌, arith, sym, subst}
 use Rattle.job_table.specs.declared.parts.Branch.{Branch}
 use Rattle.job_table.specs.Parts.{IsPart, IsBranch, Sets, entries_from, parts_in}
-use Rattle.job_table.proofs.KeyLaws.{opened, part_in, rest_of, tall, set_level, set_row, set_seen, kept_level, kept_seen, branch_part, beside_seen, some_digits}
+use Rattle.job_table.proofs.KeyLaws.{opened, part_in, rest_of, tall, set_level, set_row, set_seen, kept_level}
+use Rattle.job_table.proofs.KeyLaws.{kept_seen, branch_part, beside_seen, some_digits}
 use Rattle.job_table.proofs.parts.Part.+set.Goals as goal
 
 pub set-requires : goal.set-requires

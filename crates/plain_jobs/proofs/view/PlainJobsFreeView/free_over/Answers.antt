@@ -9,26 +9,37 @@ use Rattle.plain_jobs.proofs.view.PlainJobsFreeView.free_over.Goals as goal
 pub returns-then-is_closed-clause-answer : goal.returns-then-is_closed-clause-answer
 returns-then-is_closed-clause-answer g c = λ jobs same.
     let vertices = c.args.self.now.graph.now.resources.vertices in
-    let read = c.is_closed.ensures ∙ ap (λ js. some_overlap js c.args.window (holds_over vertices c.args.vertex)) (c.items-jobs.ensures ∙ sym same) in
-    free_where_closed vertices jobs c.args.window c.args.vertex c.is_closed.result c.if-is_closed.true (closed_tells vertices jobs c.args.window c.args.vertex c.requires.window c.is_closed.result read)
+    let read = c.is_closed.ensures ∙ ap
+    (λ js. some_overlap js c.args.window (holds_over vertices c.args.vertex)) (c.items-jobs.ensures ∙ sym same) in
+    free_where_closed vertices jobs c.args.window c.args.vertex c.is_closed.result c.if-is_closed.true
+    (closed_tells vertices jobs c.args.window c.args.vertex c.requires.window c.is_closed.result read)
 
 pub returns-then-is_pool-clause-answer : goal.returns-then-is_pool-clause-answer
 returns-then-is_pool-clause-answer g c = λ jobs same.
     let vertices = c.args.self.now.graph.now.resources.vertices in
-    let read = c.is_closed.ensures ∙ ap (λ js. some_overlap js c.args.window (holds_over vertices c.args.vertex)) (c.items-jobs.ensures ∙ sym same) in
+    let read = c.is_closed.ensures ∙ ap
+    (λ js. some_overlap js c.args.window (holds_over vertices c.args.vertex)) (c.items-jobs.ensures ∙ sym same) in
     let closed = closed_tells vertices jobs c.args.window c.args.vertex c.requires.window c.is_closed.result read in
-    let most = subst (λ (js : List Job). IsMostTaken js c.args.window c.args.vertex 18446744073709551615 c.most_taken.result) (c.items-jobs.ensures ∙ sym same) c.most_taken.ensures in
-    free_of_pool vertices jobs c.args.window c.args.vertex c.is_closed.result c.most_taken.result _ c.saturating_sub.result c.if-is_closed.false closed
-    (pool_read vertices c.items-vertices.result.now c.args.vertex _ (c.items-vertices.ensures ∙ c.vertices.ensures.value) c.requires.vertex ∙ (sym c.is_pool.ensures ∙ c.if-is_pool.true))
-    (size_read vertices c.items-vertices.result.now c.args.vertex _ (c.items-vertices.ensures ∙ c.vertices.ensures.value) c.requires.vertex)
-    (size_fits vertices c.items-vertices.result.now c.args.vertex _ (c.items-vertices.ensures ∙ c.vertices.ensures.value) c.requires.vertex
+    let most =
+    subst (λ (js : List Job). IsMostTaken js c.args.window c.args.vertex 18446744073709551615 c.most_taken.result)
+    (c.items-jobs.ensures ∙ sym same) c.most_taken.ensures in
+    free_of_pool vertices jobs c.args.window
+    c.args.vertex c.is_closed.result c.most_taken.result _ c.saturating_sub.result c.if-is_closed.false closed
+    (pool_read vertices c.items-vertices.result.now c.args.vertex _ (c.items-vertices.ensures
+    ∙ c.vertices.ensures.value) c.requires.vertex ∙ (sym c.is_pool.ensures ∙ c.if-is_pool.true))
+    (size_read vertices c.items-vertices.result.now c.args.vertex _
+    (c.items-vertices.ensures ∙ c.vertices.ensures.value) c.requires.vertex)
+    (size_fits vertices c.items-vertices.result.now c.args.vertex _
+    (c.items-vertices.ensures ∙ c.vertices.ensures.value) c.requires.vertex
     c.args.self.now.graph.now.resources.kinds c.vertices.ensures.valid.valid.sizes)
     c.saturating_sub.ensures most
 
 pub returns-clause-answer : goal.returns-clause-answer
 returns-clause-answer g c = λ jobs same.
     let vertices = c.args.self.now.graph.now.resources.vertices in
-    let read = c.is_closed.ensures ∙ ap (λ js. some_overlap js c.args.window (holds_over vertices c.args.vertex)) (c.items-jobs.ensures ∙ sym same) in
+    let read = c.is_closed.ensures ∙ ap
+    (λ js. some_overlap js c.args.window (holds_over vertices c.args.vertex)) (c.items-jobs.ensures ∙ sym same) in
     let closed = closed_tells vertices jobs c.args.window c.args.vertex c.requires.window c.is_closed.result read in
     free_of_other vertices jobs c.args.window c.args.vertex c.is_closed.result c.if-is_closed.false closed
-    (pool_read vertices c.items-vertices.result.now c.args.vertex _ (c.items-vertices.ensures ∙ c.vertices.ensures.value) c.requires.vertex ∙ (sym c.is_pool.ensures ∙ c.if-is_pool.false)) c.requires.window
+    (pool_read vertices c.items-vertices.result.now c.args.vertex _ (c.items-vertices.ensures
+    ∙ c.vertices.ensures.value) c.requires.vertex ∙ (sym c.is_pool.ensures ∙ c.if-is_pool.false)) c.requires.window

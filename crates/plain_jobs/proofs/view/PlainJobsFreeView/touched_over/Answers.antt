@@ -7,5 +7,6 @@ use Rattle.plain_jobs.proofs.view.PlainJobsFreeView.touched_over.Goals as goal
 pub returns-clause-answer : goal.returns-clause-answer
 returns-clause-answer g c = λ jobs same.
     let vertices = c.args.self.now.graph.now.resources.vertices in
-    let read = c.is_touched.ensures ∙ ap (λ js. some_overlap js c.args.window (is_on_or_below vertices c.args.vertex)) (c.items.ensures ∙ sym same) in
+    let read = c.is_touched.ensures ∙ ap
+    (λ js. some_overlap js c.args.window (is_on_or_below vertices c.args.vertex)) (c.items.ensures ∙ sym same) in
     touched_tells vertices jobs c.args.window c.args.vertex c.requires.window c.is_touched.result read

@@ -4,10 +4,12 @@ use Rattle.planner_min_tree.proofs.timeline.Timeline.first_from.Goals as goal
 
 pub returns-then-sum-t-clause-work : goal.returns-then-sum-t-clause-work
 returns-then-sum-t-clause-work g c =
-    let low = low_both _ _ _ _ _ c.self.view_is c.self.invariant c.height-past.ensures.low c.height-coming.ensures.low in
+    let low =
+    low_both _ _ _ _ _ c.self.view_is c.self.invariant c.height-past.ensures.low c.height-coming.ensures.low in
     omega (arith, low.0, low.1, c.first_from.ensures.work)
 
 pub returns-clause-work : goal.returns-clause-work
 returns-clause-work g c =
-    let low = low_both _ _ _ _ _ c.self.view_is c.self.invariant c.height-past.ensures.low c.height-coming.ensures.low in
+    let low =
+    low_both _ _ _ _ _ c.self.view_is c.self.invariant c.height-past.ensures.low c.height-coming.ensures.low in
     omega (arith, low.0, low.1, c.first_from-2.ensures.work)

@@ -4,16 +4,19 @@ use Rattle.planner_min_tree.proofs.timeline.Timeline.rise_after.Goals as goal
 
 pub returns-then-sum-from-clause-work : goal.returns-then-sum-from-clause-work
 returns-then-sum-from-clause-work g c =
-    let low = low_both _ _ _ _ _ c.self.view_is c.self.invariant c.height-past.ensures.low c.height-coming.ensures.low in
+    let low =
+    low_both _ _ _ _ _ c.self.view_is c.self.invariant c.height-past.ensures.low c.height-coming.ensures.low in
     omega (arith, low.0, low.1, c.rise_after.ensures.work)
 
 pub returns-in-Some-clause-work : goal.returns-in-Some-clause-work
 returns-in-Some-clause-work g c =
-    let low = low_both _ _ _ _ _ c.self.view_is c.self.invariant c.height-past.ensures.low c.height-coming.ensures.low in
+    let low =
+    low_both _ _ _ _ _ c.self.view_is c.self.invariant c.height-past.ensures.low c.height-coming.ensures.low in
     omega (arith, low.0, low.1, c.rise_after-2.ensures.work)
 
 pub returns-in-None-clause-work : goal.returns-in-None-clause-work
 returns-in-None-clause-work g c =
-    let low = low_both _ _ _ _ _ c.self.view_is c.self.invariant c.height-past.ensures.low c.height-coming.ensures.low in
+    let low =
+    low_both _ _ _ _ _ c.self.view_is c.self.invariant c.height-past.ensures.low c.height-coming.ensures.low in
     let none = rw c.in-None.is at c.rise_after-2.ensures.none in
     omega (arith, low.0, low.1, none, c.some_rise.ensures.work)

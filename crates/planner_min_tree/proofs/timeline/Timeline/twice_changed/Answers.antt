@@ -4,10 +4,12 @@ use Rattle.planner_min_tree.proofs.timeline.Timeline.twice_changed.Goals as goal
 
 pub returns-clause-work : goal.returns-clause-work
 returns-clause-work g c =
-    let low = low_both _ _ _ _ _ c.self.view_is c.self.invariant c.height-past.ensures.low c.height-coming.ensures.low in
+    let low =
+    low_both _ _ _ _ _ c.self.view_is c.self.invariant c.height-past.ensures.low c.height-coming.ensures.low in
     omega (arith, low.0, low.1, c.both_changed.ensures.work)
 
 pub returns-in_err-past-clause-work : goal.returns-in_err-past-clause-work
 returns-in_err-past-clause-work g c =
-    let low = low_both _ _ _ _ _ c.self.view_is c.self.invariant c.height-past.ensures.low c.height-coming.ensures.low in
+    let low =
+    low_both _ _ _ _ _ c.self.view_is c.self.invariant c.height-past.ensures.low c.height-coming.ensures.low in
     omega (arith, low.0, low.1, c.both_changed.ensures.work)

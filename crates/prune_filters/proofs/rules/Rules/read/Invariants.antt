@@ -9,7 +9,8 @@ use Rattle.prune_filters.proofs.rules.Rules.read.Given as goal
 abbrev pub invariant-items : goal.invariant-items
 invariant-items l = record {
   sizes : l.at + length l.rest ≡ length l.text;
-  read : (before : List (List ℕ)) × (items_of l.text ≡ before ++ items_of l.rest) × AllZip Spells before l.rules.items × (l.at ≡ bytes_of before);
+  read : (before : List (List ℕ))
+      × (items_of l.text ≡ before ++ items_of l.rest) × AllZip Spells before l.rules.items × (l.at ≡ bytes_of before);
 }
 
 abbrev pub decreases-items : goal.decreases-items

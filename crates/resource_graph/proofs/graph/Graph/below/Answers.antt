@@ -8,4 +8,5 @@ pub returns-else-upper-lower : goal.returns-else-upper-lower
 returns-else-upper-lower c =
     rw (← c.self.view_is)
     (le-ltb c.args.upper c.args.lower c.if-upper-lower.false ∙
-    sym (below_later c.self.inside.vertices (parents_first _ c.self.invariant.whole.valid.preorder) c.args.upper c.args.lower c.if-upper-lower.false))
+    sym (below_later c.self.inside.vertices
+    (parents_first _ c.self.invariant.whole.valid.preorder) c.args.upper c.args.lower c.if-upper-lower.false))

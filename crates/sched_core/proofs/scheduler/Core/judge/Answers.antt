@@ -30,6 +30,8 @@ returns-clause-work g c =
     let kept = c.self.inside.kept in
     let old = c.args.steps.now in
     let new = c.judge.new.steps in
-    let told = judge_covered site kept c.self.invariant d.command d.snap d.place d.verdict old new c.judge.ensures.work in
+    let told =
+    judge_covered site kept c.self.invariant d.command d.snap d.place d.verdict old new c.judge.ensures.work in
     subst (λ (x : Searched). new ≤ old + judge_most c.args.self.now x) c.candidate.view_is
-    (subst (λ (y : Course). new ≤ old + judge_most y (record { command = d.command; snap = d.snap; place = d.place; verdict = d.verdict })) c.self.view_is told)
+    (subst (λ (y : Course). new ≤ old + judge_most y
+    (record { command = d.command; snap = d.snap; place = d.place; verdict = d.verdict })) c.self.view_is told)

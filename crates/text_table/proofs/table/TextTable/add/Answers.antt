@@ -6,12 +6,14 @@ use Rattle.text_table.proofs.table.TextTable.add.Goals as goal
 pub returns-clause-ok : goal.returns-clause-ok
 returns-clause-ok c = ap texts_of c.in_ok-number.ensures.keys
     ∙ (texts-added c.self.inside.set.keys c.in_ok-from_slice.field-0
-    ∙ (ap (λ (t : List ℕ). with_text (texts_of c.self.inside.set.keys) t) c.in_ok-from_slice.ensures.items ∙ ap (λ (ts : List (List ℕ)). with_text ts c.args.text.now) c.self.view_is))
+    ∙ (ap (λ (t : List ℕ). with_text (texts_of c.self.inside.set.keys) t) c.in_ok-from_slice.ensures.items
+    ∙ ap (λ (ts : List (List ℕ)). with_text ts c.args.text.now) c.self.view_is))
 
 pub returns-clause-number : goal.returns-clause-number
 returns-clause-number c = c.in_ok-number.ensures.index
     ∙ (index-texts c.in_ok-from_slice.field-0.items c.self.inside.set.keys
-    ∙ (ap (λ (t : List ℕ). index_of (texts_of c.self.inside.set.keys) t) c.in_ok-from_slice.ensures.items ∙ ap (λ (ts : List (List ℕ)). index_of ts c.args.text.now) c.self.view_is))
+    ∙ (ap (λ (t : List ℕ). index_of (texts_of c.self.inside.set.keys) t) c.in_ok-from_slice.ensures.items
+    ∙ ap (λ (ts : List (List ℕ)). index_of ts c.args.text.now) c.self.view_is))
 
 pub returns-in-Some-clause-ok : goal.returns-in-Some-clause-ok
 returns-in-Some-clause-ok c =

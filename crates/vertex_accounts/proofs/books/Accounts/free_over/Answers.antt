@@ -9,7 +9,8 @@ use Rattle.vertex_accounts.proofs.books.Accounts.free_over.Goals as goal
 
 pub returns-then-closed_at-clause-answer : goal.returns-then-closed_at-clause-answer
 returns-then-closed_at-clause-answer g c = λ jobs is.
-    free_closed c.args.graph.now.resources.vertices jobs c.args.window c.args.vertex ((c.closed_at.ensures.answer jobs is).0 c.if-closed_at.true)
+    free_closed c.args.graph.now.resources.vertices jobs c.args.window c.args.vertex
+    ((c.closed_at.ensures.answer jobs is).0 c.if-closed_at.true)
 
 pub returns-then-closed_at-clause-work : goal.returns-then-closed_at-clause-work
 returns-then-closed_at-clause-work g c = λ n looks.
@@ -20,13 +21,15 @@ returns-then-closed_at-clause-work g c = λ n looks.
 
 pub least_in-requires-clause-place : goal.least_in-requires-clause-place
 least_in-requires-clause-place g c =
-    place_in c.args.graph.now.resources.vertices (counted_of c.args.self.now) (items_of c.args.self.now.planners) c.requires.graph c.args.vertex c.at-item.result.now c.at-item.ensures.item 2 Takes c.requires.graph.counts.takes
+    place_in c.args.graph.now.resources.vertices (counted_of c.args.self.now) (items_of c.args.self.now.planners)
+    c.requires.graph c.args.vertex c.at-item.result.now c.at-item.ensures.item 2 Takes c.requires.graph.counts.takes
 
 pub returns-then-is_pool_vertex-clause-answer : goal.returns-then-is_pool_vertex-clause-answer
 returns-then-is_pool_vertex-clause-answer g c = λ jobs is.
     let vertices = c.args.graph.now.resources.vertices in
     free_pool vertices jobs c.args.window c.args.vertex c.least_in.result
-    (λ s. true≢false (sym ((c.closed_at.ensures.answer jobs is).1 s) ∙ c.if-closed_at.false)) (sym c.is_pool_vertex.ensures ∙ c.if-is_pool_vertex.true)
+    (λ s. true≢false (sym ((c.closed_at.ensures.answer jobs is).1 s) ∙ c.if-closed_at.false))
+    (sym c.is_pool_vertex.ensures ∙ c.if-is_pool_vertex.true)
     (c.least_in.ensures.least vertices jobs Takes is is.graph.counts.takes)
 
 pub returns-then-is_pool_vertex-clause-work : goal.returns-then-is_pool_vertex-clause-work
@@ -40,7 +43,8 @@ returns-then-is_pool_vertex-clause-work g c = λ n looks.
 pub returns-clause-answer : goal.returns-clause-answer
 returns-clause-answer g c = λ jobs is.
     free_plain c.args.graph.now.resources.vertices jobs c.args.window c.args.vertex
-    (λ s. true≢false (sym ((c.closed_at.ensures.answer jobs is).1 s) ∙ c.if-closed_at.false)) (sym c.is_pool_vertex.ensures ∙ c.if-is_pool_vertex.false) c.requires.window
+    (λ s. true≢false (sym ((c.closed_at.ensures.answer jobs is).1 s) ∙ c.if-closed_at.false))
+    (sym c.is_pool_vertex.ensures ∙ c.if-is_pool_vertex.false) c.requires.window
 
 pub returns-clause-work : goal.returns-clause-work
 returns-clause-work g c = λ n looks.

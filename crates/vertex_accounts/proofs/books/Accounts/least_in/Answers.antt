@@ -7,7 +7,8 @@ use Rattle.vertex_accounts.proofs.books.Accounts.least_in.Goals as goal
 
 pub returns-clause-least : goal.returns-clause-least
 returns-clause-least g c = λ vertices jobs q is of.
-    least_here vertices (counted_of c.args.self.now) (items_of c.args.self.now.planners) is.graph c.args.vertex c.args.item.now c.requires.item c.args.place q of
+    least_here vertices (counted_of c.args.self.now)
+    (items_of c.args.self.now.planners) is.graph c.args.vertex c.args.item.now c.requires.item c.args.place q of
     g.P.Planner.total_of g.P.Planner.stands_for jobs c.args.window c.least.result is.kept c.least.ensures.least
 
 pub returns-clause-work : goal.returns-clause-work

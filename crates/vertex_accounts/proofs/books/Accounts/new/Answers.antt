@@ -13,12 +13,15 @@ returns-clause-accounts g c =
     let vertices = c.args.graph.now.resources.vertices in
     let counted : Counted = c.in_ok-counted.counted in
     let items = items_of c.in_ok-planners.planners in
-    let wide = subst (λ (qs : List Quantity). AreWide (length qs) items) c.items.ensures c.in_ok-planners.ensures.places in
-    let new = subst (λ (qs : List Quantity). AreNew g.P.Planner.total_of g.P.Planner.stands_for vertices qs items) c.items.ensures c.in_ok-planners.ensures.planners in
+    let wide =
+    subst (λ (qs : List Quantity). AreWide (length qs) items) c.items.ensures c.in_ok-planners.ensures.places in
+    let new = subst (λ (qs : List Quantity). AreNew g.P.Planner.total_of g.P.Planner.stands_for vertices qs items)
+    c.items.ensures c.in_ok-planners.ensures.planners in
     record {
       graph = subst (λ (k : Counted). ArePlanned vertices k items) (sym c.in_ok-new.ensures.ok)
           (record { counts = c.in_ok-counted.ensures.counted; len = c.in_ok-planners.ensures.len; places = wide });
-      kept = subst (λ (k : Counted). AreAllKept g.P.Planner.total_of g.P.Planner.stands_for vertices [] k items) (sym c.in_ok-new.ensures.ok)
+      kept = subst (λ (k : Counted). AreAllKept g.P.Planner.total_of g.P.Planner.stands_for vertices [] k items)
+          (sym c.in_ok-new.ensures.ok)
           (new_kept g.P.Planner.total_of g.P.Planner.stands_for vertices counted items wide new);
       times = c.in_ok-times.ensures.spans;
       count = refl;

@@ -15,7 +15,8 @@ use Rattle.vertex_accounts.proofs.JoinLaws.{room_in, joined_kept, joined, count_
 use Rattle.vertex_accounts.proofs.WorkLaws.{numbers_cost}
 use Rattle.vertex_accounts.proofs.books.Accounts.with_job.Goals as goal
 
-few_claims : (jobs : List Job) (job : Job) (count more : ℕ) → count ≡ count_claims jobs → more ≡ length job.claims → count + more ≤ most_claims → count_claims (jobs ++ job ∷ []) ≤ most_claims
+few_claims : (jobs : List Job) (job : Job) (count more : ℕ) → count ≡ count_claims jobs →
+    more ≡ length job.claims → count + more ≤ most_claims → count_claims (jobs ++ job ∷ []) ≤ most_claims
 few_claims jobs job count more is e fits = let p = count_push jobs job in omega (arith, p, is, e, fits)
 
 pub gained-requires-clause-room : goal.gained-requires-clause-room
@@ -23,10 +24,14 @@ gained-requires-clause-room g c =
     let vertices = c.args.graph.now.resources.vertices in
     let (jobs, is, fair) = c.requires.there in
     let quantities = c.items-quantities.ensures ∙ ap (λ (k : Counted). k.quantities) c.counted.ensures in
-    let numbers = subst (λ (cs : List Claim). AreNumbers vertices (counted_of c.args.self.now).quantities cs (places_of c.in_ok-rows.rows)) c.items-claims.ensures
-    (subst (λ (qs : List Quantity). AreNumbers vertices qs c.items-claims.result.now (places_of c.in_ok-rows.rows)) quantities c.in_ok-rows.ensures.numbers) in
-    room_in g.P.Planner.total_of g.P.Planner.stands_for g.met.P.Planner.same_free c.args.graph.now.resources c.is_valid.ensures.valid.preorder jobs c.args.job.now fair
-    (few_claims jobs c.args.job.now c.args.self.now.count c.len.result is.count c.len.ensures (omega (arith, c.in-Some.ensures.0)))
+    let numbers = subst (λ (cs : List Claim). AreNumbers vertices
+    (counted_of c.args.self.now).quantities cs (places_of c.in_ok-rows.rows)) c.items-claims.ensures
+    (subst (λ (qs : List Quantity). AreNumbers vertices qs c.items-claims.result.now (places_of c.in_ok-rows.rows))
+    quantities c.in_ok-rows.ensures.numbers) in
+    room_in g.P.Planner.total_of g.P.Planner.stands_for
+    g.met.P.Planner.same_free c.args.graph.now.resources c.is_valid.ensures.valid.preorder jobs c.args.job.now fair
+    (few_claims jobs c.args.job.now c.args.self.now.count c.len.result is.count c.len.ensures
+    (omega (arith, c.in-Some.ensures.0)))
     (counted_of c.args.self.now) (items_of c.args.self.now.planners) (places_of c.in_ok-rows.rows) numbers is.kept
 
 pub returns-clause-accounts : goal.returns-clause-accounts
@@ -34,14 +39,22 @@ returns-clause-accounts g c = λ jobs is fair.
     let vertices = c.args.graph.now.resources.vertices in
     let job = c.args.job.now in
     let quantities = c.items-quantities.ensures ∙ ap (λ (k : Counted). k.quantities) c.counted.ensures in
-    let numbers = subst (λ (cs : List Claim). AreNumbers vertices (counted_of c.args.self.now).quantities cs (places_of c.in_ok-rows.rows)) c.items-claims.ensures
-    (subst (λ (qs : List Quantity). AreNumbers vertices qs c.items-claims.result.now (places_of c.in_ok-rows.rows)) quantities c.in_ok-rows.ensures.numbers) in
+    let numbers = subst (λ (cs : List Claim). AreNumbers vertices
+    (counted_of c.args.self.now).quantities cs (places_of c.in_ok-rows.rows)) c.items-claims.ensures
+    (subst (λ (qs : List Quantity). AreNumbers vertices qs c.items-claims.result.now (places_of c.in_ok-rows.rows))
+    quantities c.in_ok-rows.ensures.numbers) in
     let new = items_of c.in_ok-planners.planners in
     let wide = subst (λ (n : ℕ). AreWide n new) numbers.len c.in_ok-planners.ensures.places in
     joined g.P.Planner.total_of g.P.Planner.stands_for vertices job c.args.self.now
-    (record { counted = c.in_ok-try_clone.field-0; planners = c.in_ok-planners.planners; times = c.in_ok-times.times; count = c.in-Some.count })
+    (record {
+      counted = c.in_ok-try_clone.field-0;
+      planners = c.in_ok-planners.planners;
+      times = c.in_ok-times.times;
+      count = c.in-Some.count;
+    })
     c.in_ok-try_clone.ensures c.in_ok-planners.ensures.len wide jobs c.requires.on_graph fair
-    (joined_kept g.P.Planner.total_of g.P.Planner.stands_for vertices jobs job [] (counted_of c.args.self.now) (places_of c.in_ok-rows.rows) numbers (items_of c.args.self.now.planners) new
+    (joined_kept g.P.Planner.total_of g.P.Planner.stands_for vertices jobs job []
+    (counted_of c.args.self.now) (places_of c.in_ok-rows.rows) numbers (items_of c.args.self.now.planners) new
     c.in_ok-planners.ensures.len is.graph.places wide c.in_ok-planners.ensures.gains)
     c.in_ok-times.ensures.spans (c.in-Some.ensures.1 ∙ ap (λ n. c.args.self.now.count + n) c.len.ensures) is
 
@@ -49,20 +62,28 @@ pub returns-in_err-planners-clause-work : goal.returns-in_err-planners-clause-wo
 returns-in_err-planners-clause-work g c = λ most within.
     let (jobs, is, fair) = c.requires.there in
     let quantities = c.items-quantities.ensures ∙ ap (λ (k : Counted). k.quantities) c.counted.ensures in
-    let few = subst (λ (cs : List Claim). count_all (places_of c.in_ok-rows.rows) ≤ sum_by reach_of (counted_of c.args.self.now).quantities * length cs) c.items-claims.ensures
-    (subst (λ (qs : List Quantity). count_all (places_of c.in_ok-rows.rows) ≤ sum_by reach_of qs * length c.items-claims.result.now) quantities c.in_ok-rows.ensures.few) in
-    let all = numbers_cost (length (items_of c.args.self.now.planners)) (length c.args.graph.now.resources.vertices) most (types_of c.args.self.now) (sum_by reach_of (counted_of c.args.self.now).quantities)
-    (length c.args.job.now.claims) (count_all (places_of c.in_ok-rows.rows)) c.args.steps.now c.gained.new.steps is.graph.len is.graph.counts.reach few (c.gained.ensures.work most within) in
+    let few = subst (λ (cs : List Claim). count_all (places_of c.in_ok-rows.rows) ≤ sum_by reach_of
+    (counted_of c.args.self.now).quantities * length cs) c.items-claims.ensures
+    (subst (λ (qs : List Quantity). count_all (places_of c.in_ok-rows.rows) ≤ sum_by
+    reach_of qs * length c.items-claims.result.now) quantities c.in_ok-rows.ensures.few) in
+    let all = numbers_cost (length (items_of c.args.self.now.planners)) (length c.args.graph.now.resources.vertices)
+    most (types_of c.args.self.now) (sum_by reach_of (counted_of c.args.self.now).quantities)
+    (length c.args.job.now.claims) (count_all (places_of c.in_ok-rows.rows)) c.args.steps.now
+    c.gained.new.steps is.graph.len is.graph.counts.reach few (c.gained.ensures.work most within) in
     omega (arith, all)
 
 pub returns-in_err-times-clause-work : goal.returns-in_err-times-clause-work
 returns-in_err-times-clause-work g c = λ most within.
     let (jobs, is, fair) = c.requires.there in
     let quantities = c.items-quantities.ensures ∙ ap (λ (k : Counted). k.quantities) c.counted.ensures in
-    let few = subst (λ (cs : List Claim). count_all (places_of c.in_ok-rows.rows) ≤ sum_by reach_of (counted_of c.args.self.now).quantities * length cs) c.items-claims.ensures
-    (subst (λ (qs : List Quantity). count_all (places_of c.in_ok-rows.rows) ≤ sum_by reach_of qs * length c.items-claims.result.now) quantities c.in_ok-rows.ensures.few) in
-    let all = numbers_cost (length (items_of c.args.self.now.planners)) (length c.args.graph.now.resources.vertices) most (types_of c.args.self.now) (sum_by reach_of (counted_of c.args.self.now).quantities)
-    (length c.args.job.now.claims) (count_all (places_of c.in_ok-rows.rows)) c.args.steps.now c.gained.new.steps is.graph.len is.graph.counts.reach few (c.gained.ensures.work most within) in
+    let few = subst (λ (cs : List Claim). count_all (places_of c.in_ok-rows.rows) ≤ sum_by reach_of
+    (counted_of c.args.self.now).quantities * length cs) c.items-claims.ensures
+    (subst (λ (qs : List Quantity). count_all (places_of c.in_ok-rows.rows) ≤ sum_by
+    reach_of qs * length c.items-claims.result.now) quantities c.in_ok-rows.ensures.few) in
+    let all = numbers_cost (length (items_of c.args.self.now.planners)) (length c.args.graph.now.resources.vertices)
+    most (types_of c.args.self.now) (sum_by reach_of (counted_of c.args.self.now).quantities)
+    (length c.args.job.now.claims) (count_all (places_of c.in_ok-rows.rows)) c.args.steps.now
+    c.gained.new.steps is.graph.len is.graph.counts.reach few (c.gained.ensures.work most within) in
     let times = c.renewed_with.ensures.work in
     omega (arith, all, times)
 
@@ -70,10 +91,14 @@ pub returns-in_err-try_clone-clause-work : goal.returns-in_err-try_clone-clause-
 returns-in_err-try_clone-clause-work g c = λ most within.
     let (jobs, is, fair) = c.requires.there in
     let quantities = c.items-quantities.ensures ∙ ap (λ (k : Counted). k.quantities) c.counted.ensures in
-    let few = subst (λ (cs : List Claim). count_all (places_of c.in_ok-rows.rows) ≤ sum_by reach_of (counted_of c.args.self.now).quantities * length cs) c.items-claims.ensures
-    (subst (λ (qs : List Quantity). count_all (places_of c.in_ok-rows.rows) ≤ sum_by reach_of qs * length c.items-claims.result.now) quantities c.in_ok-rows.ensures.few) in
-    let all = numbers_cost (length (items_of c.args.self.now.planners)) (length c.args.graph.now.resources.vertices) most (types_of c.args.self.now) (sum_by reach_of (counted_of c.args.self.now).quantities)
-    (length c.args.job.now.claims) (count_all (places_of c.in_ok-rows.rows)) c.args.steps.now c.gained.new.steps is.graph.len is.graph.counts.reach few (c.gained.ensures.work most within) in
+    let few = subst (λ (cs : List Claim). count_all (places_of c.in_ok-rows.rows) ≤ sum_by reach_of
+    (counted_of c.args.self.now).quantities * length cs) c.items-claims.ensures
+    (subst (λ (qs : List Quantity). count_all (places_of c.in_ok-rows.rows) ≤ sum_by
+    reach_of qs * length c.items-claims.result.now) quantities c.in_ok-rows.ensures.few) in
+    let all = numbers_cost (length (items_of c.args.self.now.planners)) (length c.args.graph.now.resources.vertices)
+    most (types_of c.args.self.now) (sum_by reach_of (counted_of c.args.self.now).quantities)
+    (length c.args.job.now.claims) (count_all (places_of c.in_ok-rows.rows)) c.args.steps.now
+    c.gained.new.steps is.graph.len is.graph.counts.reach few (c.gained.ensures.work most within) in
     let times = c.renewed_with.ensures.work in
     omega (arith, all, times)
 
@@ -81,9 +106,13 @@ pub returns-clause-work : goal.returns-clause-work
 returns-clause-work g c = λ most within.
     let (jobs, is, fair) = c.requires.there in
     let quantities = c.items-quantities.ensures ∙ ap (λ (k : Counted). k.quantities) c.counted.ensures in
-    let few = subst (λ (cs : List Claim). count_all (places_of c.in_ok-rows.rows) ≤ sum_by reach_of (counted_of c.args.self.now).quantities * length cs) c.items-claims.ensures
-    (subst (λ (qs : List Quantity). count_all (places_of c.in_ok-rows.rows) ≤ sum_by reach_of qs * length c.items-claims.result.now) quantities c.in_ok-rows.ensures.few) in
-    let all = numbers_cost (length (items_of c.args.self.now.planners)) (length c.args.graph.now.resources.vertices) most (types_of c.args.self.now) (sum_by reach_of (counted_of c.args.self.now).quantities)
-    (length c.args.job.now.claims) (count_all (places_of c.in_ok-rows.rows)) c.args.steps.now c.gained.new.steps is.graph.len is.graph.counts.reach few (c.gained.ensures.work most within) in
+    let few = subst (λ (cs : List Claim). count_all (places_of c.in_ok-rows.rows) ≤ sum_by reach_of
+    (counted_of c.args.self.now).quantities * length cs) c.items-claims.ensures
+    (subst (λ (qs : List Quantity). count_all (places_of c.in_ok-rows.rows) ≤ sum_by
+    reach_of qs * length c.items-claims.result.now) quantities c.in_ok-rows.ensures.few) in
+    let all = numbers_cost (length (items_of c.args.self.now.planners)) (length c.args.graph.now.resources.vertices)
+    most (types_of c.args.self.now) (sum_by reach_of (counted_of c.args.self.now).quantities)
+    (length c.args.job.now.claims) (count_all (places_of c.in_ok-rows.rows)) c.args.steps.now
+    c.gained.new.steps is.graph.len is.graph.counts.reach few (c.gained.ensures.work most within) in
     let times = c.renewed_with.ensures.work in
     omega (arith, all, times)

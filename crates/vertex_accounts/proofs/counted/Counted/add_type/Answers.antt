@@ -15,8 +15,10 @@ returns-clause-counted c =
     let old = c.args.self.now in
     let capacities = c.in_ok-capacities.capacities in
     let of = c.in_ok-capacities.ensures in
-    own_place vertices old c.push_place-2.new.self c.requires.counted (Units capacities) (of.kind_is ∙ sym c.requires.next)
+    own_place vertices old c.push_place-2.new.self c.requires.counted
+    (Units capacities) (of.kind_is ∙ sym c.requires.next)
     (subst (λ (k : ℕ). AreOf vertices k capacities) (sym of.kind_is) of) refl
     (c.in_ok-push_place-2.ensures.quantities ∙ c.in_ok-push_quantity.ensures.quantities)
-    (c.in_ok-push_place-2.ensures.places ∙ ap (λ (ps : List (Option ℕ)). ps ++ Some c.len-place.result ∷ []) c.in_ok-push_quantity.ensures.places
+    (c.in_ok-push_place-2.ensures.places
+    ∙ ap (λ (ps : List (Option ℕ)). ps ++ Some c.len-place.result ∷ []) c.in_ok-push_quantity.ensures.places
     ∙ ap (λ (n : ℕ). old.places ++ Some n ∷ []) c.len-place.ensures)

@@ -10,11 +10,14 @@ use Rattle.vertex_accounts.proofs.counted.Counted.new.Goals as goal
 pub loop-name-preserved : goal.loop-name-preserved
 loop-name-preserved c =
     let kinds = c.args.graph.now.resources.kinds in
-    let at : slice_get kinds c.loop-name.kind ≡ Some c.in-Some.name.now = sym c.kind_name.ensures ∙ ap option_copied c.in-Some.is in
+    let at : slice_get kinds c.loop-name.kind ≡ Some c.in-Some.name.now =
+    sym c.kind_name.ensures ∙ ap option_copied c.in-Some.is in
     record {
       counted = c.in_ok-add_type.ensures.counted;
-      places = one_type kinds (IsCounted c.args.rules.now) c.loop-name.kind c.in-Some.name.now c.loop-name.counted.places c.add_type.new.self.places c.loop-name.invariant.places at
-          (subst (λ (name : List ℕ). IsPlaceAdded (IsCounted c.args.rules.now name) c.loop-name.counted.places c.add_type.new.self.places) c.bytes.ensures c.in_ok-add_type.ensures.place);
+      places = one_type kinds (IsCounted c.args.rules.now) c.loop-name.kind
+          c.in-Some.name.now c.loop-name.counted.places c.add_type.new.self.places c.loop-name.invariant.places at
+          (subst (λ (name : List ℕ). IsPlaceAdded (IsCounted c.args.rules.now name)
+          c.loop-name.counted.places c.add_type.new.self.places) c.bytes.ensures c.in_ok-add_type.ensures.place);
     }
 
 pub returns-clause-kinds : goal.returns-clause-kinds
@@ -27,4 +30,5 @@ returns-clause-kinds c = λ kind name at counted.
 
 pub returns-clause-types : goal.returns-clause-types
 returns-clause-types c =
-    few_kept c.loop-name.counted.places c.args.graph.now.resources.kinds c.args.rules.now c.is_valid.ensures.valid.kinds.apart c.loop-name.invariant.places.only
+    few_kept c.loop-name.counted.places c.args.graph.now.resources.kinds
+    c.args.rules.now c.is_valid.ensures.valid.kinds.apart c.loop-name.invariant.places.only

@@ -10,6 +10,7 @@ abbrev pub invariant-loop-place : goal.invariant-loop-place
 invariant-loop-place g l = record {
   places : length l.planners ≡ l.place;
   each : AtSoFar (Gains g.P.Planner.total_of g.P.Planner.stands_for l.window) l.row l.self l.planners;
-  work : (most : ℕ) → ((k : ℕ) (p : _) → slice_get l.self k ≡ Some p → renew_cost g.P.Planner.settle_cost g.P.Planner.change_cost p ≤ most) →
+  work : (most : ℕ) → ((k : ℕ) (p : _) →
+      slice_get l.self k ≡ Some p → renew_cost g.P.Planner.settle_cost g.P.Planner.change_cost p ≤ most) →
       l.steps ≤ l.fn.steps + count_some (take l.place l.row) * most;
 }

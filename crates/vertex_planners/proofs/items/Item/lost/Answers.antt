@@ -24,10 +24,14 @@ loop-place-preserved g c =
     let number = sym c.in-Some-get.ensures.value in
     let more : c.push.new.self ≡ now ++ c.in_ok-planner.planner ∷ [] = c.in-Ok.ensures.ok in
     record {
-      places = ap length more ∙ (let l = length-append now (c.in_ok-planner.planner ∷ []) in let p = c.loop-place.invariant.places in omega (arith, l, p));
-      each = one_more (Loses g.P.Planner.total_of g.P.Planner.stands_for c.args.window) c.args.row.now c.args.self.now now c.push.new.self c.loop-place.place _ _ _
+      places = ap length more ∙ (let l = length-append now (c.in_ok-planner.planner ∷ []) in
+          let p = c.loop-place.invariant.places in omega (arith, l, p));
+      each = one_more (Loses g.P.Planner.total_of g.P.Planner.stands_for c.args.window)
+          c.args.row.now c.args.self.now now c.push.new.self c.loop-place.place _ _ _
           c.loop-place.invariant.places c.loop-place.invariant.each number got c.in_ok-planner.ensures.loses more;
       work = λ most within.
-          steps_more c.args.row.now c.loop-place.place _ most c.args.steps.now c.loop-place.steps c.lose.new.steps _ number
-          (within c.loop-place.place _ got) c.lose.ensures.none c.lose.ensures.work (c.loop-place.invariant.work most within);
+          steps_more c.args.row.now
+          c.loop-place.place _ most c.args.steps.now c.loop-place.steps c.lose.new.steps _ number
+          (within c.loop-place.place _ got) c.lose.ensures.none c.lose.ensures.work
+          (c.loop-place.invariant.work most within);
     }

@@ -9,8 +9,10 @@ use Rattle.vertex_planners.proofs.planners.VertexPlanners.gained.Given as goal
 
 abbrev pub invariant-loop-left : goal.invariant-loop-left
 invariant-loop-left g l = record {
-  walked : Walked (Gains g.P.Planner.total_of g.P.Planner.stands_for l.window) (items_of l.fn.self) l.items (places_of l.fn.rows) (places_of l.left);
-  work : (most : ℕ) → CostWithin (renew_cost g.P.Planner.settle_cost g.P.Planner.change_cost) most (items_of l.fn.self) →
+  walked : Walked (Gains g.P.Planner.total_of g.P.Planner.stands_for l.window)
+      (items_of l.fn.self) l.items (places_of l.fn.rows) (places_of l.left);
+  work : (most : ℕ) →
+      CostWithin (renew_cost g.P.Planner.settle_cost g.P.Planner.change_cost) most (items_of l.fn.self) →
       l.steps + count_all (places_of l.left) * change_most (length (items_of l.fn.self)) most
       ≤ l.fn.steps + count_all (places_of l.fn.rows) * change_most (length (items_of l.fn.self)) most;
 }
