@@ -4,6 +4,7 @@ use Rattle.std.proofs.Common.{inr, refl, sym, ap, subst, arith}
 use Rattle.std.proofs.Math.Nat.{pow-suc, mul-le-mul_right}
 use Rattle.std.proofs.lemmas.Bool.Decides.{leb_tells}
 use Rattle.std.specs.Arc.{arc_value}
+use Rattle.flux_defs.specs.declared.limits.TheConstants.{MOST_VERTICES}
 use Rattle.flux_defs.specs.declared.vertices.Vertex.{Vertex}
 use Rattle.flux_defs.specs.declared.claims.Job.{Job}
 use Rattle.flux_defs.specs.Digits.{digits_within, dig}
@@ -44,7 +45,7 @@ dig_few k n lt = few_digits n k n lt
 
 -- the looks of one answer, over at most 65,536 vertices
 pub looks_cost : (vertices b looks : ℕ) →
-    vertices ≤ 65536 → 3 ≤ b → looks ≤ 16 * b → closed_most vertices looks + looks ≤ 512 * b
+    vertices ≤ MOST_VERTICES → 3 ≤ b → looks ≤ 16 * b → closed_most vertices looks + looks ≤ 512 * b
 looks_cost vertices b looks few some le =
     let d = dig_few 16 (vertices + 1) (let p : 2 ^ 17 ≡ 131072 = refl in omega (arith, few, p)) in
     omega (arith, d, some, le)
@@ -105,7 +106,7 @@ unfolding dig
 four_digits = refl
 
 -- an answer about a vertex, and the next point, within the cost of the book
-pub answer_covered : (vertices count g : ℕ) → vertices ≤ 65536 →
+pub answer_covered : (vertices count g : ℕ) → vertices ≤ MOST_VERTICES →
     closed_most vertices (16 * dig (2 * count + 2)) + 16 * dig (2 * count + 2) ≤ 512 * dig (2 * count + g + 4)
 answer_covered vertices count g few =
     let four = four_digits in
@@ -124,7 +125,7 @@ next_covered count g =
     omega (arith, same, d, le, some)
 
 -- the next point and a look at the root
-pub ample_covered : (vertices count g : ℕ) → vertices ≤ 65536 →
+pub ample_covered : (vertices count g : ℕ) → vertices ≤ MOST_VERTICES →
     16 * dig (2 * g + 2) + 1 + look_most vertices (16 * dig (2 * count + 2)) ≤ 512 * dig (2 * count + g + 4)
 ample_covered vertices count g few =
     let e : 2 * g + 2 ≡ 2 * (g + 1) = omega arith in
@@ -139,7 +140,7 @@ ample_covered vertices count g few =
 
 -- a change of one planner of at most 65,536
 planner_change : (vertices b changes : ℕ) →
-    vertices ≤ 65536 → 3 ≤ b → changes ≤ 256 * b → change_most vertices changes ≤ 279 * b
+    vertices ≤ MOST_VERTICES → 3 ≤ b → changes ≤ 256 * b → change_most vertices changes ≤ 279 * b
 planner_change vertices b changes few some le =
     let d = dig_few 16 (vertices + 1) (let p : 2 ^ 17 ≡ 131072 = refl in omega (arith, few, p)) in
     omega (arith, d, some, le)
@@ -164,7 +165,7 @@ expanded claims rules b = grind arith
 
 -- a job more or less within the bound: all accounts, the times and the row
 pub change_covered : (vertices count g types rules claims times old mid new : ℕ) →
-    vertices ≤ 65536 → types ≤ rules → times ≤ 256 * dig (2 * g + 2) →
+    vertices ≤ MOST_VERTICES → types ≤ rules → times ≤ 256 * dig (2 * g + 2) →
     mid ≤ old + (accounts_most vertices (256 * dig (2 * count + 2)) types claims + times) →
     new ≤ mid + 256 * dig (g + 2) → new ≤ old + 8192 * (claims + 1) * (1 + rules) * dig (2 * count + g + 4)
 change_covered vertices count g types rules claims times old mid new few kept span accounts row =

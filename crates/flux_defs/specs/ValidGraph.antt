@@ -3,7 +3,7 @@ use Rattle.std.specs.Prelude.{◌≡◌, ◌≢◌, ℕ, suc, ◌<◌, ◌≤◌
 use Rattle.std.specs.Prelude.{IsTrue, IsSome}
 use Rattle.std.specs.Option.{IsSomeAnd}
 use Rattle.flux_defs.specs.declared.vertices.Vertex.{Vertex}
-use Rattle.flux_defs.specs.declared.limits.TheConstants.{GREATEST_NUMBER, MOST_TYPES, MOST_VERTICES}
+use Rattle.flux_defs.specs.declared.limits.TheConstants.{GREATEST_NUMBER, MOST_LEVELS, MOST_TYPES, MOST_VERTICES}
 use Rattle.flux_defs.specs.Graph.{ResourceGraph, parent_of, chain, is_at_or_below, is_below, HasKind, IsNode, is_pool}
 
 -- v is a vertex whose type is called so
@@ -61,8 +61,8 @@ pub record IsValidGraph (g : ResourceGraph) (names : List (List ℕ)) : Type 0 w
   pub few_kinds : length g.kinds ≤ MOST_TYPES
   pub kinds : NumbersKinds g
   pub preorder : StandsInPreorder g
-  -- at most 16 vertices from the root to each, both counted
-  pub shallow : EachVertex g (λ v x. length (chain g.vertices (length g.vertices) (Some v)) ≤ 16)
+  -- from the root to each are at most 16 vertices, both counted
+  pub shallow : EachVertex g (λ v x. length (chain g.vertices (length g.vertices) (Some v)) ≤ MOST_LEVELS)
   -- no vertex is below one of its own type
   pub unnested : (v u kind : ℕ) →
       HasKind g.vertices kind v → HasKind g.vertices kind u → IsTrue (is_below g.vertices v u) → ⊥

@@ -22,8 +22,8 @@ pub use events::Event;
 pub use gates::{Gate, OpenGate, Place};
 pub use journal::{ClientLine, Command, Entry, Line, Phase, Reply, Script};
 pub use limits::{
-    GREATEST_NUMBER, LATEST_HORIZON, Limits, MOST_FILE_BYTES, MOST_NAME_BYTES, MOST_TYPE_BYTES,
-    MOST_TYPES, MOST_VERTICES, SHIPPED,
+    GREATEST_ID, GREATEST_NUMBER, LATEST_HORIZON, Limits, MOST_FILE_BYTES, MOST_LEVELS,
+    MOST_NAME_BYTES, MOST_TYPE_BYTES, MOST_TYPES, MOST_UNIT_BYTES, MOST_VERTICES, NO_ID, SHIPPED,
 };
 pub use lists::List;
 pub use requests::{Ask, Need};

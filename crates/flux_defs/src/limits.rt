@@ -12,6 +12,14 @@ pub const GREATEST_NUMBER: u64 = 70_368_744_177_664;
 pub const MOST_NAME_BYTES: usize = 255;
 /// The most bytes of the name of a type.
 pub const MOST_TYPE_BYTES: usize = 64;
+/// The most bytes of a unit, each of which is a character.
+pub const MOST_UNIT_BYTES: usize = 64;
+/// The most vertices from the root of a graph to one of its vertices, both counted.
+pub const MOST_LEVELS: usize = 16;
+/// The number of 32 bits that is no id and no rank.
+pub const NO_ID: u32 = 4_294_967_295;
+/// The greatest id and rank.
+pub const GREATEST_ID: u64 = NO_ID as u64 - 1;
 /// The latest second at which time may end.
 pub const LATEST_HORIZON: u64 = 1_099_511_627_776;
 /// The most bytes of a graph file and of an input.

@@ -4,6 +4,7 @@ use Rattle.std.proofs.Common.{None, inl, inr, refl, sym, ◌∙◌, ap, arith, t
 use Rattle.std.specs.Prelude.{slice_get, is_some, position}
 use Rattle.std.proofs.lemmas.Bool.{cases_lt}
 use Rattle.std.proofs.lemmas.Option.{slice_get-get_or, slice_get_within}
+use Rattle.flux_defs.specs.declared.limits.TheConstants.{MOST_LEVELS}
 use Rattle.flux_defs.specs.declared.vertices.Vertex.{Vertex}
 use Rattle.flux_defs.specs.Graph.{parent_of, chain}
 use Rattle.resource_graph.specs.Lines.{line_of}
@@ -69,41 +70,45 @@ module _ (kinds : List (List ℕ)) (vertices : List Vertex) where
       (finds_position (λ o. is_some o) climbs found e)
 
   pub finds_deep : (climbs : List (Option ℕ)) (found : Option ℕ) →
-      ((v : ℕ) → NeverEnds (graph_in kinds vertices) v → ⊥) → HasClimbs vertices 16 climbs →
+      ((v : ℕ) → NeverEnds (graph_in kinds vertices) v → ⊥) → HasClimbs vertices MOST_LEVELS climbs →
       found ≡ position (λ o. is_some o) climbs → IsFirstOf (IsDeep (graph_in kinds vertices)) found
   finds_deep climbs found ends has e =
       finds_same (Passes (λ o. is_some o) climbs) (IsDeep (graph_in kinds vertices)) found
-      (λ v h. (let r = reached_to 16 climbs has v h in (r.0, deep v r.0 r.1.0 r.1.1)))
-      (λ v bad. reached_from 16 climbs has v bad.0 (λ none.
-      (let over : 16 < length (line_of vertices v) = bad.1 in
+      (λ v h. (let r = reached_to MOST_LEVELS climbs has v h in (r.0, deep v r.0 r.1.0 r.1.1)))
+      (λ v bad. reached_from MOST_LEVELS climbs has v bad.0 (λ none.
+      (let over : MOST_LEVELS < length (line_of vertices v) = bad.1 in
       let long : length (line_of vertices v) ≤ length vertices = chain_short vertices (length vertices) (Some v) in
-      let same : length (line_of vertices v) ≡ length (chain vertices 16 (Some v)) =
-      ap length (chain_stops vertices 16 (length vertices) (Some v) none (omega arith)) in
-      let short : length (chain vertices 16 (Some v)) ≤ 16 = chain_short vertices 16 (Some v) in omega arith)))
+      let same : length (line_of vertices v) ≡ length (chain vertices MOST_LEVELS (Some v)) =
+      ap length (chain_stops vertices MOST_LEVELS (length vertices) (Some v) none (omega arith)) in
+      let short : length (chain vertices MOST_LEVELS (Some v)) ≤ MOST_LEVELS =
+      chain_short vertices MOST_LEVELS (Some v) in omega arith)))
       (finds_position (λ o. is_some o) climbs found e)
     where
-      deep : (v : ℕ) → v < length vertices → (u : ℕ) → climb vertices 16 (Some v) ≡ Some u →
-          16 < length (line_of vertices v)
+      deep : (v : ℕ) → v < length vertices → (u : ℕ) → climb vertices MOST_LEVELS (Some v) ≡ Some u →
+          MOST_LEVELS < length (line_of vertices v)
       deep v lt u on =
-          let long : length (chain vertices 17 (Some v)) ≡ 17 = chain_goes_on vertices 16 u (Some v) on in
-          elim (cases_lt 16 (length vertices)) [
-            | inl many ↦ elim (cases_lt 16 (length (line_of vertices v))) [
+          let long : length (chain vertices (MOST_LEVELS + 1) (Some v)) ≡ (MOST_LEVELS + 1) =
+          chain_goes_on vertices MOST_LEVELS u (Some v) on in
+          elim (cases_lt MOST_LEVELS (length vertices)) [
+            | inl many ↦ elim (cases_lt MOST_LEVELS (length (line_of vertices v))) [
               | inl over ↦ over
               | inr short ↦ absurd (
-                  let same : length (line_of vertices v) ≡ length (chain vertices 17 (Some v)) =
-                  ap length (chains_agree vertices (length vertices) 17 (Some v) (omega arith) (omega arith)) in
+                  let same : length (line_of vertices v) ≡ length (chain vertices (MOST_LEVELS + 1) (Some v)) =
+                  ap length (chains_agree vertices
+                  (length vertices) (MOST_LEVELS + 1) (Some v) (omega arith) (omega arith)) in
                   omega arith)
             ]
             | inr few ↦ absurd (go (climb vertices (length vertices) (Some v)) refl few)
           ]
         where
-          go : (o : Option ℕ) → climb vertices (length vertices) (Some v) ≡ o → length vertices ≤ 16 → ⊥
+          go : (o : Option ℕ) → climb vertices (length vertices) (Some v) ≡ o → length vertices ≤ MOST_LEVELS → ⊥
           go None f le =
-              let split : length vertices + (16 - length vertices) ≡ 16 = omega arith in
-              let none : climb vertices 16 (Some v) ≡ None =
+              let split : length vertices + (MOST_LEVELS - length vertices) ≡ MOST_LEVELS = omega arith in
+              let none : climb vertices MOST_LEVELS (Some v) ≡ None =
               ap (λ n. climb vertices n (Some v)) (sym split)
-              ∙ (sym (climb-climb vertices (length vertices) (16 - length vertices) (Some v))
-              ∙ (ap (climb vertices (16 - length vertices)) f ∙ climb-None vertices (16 - length vertices))) in
+              ∙ (sym (climb-climb vertices (length vertices) (MOST_LEVELS - length vertices) (Some v))
+              ∙ (ap (climb vertices (MOST_LEVELS - length vertices)) f
+              ∙ climb-None vertices (MOST_LEVELS - length vertices))) in
               let clash : None ≡ Some u = sym none ∙ on in cc
           go (Some w) f le =
               ends v (

@@ -8,6 +8,7 @@ use Rattle.std.proofs.lemmas.Bool.{cases_lt, and_from}
 use Rattle.std.proofs.lemmas.List.Folds.{list_any_at}
 use Rattle.std.proofs.lemmas.Option.{slice_get-get_or, slice_get_within, slice_get_past, slice_get-map}
 use Rattle.std.proofs.lemmas.Option.{get_or_from_slice_get, same_Some, unwrap_or-slice_get}
+use Rattle.flux_defs.specs.declared.limits.TheConstants.{GREATEST_NUMBER}
 use Rattle.flux_defs.specs.declared.vertices.Vertex.{Vertex}
 use Rattle.flux_defs.specs.Graph.{ResourceGraph, parent_of, chain, IsNode}
 use Rattle.flux_defs.specs.ValidGraph.{IsValidGraph}
@@ -94,9 +95,9 @@ module _ (g : ResourceGraph) (names : List (List ℕ)) (valid : IsValidGraph g n
         let x = value_of (slice_get g.vertices v) (λ x. x.size ≢ 1) has.1 in
         x.2 (valid.sizes.whole v x.0 x.1 (elim has.0 [ inl node ↦ inl (typed_node v node) | inr device ↦ inr device ]));
     most = λ v has.
-        let x = value_of (slice_get g.vertices v) (λ x. 2 ^ 46 < x.size) has in
-        let most : x.0.size ≤ 2 ^ 46 = valid.sizes.most v x.0 x.1 in
-        let large : 2 ^ 46 < x.0.size = x.2 in
+        let x = value_of (slice_get g.vertices v) (λ x. GREATEST_NUMBER < x.size) has in
+        let most : x.0.size ≤ GREATEST_NUMBER = valid.sizes.most v x.0 x.1 in
+        let large : GREATEST_NUMBER < x.0.size = x.2 in
         omega arith;
     housed = λ v device. let house = valid.devices.housed v device in (house.0, node_typed house.0 house.1, house.2);
     identified = λ v has.

@@ -11,7 +11,7 @@ use Rattle.std.proofs.lemmas.List.Sums.{count_by_more_yes, count_by_more_no}
 use Rattle.std.proofs.lemmas.List.Folds.{Any-from_list_any, list_any_at}
 use Rattle.std.proofs.lemmas.Option.{slice_get-get_or, slice_get_within, slice_get_past, get_or_from_slice_get}
 use Rattle.std.proofs.lemmas.Option.{same_Some}
-use Rattle.flux_defs.specs.declared.limits.TheConstants.{MOST_VERTICES, MOST_TYPES}
+use Rattle.flux_defs.specs.declared.limits.TheConstants.{MOST_VERTICES, MOST_TYPES, GREATEST_NUMBER, MOST_LEVELS}
 use Rattle.flux_defs.specs.declared.vertices.Vertex.{Vertex}
 use Rattle.flux_defs.specs.Graph.{ResourceGraph, parent_of, chain, is_below, HasKind, IsNode, is_pool, is_pool_kind}
 use Rattle.flux_defs.specs.ValidGraph.{IsValidGraph, HasType, HasId, HasRank, IsDevice, NumbersKinds, HasFairSizes}
@@ -32,7 +32,7 @@ rooted_of_faultless g names fine = record {
       [ inl less ↦ less | inr past ↦ absurd (fine.parents v (p, e, past)) ];
   ends = λ v lt. elim (cases_lt (length g.vertices) (length (chain g.vertices (suc (length g.vertices)) (Some v))))
       [ inl over ↦ absurd (fine.ends v (lt, over)) | inr le ↦ le ];
-  short = λ v lt. elim (cases_lt 16 (length (line_of g.vertices v)))
+  short = λ v lt. elim (cases_lt MOST_LEVELS (length (line_of g.vertices v)))
       [ inl over ↦ absurd (fine.shallow v (lt, over)) | inr le ↦ le ];
   root = (fine.root.0, fine.root.1.0, fine.root.1.1);
   alone = λ u v u_in v_in at_u at_v.
@@ -386,10 +386,11 @@ module _ (kinds : List (List ℕ)) (vertices : List Vertex) (names : List (List 
     most = λ v y at.
         let b = both v (within v y at) in
         let size : y.size ≡ b.0.size = ap (λ (z : Vertex). z.size) (same_Some _ _ (sym at ∙ b.3)) ∙ b.4.size in
-        elim (cases_lt (2 ^ 46) b.0.size) [
-          | inl over ↦ absurd (fine.most (index v) (from_value (slice_get vertices (index v)) (λ x. 2 ^ 46 < x.size)
+        elim (cases_lt GREATEST_NUMBER b.0.size) [
+          | inl over ↦
+              absurd (fine.most (index v) (from_value (slice_get vertices (index v)) (λ x. GREATEST_NUMBER < x.size)
               b.0 b.2 over))
-          | inr le ↦ subst (λ (n : ℕ). n ≤ 2 ^ 46) (sym size) le
+          | inr le ↦ subst (λ (n : ℕ). n ≤ GREATEST_NUMBER) (sym size) le
         ];
   }
 
@@ -535,9 +536,9 @@ module _ (kinds : List (List ℕ)) (vertices : List Vertex) (names : List (List 
           kinds = numbers;
           preorder = preorder_arranged kinds vertices order g arranged rooted pre;
           shallow = λ v y at.
-              let short : length (line_of vertices (index v)) ≤ 16 =
+              let short : length (line_of vertices (index v)) ≤ MOST_LEVELS =
               rooted.short (index v) (index_in kinds vertices order g arranged v (within v y at)) in
-              subst (λ (n : ℕ). n ≤ 16) (sym (same_line_length kinds vertices order g arranged v)) short;
+              subst (λ (n : ℕ). n ≤ MOST_LEVELS) (sym (same_line_length kinds vertices order g arranged v)) short;
           unnested = λ v u kind at_v at_u below.
               let same = same_kind v u kind at_v at_u in
               fine.unnested (index v) (index u, same.2.0, same.2.1, same.2.2, below_back v u same.0 same.1 below);

@@ -2,6 +2,7 @@
 use Rattle.std.specs.Prelude.{◌≡◌, ℕ, suc, ◌-◌, ◌<◌, ◌≤◌, List, length, reverse, Some, None, slice_get, slice_index}
 use Rattle.std.specs.Prelude.{IsTrue, Vec}
 use Rattle.std.specs.declared.alloc.Global.{Global}
+use Rattle.flux_defs.specs.declared.limits.TheConstants.{MOST_LEVELS}
 use Rattle.flux_defs.specs.declared.vertices.Vertex.{Vertex}
 use Rattle.flux_defs.specs.Graph.{parent_of, chain, is_at_or_below}
 use Rattle.resource_graph.specs.Lines.{line_of, KnowsParents}
@@ -12,7 +13,7 @@ use Rattle.resource_graph.specs.Lines.{line_of, KnowsParents}
 pub record IsRooted (vertices : List Vertex) : Type 0 where
   pub known : KnowsParents vertices
   pub ends : (v : ℕ) → v < length vertices → length (chain vertices (suc (length vertices)) (Some v)) ≤ length vertices
-  pub short : (v : ℕ) → v < length vertices → length (line_of vertices v) ≤ 16
+  pub short : (v : ℕ) → v < length vertices → length (line_of vertices v) ≤ MOST_LEVELS
   pub root : (r : ℕ) × (r < length vertices) × (parent_of vertices r ≡ None)
   pub alone : (u v : ℕ) → u < length vertices → v < length vertices → parent_of vertices u ≡ None →
       parent_of vertices v ≡ None → u ≡ v

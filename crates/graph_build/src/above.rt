@@ -1,6 +1,6 @@
 //! What stands above a vertex that shouldn't, or doesn't and should.
 ghost use Rattle.std.specs.Prelude.{◌≡◌, ◌<◌, ◌≤◌, ◌↔◌, ℕ, IsTrue, IfSome, IfOk, length};
-ghost use Rattle.flux_defs.specs.declared.limits.TheConstants.{MOST_VERTICES};
+ghost use Rattle.flux_defs.specs.declared.limits.TheConstants.{MOST_VERTICES, MOST_LEVELS};
 ghost use Rattle.graph_build.specs.Faults.{IsNestedInKind, IsPoolWithChild, IsLoose};
 ghost use Rattle.resource_graph.specs.Lines.{line_of, KnowsParents, AllBelow};
 ghost use Rattle.resource_graph.specs.Preorder.{plain, KnowsKinds};
@@ -19,7 +19,7 @@ use std::alloc::{AllocError, Global};
 pub(crate) fn first_nested(alloc: Global, vertices: &[Vertex]) -> Result<Option<usize>, AllocError>
     requires few { length vertices.now ≤ MOST_VERTICES }
     requires parents { KnowsParents vertices.now }
-    requires short { (v : ℕ) → v < length vertices.now → length (line_of vertices.now v) ≤ 16 }
+    requires short { (v : ℕ) → v < length vertices.now → length (line_of vertices.now v) ≤ MOST_LEVELS }
     ensures first { IfOk result (IsFirstOf (IsNestedInKind (plain vertices.now))) }
     ensures within { IfOk result (λ found. IfSome found (λ v. v < length vertices.now)) }
 {
@@ -59,7 +59,7 @@ pub(crate) fn house_table(
 ) -> Result<Vec<Option<u32>>, AllocError>
     requires few { length vertices.now ≤ MOST_VERTICES }
     requires parents { KnowsParents vertices.now }
-    requires short { (v : ℕ) → v < length vertices.now → length (line_of vertices.now v) ≤ 16 }
+    requires short { (v : ℕ) → v < length vertices.now → length (line_of vertices.now v) ≤ MOST_LEVELS }
     ensures { IfOk result (λ houses. HasHouses (graph_in kinds.now vertices.now) (length vertices.now) houses.items) }
 {
     let mut houses = Vec::with_capacity(alloc, vertices.len())?;

@@ -8,7 +8,7 @@ ghost use Rattle.resource_graph.specs.Preorder.{plain};
 ghost use Rattle.resource_graph.specs.Finds.{IsFirstOf};
 
 use crate::climbs::climbs;
-use flux_defs::Vertex;
+use flux_defs::{MOST_LEVELS, Vertex};
 use std::alloc::{AllocError, Global};
 
 /// The first vertex whose chain of parents is longer than the graph.
@@ -23,7 +23,7 @@ pub(crate) fn first_endless(alloc: Global, vertices: &[Vertex]) -> Result<Option
     Ok(found)
 }
 
-/// The first vertex with more than 16 vertices from the root to it.
+/// The first vertex with more than `MOST_LEVELS` vertices from the root to it.
 pub(crate) fn first_deep(alloc: Global, vertices: &[Vertex]) -> Result<Option<usize>, AllocError>
     requires few { length vertices.now ≤ MOST_VERTICES }
     requires known { KnowsParents vertices.now }
@@ -31,7 +31,7 @@ pub(crate) fn first_deep(alloc: Global, vertices: &[Vertex]) -> Result<Option<us
     ensures first { IfOk result (IsFirstOf (IsDeep (plain vertices.now))) }
     ensures within { IfOk result (λ found. IfSome found (λ v. v < length vertices.now)) }
 {
-    let reached = climbs(alloc, vertices, 16)?;
+    let reached = climbs(alloc, vertices, MOST_LEVELS)?;
     let found = first_reached(reached.as_slice());
     Ok(found)
 }

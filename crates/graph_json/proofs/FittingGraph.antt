@@ -14,8 +14,7 @@ use Rattle.std.specs.Result.{result_err, result_map_both}
 use Rattle.std.proofs.lemmas.Bool.{and_parts, and_from, ltb-true, leb-true, lt-ltb, le-leb}
 use Rattle.std.proofs.lemmas.List.{length-append}
 use Rattle.std.proofs.lemmas.Fmt.{digits_decimal}
-use Rattle.flux_defs.specs.declared.limits.TheConstants.{MOST_NAME_BYTES, MOST_TYPE_BYTES}
-use Rattle.graph_json.specs.declared.fields.TheConstants.{GREATEST_ID}
+use Rattle.flux_defs.specs.declared.limits.TheConstants.{MOST_NAME_BYTES, MOST_TYPE_BYTES, GREATEST_ID}
 use Rattle.json_whole.specs.Field.{text_or_kind, text_field}
 use Rattle.json_whole.specs.declared.fields.FieldFault.{FieldFault}
 use Rattle.json_whole.proofs.Numerals.{digits_by_test}

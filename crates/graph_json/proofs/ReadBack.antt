@@ -13,8 +13,8 @@ use Rattle.std.proofs.lemmas.List.Sums.{AllPass-from_list_all}
 use Rattle.std.proofs.lemmas.List.Folds.{list_any_at, Any-from_list_any}
 use Rattle.std.proofs.lemmas.Option.{slice_get-map, slice_get-get_or, slice_get_within, get_or_from_slice_get}
 use Rattle.std.proofs.lemmas.Option.{same_Some, unwrap_or-slice_get}
-use Rattle.flux_defs.specs.declared.limits.TheConstants.{MOST_NAME_BYTES, MOST_TYPE_BYTES, MOST_VERTICES}
-use Rattle.graph_json.specs.declared.fields.TheConstants.{GREATEST_ID}
+use Rattle.flux_defs.specs.declared.limits.TheConstants.{MOST_NAME_BYTES, MOST_TYPE_BYTES, MOST_VERTICES, GREATEST_ID}
+use Rattle.flux_defs.specs.declared.limits.TheConstants.{GREATEST_NUMBER}
 use Rattle.flux_defs.specs.declared.vertices.Vertex.{Vertex}
 use Rattle.flux_defs.specs.Graph.{HasKind}
 use Rattle.flux_defs.specs.ValidGraph.{NumbersKinds}
@@ -566,7 +566,7 @@ module _ (g : NamedGraph) (fits : IsFileGraph g) where
 
   small_numbers : (k : ℕ) (x : Vertex) → slice_get g.resources.vertices k ≡ Some x → HasSmallNumbers x
   small_numbers k x e =
-      let size : x.size ≤ 2 ^ 46 = fits.whole.valid.sizes.most k x e in
+      let size : x.size ≤ GREATEST_NUMBER = fits.whole.valid.sizes.most k x e in
       let own = all_at HasFileNumbers g.resources.vertices fits.numbers k x e in
       (omega arith, small x.id own.0, small x.rank own.1)
     where

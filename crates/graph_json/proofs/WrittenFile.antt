@@ -9,8 +9,8 @@ use Rattle.std.proofs.lemmas.Bool.{and_parts, le-leb, le-ltb}
 use Rattle.std.proofs.lemmas.List.Sums.{AllPass-from_list_all}
 use Rattle.std.proofs.lemmas.Str.{IsUtf8-from_ascii, is_utf8-from_IsUtf8}
 use Rattle.std.proofs.lemmas.Str.Ascii.{IsAscii-from_all}
-use Rattle.flux_defs.specs.declared.limits.TheConstants.{MOST_NAME_BYTES, MOST_TYPE_BYTES}
-use Rattle.graph_json.specs.declared.fields.TheConstants.{GREATEST_ID, MOST_UNIT_BYTES}
+use Rattle.flux_defs.specs.declared.limits.TheConstants.{MOST_NAME_BYTES, MOST_TYPE_BYTES, GREATEST_ID, MOST_UNIT_BYTES}
+use Rattle.flux_defs.specs.declared.limits.TheConstants.{GREATEST_NUMBER}
 use Rattle.serde_json.specs.Data.{Data}
 use Rattle.json_whole.specs.declared.fields.FieldFault.{FieldFault}
 use Rattle.flux_defs.specs.declared.vertices.Vertex.{Vertex}
@@ -74,7 +74,7 @@ pub record FitsNode (g : NamedGraph) (v : ℕ) (x : Vertex) : Type 0 where
   pub unit : is_unit (unwrap_or (slice_get g.units v) []) ≡ true
   pub properties : AreProperties (unwrap_or (slice_get g.properties v) [])
   pub numbers : HasFileNumbers x
-  pub size : x.size ≤ 2 ^ 46
+  pub size : x.size ≤ GREATEST_NUMBER
 
 -- ---- fields
 
@@ -103,9 +103,10 @@ kept_small : (o : Option ℕ) → IfSome o (λ n. n ≤ GREATEST_ID) → small_n
 kept_small None h = refl
 kept_small (Some n) h = ap (λ b. if b then Ok (Some n) else Err FieldFault.Large) (le-leb n (GREATEST_ID) h)
 
-kept_size : (n : ℕ) → n ≤ 2 ^ 46 →
-    (if nat_lt n 0 then Err FieldFault.Small else (if nat_lt (2 ^ 46) n then Err FieldFault.Large else Ok n)) ≡ Ok n
-kept_size n h = rw (le-ltb n 0 (omega arith), le-ltb (2 ^ 46) n h) refl
+kept_size : (n : ℕ) → n ≤ GREATEST_NUMBER →
+    (if nat_lt n 0 then Err FieldFault.Small else (if nat_lt GREATEST_NUMBER n then Err FieldFault.Large else Ok n))
+    ≡ Ok n
+kept_size n h = rw (le-ltb n 0 (omega arith), le-ltb GREATEST_NUMBER n h) refl
 
 readable_names : (list : List (List ℕ)) → list_all (is_name MOST_NAME_BYTES) list ≡ true → map readable list ≡ list
 readable_names [] all = refl

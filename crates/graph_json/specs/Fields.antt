@@ -4,10 +4,9 @@ use Rattle.std.specs.Prelude.{Option, Some, None, is_some, Result, Ok, Err, deci
 use Rattle.std.specs.List.{list_all}
 use Rattle.std.specs.Char.{is_ascii_graphic}
 use Rattle.std.specs.Result.{result_map_both}
-use Rattle.flux_defs.specs.declared.limits.TheConstants.{GREATEST_NUMBER}
+use Rattle.flux_defs.specs.declared.limits.TheConstants.{GREATEST_NUMBER, GREATEST_ID, MOST_UNIT_BYTES}
 use Rattle.serde_json.specs.Data.{Num, unsigned, negative, float, Data, null, boolean, number, string, array, object}
 use Rattle.serde_json.specs.Find.{get, as_number}
-use Rattle.graph_json.specs.declared.fields.TheConstants.{GREATEST_ID, MOST_UNIT_BYTES}
 use Rattle.json_whole.specs.Field.{number_or_kind, u64_field}
 use Rattle.json_whole.specs.declared.fields.FieldFault.{FieldFault}
 use Rattle.json_whole.specs.declared.fields.FieldFault.TheVariants.{Missing, Kind, Small, Large}

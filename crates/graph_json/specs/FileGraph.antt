@@ -2,9 +2,8 @@
 use Rattle.std.specs.Prelude.{◌≡◌, ℕ, ◌≤◌, ◌-◌, ◌^◌, List, IfSome, IsTrue}
 use Rattle.std.specs.List.{AllByRecursion, list_all}
 use Rattle.flux_defs.specs.declared.vertices.Vertex.{Vertex}
-use Rattle.flux_defs.specs.declared.limits.TheConstants.{MOST_NAME_BYTES, MOST_TYPE_BYTES}
+use Rattle.flux_defs.specs.declared.limits.TheConstants.{MOST_NAME_BYTES, MOST_TYPE_BYTES, GREATEST_ID}
 use Rattle.resource_graph.specs.NamedGraph.{NamedGraph, IsWhole}
-use Rattle.graph_json.specs.declared.fields.TheConstants.{GREATEST_ID}
 use Rattle.graph_json.specs.Fields.{is_unit}
 use Rattle.text_forms.specs.Names.{is_name}
 use Rattle.graph_json.specs.Nodes.{in_order}

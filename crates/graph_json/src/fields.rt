@@ -11,15 +11,10 @@ ghost use Rattle.text_forms.specs.Names.{is_name_byte, is_name};
 ghost use Rattle.json_fields.specs.Names.{ruled_value, ruled_field, ruled_given};
 ghost use Rattle.graph_json.specs.Nodes.{id_bytes};
 
-use flux_defs::GREATEST_NUMBER;
+use flux_defs::{GREATEST_ID, GREATEST_NUMBER, MOST_UNIT_BYTES};
 use json_fields::given;
 use json_whole::{FieldFault, need_u64};
 use serde_json::{Number, Value};
-
-/// The greatest id and rank: it leaves the greatest number of 32 bits free.
-pub const GREATEST_ID: u64 = 4_294_967_294;
-/// The most bytes of a unit, each of which is a character.
-pub const MOST_UNIT_BYTES: usize = 64;
 
 /// How a file writes the id of a node.
 #[derive(Clone, Copy, Debug)]

@@ -13,7 +13,6 @@ mod reading;
 mod writing;
 
 pub use faults::ReadFault;
-pub use fields::{GREATEST_ID, MOST_UNIT_BYTES};
 pub use laws::{
     a_graph_text_has_one_graph, graphs_of_files_fit_files, written_graphs_are_read_back,
 };

@@ -15,7 +15,7 @@ use Rattle.std.proofs.lemmas.List.{take-append-drop, drop_more, drop_all, append
 use Rattle.std.proofs.lemmas.List.Elements.{All-tail, All-head}
 use Rattle.std.proofs.lemmas.List.Folds.{list_all-append}
 use Rattle.std.proofs.lemmas.Fmt.{decimal_nonempty}
-use Rattle.idset_text.specs.declared.idsets.TheConstants.{NO_ID}
+use Rattle.flux_defs.specs.declared.limits.TheConstants.{NO_ID}
 use Rattle.idset_text.specs.declared.idsets.Range.{Range}
 use Rattle.idset_text.specs.declared.faults.TextFault.{TextFault}
 use Rattle.idset_text.specs.Faults.{IsResultOf}

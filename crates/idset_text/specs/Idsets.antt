@@ -4,7 +4,7 @@ use Rattle.std.specs.Prelude.{if◌then◌else◌, List, [], ◌∷◌, ◌++◌
 use Rattle.std.specs.Prelude.{Ok, Err, map, decimal}
 use Rattle.std.specs.List.{flat_map, join_with_byte}
 use Rattle.std.specs.Option.{option_and_then}
-use Rattle.idset_text.specs.declared.idsets.TheConstants.{NO_ID}
+use Rattle.flux_defs.specs.declared.limits.TheConstants.{NO_ID}
 use Rattle.idset_text.specs.declared.idsets.Range.{Range}
 use Rattle.idset_text.specs.Items.{Item, items_of, ends_of, with_first}
 use Rattle.idset_text.specs.Numbers.{has_leading_zero, number_of}

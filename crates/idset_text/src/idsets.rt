@@ -3,7 +3,7 @@ ghost use Rattle.std.specs.Prelude.{◌≡◌, Ok, ℕ, ◌+◌, ◌<◌, ◌^�
 ghost use Rattle.std.specs.Prelude.{IfOk, IfSome, OnOk};
 ghost use Rattle.std.specs.List.{list_any};
 ghost use Rattle.std.specs.List.Sorted.{IsStrictlyIncreasing};
-ghost use Rattle.idset_text.specs.declared.idsets.TheConstants.{NO_ID};
+ghost use Rattle.flux_defs.specs.declared.limits.TheConstants.{NO_ID};
 ghost use Rattle.idset_text.specs.Faults.{IsResultOf};
 ghost use Rattle.idset_text.specs.Items.{items_of};
 ghost use Rattle.idset_text.specs.Idsets.{id_of, range_of, range_from, ranges_of, idset_of, IsIdset, Rises, is_within};
@@ -12,12 +12,9 @@ ghost use Rattle.idset_text.specs.Idsets.{ids_of, range_text, idset_text, IsIdse
 use crate::faults::TextFault;
 use crate::items::{ends, first_item};
 use crate::numbers::{leads_with_zero, number};
-use flux_defs::{List, Text};
+use flux_defs::{List, NO_ID, Text};
 use std::alloc::{AllocError, Global};
 use text_forms::push_decimal;
-
-/// The number of 32 bits that is no id.
-pub const NO_ID: u32 = 4_294_967_295;
 
 /// The ids from `lo` up to and with `hi`.
 #[derive(Clone, Copy, Debug, PartialEq, Eq)]

@@ -9,5 +9,5 @@ mod numbers;
 
 pub use faults::TextFault;
 pub use hostlists::{Hosts, has_host, is_wide, read_hostlist, write_hostlist};
-pub use idsets::{NO_ID, Range, has_id, read_idset, write_idset};
+pub use idsets::{Range, has_id, read_idset, write_idset};
 pub use numbers::number;

@@ -3,6 +3,7 @@ use Rattle.std.proofs.Common.{◌≡◌, ◌≢◌, refl, sym, ◌∙◌, ap, su
 use Rattle.std.proofs.Common.{true, false, Option, List, [], ◌∷◌, ◌++◌, Ok, Err, Result, arith, append_assoc, ◌⊎◌, inl}
 use Rattle.std.proofs.Common.{inr, length, get_or}
 use Rattle.std.specs.Result.{result_map_both}
+use Rattle.flux_defs.specs.declared.limits.TheConstants.{GREATEST_NUMBER}
 use denote.Hole
 use Rattle.serde_json.specs.declared.value.Value.{Value}
 use Rattle.serde_json.specs.View.{view, items_view}
@@ -41,7 +42,7 @@ some_row (more_of-RawNeed raw rest) some = tt
 
 -- a request vertex within its bounds, over a request
 pub made : (s : Bool) (kind : List ℕ) (count : ℕ) (exclusive : Option Bool) (needs : List RawNeed) →
-    (1 ≤ count) × (count ≤ 2 ^ 46) →
+    (1 ≤ count) × (count ≤ GREATEST_NUMBER) →
     (is_slot kind && s) ≡ false → (is_slot kind ≡ true → needs ≢ []) → AreRequests (is_slot kind || s) needs →
     IsRequest s (roll-RawNeed (record { kind = kind; count = count; exclusive = exclusive; with = needs }))
 unfolding roll-RawNeed denote.Hole.Carrier.roll

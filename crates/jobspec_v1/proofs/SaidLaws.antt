@@ -42,7 +42,7 @@ u64_ok least most None n h = absurd (no_ok _ n h)
 u64_ok least most (Some d) n h = number_ok least most (as_number d) n h
 
 -- a count is in its bounds
-pub count_ok : (d : Data) (n : ℕ) → count_given d ≡ Ok n → (1 ≤ n) × (n ≤ 2 ^ 46)
+pub count_ok : (d : Data) (n : ℕ) → count_given d ≡ Ok n → (1 ≤ n) × (n ≤ GREATEST_NUMBER)
 count_ok d n h =
     let read = same_ok _ (if option_map_or is_other_count
     (get (codes "count") d) false then Err of_key.NotInProfile else of_field
@@ -144,7 +144,7 @@ with_depth slot (Some d) ds most below h =
 -- ---- all of it
 
 pub record IsSaid (s : Bool) (labels : List (List ℕ)) (d : Data) (said : Said) : Type 0 where
-  pub count : (1 ≤ said.count) × (said.count ≤ 2 ^ 46)
+  pub count : (1 ≤ said.count) × (said.count ≤ GREATEST_NUMBER)
   pub slot : (is_slot said.kind && s) ≡ false
   pub some : is_slot said.kind ≡ true → (e : Data) × (rest : Items) × (said.with ≡ item e rest)
   pub inner : inner_of d ≡ requests_of said.with
@@ -181,7 +181,7 @@ said_is s labels d said h =
     let low = with_depth (is_slot said.kind) (get (codes "with") d) said.with (members_depth keys.0) bound found in
     let top : depth d ≡ suc (members_depth keys.0) = ap depth keys.1 in
     record {
-      count = subst (λ n. (1 ≤ n) × (n ≤ 2 ^ 46)) count (count_ok d c.0 c.1);
+      count = subst (λ n. (1 ≤ n) × (n ≤ GREATEST_NUMBER)) count (count_ok d c.0 c.1);
       slot = subst (λ k. (is_slot k && s) ≡ false) kind (type_ok s d b.0 b.1);
       some = λ slot. with_some
           (get (codes "with") d) said.with (ap (λ t. with_or t (get (codes "with") d)) (sym slot) ∙ found);

@@ -35,7 +35,7 @@ abbrev pub is_result_ok : {A E : Type 0} → Result A E → Bool
 is_result_ok (Ok x) = true
 is_result_ok (Err e) = false
 
--- a count from 1 to 2 ^ 46, where the key is there
+-- a count from 1 to the greatest number, where the key is there
 abbrev pub is_count_or_absent : List ℕ → Data → Bool
 is_count_or_absent key d = if is_some (get key d) then is_result_ok (u64_field key 1 GREATEST_NUMBER d) else true
 

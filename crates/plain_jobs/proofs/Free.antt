@@ -3,6 +3,7 @@ use Rattle.std.proofs.Common.{◌≡◌, ℕ, ◌-◌, ◌^◌, ◌<◌, ◌≤�
 use Rattle.std.proofs.Common.{◌∙◌, ap, arith, IsTrue, true≢false, Some, slice_get, length, get_or}
 use Rattle.std.specs.Option.{option_map_or}
 use Rattle.std.proofs.lemmas.Option.{slice_get-get_or}
+use Rattle.flux_defs.specs.declared.limits.TheConstants.{GREATEST_NUMBER}
 use Rattle.flux_defs.specs.declared.vertices.Vertex.{Vertex}
 use Rattle.flux_defs.specs.declared.claims.Job.{Job}
 use Rattle.flux_defs.specs.declared.claims.Window.{Window}
@@ -78,4 +79,4 @@ module _ (vertices items : List Vertex) (v : ℕ) (blank : Vertex) (e : items �
   pub size_fits : (kinds : List (List ℕ)) →
       HasFairSizes (record { kinds = kinds; vertices = vertices }) → (get_or items v blank).size ≤ 18446744073709551615
   size_fits kinds fair =
-      let le : (get_or items v blank).size ≤ 2 ^ 46 = fair.most v (get_or items v blank) there in omega arith
+      let le : (get_or items v blank).size ≤ GREATEST_NUMBER = fair.most v (get_or items v blank) there in omega arith

@@ -5,6 +5,7 @@ use Rattle.std.specs.Prelude.{slice_get}
 use Rattle.std.specs.Option.{IsSomeAnd}
 use Rattle.std.proofs.lemmas.Bool.{false_from_ne_true, lt-ltb, ltb-true}
 use Rattle.std.proofs.lemmas.Option.{slice_get-get_or}
+use Rattle.flux_defs.specs.declared.limits.TheConstants.{MOST_LEVELS}
 use Rattle.flux_defs.specs.declared.vertices.Vertex.{Vertex}
 use Rattle.flux_defs.specs.Graph.{ResourceGraph, is_below, HasKind}
 use Rattle.flux_defs.specs.ValidGraph.{IsValidGraph, StandsInPreorder}
@@ -70,7 +71,7 @@ parents_known g names valid v p e =
     let within : v < length g.vertices = has_parent g.vertices v p e in omega arith
 
 pub lines_short : (g : ResourceGraph) (names : List (List ℕ)) →
-    IsValidGraph g names → (v : ℕ) → v < length g.vertices → length (line_of g.vertices v) ≤ 16
+    IsValidGraph g names → (v : ℕ) → v < length g.vertices → length (line_of g.vertices v) ≤ MOST_LEVELS
 lines_short g names valid v lt =
     valid.shallow v (get_or g.vertices v no_vertex) (slice_get-get_or g.vertices v no_vertex lt)
   where

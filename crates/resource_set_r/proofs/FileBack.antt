@@ -2,13 +2,12 @@
 use Rattle.std.proofs.Common.{ℕ, ◌-◌, ◌^◌, ◌<◌, ◌≤◌, List, [], ◌∷◌, Option, Some, None, IfSome, IsTrue, arith}
 use Rattle.std.specs.List.{AllByRecursion, list_all}
 use Rattle.std.proofs.lemmas.Bool.{and_parts}
-use Rattle.idset_text.specs.declared.idsets.TheConstants.{NO_ID}
+use Rattle.flux_defs.specs.declared.limits.TheConstants.{GREATEST_ID, NO_ID}
 use Rattle.flux_defs.specs.declared.vertices.Vertex.{Vertex}
 use Rattle.flux_defs.specs.declared.claims.Job.{Job}
 use Rattle.flux_defs.specs.declared.limits.TheConstants.{GREATEST_NUMBER, MOST_NAME_BYTES}
 use Rattle.resource_graph.specs.NamedGraph.{NamedGraph}
 use Rattle.text_forms.specs.Names.{is_name}
-use Rattle.graph_json.specs.declared.fields.TheConstants.{GREATEST_ID}
 use Rattle.graph_json.specs.FileGraph.{HasFileNumbers, IsFileGraph}
 use Rattle.idset_text.specs.Hostlists.{is_host_name}
 use Rattle.resource_set_r.specs.ReadBack.{HasIdNumbers, HasSmallQuantity, CanBeRead}

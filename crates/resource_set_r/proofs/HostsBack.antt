@@ -9,7 +9,7 @@ use Rattle.std.proofs.lemmas.Bool.{and_parts, cases_eq, cases_lt}
 use Rattle.std.proofs.lemmas.Bool.Decides.{nat_tests}
 use Rattle.std.proofs.lemmas.Option.{slice_get-get_or}
 use Rattle.std.proofs.lemmas.Str.{IsUtf8-from_ascii}
-use Rattle.idset_text.specs.declared.idsets.TheConstants.{NO_ID}
+use Rattle.flux_defs.specs.declared.limits.TheConstants.{NO_ID}
 use Rattle.graph_laws.proofs.Containment.{equal_from}
 use Rattle.flux_defs.specs.declared.vertices.Vertex.{Vertex}
 use Rattle.flux_defs.specs.Graph.{is_at_or_below}

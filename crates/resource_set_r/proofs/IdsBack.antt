@@ -26,7 +26,7 @@ use Rattle.resource_set_r.specs.Rows.{rising, is_same, with_rank, element_of, el
 use Rattle.resource_set_r.specs.ReadRows.{idset_read, idset_text_at, covers, IsRepeatedRank}
 use Rattle.std.proofs.lemmas.Map.Keys.{IsStrictlyIncreasing-from_sorted, sorted_from_strictly_increasing}
 use Rattle.std.proofs.lemmas.List.Sums.{sum_by-cons, sum_by-append}
-use Rattle.idset_text.specs.declared.idsets.TheConstants.{NO_ID}
+use Rattle.flux_defs.specs.declared.limits.TheConstants.{NO_ID}
 use Rattle.resource_set_r.proofs.Rising.{sorted_front, sorted_rest}
 use Rattle.text_forms.proofs.Ascii.{utf8_decimal}
 

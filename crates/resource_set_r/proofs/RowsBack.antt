@@ -5,6 +5,7 @@ use Rattle.std.specs.List.{AllByRecursion, flat_map}
 use Rattle.std.specs.Result.{result_map_both}
 use Rattle.std.proofs.lemmas.Bool.{le-ltb, eq-eqb}
 use Rattle.std.proofs.lemmas.Grind.{flat_map-append}
+use Rattle.flux_defs.specs.declared.limits.TheConstants.{GREATEST_NUMBER}
 use Rattle.serde_json.specs.Data.{number, string, object, unsigned, Members, no_members, member}
 use Rattle.serde_json.specs.Find.{get}
 use Rattle.json_fields.specs.Values.{result_and_then}
@@ -137,8 +138,8 @@ hosts_for_back texts rows hosts read same =
 
 -- ---- seconds, and the execution
 
-pub second_back : (at : FieldPath) (n : ℕ) → n ≤ 2 ^ 46 → second_or_zero at (Some (number (unsigned n))) ≡ Ok n
-second_back at n le = rw (le-ltb n 0 (omega arith), le-ltb (2 ^ 46) n le) refl
+pub second_back : (at : FieldPath) (n : ℕ) → n ≤ GREATEST_NUMBER → second_or_zero at (Some (number (unsigned n))) ≡ Ok n
+second_back at n le = rw (le-ltb n 0 (omega arith), le-ltb GREATEST_NUMBER n le) refl
 
 pub execution_back : (ms : Members) (g : NamedGraph) (claims : List Claim) →
     execution_of (object (member (codes "execution") (object ms)

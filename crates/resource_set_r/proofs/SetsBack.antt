@@ -5,6 +5,7 @@ use Rattle.std.specs.List.{AllByRecursion, filter_map, filter}
 use Rattle.std.specs.List.Sorted.{IsStrictlyIncreasing}
 use Rattle.std.proofs.lemmas.List.{length-map}
 use Rattle.std.proofs.lemmas.List.Elements.{All-from_recursion}
+use Rattle.flux_defs.specs.declared.limits.TheConstants.{GREATEST_NUMBER}
 use Rattle.serde_json.specs.Find.{get}
 use Rattle.flux_defs.specs.declared.vertices.Vertex.{Vertex}
 use Rattle.flux_defs.specs.declared.claims.Job.{Job}
@@ -129,8 +130,8 @@ module _ (g : NamedGraph) (job : Job) (can : CanBeRead g job) where
   is_text : IsRText (r_text g job) set
   is_text = (
     r_data g job,
-    value_of-r_text g job (let le : job.start ≤ 2 ^ 46 = can.start in omega arith)
-        (let le : job.end ≤ 2 ^ 46 = can.end in omega arith) can.quantities,
+    value_of-r_text g job (let le : job.start ≤ GREATEST_NUMBER = can.start in omega arith)
+        (let le : job.end ≤ GREATEST_NUMBER = can.end in omega arith) can.quantities,
     (
       execution_data g job,
       rows,

@@ -1,12 +1,11 @@
 -- What is written of a job is read again.
 use Rattle.std.specs.Prelude.{◌≡◌, ◌^◌, ◌<◌, ◌≤◌, length, map, IfSome, IsTrue}
 use Rattle.std.specs.List.{AllByRecursion}
-use Rattle.idset_text.specs.declared.idsets.TheConstants.{NO_ID}
 use Rattle.flux_defs.specs.declared.vertices.Vertex.{Vertex}
 use Rattle.flux_defs.specs.declared.claims.Claim.{Claim}
 use Rattle.flux_defs.specs.declared.claims.Claim.TheVariants.{Take, Hold, Pass}
 use Rattle.flux_defs.specs.declared.claims.Job.{Job}
-use Rattle.flux_defs.specs.declared.limits.TheConstants.{GREATEST_NUMBER}
+use Rattle.flux_defs.specs.declared.limits.TheConstants.{GREATEST_NUMBER, NO_ID}
 use Rattle.resource_graph.specs.NamedGraph.{NamedGraph}
 use Rattle.idset_text.specs.Idsets.{ids_of, runs_of}
 use Rattle.idset_text.specs.Hostlists.{is_host_name, names_of}
@@ -30,7 +29,7 @@ HasSmallQuantity (Hold v) = Unit {0}
 HasSmallQuantity (Pass v) = Unit {0}
 
 -- The graph and the job have texts and numbers that can be read: each vertex has a name in the grammar of hosts, as in
--- every graph of a file; seconds are at most 2 ^ 46.
+-- every graph of a file; seconds are at most the greatest number.
 pub record CanBeRead (g : NamedGraph) (job : Job) : Type 0 where
   pub named : length g.names ≡ length g.resources.vertices
   pub names : AllByRecursion (λ name. IsTrue (is_host_name name)) g.names

@@ -64,7 +64,7 @@ hosts_in rows e = result_and_then (nodelist_or_none (get (codes "nodelist") e)) 
 
 -- ---- seconds
 
--- a whole number up to 2 ^ 46, by default 0
+-- a whole number up to the greatest, by default 0
 abbrev pub second_or_zero : FieldPath → Option Data → Result ℕ Misread
 second_or_zero at None = Ok 0
 second_or_zero at (Some d) = at_field at (u64_of 0 GREATEST_NUMBER (Some d))

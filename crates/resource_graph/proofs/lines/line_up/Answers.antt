@@ -1,4 +1,5 @@
 use Rattle.std.proofs.Common.{◌≡◌, ℕ, ◌<◌, ◌++◌, ◌∷◌, [], length, Some, None, vec_len, sym, ◌∙◌, ap, subst, arith, List}
+use Rattle.flux_defs.specs.declared.limits.TheConstants.{MOST_LEVELS}
 use Rattle.flux_defs.specs.Graph.{chain}
 use Rattle.resource_graph.specs.Lines.{line_of, AllBelow}
 use Rattle.resource_graph.proofs.LineLaws.{parent_at, climb_step, AllBelow-push, chain_min, climb_all, climb_past}
@@ -27,7 +28,7 @@ returns-clause-line c =
     let vertices = c.args.vertices.now in
     let whole : chain vertices c.min-most.result (Some c.args.vertex) ≡ line_of vertices c.args.vertex =
     ap (λ m. chain vertices m (Some c.args.vertex)) c.min-most.ensures
-    ∙ chain_min vertices 16 c.args.vertex c.requires.short in
+    ∙ chain_min vertices MOST_LEVELS c.args.vertex c.requires.short in
     elim c.loop-at-test.branch [
       | else-loop-at-test w ↦ climb_all vertices c.min-most.result
           (vec_len c.loop-at.line) c.loop-at.line.items _ c.loop-at.at (omega arith) c.loop-at.invariant.climbed ∙ whole
