@@ -54,8 +54,8 @@ module _ (vertices : List Vertex) (ok : Claim → Type 0) where
     pub Piece : Scope → Need → ℕ → ℕ → List Claim → Type 0
     Piece scope (Vert' kind count hold m needs) v q claims =
         (q ≡ 1) × IsIn vertices scope v × HasKind vertices kind v
-        × MatchBool hold (HeldPiece v (FitsRow 1 (Beneath v) needs) claims)
-        (SharedPiece v (FitsRow 1 (Beneath v) needs) claims)
+        × MatchBool hold
+        (HeldPiece v (FitsRow 1 (Beneath v) needs) claims) (SharedPiece v (FitsRow 1 (Beneath v) needs) claims)
     Piece scope (Pool kind quantity) v q claims =
         IsIn vertices scope v × HasKind vertices kind v × (claims ≡ Take v q ∷ []) × ok (Take v q)
     Piece scope (Spread' count m needs) v q claims =

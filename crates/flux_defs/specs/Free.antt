@@ -22,8 +22,9 @@ free_at s m v =
 -- the total of a kind at v at m: what is free, bars aside, of its vertices at v or below it
 abbrev pub total_at : List Vertex → List Job → ℕ → ℕ → ℕ → ℕ
 total_at vertices jobs kind m v =
-    sum_by (λ (u, x). if (x.kind == kind)
-    && is_at_or_below vertices u v then free_at (no_bars vertices jobs) m u else 0) (enumerate_from 0 vertices)
+    sum_by
+    (λ (u, x). if (x.kind == kind) && is_at_or_below vertices u v then free_at (no_bars vertices jobs) m u else 0)
+    (enumerate_from 0 vertices)
 
 -- n is the least of these numbers over the window
 pub record IsLeastIn (w : Window) (number_at : ℕ → ℕ) (n : ℕ) : Type 0 where

@@ -83,8 +83,8 @@ abbrev pub Commits : Setting → Script → Machine → ℕ → Machine → Type
 Commits g script old c new =
     (p : Progress) × (l : Line) × HasNext script old c p l
     × (seen : List Entry) × (verdict : Verdict) × (p.flight ≡ Searched seen verdict)
-    × (((cause : Cause)
-    × IsOvertaken g old.history (candidate_on seen l verdict) cause × (new ≡ with_flight old c p Idle))
+    × (((cause : Cause) × IsOvertaken g old.history (candidate_on seen l verdict) cause
+    × (new ≡ with_flight old c p Idle))
     ⊎ (((cause : Cause) → IsOvertaken g old.history (candidate_on seen l verdict) cause → ⊥)
     × IsAnswered g old c p l new))
 

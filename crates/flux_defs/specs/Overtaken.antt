@@ -83,8 +83,8 @@ abbrev pub NoneFrom : (ℕ → Type 0) → ℕ → Type 0
 NoneFrom P place = (i : ℕ) → place ≤ i → P i → ⊥
 
 -- the claim with this index isn't available over the window to an ask that bars nothing, and each before it is
-pub record IsFirstTaken (vertices : List Vertex)
-    (jobs : List Job) (w : Window) (claims : List Claim) (index : ℕ) (claim : Claim) : Type 0 where
+pub record IsFirstTaken (vertices : List Vertex) (jobs : List Job) (w : Window)
+    (claims : List Claim) (index : ℕ) (claim : Claim) : Type 0 where
   pub there : slice_get claims index ≡ Some claim
   pub taken : IsAvailable (no_bars vertices jobs) w claim → ⊥
   pub before : All (IsAvailable (no_bars vertices jobs) w) (take index claims)
@@ -116,8 +116,8 @@ abbrev pub IsOvertakenBy : Setting → List Entry → Candidate → Cause → Ty
 IsOvertakenBy g history c (Freed at) = IsFirstFrom (Frees history) c.place at
 IsOvertakenBy g history c (Late at) = NoneFrom (Frees history) c.place × IsFirstFrom (Delays c history) c.place at
 IsOvertakenBy g history c (Taken at index) =
-    NoneFrom (Frees history) c.place
-    × NoneFrom (Delays c history) c.place × IsTakenFor g history c.place c.command c.verdict at index
+    NoneFrom (Frees history) c.place × NoneFrom (Delays c history) c.place
+    × IsTakenFor g history c.place c.command c.verdict at index
 
 -- the candidate can be overtaken, and this is the cause
 abbrev pub IsOvertaken : Setting → List Entry → Candidate → Cause → Type 0

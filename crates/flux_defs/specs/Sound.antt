@@ -27,8 +27,8 @@ AreAllSeparate vertices (c ∷ cs) = AllByRecursion (AreSeparate vertices c) cs 
 -- at no moment while both are live has one job a claim on a vertex that the other holds, or below it
 abbrev pub KeepApart : List Vertex → Job → Job → Type 0
 KeepApart vertices a b =
-    (m : ℕ) → IsTrue (is_live m a) →
-    IsTrue (is_live m b) → (c d : Claim) → Contains a.claims c → Contains b.claims d → HoldApart vertices c d
+    (m : ℕ) → IsTrue (is_live m a) → IsTrue (is_live m b) →
+    (c d : Claim) → Contains a.claims c → Contains b.claims d → HoldApart vertices c d
 
 -- any two jobs keep apart
 abbrev pub AllKeepApart : List Vertex → List Job → Type 0

@@ -149,8 +149,10 @@ with_parent parents child parent =
     if is_some (unwrap_or (slice_get parents child) None) then None else Some (slice_set parents child (Some parent))
 
 abbrev pub joined_as : List (List ℕ) → List (Option ℕ) → Role → FileEdge → Option (List (Option ℕ))
-joined_as ids parents Counted e = option_and_then (λ parent.
-    option_and_then (λ child. with_parent parents child parent) (number_of ids e.target)) (number_of ids e.source)
+joined_as ids parents Counted e =
+    option_and_then
+    (λ parent. option_and_then (λ child. with_parent parents child parent) (number_of ids e.target))
+    (number_of ids e.source)
 joined_as ids parents Skipped e = Some parents
 joined_as ids parents Refused e = None
 

@@ -36,7 +36,9 @@ lists_of d =
 
 -- what a file says, or the first misfit of its lists and its nodes
 abbrev pub file_of : Data → Result GraphFile FileMisfit
-file_of d = result_and_then (lists_of d) (λ lists. result_map_both
+file_of d =
+    result_and_then (lists_of d) (λ lists.
+    result_map_both
     (λ nodes. record { nodes = nodes; edges = edges_of 0 lists.edges }) (λ m. m) (nodes_of 0 lists.nodes))
 
 -- ---- what the code holds

@@ -43,8 +43,12 @@ fits prefix_len first last lo hi = nat_le lo hi && (not (has_leading_zero first)
 -- numbers behind a prefix of some length: `N` or `LO-HI`
 abbrev pub numbers_between : ℕ → List ℕ × List ℕ → Option Numbers
 numbers_between prefix_len ends =
-    option_and_then (λ lo. option_and_then (λ hi. if fits prefix_len ends.0 ends.1 lo hi then Some
-    (record { lo = lo; hi = hi; width = width_of ends.0 }) else None) (host_number ends.1)) (host_number ends.0)
+    option_and_then
+    (λ lo. option_and_then
+    (λ hi. if fits prefix_len ends.0 ends.1 lo hi
+    then Some (record { lo = lo; hi = hi; width = width_of ends.0 }) else None)
+    (host_number ends.1))
+    (host_number ends.0)
 
 abbrev pub numbers_of : ℕ → List ℕ → Option Numbers
 numbers_of prefix_len piece = numbers_between prefix_len (ends_of piece)
@@ -53,8 +57,10 @@ numbers_of prefix_len piece = numbers_between prefix_len (ends_of piece)
 abbrev pub hosts_of_pieces : List ℕ → List (List ℕ) → Option (List Hosts)
 hosts_of_pieces prefix [] = Some []
 hosts_of_pieces prefix (piece ∷ others) =
-    option_and_then (λ numbers. option_map (λ hosts. Many prefix numbers.lo numbers.hi numbers.width ∷ hosts)
-    (hosts_of_pieces prefix others)) (numbers_of (length prefix) piece)
+    option_and_then
+    (λ numbers.
+    option_map (λ hosts. Many prefix numbers.lo numbers.hi numbers.width ∷ hosts) (hosts_of_pieces prefix others))
+    (numbers_of (length prefix) piece)
 
 -- a prefix is a name or nothing
 abbrev pub hosts_of_list : List ℕ → List ℕ → Option (List Hosts)
@@ -69,8 +75,9 @@ list_place item = if slice_index item (length item - 1) == 93 then position (λ 
 abbrev pub hosts_of_item : List ℕ → Option (List Hosts)
 hosts_of_item item =
     if is_host_name item then Some (One item ∷ [])
-    else option_and_then (λ place. hosts_of_list
-    (take place item) (take (length item - 1 - (place + 1)) (drop (place + 1) item))) (list_place item)
+    else option_and_then
+    (λ place. hosts_of_list (take place item) (take (length item - 1 - (place + 1)) (drop (place + 1) item)))
+    (list_place item)
 
 -- an item's hosts and those behind them; where it has none, its place
 abbrev pub with_hosts : ℕ → Option (List Hosts) → Result (List Hosts) ℕ → Result (List Hosts) ℕ
@@ -153,8 +160,10 @@ AreHostItems (item ∷ items) hosts = (own : List Hosts)
 
 -- a hostlist is empty, or items with commas between
 abbrev pub IsHostlist : List ℕ → List Hosts → Type 0
-IsHostlist text hosts = ((text ≡ []) × (hosts ≡ [])) ⊎ ((item : List ℕ)
-    × (items : List (List ℕ)) × AreHostItems (item ∷ items) hosts × (text ≡ join_with_byte 44 (item ∷ items)))
+IsHostlist text hosts =
+    ((text ≡ []) × (hosts ≡ []))
+    ⊎ ((item : List ℕ) × (items : List (List ℕ))
+    × AreHostItems (item ∷ items) hosts × (text ≡ join_with_byte 44 (item ∷ items)))
 
 -- ---- the texts
 

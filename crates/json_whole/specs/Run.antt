@@ -14,7 +14,9 @@ begins_run x = is_ascii_digit x || (x == ascii.minus)
 
 -- it goes on over digits, `+`, `-`, `.`, `e` and `E`
 abbrev pub is_run_byte : ℕ → Bool
-is_run_byte x = is_ascii_digit x || ((x == ascii.plus)
+is_run_byte x =
+    is_ascii_digit x
+    || ((x == ascii.plus)
     || ((x == ascii.minus) || ((x == ascii.dot) || ((x == ascii.lower_e) || (x == ascii.upper_e)))))
 
 -- how many run bytes, and how many digits, stand at the front

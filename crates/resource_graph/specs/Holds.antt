@@ -35,8 +35,8 @@ HasPools vertices pools = (k : ℕ) → slice_index_or pools k false ≡ is_pool
 -- by two types, row by row, whether the first contains the second
 pub record HasNested (vertices : List Vertex) (kinds : ℕ) (nested : List Bool) : Type 0 where
   pub as_many : length nested ≡ kinds * kinds
-  pub each : (upper lower : ℕ) →
-      upper < kinds → lower < kinds → (IsTrue (slice_index_or nested (upper * kinds + lower) false)
+  pub each : (upper lower : ℕ) → upper < kinds → lower < kinds →
+      (IsTrue (slice_index_or nested (upper * kinds + lower) false)
       ↔ Contains vertices (HasKind vertices upper) (HasKind vertices lower))
 
 -- the numbers from 1 to the count

@@ -122,8 +122,9 @@ elements children (rank ∷ ranks) = elements_from children (element_of rank (ch
 -- the elements of a job with these claims
 abbrev pub elements_of : ResourceGraph → List Claim → List Element
 elements_of g claims =
-    elements (children_in g.vertices (type_called g (codes "core"))
-    (type_called g (codes "gpu")) (given g.vertices claims)) (ranks_in g.vertices claims)
+    elements
+    (children_in g.vertices (type_called g (codes "core")) (type_called g (codes "gpu")) (given g.vertices claims))
+    (ranks_in g.vertices claims)
 
 -- ---- other claims
 
