@@ -1,6 +1,5 @@
 //! Writes the lowest-first claims, each once, at the end of a list.
-ghost use Rattle.std.specs.Prelude.{◌≡◌, ℕ, ◌+◌, ◌*◌, ◌<◌, ◌≤◌, [], ◌∷◌, ◌++◌, false, length, List, IfOk, OnOk};
-ghost use Rattle.std.specs.Prelude.{MatchBool};
+ghost use Rattle.std.specs.Prelude.{◌≡◌, ℕ, ◌+◌, ◌*◌, ◌<◌, ◌≤◌, [], false, length, List, IfOk, MatchBool};
 ghost use Rattle.flux_defs.specs.declared.vertices.Vertex.{Vertex};
 ghost use Rattle.flux_defs.specs.declared.claims.Job.{Job};
 ghost use Rattle.flux_defs.specs.declared.claims.Claim.{Claim};
@@ -23,6 +22,7 @@ use crate::walking::{index_after, index_within, next_open};
 use flux_defs::{Claim, FreeView, List, Need, Steps};
 use std::alloc::AllocError;
 use std::sync::ledger::Ledger;
+use text_forms::push;
 
 /// Writes the lowest-first claims of the needs scaled by `k` in the scope. `false` exactly where no claims fit; what
 /// was written by then is of no use.
@@ -174,7 +174,7 @@ fn offer<F: FreeView, L: Ledger>(
                 {
                     return Ok(0);
                 }
-                write_claim(out, Claim::Hold { vertex })?;
+                push(out, Claim::Hold { vertex })?;
                 return Ok(1);
             }
             let fit = write_shared(
@@ -196,7 +196,7 @@ fn offer<F: FreeView, L: Ledger>(
             if quantity == 0 {
                 return Ok(0);
             }
-            write_claim(out, Claim::Take { vertex, quantity })?;
+            push(out, Claim::Take { vertex, quantity })?;
             Ok(quantity)
         }
         Need::Spread { needs, .. } => {
@@ -257,19 +257,11 @@ fn write_shared<F: FreeView, L: Ledger>(
         steps.old steps.new place (place + length (needs_all needs.now)) (vertex + 1) past) }
 {
     let mark = out.len();
-    write_claim(out, Claim::Pass { vertex })?;
+    push(out, Claim::Pass { vertex })?;
     let fit = write_needs(s, needs, index, k, Some(vertex), out, steps)?;
     if fit {
         return Ok(true);
     }
     out.truncate(mark);
     Ok(false)
-}
-
-/// Writes one claim.
-fn write_claim(out: &mut Vec<Claim>, claim: Claim) -> Result<(), AllocError>
-    ensures { OnOk result (out.new.items ≡ out.old.items ++ claim ∷ []) }
-{
-    out.push(claim)?;
-    Ok(())
 }

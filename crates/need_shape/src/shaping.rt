@@ -15,7 +15,8 @@ use crate::raw::{RawNeed, ShapeFault};
 use crate::types::{add_types, graph_types, is_inner, is_slot, names_upper, number_of};
 use flux_defs::{GREATEST_NUMBER, List, Need};
 use resource_graph::Graph;
-use std::alloc::{AllocError, Global};
+use std::alloc::Global;
+use text_forms::push;
 use text_table::TextTable;
 
 /// Where a request vertex stands: in a slot or not, and in a request for nodes, or for what nodes contain, or not.
@@ -65,13 +66,6 @@ fn product(count: u64, amount: u64) -> Option<u64>
     Some(times)
 }
 
-fn push_need(out: &mut Vec<Need>, need: Need) -> Result<(), AllocError>
-    ensures { OnOk result (out.new.items ≡ out.old.items ++ need ∷ []) }
-{
-    out.push(need)?;
-    Ok(())
-}
-
 /// Adds the needs, each its count so many times.
 fn add_scaled(count: u64, needs: Vec<Need>, out: &mut Vec<Need>) -> Result<(), ShapeFault>
     ensures ok { OnOk result
@@ -80,7 +74,7 @@ fn add_scaled(count: u64, needs: Vec<Need>, out: &mut Vec<Need>) -> Result<(), S
 {
     for need in needs {
         match scaled_need(count, need) {
-            Some(times) => push_need(out, times)?,
+            Some(times) => push(out, times)?,
             None => return Err(ShapeFault::CountLimit),
         }
     }
@@ -200,7 +194,7 @@ fn add_member(
         return add_slot(alloc, graph, table, within, raw.count, &raw.with, out);
     }
     match shape_type(alloc, graph, table, within, raw) {
-        Ok(need) => Ok(push_need(out, need)?),
+        Ok(need) => Ok(push(out, need)?),
         Err(fault) => Err(fault),
     }
 }
@@ -232,7 +226,7 @@ fn add_slot(
         return add_scaled(count, needs, out);
     }
     let needs = shape_list(alloc, graph, table, inside, with)?;
-    push_need(out, Need::Spread { count, needs })?;
+    push(out, Need::Spread { count, needs })?;
     Ok(())
 }
 

@@ -60,7 +60,7 @@ offer-returns-then-copies-eq0-clause-offers g t c =
 pub offer-returns-then-hold-clause-offers : goal.offer-returns-then-hold-clause-offers
 offer-returns-then-hold-clause-offers g t c = (
   Hold c.args.vertex ∷ [],
-  c.in_ok-write_claim-in-Vert.ensures,
+  c.in_ok-push-in-Vert.ensures.ok,
   λ jobs stands scope within.
       let vs = c.args.s.now.graph.now.resources.vertices in
       let ok : Claim → Type 0 = open_to vs jobs c.args.s.now.barred.now c.args.s.now.window in
@@ -132,10 +132,10 @@ offer-returns-then-quantity-eq0-clause-offers g t c =
     laws.extends_none c.args.out.now.items _ (λ jobs stands scope within. laws.offers_none _ _ c.args.most
     c.serves-quantity.result c.if-quantity-eq0.true (c.serves-quantity.ensures.greatest jobs stands scope within))
 
-pub offer-returns-in_ok-write_claim-in-Pool-clause-offers : goal.offer-returns-in_ok-write_claim-in-Pool-clause-offers
-offer-returns-in_ok-write_claim-in-Pool-clause-offers g t c = (
+pub offer-returns-in_ok-push-in-Pool-clause-offers : goal.offer-returns-in_ok-push-in-Pool-clause-offers
+offer-returns-in_ok-push-in-Pool-clause-offers g t c = (
   Take c.args.vertex c.serves-quantity.result ∷ [],
-  c.in_ok-write_claim-in-Pool.ensures,
+  c.in_ok-push-in-Pool.ensures.ok,
   λ jobs stands scope within.
       let g = rw c.in-Pool.is at (c.serves-quantity.ensures.greatest jobs stands scope within) in
       rw c.in-Pool.is (laws.offers_some _ _ c.args.most c.serves-quantity.result
@@ -471,8 +471,8 @@ offer-returns-then-copies-eq0-clause-work g t c = λ jobs stands place past time
     (steps.after_Vert place c.in-Vert.kind c.in-Vert.count c.in-Vert.hold c.in-Vert.needs)
     (c.copies.ensures.work jobs stands (place + 1) (c.args.vertex + 1) past within.0 within.1 (refl, after))))
 
-pub offer-returns-in_err-write_claim-in-Vert-clause-work : goal.offer-returns-in_err-write_claim-in-Vert-clause-work
-offer-returns-in_err-write_claim-in-Vert-clause-work g t c = λ jobs stands place past times.
+pub offer-returns-in_err-push-in-Vert-clause-work : goal.offer-returns-in_err-push-in-Vert-clause-work
+offer-returns-in_err-push-in-Vert-clause-work g t c = λ jobs stands place past times.
     rw c.in-Vert.is (λ here clear after look.
     let within = steps.in_vertex _ _ c.is_valid.ensures.valid _ _ _ (needs_all c.args.s.now.needs.now) place _ _ _ _ _
     (rw c.in-Vert.is at c.requires.valid) here clear in
@@ -528,13 +528,13 @@ offer-returns-then-quantity-eq0-clause-work g t c = λ jobs stands place past ti
     steps.takes_times _ times _ _ _ _ _ _ _ (steps.looks_some times c.args.need.now look)
     (c.serves-quantity.ensures.work jobs stands place past here clear after)
 
-pub offer-returns-in_err-write_claim-in-Pool-clause-work : goal.offer-returns-in_err-write_claim-in-Pool-clause-work
-offer-returns-in_err-write_claim-in-Pool-clause-work g t c = λ jobs stands place past times here clear after look.
+pub offer-returns-in_err-push-in-Pool-clause-work : goal.offer-returns-in_err-push-in-Pool-clause-work
+offer-returns-in_err-push-in-Pool-clause-work g t c = λ jobs stands place past times here clear after look.
     steps.takes_times _ times _ _ _ _ _ _ _ (steps.looks_some times c.args.need.now look)
     (c.serves-quantity.ensures.work jobs stands place past here clear after)
 
-pub offer-returns-in_ok-write_claim-in-Pool-clause-work : goal.offer-returns-in_ok-write_claim-in-Pool-clause-work
-offer-returns-in_ok-write_claim-in-Pool-clause-work g t c = λ jobs stands place past times here clear after look.
+pub offer-returns-in_ok-push-in-Pool-clause-work : goal.offer-returns-in_ok-push-in-Pool-clause-work
+offer-returns-in_ok-push-in-Pool-clause-work g t c = λ jobs stands place past times here clear after look.
     steps.takes_times _ times _ _ _ _ _ _ _ (steps.looks_some times c.args.need.now look)
     (c.serves-quantity.ensures.work jobs stands place past here clear after)
 
@@ -710,8 +710,8 @@ pub write_shared-returns-clause-written : goal.write_shared-returns-clause-writt
 write_shared-returns-clause-written g t c =
     let wrote = c.in_ok-fit.ensures.written in
     let pass : List Claim = Pass c.args.vertex ∷ [] in
-    let all = laws.extends_twice c.args.out.now.items c.write_claim.new.out.items c.write_needs.new.out.items pass
-    wrote.0 c.in_ok-write_claim.ensures wrote.1 in
+    let all = laws.extends_twice c.args.out.now.items c.push.new.out.items c.write_needs.new.out.items pass
+    wrote.0 c.in_ok-push.ensures.ok wrote.1 in
     let long : c.len-mark.result ≡ length c.args.out.now.items = search rules in
     let back : c.truncate.new.self.items ≡ c.args.out.now.items = rw (c.truncate.ensures.items, long)
     (laws.cut_back c.args.out.now.items c.write_needs.new.out.items (pass ++ wrote.0) all) in (

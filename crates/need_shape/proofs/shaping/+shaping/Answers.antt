@@ -38,11 +38,11 @@ shape_type-returns-then-is_pool-clause-told t c =
     (is_pool_kind types.vertices) (sym c.number_of-kind.ensures) ∙ (sym c.is_pool.ensures ∙ c.if-is_pool.true)) in
     pool_told types c.args.within c.args.raw.now c.shape_pool.result pool c.shape_pool.ensures.told
 
-pub add_member-returns-in_ok-push_need-in-Ok-clause-ok : goal.add_member-returns-in_ok-push_need-in-Ok-clause-ok
-add_member-returns-in_ok-push_need-in-Ok-clause-ok t c =
+pub add_member-returns-in_ok-push-in-Ok-clause-ok : goal.add_member-returns-in_ok-push-in-Ok-clause-ok
+add_member-returns-in_ok-push-in-Ok-clause-ok t c =
     let types = types_at c.args.graph.now c.args.table.now in
     let slot = ap is_slot (sym c.bytes.ensures) ∙ (sym c.is_slot.ensures ∙ c.if-is_slot.false) in (
-      c.in_ok-push_need-in-Ok.ensures ∙ ap (λ ns. c.args.out.now.items ++ ns)
+      c.in_ok-push-in-Ok.ensures.ok ∙ ap (λ ns. c.args.out.now.items ++ ns)
           (ap (λ n. n ∷ []) c.in-Ok.ensures.need ∙ sym (needs_of_type types c.args.within c.args.raw.now slot)),
       fault_of_type types c.args.within c.args.raw.now slot ∙ c.in-Ok.ensures.fine refl,
     )
