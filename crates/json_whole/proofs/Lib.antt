@@ -3,5 +3,7 @@ pub mod Steps
 pub mod Reading
 pub mod Tokens
 pub mod Words
+pub mod Trees
+pub mod Looks
 pub mod Exact
 pub mod Lexed

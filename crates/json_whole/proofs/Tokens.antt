@@ -1,23 +1,18 @@
--- A text whose number tokens are exact has a value with no float.
-use Rattle.std.proofs.Common.{◌≡◌, ℕ, zero, suc, List, [], ◌∷◌, length, Bool, true, false, ◌||◌, Option, Some, None}
-use Rattle.std.proofs.Common.{option_map, option_and_then, refl}
-use Rattle.std.specs.Prelude.{⊤, IfSome}
-use Rattle.std.specs.declared.cmp.Ordering.{Ordering}
-use Rattle.std.specs.declared.cmp.Ordering.TheVariants.{Less, Equal, Greater}
-use Rattle.std.specs.Ordering.{nat_cmp, match_ordering}
-use Rattle.std.specs.Cmp.Lexicographic.{slice_cmp}
+-- A text whose number tokens are exact has a tree whose numbers are.
+use Rattle.std.proofs.Common.{◌≡◌, ℕ, zero, suc, List, [], ◌∷◌, length, Bool, true, false, Option, Some, None}
+use Rattle.std.proofs.Common.{option_map, option_and_then, refl, ◌&&◌}
+use Rattle.std.specs.Prelude.{⊤, IfSome, IsTrue}
 use Rattle.json.specs.Token as tok
 use Rattle.json.specs.Lex.{Lexeme, token, comma, colon, Place, fresh, after_value, after_comma, after_key, begins_colon}
 use Rattle.json.specs.Lex.{may_begin, may_close, if_allowed, place_token, punctuate, tokens, lex, between}
 use Rattle.json.specs.Json as json
-use Rattle.serde_json.specs.Data as value
-use Rattle.serde_json.specs.Find.{is_float}
-use Rattle.serde_json.specs.Read.{number_of, of_json, of_items, of_members, max_depth, read}
-use Rattle.serde_json.specs.Written.{has_float, items_have_float, members_have_float}
+use Rattle.serde_json.specs.Read.{max_depth}
+use Rattle.json_whole.specs.Values.{is_whole_number, has_whole_numbers, items_have_whole_numbers}
+use Rattle.json_whole.specs.Values.{members_have_whole_numbers}
+use Rattle.json_whole.specs.Whole.{IsWholeText}
 
--- the text of a number gives no float
 abbrev pub IsExact : List ℕ → Type 0
-IsExact s = IfSome (number_of s) (λ n. is_float n ≡ false)
+IsExact s = is_whole_number s ≡ true
 
 abbrev pub Exact : tok.Token → Type 0
 Exact tok.begin_object = ⊤
@@ -104,63 +99,17 @@ mapped : {A B : Type 0} (P : A → Type 0) (Q : B → Type 0) (f : A → B) (o :
 mapped P Q f None h g = tt
 mapped P Q f (Some a) h g = g a h
 
-abbrev Whole : value.Data → Type 0
-Whole d = has_float d ≡ false
+abbrev IsWhole : json.Json → Type 0
+IsWhole j = IsTrue (has_whole_numbers j)
 
-abbrev WholeItems : value.Items → Type 0
-WholeItems ds = items_have_float ds ≡ false
+abbrev AreWhole : json.Items → Type 0
+AreWhole js = IsTrue (items_have_whole_numbers js)
 
-abbrev WholeMembers : value.Members → Type 0
-WholeMembers ms = members_have_float ms ≡ false
+abbrev AreWholeMembers : json.Members → Type 0
+AreWholeMembers ms = IsTrue (members_have_whole_numbers ms)
 
-abbrev NoFloat : json.Json → Type 0
-NoFloat j = IfSome (of_json j) Whole
-
-abbrev NoFloats : json.Items → Type 0
-NoFloats js = IfSome (of_items js) WholeItems
-
-abbrev NoFloatsIn : json.Members → Type 0
-NoFloatsIn ms = (found : value.Members) → WholeMembers found → IfSome (of_members ms found) WholeMembers
-
-neither : (a b : Bool) → a ≡ false → b ≡ false → (a || b) ≡ false
-neither a b p q = rw (p, q) refl
-
-both_no : (a b : Bool) → (a || b) ≡ false → (a ≡ false) × (b ≡ false)
-both_no true b h = absurd (cc)
-both_no false b h = (refl, h)
-
-chosen : (o : Ordering) (a b c : value.Members) →
-    WholeMembers a → WholeMembers b → WholeMembers c → WholeMembers (match_ordering o a b c)
-chosen Less a b c p q r = p
-chosen Equal a b c p q r = q
-chosen Greater a b c p q r = r
-
-whole_put : (k : List ℕ) (d : value.Data) (ms : value.Members) →
-    Whole d → WholeMembers ms → WholeMembers (value.put k d ms)
-whole_put k d value.no_members h m = neither (has_float d) false h refl
-whole_put k d (value.member l e ms) h m =
-    let parts = both_no (has_float e) (members_have_float ms) m in
-    chosen (slice_cmp nat_cmp k l) _ _ _
-    (neither _ _ h m) (neither _ _ h parts.1) (neither _ _ parts.0 (whole_put k d ms h parts.1))
-
-number_whole : (s : List ℕ) → IsExact s → NoFloat (json.number s)
-number_whole s h = mapped (λ n. is_float n ≡ false) Whole value.number (number_of s) h (λ n e. e)
-
-item_whole : (j : json.Json) (js : json.Items) → NoFloat j → NoFloats js → NoFloats (json.item j js)
-item_whole j js h hs = kept Whole WholeItems _
-    (of_json j) h (λ d e. mapped WholeItems WholeItems (value.item d) (of_items js) hs (λ ds es. neither _ _ e es))
-
-array_whole : (js : json.Items) → NoFloats js → NoFloat (json.array js)
-array_whole js h = mapped WholeItems Whole value.array (of_items js) h (λ ds e. e)
-
-member_whole : (k : List ℕ) (j : json.Json) (ms : json.Members) →
-    NoFloat j → NoFloatsIn ms → NoFloatsIn (json.member k j ms)
-member_whole k j ms h hs found m =
-    kept Whole WholeMembers _ (of_json j) h (λ d e. hs (value.put k d found) (whole_put k d found e m))
-
-object_whole : (ms : json.Members) → NoFloatsIn ms → NoFloat (json.object ms)
-object_whole ms h =
-    mapped WholeMembers Whole value.object (of_members ms value.no_members) (h value.no_members refl) (λ ms e. e)
+both : (a b : Bool) → IsTrue a → IsTrue b → IsTrue (a && b)
+both a b p q = rw (p, q) refl
 
 -- ---- from tokens to a JSON value
 
@@ -197,51 +146,51 @@ key_read (tok.boolean b ∷ ts) h = tt
 key_read (tok.null ∷ ts) h = tt
 key_read (tok.bad ∷ ts) h = tt
 
-module _ (parse : json.Parse json.Json) (reads : Reads NoFloat parse) where
-  items_turn : (more : json.Parse json.Items) → Reads NoFloats more → (ts : List tok.Token) → AllExact ts →
-      (o : Option (List tok.Token)) → IfSome o AllExact → IfSome (json.items_step parse more ts o) (Read NoFloats)
+module _ (parse : json.Parse json.Json) (reads : Reads IsWhole parse) where
+  items_turn : (more : json.Parse json.Items) → Reads AreWhole more → (ts : List tok.Token) → AllExact ts →
+      (o : Option (List tok.Token)) → IfSome o AllExact → IfSome (json.items_step parse more ts o) (Read AreWhole)
   items_turn more again ts h (Some rest) e = (refl, e)
   items_turn more again ts h None e =
-      kept (Read NoFloat) (Read NoFloats) _ (parse ts) (reads ts h) (λ q r. mapped
-      (Read NoFloats) (Read NoFloats) _ (more q.1) (again q.1 r.1) (λ p s. (item_whole q.0 p.0 r.0 s.0, s.1)))
+      kept (Read IsWhole) (Read AreWhole) _ (parse ts) (reads ts h) (λ q r. mapped
+      (Read AreWhole) (Read AreWhole) _ (more q.1) (again q.1 r.1) (λ p s. (both _ _ r.0 s.0, s.1)))
 
-  items_read : (n : ℕ) → Reads NoFloats (json.items parse n)
+  items_read : (n : ℕ) → Reads AreWhole (json.items parse n)
   unfolding json.items
   items_read zero ts h = tt
   items_read (suc n) ts h =
       items_turn (json.items parse n) (items_read n) ts h (json.after_end_array ts) (after_array ts h)
 
-  members_turn : (more : json.Parse json.Members) → Reads NoFloatsIn more → (k : Option (List ℕ))
-      (ts : List tok.Token) → AllExact ts → IfSome (json.members_step parse more k ts) (Read NoFloatsIn)
-  members_turn more again None ts h = (λ found m. m, h)
+  members_turn : (more : json.Parse json.Members) → Reads AreWholeMembers more → (k : Option (List ℕ))
+      (ts : List tok.Token) → AllExact ts → IfSome (json.members_step parse more k ts) (Read AreWholeMembers)
+  members_turn more again None ts h = (refl, h)
   members_turn more again (Some k) ts h =
-      kept (Read NoFloat) (Read NoFloatsIn) _ (parse ts) (reads ts h) (λ q r. mapped (Read NoFloatsIn)
-      (Read NoFloatsIn) _ (more q.1) (again q.1 r.1) (λ p s. (member_whole k q.0 p.0 r.0 s.0, s.1)))
+      kept (Read IsWhole) (Read AreWholeMembers) _ (parse ts) (reads ts h) (λ q r. mapped (Read AreWholeMembers)
+      (Read AreWholeMembers) _ (more q.1) (again q.1 r.1) (λ p s. (both _ _ r.0 s.0, s.1)))
 
-  members_read : (n : ℕ) → Reads NoFloatsIn (json.members parse n)
+  members_read : (n : ℕ) → Reads AreWholeMembers (json.members parse n)
   unfolding json.members
   members_read zero ts h = tt
   members_read (suc n) ts h =
-      kept (λ q. AllExact q.1) (Read NoFloatsIn) _
+      kept (λ q. AllExact q.1) (Read AreWholeMembers) _
       (json.read_key ts) (key_read ts h) (λ q r. members_turn (json.members parse n) (members_read n) q.0 q.1 r)
 
 one_read : (a : json.Parse json.Items) (o : json.Parse json.Members) →
-    Reads NoFloats a → Reads NoFloatsIn o → Reads NoFloat (json.value_with a o)
+    Reads AreWhole a → Reads AreWholeMembers o → Reads IsWhole (json.value_with a o)
 one_read a o p q [] h = tt
 one_read a o p q (tok.begin_object ∷ ts) h =
-    mapped (Read NoFloatsIn) (Read NoFloat) _ (o ts) (q ts h.1) (λ r s. (object_whole r.0 s.0, s.1))
+    mapped (Read AreWholeMembers) (Read IsWhole) _ (o ts) (q ts h.1) (λ r s. (s.0, s.1))
 one_read a o p q (tok.end_object ∷ ts) h = tt
 one_read a o p q (tok.begin_array ∷ ts) h =
-    mapped (Read NoFloats) (Read NoFloat) _ (a ts) (p ts h.1) (λ r s. (array_whole r.0 s.0, s.1))
+    mapped (Read AreWhole) (Read IsWhole) _ (a ts) (p ts h.1) (λ r s. (s.0, s.1))
 one_read a o p q (tok.end_array ∷ ts) h = tt
 one_read a o p q (tok.key s ∷ ts) h = tt
 one_read a o p q (tok.string s ∷ ts) h = (refl, h.1)
-one_read a o p q (tok.number s ∷ ts) h = (number_whole s h.0, h.1)
+one_read a o p q (tok.number s ∷ ts) h = (h.0, h.1)
 one_read a o p q (tok.boolean b ∷ ts) h = (refl, h.1)
 one_read a o p q (tok.null ∷ ts) h = (refl, h.1)
 one_read a o p q (tok.bad ∷ ts) h = tt
 
-value_read : (depth : ℕ) → Reads NoFloat (json.value depth)
+value_read : (depth : ℕ) → Reads IsWhole (json.value depth)
 unfolding json.value
 value_read zero = one_read (λ ts. None) (λ ts. None) (λ ts h. tt) (λ ts h. tt)
 value_read (suc depth) =
@@ -249,13 +198,12 @@ value_read (suc depth) =
     (λ ts. items_read (json.value depth) (value_read depth) (length ts) ts)
     (λ ts. members_read (json.value depth) (value_read depth) (length ts) ts)
 
-alone : (j : json.Json) (ts : List tok.Token) → NoFloat j → IfSome (json.if_last j ts) NoFloat
+alone : (j : json.Json) (ts : List tok.Token) → IsWhole j → IfSome (json.if_last j ts) IsWhole
 alone j [] h = h
 alone j (t ∷ ts) h = tt
 
-pub whole_value : (text : List ℕ) → Lexed (lex between text) → IfSome (read text) (λ d. has_float d ≡ false)
-whole_value text h =
+pub whole_text : (text : List ℕ) → Lexed (lex between text) → IsWholeText text
+whole_text text h =
     let read_all = json.value max_depth (tokens text) in
-    let last = λ (q : json.Json × List tok.Token). json.if_last q.0 q.1 in
-    kept NoFloat Whole of_json (option_and_then last read_all) (kept (Read NoFloat) NoFloat last read_all
-    (value_read max_depth (tokens text) (punctuated _ h fresh)) (λ q r. alone q.0 q.1 r.0)) (λ j h. h)
+    kept (Read IsWhole) IsWhole (λ q. json.if_last q.0 q.1) read_all
+    (value_read max_depth (tokens text) (punctuated _ h fresh)) (λ q r. alone q.0 q.1 r.0)

@@ -1,5 +1,6 @@
 pub mod Run
 pub mod Plain
+pub mod Values
 pub mod Whole
 pub mod Field
 pub mod Forms

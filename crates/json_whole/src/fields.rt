@@ -2,10 +2,12 @@
 ghost use Rattle.std.specs.Prelude.{◌≡◌, IsSome};
 ghost use Rattle.std.specs.Result.{result_map_both};
 ghost use Rattle.serde_json.specs.Find.{as_object};
-ghost use Rattle.serde_json.specs.View.{view};
+ghost use Rattle.json_whole.specs.Values.{view};
 ghost use Rattle.json_whole.specs.Field.{text_field, u64_field};
 
-use serde_json::{Number, Value};
+use crate::looking::{as_number, as_str, get};
+use json::Value;
+use serde_json::Number;
 
 /// What is wrong with a field.
 #[derive(Clone, Copy, Debug, PartialEq, Eq)]
@@ -28,10 +30,10 @@ pub fn need_u64(value: &Value, key: &str, least: u64, most: u64) -> Result<u64, 
     requires { IsSome (as_object (view value.now)) }
     ensures { result ≡ u64_field key.now least most (view value.now) }
 {
-    let Some(field) = value.get(key) else {
+    let Some(field) = get(value, key) else {
         return Err(FieldFault::Missing);
     };
-    let Some(number) = field.as_number() else {
+    let Some(number) = as_number(field) else {
         return Err(FieldFault::Kind);
     };
     match number.as_u64() {
@@ -44,12 +46,12 @@ pub fn need_u64(value: &Value, key: &str, least: u64, most: u64) -> Result<u64, 
 }
 
 /// The text at a key: Missing where the key is absent, Kind at another kind of value. It takes no memory.
-pub fn need_text<'a>(value: &'a Value, key: &str) -> Result<&'a str, FieldFault>
+pub fn need_text<'a>(value: &Value<'a>, key: &str) -> Result<&'a str, FieldFault>
     requires { IsSome (as_object (view value.now)) }
     ensures { result_map_both (λ s. s.now) (λ e. e) result ≡ text_field key.now (view value.now) }
 {
-    let Some(field) = value.get(key) else {
+    let Some(field) = get(value, key) else {
         return Err(FieldFault::Missing);
     };
-    field.as_str().ok_or(FieldFault::Kind)
+    as_str(field).ok_or(FieldFault::Kind)
 }

@@ -3,10 +3,14 @@
 #![tactic(auto)]
 
 mod fields;
+mod looking;
 mod plain_form;
 mod runs;
 mod values;
 
 pub use fields::{FieldFault, need_text, need_u64};
+pub use looking::{
+    Object, as_array, as_bool, as_number, as_object, as_str, get, in_order, is_null,
+};
 pub use plain_form::plain;
-pub use values::{ValueFault, read_value};
+pub use values::{PlainText, ValueFault, read_value};
