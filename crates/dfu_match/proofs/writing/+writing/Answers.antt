@@ -710,7 +710,7 @@ pub write_shared-returns-clause-written : goal.write_shared-returns-clause-writt
 write_shared-returns-clause-written g t c =
     let wrote = c.in_ok-fit.ensures.written in
     let pass : List Claim = Pass c.args.vertex ∷ [] in
-    let all = laws.extends_twice c.args.out.now.items c.push.new.out.items c.write_needs.new.out.items pass
+    let all = laws.extends_twice c.args.out.now.items c.push.new.items.items c.write_needs.new.out.items pass
     wrote.0 c.in_ok-push.ensures.ok wrote.1 in
     let long : c.len-mark.result ≡ length c.args.out.now.items = search rules in
     let back : c.truncate.new.self.items ≡ c.args.out.now.items = rw (c.truncate.ensures.items, long)
