@@ -1,20 +1,20 @@
 -- Edges, one more at a time.
 use Rattle.std.proofs.Common.{◌≡◌, refl, sym, ap, subst, ◌∙◌, ℕ, zero, suc, ◌+◌, ◌<◌, ◌≤◌, List, [], ◌∷◌, ◌++◌, length}
 use Rattle.std.proofs.Common.{take, map, Bool, true, false, true≢false, ◌||◌, cond, if◌then◌else◌, Some, None, Option}
-use Rattle.std.proofs.Common.{is_some, unwrap_or, option_map, option_and_then, slice_get, slice_set, IfSome, ◌⊎◌, inl}
+use Rattle.std.proofs.Common.{is_some, unwrap_or, option_map, option_and_then, slice_get, slice_set, ◌⊎◌, inl}
 use Rattle.std.proofs.Common.{inr, arith, append-nil, Result, Ok, Err}
 use borrow.Author.Count.{below_more, below_none}
 use Rattle.std.proofs.lemmas.Bool.{cases_lt}
 use Rattle.std.proofs.lemmas.Slice.Eq.{bytes_eq-Decides}
 use Rattle.std.proofs.lemmas.List.{take_all}
 use Rattle.std.proofs.lemmas.List.Elements.{filter_map-append}
-use Rattle.std.proofs.lemmas.Option.{slice_get_within, slice_get_past, slice_get-map}
+use Rattle.std.proofs.lemmas.Option.{slice_get_past, slice_get-map}
 use Rattle.std.specs.Cmp.Lexicographic.{nat_list_eq_equiv}
 use Rattle.std.specs.List.{IsDistinct, AllByRecursion, find}
 use Rattle.std.specs.Option.{option_map_or}
 use Rattle.std.specs.Str.{bytes_eq}
-use Rattle.serde_json.specs.View.{view, items_view}
-use Rattle.serde_json.specs.declared.value.Value.{Value}
+use Rattle.json_whole.specs.Values.{view, items_view}
+use Rattle.json.specs.declared.value.Value.{Value}
 use Rattle.graph_json.specs.Edges.{FileEdge, edge_of, edges_of, counts, counted, is_among, is_wrong, IsWrongEdge}
 use Rattle.graph_json.specs.Edges.{parent_of, parents_of, with_parent, joined, joined_as, HasJoined}
 use Rattle.graph_json.specs.FieldPaths.{FileMisfit}
@@ -275,11 +275,11 @@ module _ (ids : List (List ℕ)) where
 
 -- ---- edges as they are read
 
-pub edges-length : (from : ℕ) (vs : List Value) → length (edges_of from (items_view vs)) ≡ length vs
+pub edges-length : {A : Type 0} (from : ℕ) (vs : List (Value A)) → length (edges_of from (items_view vs)) ≡ length vs
 edges-length from [] = refl
 edges-length from (v ∷ vs) = ap suc (edges-length (suc from) vs)
 
-pub edges-at : (from : ℕ) (vs : List Value) (k : ℕ) (v : Value) →
+pub edges-at : {A : Type 0} (from : ℕ) (vs : List (Value A)) (k : ℕ) (v : Value A) →
     slice_get vs k ≡ Some v → slice_get (edges_of from (items_view vs)) k ≡ Some (edge_of (from + k) (view v))
 edges-at from [] k v e = cc
 edges-at from (w ∷ vs) zero v e = let same : w ≡ v = cc in let at : from ≡ from + 0 = omega arith in

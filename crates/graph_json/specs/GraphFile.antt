@@ -2,12 +2,12 @@
 use Rattle.std.specs.Prelude.{List, Result, codes}
 use Rattle.std.specs.Result.{result_map_both}
 use Rattle.serde_json.specs.Data.{Data, Items}
+use Rattle.json_whole.specs.Values.{items_view}
 use Rattle.json_fields.specs.Values.{result_and_then, object_value, object_field, list_field}
 use Rattle.json_fields.specs.Misfits.{at_field}
 use Rattle.graph_json.specs.Nodes.{FileNode, nodes_of}
 use Rattle.graph_json.specs.Edges.{FileEdge, edges_of}
 use Rattle.graph_json.specs.declared.field_paths.FieldPath.TheVariants.{Whole, Graph, Nodes, Edges}
-use Rattle.serde_json.specs.View.{items_view}
 use Rattle.graph_json.specs.FieldPaths.{FileMisfit}
 use Rattle.graph_json.specs.declared.reading.Lists.{Lists}
 

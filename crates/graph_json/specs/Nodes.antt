@@ -8,10 +8,9 @@ use Rattle.std.specs.Cmp.Lexicographic.{slice_cmp}
 use Rattle.std.specs.BTreeSet.{insert_key}
 use Rattle.std.specs.Result.{result_err, result_map_both}
 use Rattle.flux_defs.specs.declared.limits.TheConstants.{MOST_NAME_BYTES, MOST_TYPE_BYTES}
-use Rattle.serde_json.specs.Data.{Data, null, boolean, number, string, array, object, Items, no_items, item, Members}
-use Rattle.serde_json.specs.Data.{no_members, member}
+use Rattle.serde_json.specs.Data.{Data, null, boolean, number, string, array, object, Items, no_items, item}
 use Rattle.serde_json.specs.Find.{as_str}
-use Rattle.serde_json.specs.View.{items_view, members_view}
+use Rattle.json_whole.specs.Values.{items_view, object_view}
 use Rattle.json_whole.specs.declared.fields.FieldFault.{FieldFault}
 use Rattle.json_whole.specs.declared.fields.FieldFault.TheVariants.{Kind, Text}
 use Rattle.graph_json.specs.Fields.{is_unit, id_field, small_given, size_given}
@@ -144,7 +143,7 @@ id_bytes (Numbered n) = decimal n
 
 abbrev pub properties_held : Props → List (List ℕ)
 properties_held NoProperties = []
-properties_held (Keys m) = keys_of (members_view m.now.entries)
+properties_held (Keys m) = keys_of (object_view m.now.items)
 properties_held (Listed v) = in_order (texts_in (items_view v.now.items))
 
 abbrev pub name_held : NodeFields → List ℕ

@@ -5,7 +5,7 @@ ghost use Rattle.std.specs.List.{IsDistinct};
 ghost use Rattle.std.specs.Str.{bytes_eq};
 ghost use Rattle.std.specs.Result.{result_map_both};
 ghost use Rattle.serde_json.specs.Find.{as_object};
-ghost use Rattle.serde_json.specs.View.{view, items_view};
+ghost use Rattle.json_whole.specs.Values.{view, items_view};
 ghost use Rattle.json_fields.specs.Values.{given, object_or_none};
 ghost use Rattle.text_table.specs.Tables.{number_of};
 ghost use Rattle.graph_json.specs.Nodes.{id_bytes};
@@ -14,9 +14,9 @@ ghost use Rattle.graph_json.specs.Edges.{edges_of, edge_held, joined, counted, p
 
 use crate::field_paths::{EdgeKey, FieldPath, FileMisfit};
 use crate::fields::{NodeId, id_field};
+use json::Value;
 use json_fields::{at_field, object_or_none, object_value};
-use json_whole::FieldFault;
-use serde_json::Value;
+use json_whole::{FieldFault, as_str, get};
 use text_table::TextTable;
 
 /// What is made of an edge.
@@ -51,7 +51,8 @@ pub(crate) enum EdgeFault {
 fn name_role(metadata: &Value) -> Option<Role>
     ensures { result ≡ name_role (view metadata.now) }
 {
-    let direction = metadata.get("name")?.get("containment")?.as_str()?;
+    let name = get(metadata, "name")?;
+    let direction = as_str(get(name, "containment")?)?;
     if direction == "in" {
         return Some(Role::Skipped);
     }
@@ -62,10 +63,10 @@ fn name_role(metadata: &Value) -> Option<Role>
 fn is_contained(metadata: &Value) -> bool
     ensures { result ≡ is_contained (view metadata.now) }
 {
-    let Some(subsystem) = metadata.get("subsystem") else {
+    let Some(subsystem) = get(metadata, "subsystem") else {
         return false;
     };
-    let Some(text) = subsystem.as_str() else {
+    let Some(text) = as_str(subsystem) else {
         return false;
     };
     text == "containment"
@@ -75,7 +76,7 @@ fn is_contained(metadata: &Value) -> bool
 fn is_plain(metadata: &Value) -> bool
     ensures { result ≡ is_plain (view metadata.now) }
 {
-    metadata.get("name").is_none() && metadata.get("subsystem").is_none()
+    get(metadata, "name").is_none() && get(metadata, "subsystem").is_none()
 }
 
 /// What is made of an edge with this metadata.
@@ -103,7 +104,7 @@ fn role_of(edge: &Value) -> Result<Role, FieldFault>
 }
 
 /// What a file says of the edge with this index.
-fn edge_of(at: u64, value: &Value) -> Result<EdgeFields<'_>, FileMisfit>
+fn edge_of<'a>(at: u64, value: &Value<'a>) -> Result<EdgeFields<'a>, FileMisfit>
     ensures { result_map_both edge_held (λ m. m) result ≡ edge_of at (view value.now) }
 {
     at_field(FieldPath::Edge { at }, object_value(value))?;

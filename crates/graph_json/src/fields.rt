@@ -4,7 +4,8 @@ ghost use Rattle.std.specs.List.{list_all};
 ghost use Rattle.std.specs.Char.{is_ascii_graphic};
 ghost use Rattle.std.specs.Result.{result_map_both};
 ghost use Rattle.serde_json.specs.Find.{as_object};
-ghost use Rattle.serde_json.specs.View.{view, number_view};
+ghost use Rattle.serde_json.specs.View.{number_view};
+ghost use Rattle.json_whole.specs.Values.{view};
 ghost use Rattle.graph_json.specs.Fields.{is_unit, id_field, small_number, small_given, size_given};
 ghost use Rattle.json_fields.specs.Values.{given};
 ghost use Rattle.text_forms.specs.Names.{is_name_byte, is_name};
@@ -12,9 +13,10 @@ ghost use Rattle.json_fields.specs.Names.{ruled_value, ruled_field, ruled_given}
 ghost use Rattle.graph_json.specs.Nodes.{id_bytes};
 
 use flux_defs::{GREATEST_ID, GREATEST_NUMBER, MOST_UNIT_BYTES};
+use json::Value;
 use json_fields::given;
-use json_whole::{FieldFault, need_u64};
-use serde_json::{Number, Value};
+use json_whole::{FieldFault, as_number, as_str, get, need_u64};
+use serde_json::Number;
 
 /// How a file writes the id of a node.
 #[derive(Clone, Copy, Debug)]
@@ -41,13 +43,13 @@ fn is_unit(text: &str) -> bool
 }
 
 /// The unit at a key; by default the empty text.
-pub(crate) fn unit_or_empty<'a>(value: &'a Value, key: &str) -> Result<&'a str, FieldFault>
+pub(crate) fn unit_or_empty<'a>(value: &Value<'a>, key: &str) -> Result<&'a str, FieldFault>
     ensures { result_map_both (λ s. s.now) (λ e. e) result ≡ ruled_given is_unit [] key.now (view value.now) }
 {
     let Some(found) = given(value, key) else {
         return Ok("");
     };
-    let Some(text) = found.as_str() else {
+    let Some(text) = as_str(found) else {
         return Err(FieldFault::Kind);
     };
     if !is_unit(text) {
@@ -57,14 +59,14 @@ pub(crate) fn unit_or_empty<'a>(value: &'a Value, key: &str) -> Result<&'a str, 
 }
 
 /// The id of a node at a key: a text, or a whole number, which counts as its decimal text.
-pub(crate) fn id_field<'a>(value: &'a Value, key: &str) -> Result<NodeId<'a>, FieldFault>
+pub(crate) fn id_field<'a>(value: &Value<'a>, key: &str) -> Result<NodeId<'a>, FieldFault>
     requires { IsSome (as_object (view value.now)) }
     ensures { result_map_both id_bytes (λ e. e) result ≡ id_field key.now (view value.now) }
 {
-    let Some(found) = value.get(key) else {
+    let Some(found) = get(value, key) else {
         return Err(FieldFault::Missing);
     };
-    if let Some(text) = found.as_str() {
+    if let Some(text) = as_str(found) {
         return Ok(NodeId::Written(text));
     }
     let number = need_u64(value, key, 0, GREATEST_NUMBER)?;
@@ -95,10 +97,10 @@ pub(crate) fn small_or_none(value: &Value, key: &str) -> Result<Option<u32>, Fie
     let Some(found) = given(value, key) else {
         return Ok(None);
     };
-    let Some(number) = found.as_number() else {
+    let Some(number) = as_number(found) else {
         return Err(FieldFault::Kind);
     };
-    small_number(number)
+    small_number(&number)
 }
 
 /// The size at a key; by default 1.

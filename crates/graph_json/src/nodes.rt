@@ -5,7 +5,7 @@ ghost use Rattle.std.specs.List.{list_all};
 ghost use Rattle.std.specs.Result.{result_map_both};
 ghost use Rattle.flux_defs.specs.declared.limits.TheConstants.{MOST_NAME_BYTES};
 ghost use Rattle.serde_json.specs.Find.{as_object};
-ghost use Rattle.serde_json.specs.View.{view, items_view, members_view};
+ghost use Rattle.json_whole.specs.Values.{view, items_view, object_view};
 ghost use Rattle.text_forms.specs.Names.{is_name};
 ghost use Rattle.json_fields.specs.Values.{object_value, object_field, keys_of};
 ghost use Rattle.graph_json.specs.FieldPaths.{at_key, FileMisfit};
@@ -15,25 +15,25 @@ ghost use Rattle.graph_json.specs.Nodes.{properties_held, node_with, node_of, no
 use crate::field_paths::{FieldPath, FileMisfit, NodeKey};
 use crate::fields::{NodeId, id_field, size_or_one, small_or_none, unit_or_empty};
 use flux_defs::{MOST_NAME_BYTES, MOST_TYPE_BYTES};
+use json::Value;
 use json_fields::{
     Misfit, at_field, given, name_field, name_or, name_value, object_field, object_value,
 };
-use json_whole::FieldFault;
-use serde_json::{Map, Value};
+use json_whole::{FieldFault, Object, as_array, as_object};
 use std::alloc::{AllocError, AllocFailed, Global};
 use text_forms::is_name;
 
 /// How a file gives the properties of a node.
 #[derive(Clone, Copy)]
-pub(crate) enum Properties<'a> {
+pub(crate) enum Properties<'v, 'a> {
     NoProperties,
-    Keys(&'a Map<String, Value>),
-    Members(&'a Vec<Value>),
+    Keys(&'v Object<'a>),
+    Members(&'v Vec<Value<'a>>),
 }
 
 /// What a file says of a node.
 #[derive(Clone, Copy)]
-pub(crate) struct NodeFields<'a> {
+pub(crate) struct NodeFields<'v, 'a> {
     pub id: NodeId<'a>,
     pub kind: &'a str,
     pub base: &'a str,
@@ -42,7 +42,7 @@ pub(crate) struct NodeFields<'a> {
     pub rank: Option<u32>,
     pub size: u64,
     pub unit: &'a str,
-    pub properties: Properties<'a>,
+    pub properties: Properties<'v, 'a>,
 }
 
 /// What is read at a key of a node, or its fault there.
@@ -68,7 +68,7 @@ fn default_length(base: &str, number: Option<u32>) -> usize
 
 /// The name of a node, `None` for the default one.
 fn name_of<'a>(
-    metadata: &'a Value,
+    metadata: &Value<'a>,
     base: &str,
     number: Option<u32>,
 ) -> Result<Option<&'a str>, FieldFault>
@@ -86,12 +86,12 @@ fn name_of<'a>(
 }
 
 /// Whether every key of an object is a name.
-fn keys_are_names(members: &Map<String, Value>) -> bool
-    ensures { result ≡ list_all (is_name MOST_NAME_BYTES) (keys_of (members_view members.now.entries)) }
+fn keys_are_names(members: &Object) -> bool
+    ensures { result ≡ list_all (is_name MOST_NAME_BYTES) (keys_of (object_view members.now.items)) }
 {
     members
-        .keys()
-        .all(|key| is_name(key.as_bytes(), MOST_NAME_BYTES))
+        .iter()
+        .all(|member| is_name(member.0.as_bytes(), MOST_NAME_BYTES))
 }
 
 /// The first member of a list of properties that is no name.
@@ -113,13 +113,13 @@ fn first_misfit(at: u64, members: &[Value]) -> Option<FileMisfit>
 }
 
 /// The properties of a node.
-fn properties_of(at: u64, metadata: &Value) -> Result<Properties<'_>, FileMisfit>
+fn properties_of<'v, 'a>(at: u64, metadata: &'v Value<'a>) -> Result<Properties<'v, 'a>, FileMisfit>
     ensures { result_map_both properties_held (λ m. m) result ≡ properties_given at (view metadata.now) }
 {
     let Some(found) = given(metadata, "properties") else {
         return Ok(Properties::NoProperties);
     };
-    if let Some(members) = found.as_object() {
+    if let Some(members) = as_object(found) {
         if !keys_are_names(members) {
             return Err(Misfit {
                 field: FieldPath::PropertyKey { at },
@@ -128,7 +128,7 @@ fn properties_of(at: u64, metadata: &Value) -> Result<Properties<'_>, FileMisfit
         }
         return Ok(Properties::Keys(members));
     }
-    if let Some(members) = found.as_array() {
+    if let Some(members) = as_array(found) {
         if let Some(fault) = first_misfit(at, members.as_slice()) {
             return Err(fault);
         }
@@ -144,11 +144,11 @@ fn properties_of(at: u64, metadata: &Value) -> Result<Properties<'_>, FileMisfit
 }
 
 /// What a file says of a node with this id, by its metadata.
-fn fields_with<'a>(
+fn fields_with<'v, 'a>(
     at: u64,
     id: NodeId<'a>,
-    metadata: &'a Value,
-) -> Result<NodeFields<'a>, FileMisfit>
+    metadata: &'v Value<'a>,
+) -> Result<NodeFields<'v, 'a>, FileMisfit>
     requires { IsSome (as_object (view metadata.now)) }
     ensures { result_map_both node_held (λ m. m) result ≡ node_with at (id_bytes id.entry) (view metadata.now) }
 {
@@ -182,7 +182,10 @@ fn fields_with<'a>(
 }
 
 /// What a file says of the node with this index.
-pub(crate) fn node_of(at: u64, value: &Value) -> Result<NodeFields<'_>, FileMisfit>
+pub(crate) fn node_of<'v, 'a>(
+    at: u64,
+    value: &'v Value<'a>,
+) -> Result<NodeFields<'v, 'a>, FileMisfit>
     ensures { result_map_both node_held (λ m. m) result ≡ node_of at (view value.now) }
 {
     at_field(FieldPath::Node { at }, object_value(value))?;
@@ -221,7 +224,10 @@ impl<T: Drop> From<AllocFailed<T>> for NodesFault {
 }
 
 /// What a file says of its nodes.
-pub(crate) fn nodes_of(alloc: Global, items: &[Value]) -> Result<Vec<NodeFields<'_>>, NodesFault>
+pub(crate) fn nodes_of<'v, 'a>(
+    alloc: Global,
+    items: &'v [Value<'a>],
+) -> Result<Vec<NodeFields<'v, 'a>>, NodesFault>
     ensures read { IfOk result (λ nodes. Ok (map node_held nodes.items) ≡ nodes_of 0 (items_view items.now)) }
     ensures misfit { (m : FileMisfit) → IsErrOf result (NodesFault.Misfit m) →
         nodes_of 0 (items_view items.now) ≡ Err m }

@@ -11,26 +11,35 @@ ghost use Rattle.graph_json.specs.Edges.{parents_of, counted};
 ghost use Rattle.graph_json.specs.Ids.{ids_of};
 ghost use Rattle.graph_json.specs.RawLists.{kinds_of, vertex_of, vertices_of, zip_with};
 ghost use Rattle.text_table.specs.Tables.{with_text};
-ghost use Rattle.serde_json.specs.View.{items_view, members_view};
+ghost use Rattle.json_whole.specs.Values.{items_view, object_view, entries_view};
 
 use crate::nodes::{NodeFields, Properties};
 use flux_defs::{List, Text};
 use graph_build::RawVertex;
-use serde_json::{Map, Value};
+use json::Value;
+use json_whole::{Object, as_str, in_order};
 use std::alloc::{AllocError, Global};
-use std::collections::BTreeSet;
+use std::collections::{BTreeMap, BTreeSet};
 use text_forms::push_decimal;
 use text_table::TextTable;
 
-/// The keys of an object, as texts.
-fn keys_of(alloc: Global, members: &Map<String, Value>) -> Result<List<Text>, AllocError>
-    ensures { IfOk result (λ list. list ≡ keys_of (members_view members.now.entries)) }
+/// The keys of a map, in its order, as texts.
+fn key_texts(alloc: Global, map: &BTreeMap<&str, &Value>) -> Result<List<Text>, AllocError>
+    ensures { IfOk result (λ list. list ≡ keys_of (entries_view map.now.entries)) }
 {
-    let mut list = Vec::with_capacity(alloc, members.len())?;
-    'keys: for key in members.keys() {
+    let mut list = Vec::with_capacity(alloc, map.len())?;
+    'keys: for key in map.keys() {
         list.push(Text::of(alloc, key.as_bytes())?)?;
     }
     Ok(List::of_vec(list))
+}
+
+/// The keys of an object in byte order, each once, as texts.
+fn keys_of(alloc: Global, members: &Object) -> Result<List<Text>, AllocError>
+    ensures { IfOk result (λ list. list ≡ keys_of (object_view members.now.items)) }
+{
+    let map = in_order(alloc, members)?;
+    key_texts(alloc, &map)
 }
 
 /// Adds a text to an ordered set, unless it is there.
@@ -48,7 +57,7 @@ fn texts_in_order(alloc: Global, items: &[Value]) -> Result<List<Text>, AllocErr
 {
     let mut set = BTreeSet::new(alloc);
     'items: for item in items {
-        if let Some(text) = item.as_str() {
+        if let Some(text) = as_str(item) {
             add_text(&mut set, text)?;
         }
     }

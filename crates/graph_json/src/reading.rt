@@ -4,7 +4,7 @@ ghost use Rattle.std.specs.List.{IsDistinct};
 ghost use Rattle.std.specs.Str.{bytes_eq};
 ghost use Rattle.std.specs.Result.{result_map_both};
 ghost use Rattle.serde_json.specs.Find.{as_object};
-ghost use Rattle.serde_json.specs.View.{view, items_view};
+ghost use Rattle.json_whole.specs.Values.{view, items_view};
 ghost use Rattle.graph_build.specs.Table.{IsFaultless};
 ghost use Rattle.resource_graph.specs.NamedGraph.{NamedGraph};
 ghost use Rattle.graph_build.specs.Raw.{IsBuiltFrom, raw_graph, raw_names};
@@ -25,10 +25,10 @@ use crate::nodes::{NodeFields, NodesFault, nodes_of};
 use crate::raw_lists::{kind_table, table_texts, vertices_of};
 use flux_defs::MOST_VERTICES;
 use graph_build::{GraphFault, build};
+use json::{Scratch, Value};
 use json_fields::{at_field, list_field, object_field, object_value};
-use json_whole::{ValueFault, read_value};
+use json_whole::{PlainText, ValueFault, read_value};
 use resource_graph::Graph;
-use serde_json::Value;
 use std::alloc::{AllocError, Global};
 
 /// The fault of a field.
@@ -56,13 +56,13 @@ fn edge_fault(alloc: Global, fault: EdgeFault) -> ReadFault
 
 /// The values that a file lists as nodes and as edges.
 #[derive(Clone, Copy)]
-struct Lists<'a> {
-    nodes: &'a Vec<Value>,
-    edges: &'a Vec<Value>,
+struct Lists<'v, 'a> {
+    nodes: &'v Vec<Value<'a>>,
+    edges: &'v Vec<Value<'a>>,
 }
 
 /// The lists in `graph`.
-fn lists_in(graph: &Value) -> Result<Lists<'_>, FileMisfit>
+fn lists_in<'v, 'a>(graph: &'v Value<'a>) -> Result<Lists<'v, 'a>, FileMisfit>
     ensures { result_map_both lists_held (λ m. m) result ≡ lists_in (view graph.now) }
 {
     let nodes = at_field(FieldPath::Nodes, list_field(graph, "nodes"))?;
@@ -71,7 +71,7 @@ fn lists_in(graph: &Value) -> Result<Lists<'_>, FileMisfit>
 }
 
 /// The lists of a file.
-fn lists_of(value: &Value) -> Result<Lists<'_>, FileMisfit>
+fn lists_of<'v, 'a>(value: &'v Value<'a>) -> Result<Lists<'v, 'a>, FileMisfit>
     ensures { result_map_both lists_held (λ m. m) result ≡ lists_of (view value.now) }
 {
     let whole = at_field(FieldPath::Whole, object_value(value))?;
@@ -170,7 +170,9 @@ pub fn read_graph(alloc: Global, bytes: &[u8]) -> Result<Graph, ReadFault>
         IsGraphText bytes.now graph → (result ≡ Ok graph) ⊎ (result ≡ Err ReadFault.Memory) }
     ensures fault { IfErr result (IsFirstFault bytes.now) }
 {
-    match read_value(alloc, bytes) {
+    let text = PlainText::of(alloc, bytes)?;
+    let mut scratch = Scratch::new(alloc);
+    match read_value(alloc, &text, &mut scratch) {
         Ok(value) => graph_of(alloc, &value),
         Err(ValueFault::NotJson) => Err(ReadFault::NotJson),
         Err(ValueFault::Memory) => Err(ReadFault::Memory),

@@ -1,8 +1,8 @@
 use Rattle.std.proofs.Common.{arith, ap, sym, subst, refl, ◌∙◌, ◌≡◌, ℕ, ◌<◌, List, length, get_or, if◌then◌else◌, Some}
 use Rattle.std.proofs.Common.{None, Ok, Err, Result, slice_get}
 use Rattle.std.proofs.lemmas.Option.{slice_get_read}
-use Rattle.serde_json.specs.View.{view, items_view}
-use Rattle.serde_json.specs.declared.value.Value.{Value}
+use Rattle.json_whole.specs.Values.{view, items_view}
+use Rattle.json.specs.declared.value.Value.{Value}
 use Rattle.graph_json.specs.Edges.{FileEdge, edge_held, edge_of, edges_of, joined, HasJoined}
 use Rattle.graph_json.specs.FieldPaths.{FileMisfit}
 use Rattle.graph_json.proofs.EdgeLaws.{edges-at, edges-length, joined-none, joined-more, wrong_edge, unfit_edge}
@@ -10,8 +10,8 @@ use Rattle.graph_json.proofs.EdgeLaws.{all_right, all_joined}
 use Rattle.graph_json.proofs.edges.join_edges.Goals as goal
 
 -- the edge at an index, as it is read
-edge_at : (vs : List Value) (k : ℕ) (v : Value) (r : Result FileEdge FileMisfit) → k < length vs → v ≡ get_or vs k v →
-    r ≡ edge_of k (view v) → slice_get (edges_of 0 (items_view vs)) k ≡ Some r
+edge_at : {A : Type 0} (vs : List (Value A)) (k : ℕ) (v : Value A) (r : Result FileEdge FileMisfit) → k < length vs →
+    v ≡ get_or vs k v → r ≡ edge_of k (view v) → slice_get (edges_of 0 (items_view vs)) k ≡ Some r
 edge_at vs k v r within here read = edges-at 0 vs k v (slice_get_read vs (length vs) k v refl within here)
     ∙ ap (λ n. Some (edge_of n (view v))) (omega arith) ∙ ap Some (sym read)
 

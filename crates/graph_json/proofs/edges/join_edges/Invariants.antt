@@ -1,4 +1,4 @@
-use Rattle.serde_json.specs.View.{items_view}
+use Rattle.json_whole.specs.Values.{items_view}
 use Rattle.graph_json.specs.Edges.{edges_of, HasJoined}
 use Rattle.graph_json.proofs.edges.join_edges.Given as goal
 

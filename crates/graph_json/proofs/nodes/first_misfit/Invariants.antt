@@ -1,5 +1,5 @@
 use Rattle.std.proofs.Common.{◌≡◌, drop}
-use Rattle.serde_json.specs.View.{items_view}
+use Rattle.json_whole.specs.Values.{items_view}
 use Rattle.graph_json.specs.Nodes.{first_misfit}
 use Rattle.graph_json.proofs.nodes.first_misfit.Given as goal
 

@@ -1,6 +1,6 @@
 use Rattle.std.proofs.Common.{◌≡◌, ◌++◌, map, drop}
 use Rattle.std.specs.Result.{result_map_both}
-use Rattle.serde_json.specs.View.{items_view}
+use Rattle.json_whole.specs.Values.{items_view}
 use Rattle.graph_json.specs.Nodes.{node_held, nodes_of}
 use Rattle.graph_json.proofs.nodes.nodes_of.Given as goal
 

@@ -2,7 +2,7 @@ use Rattle.std.proofs.Common.{◌≡◌, Err, ap, subst, ◌∙◌, ℕ, List, m
 use Rattle.std.proofs.Common.{arith, Option, IfOk, IfErr}
 use Rattle.std.proofs.lemmas.List.{take_all, drop_all}
 use Rattle.serde_json.specs.Data.{Data}
-use Rattle.serde_json.specs.View.{view, items_view}
+use Rattle.json_whole.specs.Values.{view, items_view}
 use Rattle.graph_json.specs.Nodes.{FileNode, node_held, nodes_of}
 use Rattle.graph_json.specs.Edges.{FileEdge, edges_of, counted, parents_of, IsFirstWrong, IsWrongEdge}
 use Rattle.graph_json.specs.Ids.{ids_of, IsRepeated, IsSetOf}
