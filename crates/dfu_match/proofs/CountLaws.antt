@@ -108,6 +108,14 @@ module _ (vertices : List Vertex) (ok : Claim → Type 0) where
       claimed true claims p = p.1
       claimed false claims p = p.2
 
+  -- where nothing is asked, one copy fits
+  pub nothing_asked : (scope : Scope) (needs : List Need) → needs ≡ [] → IsGreatest (SomeFits vertices ok scope needs) 1 1
+  nothing_asked scope needs none = rw none record {
+    within = omega arith;
+    can_be = λ some. ([], refl);
+    full = λ more. absurd (omega (arith, more));
+  }
+
   -- one that may be serves 1 exactly where the inner needs fit below it
   pub vertex_open : (scope : Scope) (kind count : ℕ) (hold : Bool) (needs : List Need) (v most found : ℕ) → 1 ≤ most →
       IsIn vertices scope v → HasKind vertices kind v → ok (claim_on hold v) →

@@ -104,6 +104,9 @@ pub(crate) fn serves<F: FreeView, L: Ledger>(
             if !admits(s, *hold, vertex, steps) {
                 return 0;
             }
+            if needs.is_empty() {
+                return 1;
+            }
             copies(
                 s,
                 needs,

@@ -45,6 +45,9 @@ fn bars_over<F: FreeView>(s: &Search<F>, vertex: u32) -> bool
     requires { vertex < length s.now.graph.now.resources.vertices }
     ensures { result ≡ list_any (is_at_or_below s.now.graph.now.resources.vertices vertex) s.now.barred.now }
 {
+    if s.barred.is_empty() {
+        return false;
+    }
     s.graph.is_valid();
     match s.graph.node_of(vertex) {
         None => false,
@@ -60,6 +63,9 @@ fn bars_below<F: FreeView>(s: &Search<F>, vertex: u32) -> bool
     requires { vertex < length s.now.graph.now.resources.vertices }
     ensures { result ≡ list_any (λ u. is_at_or_below s.now.graph.now.resources.vertices u vertex) s.now.barred.now }
 {
+    if s.barred.is_empty() {
+        return false;
+    }
     s.graph.is_valid();
     match least_from(s.barred.items(), vertex) {
         None => false,

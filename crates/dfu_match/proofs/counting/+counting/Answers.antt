@@ -5,6 +5,7 @@ use denote.Param.Weighed.{most}
 use Rattle.flux_defs.specs.declared.claims.Claim.{Claim}
 use Rattle.flux_defs.specs.declared.requests.Need.{Need}
 use Rattle.flux_defs.proofs.requests.Need.TheLaws.{the_size}
+use Rattle.flux_defs.specs.Graph.{Beneath}
 use Rattle.flux_defs.specs.Needs.{amount_of, AreValidNeeds}
 use Rattle.flux_laws.proofs.Takes.{takes_less}
 use Rattle.flux_laws.proofs.FitLaws.{serves_less}
@@ -397,8 +398,18 @@ serves-copies-requires-in-Spread g t c κs h =
       ),
     )
 
-pub serves-returns-else-not-admits-clause-greatest : goal.serves-returns-else-not-admits-clause-greatest
-serves-returns-else-not-admits-clause-greatest g t c = λ jobs stands scope within.
+pub serves-returns-then-is_empty-clause-greatest : goal.serves-returns-then-is_empty-clause-greatest
+serves-returns-then-is_empty-clause-greatest g t c = λ jobs stands scope within.
+    let vs = c.args.s.now.graph.now.resources.vertices in
+    let ok : Claim → Type 0 = open_to vs jobs c.args.s.now.barred.now c.args.s.now.window in
+    let is = rw c.in-Vert.is at c.requires.of_need in
+    let one = laws.vertex_open vs ok scope c.in-Vert.kind c.in-Vert.count c.in-Vert.hold c.in-Vert.needs c.args.vertex
+    c.args.most 1 c.requires.some within is ((c.admits.ensures.answer jobs stands).0 c.if-not-admits.false)
+    (laws.nothing_asked vs ok (Beneath c.args.vertex) c.in-Vert.needs (c.if-is_empty.ensures.0 refl)) in
+    rw c.in-Vert.is one
+
+pub serves-returns-else-is_empty-clause-greatest : goal.serves-returns-else-is_empty-clause-greatest
+serves-returns-else-is_empty-clause-greatest g t c = λ jobs stands scope within.
     let vs = c.args.s.now.graph.now.resources.vertices in
     let ok : Claim → Type 0 = open_to vs jobs c.args.s.now.barred.now c.args.s.now.window in
     let is = rw c.in-Vert.is at c.requires.of_need in
@@ -437,8 +448,8 @@ serves-returns-else-not-admits-2-clause-greatest g t c = λ jobs stands scope wi
     (c.copies-in-Spread.ensures.greatest jobs stands) in
     rw c.in-Spread.is some
 
-pub serves-returns-else-not-admits-clause-work : goal.serves-returns-else-not-admits-clause-work
-serves-returns-else-not-admits-clause-work g t c = λ jobs stands place past.
+pub serves-returns-else-is_empty-clause-work : goal.serves-returns-else-is_empty-clause-work
+serves-returns-else-is_empty-clause-work g t c = λ jobs stands place past.
     rw c.in-Vert.is (λ at clear after.
     let within = steps.in_vertex _ _ c.is_valid.ensures.valid _ _ _ (needs_all c.args.s.now.needs.now) place _ _ _ _ _
     (rw c.in-Vert.is at c.requires.valid) at clear in

@@ -1,5 +1,4 @@
 use Rattle.graph_laws.proofs.Preorder.{parents_first}
-use Rattle.match_laws.proofs.ViewLaws.{admits_pass, admits_none}
 use Rattle.dfu_match.specs.Searches.{meets}
 use Rattle.dfu_match.proofs.HoldLaws.{passes, none_held, held_untouched}
 use Rattle.dfu_match.proofs.search.admits.Goals as goal
