@@ -1,6 +1,6 @@
 -- What a look into a tree finds is what the data has there.
 use Rattle.std.proofs.Common.{◌≡◌, ℕ, List, [], ◌∷◌, Bool, true, false, cond, Option, Some, None, option_map, refl, sym}
-use Rattle.std.proofs.Common.{ap, ◌∙◌, true≢false, Float, Bor}
+use Rattle.std.proofs.Common.{ap, ◌∙◌, true≢false, Float, Bor, ◌<◌, zero, suc, drop, get_or, length, arith}
 use Rattle.std.proofs.lemmas.Slice.Eq.{bytes_eq-Decides}
 use Rattle.std.specs.Str.{bytes_eq}
 use Rattle.std.specs.BTreeMap.{insert_entry}
@@ -10,7 +10,7 @@ use Rattle.std.specs.declared.cmp.Ordering.{Ordering}
 use Rattle.std.specs.declared.cmp.Ordering.TheVariants.{Less, Equal, Greater}
 use Rattle.json.specs.Json as json
 use Rattle.json.specs.Find as find
-use Rattle.json.specs.Value.{value_view}
+use Rattle.json.specs.Value.{value_view, members_view}
 use Rattle.json.specs.declared.value.Value.{Value}
 use Rattle.std.specs.Float.{binary64, float_is_finite}
 use Rattle.fast_float.specs.Text.{Parts, nearest}
@@ -82,6 +82,16 @@ pub looked_up : {A : Type 0} (key : List ℕ) (value : Value A) (found : Option 
     option_map (λ v. value_view v.now) found ≡ find.get key (value_view value)
     → option_map (λ v. view v.now) found ≡ get key (view value)
 looked_up key value found is = mapped_twice found ∙ ap (option_map data_of) is ∙ get-data key (value_view value)
+
+-- the last member with a key is the one behind which no other has it
+pub last_found : {A : Type 0} (key : List ℕ) (ms : List (Bor (List ℕ) × Value A)) (i : ℕ) (d : Bor (List ℕ) × Value A) →
+    i < length ms → find.get_member key (members_view (drop (suc i) ms)) ≡ None
+    → bytes_eq (get_or ms i d).0.now key ≡ true
+    → Some (value_view (get_or ms i d).1) ≡ find.get_member key (members_view ms)
+last_found key [] i d within none same = absurd (omega (arith, within))
+last_found key (m ∷ ms) zero d within none same = rw (none, same) refl
+last_found key (m ∷ ms) (suc i) d within none same =
+    rw (← last_found key ms i d (omega (arith, within)) none same) refl
 
 -- ---- members by their keys
 

@@ -1,15 +1,39 @@
 -- A text whose number tokens are exact has a tree whose numbers are.
 use Rattle.std.proofs.Common.{◌≡◌, ℕ, zero, suc, List, [], ◌∷◌, length, Bool, true, false, Option, Some, None}
-use Rattle.std.proofs.Common.{option_map, option_and_then, refl, ◌&&◌}
+use Rattle.std.proofs.Common.{option_map, option_and_then, refl, ◌&&◌, not}
 use Rattle.std.specs.Prelude.{⊤, IfSome, IsTrue}
 use Rattle.json.specs.Token as tok
 use Rattle.json.specs.Lex.{Lexeme, token, comma, colon, Place, fresh, after_value, after_comma, after_key, begins_colon}
 use Rattle.json.specs.Lex.{may_begin, may_close, if_allowed, place_token, punctuate, tokens, lex, between}
 use Rattle.json.specs.Json as json
-use Rattle.serde_json.specs.Read.{max_depth}
-use Rattle.json_whole.specs.Values.{is_whole_number, has_whole_numbers, items_have_whole_numbers}
-use Rattle.json_whole.specs.Values.{members_have_whole_numbers}
-use Rattle.json_whole.specs.Whole.{IsWholeText}
+use Rattle.serde_json.specs.Read.{number_of, max_depth}
+use Rattle.std.specs.Option.{option_map_or}
+use Rattle.serde_json.specs.Find.{is_float}
+use Rattle.json_whole.specs.Whole.{json_in}
+
+-- ---- whole numbers
+
+-- the text is that of a whole number that 64 bits hold
+abbrev pub is_whole_number : List ℕ → Bool
+is_whole_number s = option_map_or (λ n. not (is_float n)) (number_of s) false
+
+-- each number is one
+abbrev mutual
+  pub has_whole_numbers : json.Json → Bool
+  has_whole_numbers json.null = true
+  has_whole_numbers (json.boolean b) = true
+  has_whole_numbers (json.number s) = is_whole_number s
+  has_whole_numbers (json.string s) = true
+  has_whole_numbers (json.array js) = items_have_whole_numbers js
+  has_whole_numbers (json.object ms) = members_have_whole_numbers ms
+
+  pub items_have_whole_numbers : json.Items → Bool
+  items_have_whole_numbers json.no_items = true
+  items_have_whole_numbers (json.item j js) = has_whole_numbers j && items_have_whole_numbers js
+
+  pub members_have_whole_numbers : json.Members → Bool
+  members_have_whole_numbers json.no_members = true
+  members_have_whole_numbers (json.member k j ms) = has_whole_numbers j && members_have_whole_numbers ms
 
 abbrev pub IsExact : List ℕ → Type 0
 IsExact s = is_whole_number s ≡ true
@@ -201,6 +225,10 @@ value_read (suc depth) =
 alone : (j : json.Json) (ts : List tok.Token) → IsWhole j → IfSome (json.if_last j ts) IsWhole
 alone j [] h = h
 alone j (t ∷ ts) h = tt
+
+-- each number of the text is whole, where it is a JSON text
+abbrev pub IsWholeText : List ℕ → Type 0
+IsWholeText text = IfSome (json_in text) (λ j. IsTrue (has_whole_numbers j))
 
 pub whole_text : (text : List ℕ) → Lexed (lex between text) → IsWholeText text
 whole_text text h =

@@ -13,8 +13,8 @@ use Rattle.serde_json.specs.Data as value
 use Rattle.serde_json.specs.Find.{is_float}
 use Rattle.serde_json.specs.Read.{number_of, of_json, of_items, of_members}
 use Rattle.serde_json.specs.Written.{has_float, items_have_float, members_have_float}
-use Rattle.json_whole.specs.Values.{has_whole_numbers, items_have_whole_numbers}
-use Rattle.json_whole.specs.Values.{members_have_whole_numbers, whole_or_zero, data_of, items_data, members_data}
+use Rattle.json_whole.specs.Values.{whole_or_zero, data_of, items_data, members_data}
+use Rattle.json_whole.proofs.Tokens.{has_whole_numbers, items_have_whole_numbers, members_have_whole_numbers}
 use Rattle.json_whole.proofs.Words.{and_left, and_right}
 
 -- ---- no float

@@ -1,36 +1,12 @@
 -- What a value in memory stands for. Its numbers are texts, and an object keeps its members as they came.
-use Rattle.std.specs.Prelude.{ℕ, List, [], ◌∷◌, map, Bool, true, false, not, ◌&&◌, Option, Some, None}
-use Rattle.std.specs.Option.{option_map_or}
+use Rattle.std.specs.Prelude.{ℕ, List, [], ◌∷◌, map, Option, Some, None}
 use Rattle.std.specs.Borrow.{Bor}
 use Rattle.json.specs.Json as json
 use Rattle.json.specs.Value.{value_view, items_of, members_view}
 use Rattle.json.specs.declared.value.Value.{Value}
 use Rattle.serde_json.specs.Data.{Num, unsigned, negative, float, Data, null, boolean, number, string, array, object}
 use Rattle.serde_json.specs.Data.{Items, no_items, item, Members, no_members, member, put}
-use Rattle.serde_json.specs.Find.{is_float}
 use Rattle.serde_json.specs.Read.{number_of}
-
--- the text is that of a whole number that 64 bits hold
-abbrev pub is_whole_number : List ℕ → Bool
-is_whole_number s = option_map_or (λ n. not (is_float n)) (number_of s) false
-
--- each number is one
-abbrev mutual
-  pub has_whole_numbers : json.Json → Bool
-  has_whole_numbers json.null = true
-  has_whole_numbers (json.boolean b) = true
-  has_whole_numbers (json.number s) = is_whole_number s
-  has_whole_numbers (json.string s) = true
-  has_whole_numbers (json.array js) = items_have_whole_numbers js
-  has_whole_numbers (json.object ms) = members_have_whole_numbers ms
-
-  pub items_have_whole_numbers : json.Items → Bool
-  items_have_whole_numbers json.no_items = true
-  items_have_whole_numbers (json.item j js) = has_whole_numbers j && items_have_whole_numbers js
-
-  pub members_have_whole_numbers : json.Members → Bool
-  members_have_whole_numbers json.no_members = true
-  members_have_whole_numbers (json.member k j ms) = has_whole_numbers j && members_have_whole_numbers ms
 
 -- a number that is no float; 0 stands for one that is
 abbrev pub whole_or_zero : Option Num → Num

@@ -1,20 +1,15 @@
 -- The value of a text.
-use Rattle.std.specs.Prelude.{ℕ, List, if◌then◌else◌, Option, None, IfSome, IsTrue, option_and_then}
+use Rattle.std.specs.Prelude.{ℕ, List, if◌then◌else◌, Option, None, option_and_then}
 use Rattle.std.specs.Str.{is_utf8}
 use Rattle.json.specs.Lex.{tokens}
 use Rattle.json.specs.Json as json
 use Rattle.serde_json.specs.Data.{Data}
 use Rattle.serde_json.specs.Read.{max_depth, read}
 use Rattle.json_whole.specs.Plain.{plain_of}
-use Rattle.json_whole.specs.Values.{has_whole_numbers}
 
 -- the tree of a JSON text in which at most 127 arrays and objects nest
 abbrev pub json_in : List ℕ → Option json.Json
 json_in text = option_and_then (λ p. json.if_last p.0 p.1) (json.value max_depth (tokens text))
-
--- each number of the text is whole, where it is a JSON text
-abbrev pub IsWholeText : List ℕ → Type 0
-IsWholeText text = IfSome (json_in text) (λ j. IsTrue (has_whole_numbers j))
 
 -- the value of the JSON text in UTF-8 that the bytes are, and none where they are no such text. At most 127 arrays
 -- and objects nest, surrogate escapes are paired, and the last value of a repeated key counts.

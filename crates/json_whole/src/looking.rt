@@ -1,6 +1,8 @@
 //! What stands in a value. The value at a repeated key is the last one.
 ghost use Rattle.std.specs.Prelude.{◌≡◌, ◌<◌, ◌==◌, length, slice_index, true, false, IsTrue, IfOk, OnOk, is_some, option_map};
 ghost use Rattle.fast_float.specs.Text.{minus};
+ghost use Rattle.json.specs.Find.{get_member};
+ghost use Rattle.json.specs.Value.{value_view, members_view};
 ghost use Rattle.serde_json.specs.Data.{put};
 ghost use Rattle.serde_json.specs.Find.{get, as_null, as_bool, as_number, as_str, as_array, as_object};
 ghost use Rattle.serde_json.specs.Read.{number_from, number_of};
@@ -16,11 +18,29 @@ use std::collections::BTreeMap;
 /// The members of an object as they came: keys may repeat.
 pub type Object<'a> = Vec<(&'a str, Value<'a>)>;
 
+/// The value of the last member with a key. Where the lengths differ no byte is looked at.
+fn last_at<'v, 'a>(members: &'v Object<'a>, key: &str) -> Option<&'v Value<'a>>
+    ensures { option_map (λ v. value_view v.now) result ≡ get_member key.now (members_view members.now.items) }
+{
+    let mut left = members.len();
+    'members: while left > 0 {
+        left -= 1;
+        let member = &members[left];
+        if member.0.len() == key.len() && member.0 == key {
+            return Some(&member.1);
+        }
+    }
+    None
+}
+
 /// The value at a key; none where the value is no object or has no such key. Linear in the members.
 pub fn get<'v, 'a>(value: &'v Value<'a>, key: &str) -> Option<&'v Value<'a>>
     ensures { option_map (λ v. view v.now) result ≡ get key.now (view value.now) }
 {
-    value.get(key)
+    match value {
+        Value::Object(members) => last_at(members, key),
+        _ => None,
+    }
 }
 
 /// Whether it is null.

@@ -1,5 +1,5 @@
 //! The plain form of a text.
-ghost use Rattle.std.specs.Prelude.{◌≡◌, ◌<◌, ◌≤◌, ◌++◌, IsTrue, length, slice_index, drop, IfOk};
+ghost use Rattle.std.specs.Prelude.{◌≡◌, ◌<◌, ◌≤◌, ◌++◌, IsTrue, length, slice_index, drop, IfOk, unwrap_or};
 ghost use Rattle.json_whole.specs.Run.{begins_run, first_run, written};
 ghost use Rattle.json_whole.specs.Plain.{in_string, outside, plain_of};
 ghost use Rattle.json_whole.specs.Forms.{plain_behind, written_as};
@@ -100,4 +100,16 @@ pub fn plain(alloc: Global, bytes: &[u8]) -> Result<Text, AllocError>
         at += write_piece(&mut out, &bytes[at..])?;
     }
     Ok(Text::of_vec(out))
+}
+
+/// The plain form of a text, and `None` where that is the text itself, which is then not copied.
+pub(crate) fn plain_if_other(alloc: Global, bytes: &[u8]) -> Result<Option<Text>, AllocError>
+    ensures { IfOk result (λ form. unwrap_or form bytes.now ≡ plain_of bytes.now) }
+{
+    let (len, _) = kept_front(bytes);
+    if len == bytes.len() {
+        return Ok(None);
+    }
+    let text = plain(alloc, bytes)?;
+    Ok(Some(text))
 }

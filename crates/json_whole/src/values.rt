@@ -1,13 +1,12 @@
 //! A JSON text as a value.
-ghost use Rattle.std.specs.Prelude.{◌≡◌, false, Some, None, IfOk, IsErrOf};
+ghost use Rattle.std.specs.Prelude.{◌≡◌, false, Some, None, IfOk, IsErrOf, unwrap_or};
 ghost use Rattle.serde_json.specs.Written.{has_float};
 ghost use Rattle.json.specs.Value.{value_view};
-ghost use Rattle.std.proofs.Props.{props};
 ghost use Rattle.json_whole.specs.Plain.{plain_of};
 ghost use Rattle.json_whole.specs.Values.{view};
-ghost use Rattle.json_whole.specs.Whole.{json_in, value_in, IsWholeText};
+ghost use Rattle.json_whole.specs.Whole.{json_in, value_of};
 
-use crate::plain_form::plain;
+use crate::plain_form::plain_if_other;
 use flux_defs::Text;
 use json::{Error, Reader, Scratch, Value};
 use std::alloc::{AllocError, Global};
@@ -25,35 +24,39 @@ pub enum ValueFault {
 /// How many arrays and objects may stand within one another.
 const MOST_NESTED: usize = 127;
 
-/// The plain form of a text, of which contracts see the bytes: no number of it is a float.
+/// A text beside its plain form, which is not copied where it is the text itself. Contracts see the text.
 #[derive(Drop)]
-pub struct PlainText {
-    held: Text,
-    ghost whole: { IsWholeText held } by { Prim.hlevel props },
+pub struct PlainText<'b> {
+    bytes: &'b [u8],
+    other: Option<Text>,
+    ghost plain: { unwrap_or other bytes.now ≡ plain_of bytes.now },
 }
 
-impl Model for PlainText {
+impl<'b> Model for PlainText<'b> {
     ghost use Rattle.std.specs.Prelude.{List, ℕ};
 
     ghost Value = { List ℕ };
 
-    ghost view = { λ text. text.held };
+    ghost view = { λ text. text.bytes.now };
 }
 
-impl PlainText {
-    /// The plain form of the bytes.
-    pub fn of(alloc: Global, bytes: &[u8]) -> Result<PlainText, AllocError>
-        ensures { IfOk result (λ text. text ≡ plain_of bytes.now) }
+impl<'b> PlainText<'b> {
+    /// The text with its plain form.
+    pub fn of(alloc: Global, bytes: &'b [u8]) -> Result<PlainText<'b>, AllocError>
+        ensures { IfOk result (λ text. text ≡ bytes.now) }
     {
-        let held = plain(alloc, bytes)?;
-        Ok(PlainText { held })
+        let other = plain_if_other(alloc, bytes)?;
+        Ok(PlainText { bytes, other })
     }
 
-    fn bytes(&self) -> &[u8]
-        ensures bytes { result.now ≡ self.now }
-        ensures whole { IsWholeText result.now }
+    /// The bytes of the plain form.
+    fn plain(&self) -> &[u8]
+        ensures { result.now ≡ plain_of self.now }
     {
-        self.held.bytes()
+        match &self.other {
+            Some(text) => text.bytes(),
+            None => self.bytes,
+        }
     }
 }
 
@@ -80,7 +83,7 @@ fn read_tree<'a>(
     Ok(value)
 }
 
-/// The value of a text in plain form (RFC 8259), which borrows its texts from the plain form, or from the scratch where
+/// The value of a text's plain form (RFC 8259). Its texts are borrowed from the plain form, or from the scratch where
 /// they stand there with escapes. Where an object repeats a key, the last value counts. NotJson comes exactly where the
 /// plain form isn't a JSON text in UTF-8 in which at most 127 arrays and objects stand within one another and each
 /// escape of a surrogate has its partner (sections 7 to 9), Memory where no memory is left. No number of the value is a
@@ -90,12 +93,12 @@ pub fn read_value<'a>(
     text: &'a PlainText,
     scratch: &'a mut Scratch,
 ) -> Result<Value<'a>, ValueFault>
-    ensures value { IfOk result (λ v. value_in text.now ≡ Some (view v)) }
+    ensures value { IfOk result (λ v. value_of text.now ≡ Some (view v)) }
     ensures whole { IfOk result (λ v. has_float (view v) ≡ false) }
-    ensures not_json { IsErrOf result ValueFault.NotJson → value_in text.now ≡ None }
+    ensures not_json { IsErrOf result ValueFault.NotJson → value_of text.now ≡ None }
 {
-    let Ok(text) = std::str::from_utf8(text.bytes()) else {
+    let Ok(plain) = std::str::from_utf8(text.plain()) else {
         return Err(ValueFault::NotJson);
     };
-    read_tree(alloc, text, scratch)
+    read_tree(alloc, plain, scratch)
 }
