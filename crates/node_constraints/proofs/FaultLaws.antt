@@ -1,14 +1,14 @@
 -- The fault that is meant.
 use Rattle.std.proofs.Common.{◌≡◌, refl, sym, ◌∙◌, ap, subst, arith, ℕ, ◌+◌, ◌*◌, ◌<◌, ◌≤◌, drop, get_or, length, List}
-use Rattle.std.proofs.Common.{◌∷◌, ◌++◌, append_assoc, Option, Some, None}
+use Rattle.std.proofs.Common.{◌∷◌, ◌++◌, append_assoc, Option, Some, None, Global}
 use Rattle.std.proofs.lemmas.List.{drop_more}
 use Rattle.std.specs.Option.{option_or}
 use Rattle.node_constraints.specs.declared.faults.ConstraintFault.{ConstraintFault}
 use Rattle.node_constraints.specs.declared.faults.ConstraintFault.TheVariants.{Form, Memory}
-use Rattle.serde_json.specs.declared.value.Value.{Value}
+use Rattle.json.specs.declared.value.Value.{Value}
 use Rattle.serde_json.specs.Data.{depth, items_depth, Data, null, boolean, number, string, array, object}
 use Rattle.serde_json.specs.Find.{as_array, as_object}
-use Rattle.serde_json.specs.View.{view, items_view}
+use Rattle.json_whole.specs.Values.{view, items_view}
 use Rattle.json_fields.specs.Paths.{index}
 use Rattle.json_fields.proofs.Depths.{at_depth}
 use Rattle.node_constraints.specs.declared.keys.Key.{Key}
@@ -56,7 +56,7 @@ no_list path k key (array ds) none = absurd (cc)
 no_list path k key (object ms) none = refl
 
 -- a member of a list, by its index
-module _ (vs : List Value) (at : ℕ) (x : Value) (lt : at < length vs) (is : x ≡ get_or vs at x) where
+module _ (vs : List (Value Global)) (at : ℕ) (x : Value Global) (lt : at < length vs) (is : x ≡ get_or vs at x) where
   -- the rest of the list begins with it
   pub rest_here : drop at vs ≡ x ∷ drop (at + 1) vs
   rest_here = drop_more vs at x lt ∙ ap (λ y. y ∷ drop (at + 1) vs) (sym is)

@@ -1,7 +1,7 @@
 //! The nodes that a constraint bars.
 ghost use Rattle.std.specs.Prelude.{◌≡◌, [], Ok, IfOk, IfErr};
 ghost use Rattle.std.specs.List.{AllByRecursion};
-ghost use Rattle.serde_json.specs.View.{view};
+ghost use Rattle.json_whole.specs.Values.{view};
 ghost use Rattle.flux_defs.specs.Graph.{IsNode};
 ghost use Rattle.flux_defs.specs.Needs.{AreRisingFrom};
 ghost use Rattle.node_constraints.specs.Faults.{fault_at};
@@ -12,8 +12,8 @@ use crate::faults::ConstraintFault;
 use crate::narrowing::{behind, narrow};
 use crate::nodes::{nodes_of, others_of};
 use flux_defs::List;
+use json::Value;
 use resource_graph::Graph;
-use serde_json::Value;
 use std::alloc::Global;
 
 /// Where the constraint of a jobspec stands.

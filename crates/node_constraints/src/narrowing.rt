@@ -5,7 +5,7 @@
 ghost use Rattle.std.specs.Prelude.{◌≡◌, ◌++◌, ◌||◌, ◌==◌, ℕ, List, Option, Some, false, not, IfOk, IsOk, OnOk};
 ghost use Rattle.std.specs.List.{list_any};
 ghost use Rattle.std.specs.Option.{option_map_or};
-ghost use Rattle.serde_json.specs.View.{view, items_view};
+ghost use Rattle.json_whole.specs.Values.{view, items_view};
 ghost use Rattle.json_fields.specs.Paths.{index};
 ghost use Rattle.idset_text.specs.Hostlists.{names_of};
 ghost use Rattle.idset_text.specs.Idsets.{ids_of};
@@ -23,9 +23,10 @@ use crate::nodes::{properties_of, take_away};
 use crate::ranks::Ranks;
 use crate::texts::{are_texts, has_properties, read_hostlists, read_idsets};
 use flux_defs::Text;
+use json::Value;
 use json_fields::{index_path, joined_path};
+use json_whole::{as_array, as_object, in_order};
 use resource_graph::Graph;
-use serde_json::Value;
 use std::alloc::{AllocError, Global};
 
 /// A fault that stands in the constraint itself, told from there on.
@@ -290,7 +291,7 @@ fn narrow_by_key(
     let Some(known) = key_of(key) else {
         return Err(fault_here(alloc));
     };
-    let Some(values) = value.as_array() else {
+    let Some(values) = as_array(value) else {
         return Err(fault_here(alloc));
     };
     narrow_by_list(alloc, graph, known, key, values.as_slice(), nodes)
@@ -308,11 +309,12 @@ pub(crate) fn narrow(
         (nodes.new.items ≡ where_true graph.now (λ n. is_true n (view constraint.now)) nodes.old.items) }
     ensures found { (path : List ℕ) → Finds path result (fault_at path (view constraint.now)) }
 {
-    let Some(members) = constraint.as_object() else {
+    let Some(members) = as_object(constraint) else {
         return Err(fault_here(alloc));
     };
+    let members = in_order(alloc, members)?;
     'members: for (key, value) in members.iter() {
-        narrow_by_key(alloc, graph, key.as_str(), value, nodes)?;
+        narrow_by_key(alloc, graph, key, value, nodes)?;
     }
     Ok(())
 }

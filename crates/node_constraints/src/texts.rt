@@ -1,6 +1,6 @@
 //! The texts of a constraint, each of which is read once.
 ghost use Rattle.std.specs.Prelude.{◌≡◌, IfOk};
-ghost use Rattle.serde_json.specs.View.{view, items_view};
+ghost use Rattle.json_whole.specs.Values.{view, items_view};
 ghost use Rattle.idset_text.specs.Hostlists.{hostlist_of};
 ghost use Rattle.idset_text.specs.Idsets.{idset_of};
 ghost use Rattle.node_constraints.specs.Truth.{is_among, has_property, each_text};
@@ -9,7 +9,8 @@ ghost use Rattle.node_constraints.specs.Reading.{read_value, read_all};
 
 use flux_defs::{List, Text};
 use idset_text::{Hosts, Range, TextFault, read_hostlist, read_idset};
-use serde_json::Value;
+use json::Value;
+use json_whole::as_str;
 use std::alloc::{AllocError, Global};
 
 // Properties
@@ -36,7 +37,7 @@ pub(crate) fn are_texts(values: &[Value]) -> bool
     ensures { result ≡ each_text is_text (items_view values.now) }
 {
     'values: for value in values {
-        if !value.is_string() {
+        if as_str(value).is_none() {
             return false;
         }
     }
@@ -48,7 +49,7 @@ pub(crate) fn has_properties(properties: &[Text], values: &[Value]) -> bool
     ensures { result ≡ each_text (has_property properties.now) (items_view values.now) }
 {
     'values: for value in values {
-        match value.as_str() {
+        match as_str(value) {
             Some(text) if has_property(properties, text.as_bytes()) => {}
             _ => return false,
         }
@@ -62,7 +63,7 @@ pub(crate) fn has_properties(properties: &[Text], values: &[Value]) -> bool
 fn hostlist_value(alloc: Global, value: &Value) -> Result<Option<List<Hosts>>, AllocError>
     ensures { IfOk result (λ hosts. hosts ≡ read_value hostlist_of (view value.now)) }
 {
-    let Some(text) = value.as_str() else {
+    let Some(text) = as_str(value) else {
         return Ok(None);
     };
     match read_hostlist(alloc, text.as_bytes()) {
@@ -95,7 +96,7 @@ pub(crate) fn read_hostlists(
 fn idset_value(alloc: Global, value: &Value) -> Result<Option<List<Range>>, AllocError>
     ensures { IfOk result (λ ranges. ranges ≡ read_value idset_of (view value.now)) }
 {
-    let Some(text) = value.as_str() else {
+    let Some(text) = as_str(value) else {
         return Ok(None);
     };
     match read_idset(alloc, text.as_bytes()) {

@@ -1,7 +1,7 @@
 -- Hosts and ranks that are read.
 use Rattle.std.proofs.Common.{◌≡◌, ℕ, zero, suc, ◌+◌, ◌-◌, ◌<◌, ◌≤◌, ◌==◌, nat_le, Bool, true, false, List, [], ◌∷◌}
 use Rattle.std.proofs.Common.{◌++◌, length, get_or, drop, take, inl, inr, Option, Some, None, Result, Ok, Err, refl}
-use Rattle.std.proofs.Common.{sym, ◌∙◌, ap, arith, append_assoc, if◌then◌else◌, cond, true≢false}
+use Rattle.std.proofs.Common.{sym, ◌∙◌, ap, arith, append_assoc, if◌then◌else◌, cond, true≢false, Global}
 use Rattle.std.specs.Result.{result_map_both}
 use Rattle.std.proofs.lemmas.Bool.{leb-true, leb-false, le-leb, cases_Bool, and_parts, and_from, false_from_ne_true}
 use Rattle.std.proofs.lemmas.List.{length-map, take_all}
@@ -9,9 +9,9 @@ use Rattle.std.proofs.lemmas.List.Sums.{sum_by-cons}
 use Rattle.std.proofs.lemmas.List.Sorted.{sum_by-IsPermutation}
 use Rattle.std.specs.List.Sorted.{IsPermutation}
 use Rattle.std.proofs.Math.Seq.{drop-cons}
-use Rattle.serde_json.specs.View.{view, items_view}
+use Rattle.json_whole.specs.Values.{view, items_view}
 use Rattle.serde_json.specs.Data.{item}
-use Rattle.serde_json.specs.declared.value.Value.{Value}
+use Rattle.json.specs.declared.value.Value.{Value}
 use Rattle.idset_text.specs.declared.idsets.Range.{Range}
 use Rattle.idset_text.specs.declared.hostlists.Hosts.{Hosts}
 use Rattle.idset_text.specs.Idsets.{ids_from, ids_of, is_within}
@@ -30,13 +30,13 @@ length-names_from prefix width count start =
     length-map (ids_from count start) (λ number. prefix ++ padded width number) ∙ length-ids_from count start
 
 -- a list that isn't empty
-pub fit_some : (values : List Value) (rows : List RRow) (hosts : List Hosts) → 0 < length values →
+pub fit_some : (values : List (Value Global)) (rows : List RRow) (hosts : List Hosts) → 0 < length values →
     hosts_fit (items_view values) rows hosts ≡ (length (names_of hosts) == length (ids_of (ranges_in rows)))
 fit_some [] rows hosts some = absurd (omega arith)
 fit_some (v ∷ vs) rows hosts some = refl
 
 -- what is read of a list's items, one by one
-pub item_first : (values : List Value) (k : ℕ) (v : Value) → k < length values →
+pub item_first : (values : List (Value Global)) (k : ℕ) (v : Value Global) → k < length values →
     v ≡ get_or values k v → items_view (drop k values) ≡ item (view v) (items_view (drop (k + 1) values))
 item_first values k v lt e =
     let n : suc k ≡ k + 1 = omega arith in

@@ -2,7 +2,7 @@
 ghost use Rattle.std.specs.Prelude.{◌≡◌, ◌++◌, IfOk, IsSome, codes};
 ghost use Rattle.std.specs.Result.{result_map_both};
 ghost use Rattle.serde_json.specs.Find.{as_object, get, as_str};
-ghost use Rattle.serde_json.specs.View.{view, items_view};
+ghost use Rattle.json_whole.specs.Values.{view, items_view};
 ghost use Rattle.json_whole.specs.Field.{text_or_kind, text_field};
 ghost use Rattle.json_fields.specs.Values.{object_value, object_field, list_field, list_value};
 ghost use Rattle.resource_set_r.specs.Misreads.{field_path, at_field};
@@ -11,9 +11,9 @@ ghost use Rattle.resource_set_r.specs.ReadR.{second_or_zero};
 
 use crate::faults::{FieldPath, Misread};
 use flux_defs::{GREATEST_NUMBER, Text};
+use json::Value;
 use json_fields::{list_field, list_value, member_path, object_field, object_value};
-use json_whole::{FieldFault, need_text, need_u64};
-use serde_json::Value;
+use json_whole::{FieldFault, as_str, get, need_text, need_u64};
 use std::alloc::{AllocError, Global};
 
 /// Where the elements of the resource set stand.
@@ -53,18 +53,21 @@ pub(crate) fn at_field<T>(field: FieldPath, read: Result<T, FieldFault>) -> Resu
 }
 
 /// A value that is an object.
-pub(crate) fn object_of(value: &Value, field: FieldPath) -> Result<&Value, Misread>
+pub(crate) fn object_of<'v, 'a>(
+    value: &'v Value<'a>,
+    field: FieldPath,
+) -> Result<&'v Value<'a>, Misread>
     ensures { result_map_both (λ v. view v.now) (λ e. e) result ≡ at_field field (object_value (view value.now)) }
 {
     at_field(field, object_value(value))
 }
 
 /// The object at a key.
-pub(crate) fn object_at<'a>(
-    value: &'a Value,
+pub(crate) fn object_at<'v, 'a>(
+    value: &'v Value<'a>,
     key: &str,
     field: FieldPath,
-) -> Result<&'a Value, Misread>
+) -> Result<&'v Value<'a>, Misread>
     ensures { result_map_both (λ v. view v.now) (λ e. e) result ≡ at_field field
         (object_field key.now (view value.now)) }
 {
@@ -72,11 +75,11 @@ pub(crate) fn object_at<'a>(
 }
 
 /// The list at a key.
-pub(crate) fn list_at<'a>(
-    value: &'a Value,
+pub(crate) fn list_at<'v, 'a>(
+    value: &'v Value<'a>,
     key: &str,
     field: FieldPath,
-) -> Result<&'a Vec<Value>, Misread>
+) -> Result<&'v Vec<Value<'a>>, Misread>
     ensures { result_map_both (λ v. items_view v.now.items) (λ e. e) result ≡ at_field field
         (list_field key.now (view value.now)) }
 {
@@ -84,7 +87,10 @@ pub(crate) fn list_at<'a>(
 }
 
 /// A value that is a list.
-pub(crate) fn list_of(value: &Value, field: FieldPath) -> Result<&Vec<Value>, Misread>
+pub(crate) fn list_of<'v, 'a>(
+    value: &'v Value<'a>,
+    field: FieldPath,
+) -> Result<&'v Vec<Value<'a>>, Misread>
     ensures { result_map_both (λ v. items_view v.now.items) (λ e. e) result ≡ at_field field
         (list_value (view value.now)) }
 {
@@ -92,10 +98,10 @@ pub(crate) fn list_of(value: &Value, field: FieldPath) -> Result<&Vec<Value>, Mi
 }
 
 /// A value that is a text.
-pub(crate) fn text_value(value: &Value, field: FieldPath) -> Result<&str, Misread>
+pub(crate) fn text_value<'a>(value: &Value<'a>, field: FieldPath) -> Result<&'a str, Misread>
     ensures { result_map_both (λ s. s.now) (λ e. e) result ≡ at_field field (text_or_kind (as_str (view value.now))) }
 {
-    match value.as_str() {
+    match as_str(value) {
         Some(text) => Ok(text),
         None => Err(Misread::Field {
             field,
@@ -105,7 +111,11 @@ pub(crate) fn text_value(value: &Value, field: FieldPath) -> Result<&str, Misrea
 }
 
 /// The text at a key.
-pub(crate) fn text_at<'a>(value: &'a Value, key: &str, field: FieldPath) -> Result<&'a str, Misread>
+pub(crate) fn text_at<'a>(
+    value: &Value<'a>,
+    key: &str,
+    field: FieldPath,
+) -> Result<&'a str, Misread>
     requires { IsSome (as_object (view value.now)) }
     ensures { result_map_both (λ s. s.now) (λ e. e) result ≡ at_field field (text_field key.now (view value.now)) }
 {
@@ -125,7 +135,7 @@ fn version_of(value: &Value) -> Result<u64, Misread>
 }
 
 /// What stands at `execution`.
-pub(crate) fn execution_of(value: &Value) -> Result<&Value, Misread>
+pub(crate) fn execution_of<'v, 'a>(value: &'v Value<'a>) -> Result<&'v Value<'a>, Misread>
     ensures { result_map_both (λ v. view v.now) (λ e. e) result ≡ execution_of (view value.now) }
 {
     let whole = object_of(value, FieldPath::Whole)?;
@@ -138,7 +148,7 @@ pub(crate) fn second_or_zero(value: &Value, key: &str, field: FieldPath) -> Resu
     requires { IsSome (as_object (view value.now)) }
     ensures { result ≡ second_or_zero field (get key.now (view value.now)) }
 {
-    if value.get(key).is_none() {
+    if get(value, key).is_none() {
         return Ok(0);
     }
     at_field(field, need_u64(value, key, 0, GREATEST_NUMBER))

@@ -1,6 +1,6 @@
 //! The hosts of a resource set.
 ghost use Rattle.std.specs.Prelude.{◌≡◌, ◌++◌, ◌≤◌, ◌^◌, List, length, OnOk};
-ghost use Rattle.serde_json.specs.View.{view, items_view};
+ghost use Rattle.json_whole.specs.Values.{view, items_view};
 ghost use Rattle.idset_text.specs.Hostlists.{own_names, names_of};
 ghost use Rattle.idset_text.specs.Idsets.{ids_between, ids_of};
 ghost use Rattle.resource_set_r.specs.ReadRows.{ranges_in};
@@ -12,8 +12,8 @@ use crate::faults::{FieldPath, Misread, ReadError};
 use crate::fields::{list_of, text_value};
 use flux_defs::List;
 use idset_text::{Hosts, Range, TextFault, read_hostlist};
-use json_whole::FieldFault;
-use serde_json::Value;
+use json::Value;
+use json_whole::{FieldFault, get};
 use std::alloc::{AllocError, Global};
 
 /// The hosts that the value with this index is.
@@ -134,7 +134,7 @@ pub(crate) fn hosts_in(
     ensures { (rows : List RRow) → ranks ≡ length (ids_of (ranges_in rows)) →
         IsResultOf result (hosts_in rows (view execution.now)) }
 {
-    let Some(found) = execution.get("nodelist") else {
+    let Some(found) = get(execution, "nodelist") else {
         return hosts_for(alloc, ranks, &[]);
     };
     match list_of(found, FieldPath::Nodelist) {

@@ -3,7 +3,7 @@ ghost use Rattle.std.specs.Prelude.{◌≡◌, ◌∷◌, ◌≤◌, List, map, 
 ghost use Rattle.std.specs.List.{flat_map};
 ghost use Rattle.std.specs.List.Sorted.{IsPermutation, IsNonDecreasingBy};
 ghost use Rattle.serde_json.specs.Find.{as_object, get};
-ghost use Rattle.serde_json.specs.View.{view, items_view};
+ghost use Rattle.json_whole.specs.Values.{view, items_view};
 ghost use Rattle.resource_set_r.specs.Misreads.{IsResultOf};
 ghost use Rattle.resource_set_r.specs.ReadRows.{idset_text_at, idset_or_none, idset_field, row_with, row_in, row_of};
 ghost use Rattle.resource_set_r.specs.ReadRows.{rows_from, rows_in, ranges_in, overlap_from, IsRepeatedRank};
@@ -13,7 +13,8 @@ use crate::fields::{list_at, object_at, object_of, text_at, text_value};
 use crate::sets_read::RRow;
 use flux_defs::List;
 use idset_text::{Range, TextFault, read_idset};
-use serde_json::Value;
+use json::Value;
+use json_whole::get;
 use std::alloc::{AllocError, Global};
 
 /// The idset that a text is.
@@ -36,7 +37,7 @@ fn idset_or_none(
 ) -> Result<List<Range>, ReadError>
     ensures { IsResultOf result (idset_or_none field (get key.now (view value.now))) }
 {
-    let Some(found) = value.get(key) else {
+    let Some(found) = get(value, key) else {
         return Ok(List::new(alloc));
     };
     match text_value(found, field) {

@@ -2,7 +2,7 @@
 ghost use Rattle.std.specs.Prelude.{◌≡◌, ℕ, List, Ok, length, IfOk, IfErr, IsSome, MatchResult};
 ghost use Rattle.serde_json.specs.Data.{Data};
 ghost use Rattle.serde_json.specs.Find.{as_object};
-ghost use Rattle.serde_json.specs.View.{view};
+ghost use Rattle.json_whole.specs.Values.{view};
 ghost use Rattle.flux_defs.specs.declared.claims.Job.{Job};
 ghost use Rattle.idset_text.specs.Idsets.{ids_of};
 ghost use Rattle.resource_graph.specs.NamedGraph.{NamedGraph};
@@ -18,8 +18,8 @@ use crate::hosts::{hosts_in, rank_count};
 use crate::ranks::{ranges_in, repeated_rank, rows_in};
 use crate::sets_read::{RRow, RSet};
 use flux_defs::List;
-use json_whole::{ValueFault, read_value};
-use serde_json::Value;
+use json::{Scratch, Value};
+use json_whole::{PlainText, ValueFault, read_value};
 use std::alloc::Global;
 
 /// The start and the end of an `execution`.
@@ -114,7 +114,11 @@ fn read(alloc: Global, bytes: &[u8]) -> Result<RSet, RFault>
     ensures set { IfOk result (IsRText bytes.now) }
     ensures fault { IfErr result (IsFirstFault bytes.now) }
 {
-    match read_value(alloc, bytes) {
+    let Ok(text) = PlainText::of(alloc, bytes) else {
+        return Err(RFault::Memory);
+    };
+    let mut scratch = Scratch::new(alloc);
+    match read_value(alloc, &text, &mut scratch) {
         Ok(value) => match set_of(alloc, &value) {
             Ok(set) => Ok(set),
             Err(ReadError::Misread(misread)) => Err(fault_of(alloc, misread)),

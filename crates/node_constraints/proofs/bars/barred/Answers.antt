@@ -1,6 +1,6 @@
 use Rattle.std.proofs.Common.{◌∙◌, sym, ap, subst, length, Ok, arith}
 use Rattle.std.specs.List.{AllByRecursion}
-use Rattle.serde_json.specs.View.{view}
+use Rattle.json_whole.specs.Values.{view}
 use Rattle.flux_defs.specs.Graph.{IsNode}
 use Rattle.flux_defs.specs.Needs.{AreRisingFrom}
 use Rattle.node_constraints.specs.Bars.{is_barred, barred_by, unless_fault}

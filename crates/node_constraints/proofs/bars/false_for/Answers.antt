@@ -1,7 +1,7 @@
 use Rattle.std.proofs.Common.{◌≡◌, ◌∙◌, ℕ, sym, ap, not, length, []}
 use Rattle.std.specs.Prelude.{is_some}
 use Rattle.std.specs.List.{filter, range_with_len}
-use Rattle.serde_json.specs.View.{view}
+use Rattle.json_whole.specs.Values.{view}
 use Rattle.node_constraints.specs.Truth.{facts_of, is_true}
 use Rattle.node_constraints.specs.Narrowing.{where_true}
 use Rattle.node_constraints.proofs.FilterLaws.{filter_twice}

@@ -1,10 +1,7 @@
-use Rattle.std.proofs.Common.{rules, ◌≡◌, ◌∙◌, sym, ap, ◌++◌, ◌∷◌, ◌+◌, ◌&&◌, [], max, not, drop, arith, string_bytes}
-use Rattle.std.proofs.Common.{Some}
+use Rattle.std.proofs.Common.{rules, ◌≡◌, ◌∙◌, sym, ap, suc, ◌++◌, ◌∷◌, ◌+◌, [], max, not, drop, arith, Some}
 use Rattle.std.proofs.lemmas.List.{drop_all}
-use Rattle.std.specs.Option.{option_or}
 use Rattle.serde_json.specs.Data.{depth, members_depth}
-use Rattle.serde_json.specs.View.{view, items_view, members_view}
-use Rattle.serde_json.proofs.Views.{Entry}
+use Rattle.json_whole.specs.Values.{view, items_view, entries_view}
 use Rattle.json_fields.specs.Paths.{index}
 use Rattle.node_constraints.specs.Truth.{facts_of, key_of, is_true, each_key, key_is_true, each_true, some_true}
 use Rattle.node_constraints.specs.Faults.{fault_at, keys_fault, key_fault, items_fault}
@@ -12,7 +9,8 @@ use Rattle.node_constraints.specs.Narrowing.{where_true}
 use Rattle.node_constraints.proofs.FilterLaws.{filter_all, others_of_others}
 use Rattle.node_constraints.proofs.FaultLaws.{later_is, means_same, no_object, no_list, rest_here, member_less, told_at}
 use Rattle.node_constraints.proofs.FaultLaws.{none_at}
-use Rattle.node_constraints.proofs.StepLaws.{is_object, narrowed_twice, neither_left, none_given, some_given}
+use Rattle.node_constraints.proofs.StepLaws.{Entry, is_object, object_depth, narrowed_twice, neither_left, none_given}
+use Rattle.node_constraints.proofs.StepLaws.{some_given}
 use Rattle.node_constraints.proofs.narrowing.+narrowing.Goals as goal
 
 pub narrow-members-preserved : goal.narrow-members-preserved
@@ -21,36 +19,49 @@ narrow-members-preserved t c =
     let e : Entry = (c.in-Some-2.key.now, c.in-Some-2.value.now) in
     let left = c.next.new.self in
     let steps : c.members.key-iterator ≡ e ∷ left = c.in-Some-2.ensures.steps in
-    let name : c.as_str.result.now ≡ string_bytes e.0 = c.as_str.ensures.value in
     let old = c.members.nodes.items in
-    let text = c.as_str.result.now in
+    let text = e.0.now in
+    let d = view e.1.now in
+    let rest = entries_view left in
     record {
-      kept = ap (where_true g (λ n. each_key n (members_view left))) c.in_ok-narrow_by_key.ensures.kept
-          ∙ (narrowed_twice g (λ n. key_is_true n (key_of text) (view e.1)) (λ n. each_key n (members_view left)) old
-          ∙ (ap
-          (λ k. where_true g (λ n. key_is_true n (key_of k) (view e.1) && each_key n (members_view left)) old) name
-          ∙ (ap (λ es. where_true g (λ n. each_key n (members_view es)) old) (sym steps) ∙ c.members.invariant.kept)));
-      found = λ path. sym (later_is (key_fault path text (key_of text) (view e.1)) (keys_fault path (members_view left))
+      kept = ap (where_true g (λ n. each_key n rest)) c.in_ok-narrow_by_key.ensures.kept
+          ∙ (narrowed_twice g (λ n. key_is_true n (key_of text) d) (λ n. each_key n rest) old
+          ∙ (ap (λ es. where_true g (λ n. each_key n (entries_view es)) old) (sym steps) ∙ c.members.invariant.kept));
+      found = λ path. sym (later_is (key_fault path text (key_of text) d) (keys_fault path rest)
           (c.in_ok-narrow_by_key.ensures.found path))
-          ∙ (ap (λ k. option_or (key_fault path k (key_of k) (view e.1)) (keys_fault path (members_view left))) name
-          ∙ (ap (λ es. keys_fault path (members_view es)) (sym steps) ∙ c.members.invariant.found path));
+          ∙ (ap (λ es. keys_fault path (entries_view es)) (sym steps) ∙ c.members.invariant.found path);
       less =
-          let here : members_depth (members_view c.members.key-iterator) ≡ max (depth (view e.1))
-          (members_depth (members_view left)) = ap (λ es. members_depth (members_view es)) steps in
+          let here : members_depth (entries_view c.members.key-iterator) ≡ max (depth d) (members_depth rest) =
+          ap (λ es. members_depth (entries_view es)) steps in
           omega (arith, here, c.members.invariant.less);
     }
+
+pub narrow-narrow_by_key-requires : goal.narrow-narrow_by_key-requires
+narrow-narrow_by_key-requires t c =
+    let e : Entry = (c.in-Some-2.key.now, c.in-Some-2.value.now) in
+    let left = c.next.new.self in
+    let map = c.in_ok-members.members.entries in
+    let all : c.into_iter-key-iterator.result ≡ map = search rules in
+    let here : members_depth (entries_view c.members.key-iterator) ≡ max (depth (view e.1.now))
+    (members_depth (entries_view left)) = ap (λ es. members_depth (entries_view es)) c.in-Some-2.ensures.steps in
+    let first : members_depth (entries_view c.into_iter-key-iterator.result) ≡ members_depth (entries_view map) =
+    ap (λ es. members_depth (entries_view es)) all in
+    let whole : depth (view c.args.constraint.now) ≡ suc (members_depth (entries_view map)) =
+    object_depth (view c.args.constraint.now) (entries_view map)
+    (sym c.in-Some.ensures ∙ ap Some (sym c.in_ok-members.ensures)) in
+    omega (arith, here, first, whole, c.members.invariant.less)
 
 pub narrow-returns-clause-kept : goal.narrow-returns-clause-kept
 narrow-returns-clause-kept t c =
     let g = c.args.graph.now in
     let nodes = c.members.nodes.items in
-    let all : c.into_iter-key-iterator.result ≡ c.in-Some.members.now.entries = search rules in
-    let whole =
-    is_object (view c.args.constraint.now) (members_view c.in-Some.members.now.entries) (sym c.in-Some.ensures) in
+    let all : c.into_iter-key-iterator.result ≡ c.in_ok-members.members.entries = search rules in
+    let whole = is_object (view c.args.constraint.now) (entries_view c.in_ok-members.members.entries)
+    (sym c.in-Some.ensures ∙ ap Some (sym c.in_ok-members.ensures)) in
     sym (filter_all nodes)
-    ∙ (ap (λ es. where_true g (λ n. each_key n (members_view es)) nodes) (sym c.in-None.ensures.steps.0)
+    ∙ (ap (λ es. where_true g (λ n. each_key n (entries_view es)) nodes) (sym c.in-None.ensures.steps.0)
     ∙ (c.members.invariant.kept
-    ∙ (ap (λ es. where_true g (λ n. each_key n (members_view es)) c.args.nodes.now.items) all
+    ∙ (ap (λ es. where_true g (λ n. each_key n (entries_view es)) c.args.nodes.now.items) all
     ∙ ap (λ d. where_true g (λ n. is_true n d) c.args.nodes.now.items) (sym whole))))
 
 pub narrow_by_each-narrow-requires : goal.narrow_by_each-narrow-requires

@@ -1,6 +1,6 @@
 use Rattle.std.proofs.Common.{◌≡◌, ℕ, List, ◌+◌, ◌*◌, ◌≤◌, not, drop}
 use Rattle.serde_json.specs.Data.{depth, items_depth, members_depth}
-use Rattle.serde_json.specs.View.{view, items_view, members_view}
+use Rattle.json_whole.specs.Values.{view, items_view, entries_view}
 use Rattle.node_constraints.specs.Truth.{each_key, each_true, some_true}
 use Rattle.node_constraints.specs.Faults.{keys_fault, items_fault}
 use Rattle.node_constraints.specs.Narrowing.{where_true}
@@ -45,9 +45,9 @@ invariant-narrow_by_none-values l = record {
 
 abbrev pub invariant-narrow-members : goal.invariant-narrow-members
 invariant-narrow-members l = record {
-  kept : where_true l.graph (λ n. each_key n (members_view l.key-iterator)) l.nodes.items
-      ≡ where_true l.graph (λ n. each_key n (members_view l.initial.key-iterator)) l.initial.nodes.items;
-  found : (path : List ℕ) → keys_fault path (members_view l.key-iterator) ≡ keys_fault path
-      (members_view l.initial.key-iterator);
-  less : members_depth (members_view l.key-iterator) ≤ members_depth (members_view l.initial.key-iterator);
+  kept : where_true l.graph (λ n. each_key n (entries_view l.key-iterator)) l.nodes.items
+      ≡ where_true l.graph (λ n. each_key n (entries_view l.initial.key-iterator)) l.initial.nodes.items;
+  found : (path : List ℕ) → keys_fault path (entries_view l.key-iterator) ≡ keys_fault path
+      (entries_view l.initial.key-iterator);
+  less : members_depth (entries_view l.key-iterator) ≤ members_depth (entries_view l.initial.key-iterator);
 }

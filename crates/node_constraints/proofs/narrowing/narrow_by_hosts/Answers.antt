@@ -2,7 +2,7 @@ use Rattle.std.proofs.Common.{rules, ◌≡◌, ◌∙◌, sym, ap, Some, None}
 use Rattle.std.proofs.lemmas.Fn.{filter_same}
 use Rattle.std.proofs.lemmas.List.Elements.{filter_agree}
 use Rattle.std.specs.List.{list_any}
-use Rattle.serde_json.specs.View.{items_view}
+use Rattle.json_whole.specs.Values.{items_view}
 use Rattle.idset_text.specs.Hostlists.{hostlist_of, names_of}
 use Rattle.node_constraints.specs.Truth.{facts_of, some_text, is_among, is_listed}
 use Rattle.node_constraints.specs.Reading.{read_all}

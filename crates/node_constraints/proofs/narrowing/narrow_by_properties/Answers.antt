@@ -1,6 +1,6 @@
 use Rattle.std.proofs.Common.{rules, ap, Some}
 use Rattle.std.proofs.lemmas.Fn.{filter_same}
-use Rattle.serde_json.specs.View.{items_view}
+use Rattle.json_whole.specs.Values.{items_view}
 use Rattle.node_constraints.specs.Truth.{facts_of, each_text, has_property}
 use Rattle.node_constraints.specs.Faults.{is_text, unless}
 use Rattle.node_constraints.proofs.FaultLaws.{means_same}

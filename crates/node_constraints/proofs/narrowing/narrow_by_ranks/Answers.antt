@@ -2,7 +2,7 @@ use Rattle.std.proofs.Common.{rules, ◌≡◌, ◌∙◌, sym, ap, Some, None, 
 use Rattle.std.proofs.lemmas.Fn.{filter_same}
 use Rattle.std.proofs.lemmas.List.Elements.{filter_agree}
 use Rattle.std.specs.Option.{option_map_or}
-use Rattle.serde_json.specs.View.{items_view}
+use Rattle.json_whole.specs.Values.{items_view}
 use Rattle.idset_text.specs.Idsets.{idset_of}
 use Rattle.node_constraints.specs.Truth.{facts_of, some_text, is_ranked}
 use Rattle.node_constraints.specs.Ranked.{is_in_some}

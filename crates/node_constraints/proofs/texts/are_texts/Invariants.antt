@@ -1,5 +1,5 @@
 use Rattle.std.proofs.Common.{◌≡◌, drop}
-use Rattle.serde_json.specs.View.{items_view}
+use Rattle.json_whole.specs.Values.{items_view}
 use Rattle.node_constraints.specs.Truth.{each_text}
 use Rattle.node_constraints.specs.Faults.{is_text}
 use Rattle.node_constraints.proofs.texts.are_texts.Given as goal

@@ -1,6 +1,6 @@
 use Rattle.std.proofs.Common.{◌≡◌, ◌++◌, drop}
 use Rattle.std.specs.Prelude.{option_map}
-use Rattle.serde_json.specs.View.{items_view}
+use Rattle.json_whole.specs.Values.{items_view}
 use Rattle.idset_text.specs.Idsets.{idset_of}
 use Rattle.node_constraints.specs.Reading.{read_all}
 use Rattle.node_constraints.proofs.texts.read_idsets.Given as goal

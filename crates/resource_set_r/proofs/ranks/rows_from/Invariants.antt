@@ -1,6 +1,6 @@
 use Rattle.std.proofs.Common.{◌≡◌, ◌++◌, drop}
 use Rattle.std.specs.Result.{result_map_both}
-use Rattle.serde_json.specs.View.{items_view}
+use Rattle.json_whole.specs.Values.{items_view}
 use Rattle.resource_set_r.specs.ReadRows.{rows_from}
 use Rattle.resource_set_r.proofs.ranks.rows_from.Given as goal
 

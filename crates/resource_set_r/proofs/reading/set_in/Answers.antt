@@ -1,6 +1,6 @@
 use Rattle.std.proofs.Common.{◌≡◌, sym, ap, subst, ◌∙◌, ◌≤◌, List, Some, None, All}
 use Rattle.idset_text.specs.declared.idsets.Range.{Range}
-use Rattle.serde_json.specs.View.{view}
+use Rattle.json_whole.specs.Values.{view}
 use Rattle.resource_set_r.specs.ReadRows.{ranges_in, IsRepeatedRank}
 use Rattle.resource_set_r.proofs.RowsRead.{ranges_ordered, set_found, error_found, repeated_found}
 use Rattle.resource_set_r.proofs.reading.set_in.Goals as goal
