@@ -2,6 +2,7 @@
 use Rattle.std.specs.Prelude.{ℕ, suc, List, [], ◌∷◌, unwrap_or, slice_get}
 use Rattle.flux_defs.specs.declared.vertices.Vertex.{Vertex}
 use Rattle.resource_graph.specs.NamedGraph.{NamedGraph}
+use Rattle.resource_graph.specs.Tables.{name_at}
 use Rattle.graph_build.specs.declared.raw.RawVertex.{RawVertex}
 
 -- vertex v, which is x, with its texts
@@ -9,7 +10,7 @@ abbrev pub own_vertex : NamedGraph → ℕ → Vertex → RawVertex
 own_vertex g v x = record {
   kind = x.kind;
   base = unwrap_or (slice_get g.bases v) [];
-  name = unwrap_or (slice_get g.names v) [];
+  name = name_at g v;
   id = x.id;
   rank = x.rank;
   size = x.size;

@@ -2,8 +2,6 @@
 use Rattle.std.proofs.Common.{◌≡◌, sym, ap, subst, refl, ◌∙◌, ℕ, List, Some, None, Ok, Err, Result, IfOk, IfErr}
 use Rattle.std.proofs.Common.{MatchResult, ◌⊎◌, inl, inr}
 use Rattle.serde_json.specs.Data.{Data}
-use Rattle.json_whole.specs.Plain.{plain_of}
-use Rattle.json_whole.specs.Whole.{value_in, value_of}
 use Rattle.resource_graph.specs.NamedGraph.{NamedGraph}
 use Rattle.graph_build.specs.Raw.{IsBuiltFrom, raw_graph, raw_names}
 use Rattle.graph_build.specs.Table.{IsFirstFault as IsFirstGraphFault}
@@ -30,11 +28,6 @@ matched_ok P Q r x e h = subst (λ s. MatchResult s P Q) e h
 pub matched_err : {A B : Type 0} (P : A → Type 0) (Q : B → Type 0) (r : Result A B) (x : B) →
     r ≡ Err x → MatchResult r P Q → Q x
 matched_err P Q r x e h = subst (λ s. MatchResult s P Q) e h
-
--- what the plain form of the bytes is read as is their value
-pub value_of-plain : (bytes text : List ℕ) → text ≡ plain_of bytes → value_of bytes ≡ value_in text
-unfolding value_of
-value_of-plain bytes text plain = ap value_in (sym plain)
 
 -- the file with these lists and nodes
 abbrev pub file_with : FileLists → List FileNode → GraphFile

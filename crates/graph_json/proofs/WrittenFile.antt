@@ -15,6 +15,7 @@ use Rattle.serde_json.specs.Data.{Data}
 use Rattle.json_whole.specs.declared.fields.FieldFault.{FieldFault}
 use Rattle.flux_defs.specs.declared.vertices.Vertex.{Vertex}
 use Rattle.resource_graph.specs.NamedGraph.{NamedGraph}
+use Rattle.resource_graph.specs.Tables.{name_at}
 use Rattle.graph_json.specs.Fields.{is_unit, small_number, small_given, size_given}
 use Rattle.text_forms.specs.Names.{is_name, is_name_byte}
 use Rattle.json_fields.specs.Names.{ruled, ruled_field, ruled_given}
@@ -39,7 +40,7 @@ file_node g v x = record {
   kind = unwrap_or (slice_get g.resources.kinds x.kind) [];
   base = unwrap_or (slice_get g.bases v) [];
   number = x.id;
-  name = unwrap_or (slice_get g.names v) [];
+  name = name_at g v;
   rank = x.rank;
   size = x.size;
   unit = unwrap_or (slice_get g.units v) [];
@@ -70,7 +71,7 @@ written_file g =
 pub record FitsNode (g : NamedGraph) (v : ℕ) (x : Vertex) : Type 0 where
   pub kind : is_name MOST_TYPE_BYTES (unwrap_or (slice_get g.resources.kinds x.kind) []) ≡ true
   pub base : is_name MOST_NAME_BYTES (unwrap_or (slice_get g.bases v) []) ≡ true
-  pub name : is_name MOST_NAME_BYTES (unwrap_or (slice_get g.names v) []) ≡ true
+  pub name : is_name MOST_NAME_BYTES (name_at g v) ≡ true
   pub unit : is_unit (unwrap_or (slice_get g.units v) []) ≡ true
   pub properties : AreProperties (unwrap_or (slice_get g.properties v) [])
   pub numbers : HasFileNumbers x
@@ -151,8 +152,8 @@ module _ (g : NamedGraph) (v : ℕ) (x : Vertex) (fits : FitsNode g v x) where
       (kept (is_name MOST_NAME_BYTES) (unwrap_or (slice_get g.bases v) [])
       (readable_name MOST_NAME_BYTES (unwrap_or (slice_get g.bases v) []) fits.base) fits.base)
       (kept_small x.id fits.numbers.0)
-      (kept (is_name MOST_NAME_BYTES) (unwrap_or (slice_get g.names v) [])
-      (readable_name MOST_NAME_BYTES (unwrap_or (slice_get g.names v) []) fits.name) fits.name)
+      (kept (is_name MOST_NAME_BYTES) (name_at g v)
+      (readable_name MOST_NAME_BYTES (name_at g v) fits.name) fits.name)
       (kept_small x.rank fits.numbers.1)
       (kept_size x.size fits.size)
       (kept is_unit (unwrap_or (slice_get g.units v) [])

@@ -21,6 +21,7 @@ use Rattle.serde_json.specs.Read.{read}
 use Rattle.json_whole.specs.Whole.{value_in, value_of}
 use Rattle.flux_defs.specs.declared.vertices.Vertex.{Vertex}
 use Rattle.resource_graph.specs.NamedGraph.{NamedGraph, path_text}
+use Rattle.resource_graph.specs.Tables.{name_at}
 use Rattle.graph_json.specs.Nodes.{in_order}
 use Rattle.graph_json.specs.WrittenGraph.{keys_object, paths_data, metadata_data, node_data, nodes_data, contains_data}
 use Rattle.graph_json.specs.WrittenGraph.{edge_data, with_edge, edges_data, graph_data, graph_text, HasAllSmallNumbers}
@@ -74,7 +75,7 @@ clear_metadata g v x = (
     tt,
     (
       IsUtf8-are_ascii (codes "name") refl,
-      clear_readable (unwrap_or (slice_get g.names v) []),
+      clear_readable (name_at g v),
       (
         IsUtf8-are_ascii (codes "paths") refl,
         clear_paths g v,

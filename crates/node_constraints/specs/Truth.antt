@@ -1,6 +1,6 @@
 -- What a constraint on nodes says (RFC 31), and for which nodes it is true.
 use Rattle.std.specs.Prelude.{ℕ, ◌==◌, ◌&&◌, ◌||◌, List, [], ◌∷◌, Bool, true, false, not, if◌then◌else◌, Option, Some}
-use Rattle.std.specs.Prelude.{None, unwrap_or, slice_get, option_and_then, Result, Ok, Err, codes}
+use Rattle.std.specs.Prelude.{None, unwrap_or, slice_get, Result, Ok, Err, codes}
 use Rattle.std.specs.List.{list_any}
 use Rattle.std.specs.Option.{option_map_or}
 use Rattle.std.specs.Str.{bytes_eq}
@@ -12,6 +12,7 @@ use Rattle.idset_text.specs.declared.idsets.Range.{Range}
 use Rattle.idset_text.specs.Hostlists.{hostlist_of, names_of}
 use Rattle.idset_text.specs.Idsets.{idset_of, ids_of}
 use Rattle.resource_graph.specs.NamedGraph.{NamedGraph}
+use Rattle.resource_graph.specs.Tables.{rank_at, name_at}
 use Rattle.node_constraints.specs.declared.keys.Key.{Key}
 use Rattle.node_constraints.specs.declared.keys.Key.TheVariants.{Properties, Hostlist, Ranks, And, Or, Not}
 
@@ -26,8 +27,8 @@ pub record NodeFacts : Type 0 where
 -- the facts of the vertex with this number
 abbrev pub facts_of : NamedGraph → ℕ → NodeFacts
 facts_of g v = record {
-  name = unwrap_or (slice_get g.names v) [];
-  rank = option_and_then (λ x. x.rank) (slice_get g.resources.vertices v);
+  name = name_at g v;
+  rank = rank_at g.resources.vertices v;
   properties = unwrap_or (slice_get g.properties v) [];
 }
 

@@ -18,7 +18,8 @@ use Rattle.idset_text.specs.Idsets.{ids_from}
 use Rattle.idset_text.specs.Hostlists.{is_host_name, prefix_of, digits_of, digits_place, continues, run_text}
 use Rattle.idset_text.specs.Hostlists.{texts_from, hostlist_texts}
 use Rattle.text_forms.specs.Names.{is_name_byte}
-use Rattle.resource_set_r.specs.Rows.{rank_of, node_above, rank_above, node_with, host_of, is_of_type, id_of_type}
+use Rattle.resource_set_r.specs.Rows.{node_above, rank_above, node_with, host_of, is_of_type, id_of_type}
+use Rattle.resource_graph.specs.Tables.{rank_at, name_at}
 use Rattle.resource_set_r.specs.ReadBack.{HasIdNumbers}
 use Rattle.resource_set_r.proofs.Filtered.{find_some}
 use Rattle.resource_set_r.proofs.IdsBack.{Small}
@@ -120,19 +121,19 @@ found_some p (suc count) start n lo hi passes none =
 module _ (vertices : List Vertex) where
   -- the rank of a node above a vertex is that of a vertex
   pub ranked_above : (v rank : ℕ) →
-      rank_above vertices v ≡ Some rank → (n : ℕ) × (n < length vertices) × (rank_of vertices n ≡ Some rank)
+      rank_above vertices v ≡ Some rank → (n : ℕ) × (n < length vertices) × (rank_at vertices n ≡ Some rank)
   ranked_above v rank e = by (node_above vertices v) refl e
     where
-      by : (o : Option ℕ) → node_above vertices v ≡ o → option_and_then (rank_of vertices) o ≡ Some rank →
-          (n : ℕ) × (n < length vertices) × (rank_of vertices n ≡ Some rank)
+      by : (o : Option ℕ) → node_above vertices v ≡ o → option_and_then (rank_at vertices) o ≡ Some rank →
+          (n : ℕ) × (n < length vertices) × (rank_at vertices n ≡ Some rank)
       by None e f = cc
       by (Some n) e f =
           let found =
-          find_some (λ n. is_some (rank_of vertices n) && is_at_or_below vertices v n) (length vertices) 0 n e in
+          find_some (λ n. is_some (rank_at vertices n) && is_at_or_below vertices v n) (length vertices) 0 n e in
           (n, (let lt : n < 0 + length vertices = found.2 in omega arith), f)
 
   module _ (small : AllByRecursion HasIdNumbers vertices) where
-    pub rank_small : (n rank : ℕ) → rank_of vertices n ≡ Some rank → Small rank
+    pub rank_small : (n rank : ℕ) → rank_at vertices n ≡ Some rank → Small rank
     rank_small n rank e = by (slice_get vertices n) refl e
       where
         by : (o : Option Vertex) → slice_get vertices n ≡ o → option_and_then (λ x. x.rank) o ≡ Some rank → Small rank
@@ -155,24 +156,24 @@ module _ (vertices : List Vertex) where
 -- a rank's node has a name, where all vertices have
 pub host_named : (g : NamedGraph) (rank n : ℕ) → length g.names ≡ length g.resources.vertices →
     AllByRecursion (λ name. IsTrue (is_host_name name)) g.names →
-    n < length g.resources.vertices → rank_of g.resources.vertices n ≡ Some rank →
+    n < length g.resources.vertices → rank_at g.resources.vertices n ≡ Some rank →
     IsTrue (is_host_name (host_of g rank))
 host_named g rank n named names lt is = by (node_with g.resources.vertices rank) refl
   where
     p : ℕ → Bool
-    p v = option_map_or (λ r. r == rank) (rank_of g.resources.vertices v) false
+    p v = option_map_or (λ r. r == rank) (rank_at g.resources.vertices v) false
 
     passes : p n ≡ true
     passes = ap (λ o. option_map_or (λ r. r == rank) o false) is ∙ equal_from rank rank refl
 
-    at : (v : ℕ) → v < length g.names → IsTrue (is_host_name (unwrap_or (slice_get g.names v) []))
+    at : (v : ℕ) → v < length g.names → IsTrue (is_host_name (name_at g v))
     at v within =
         let here = slice_get-get_or g.names v [] within in
         subst (λ (o : Option (List ℕ)). IsTrue (is_host_name (unwrap_or o []))) (sym here)
         (all_at (λ name. IsTrue (is_host_name name)) g.names v _ names here)
 
     by : (o : Option ℕ) → node_with g.resources.vertices rank ≡ o →
-        IsTrue (is_host_name (option_map_or (λ v. unwrap_or (slice_get g.names v) []) o []))
+        IsTrue (is_host_name (option_map_or (name_at g) o []))
     by None e = absurd (found_some p (length g.resources.vertices) 0 n (omega arith) (omega arith) passes e)
     by (Some v) e =
         let found = find_some p (length g.resources.vertices) 0 v e in

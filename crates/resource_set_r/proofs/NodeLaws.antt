@@ -17,17 +17,18 @@ use Rattle.resource_graph.specs.Tables.{IsPast, IsNodeOf, IsNamedKind}
 use Rattle.resource_graph.specs.Finds.{IsFirstOf}
 use Rattle.resource_graph.proofs.Values.{value_of, from_value}
 use Rattle.resource_graph.proofs.Finds.{Passes, finds_position}
-use Rattle.resource_set_r.specs.Rows.{rank_of, node_above, rank_above, is_in_rank, node_with, type_called}
+use Rattle.resource_set_r.specs.Rows.{node_above, rank_above, is_in_rank, node_with, type_called}
+use Rattle.resource_graph.specs.Tables.{rank_at}
 use Rattle.resource_set_r.proofs.Filtered.{find_only, find_none, find_some}
 
 module _ (vertices : List Vertex) where
   -- a vertex with a rank is a node
-  pub node_ranked : (n : ℕ) → IsNode vertices n → (is_some (rank_of vertices n) ≡ true) × (n < length vertices)
+  pub node_ranked : (n : ℕ) → IsNode vertices n → (is_some (rank_at vertices n) ≡ true) × (n < length vertices)
   node_ranked n h =
       let x = value_of (slice_get vertices n) (λ x. is_some x.rank ≡ true) h in
       (ap (λ o. is_some (option_and_then (λ x. x.rank) o)) x.1 ∙ x.2, slice_get_within vertices n x.0 x.1)
 
-  pub ranked_node : (n : ℕ) → is_some (rank_of vertices n) ≡ true → IsNode vertices n
+  pub ranked_node : (n : ℕ) → is_some (rank_at vertices n) ≡ true → IsNode vertices n
   ranked_node n h = by (slice_get vertices n) h
     where
       by : (o : Option Vertex) →
@@ -36,7 +37,7 @@ module _ (vertices : List Vertex) where
       by (Some x) h = h
 
   pub rank_has : (g : ResourceGraph) (rank n : ℕ) →
-      g.vertices ≡ vertices → rank_of vertices n ≡ Some rank → HasRank g rank n
+      g.vertices ≡ vertices → rank_at vertices n ≡ Some rank → HasRank g rank n
   rank_has g rank n same h =
       subst (λ vs. IsSomeAnd (slice_get vs n) (λ x. x.rank ≡ Some rank)) (sym same) (by (slice_get vertices n) h)
     where
@@ -100,25 +101,25 @@ module _ (g : ResourceGraph) (names : List (List ℕ)) (valid : IsValidGraph g n
   node_above_is v n is_n at_n =
       let ranked = node_ranked g.vertices n is_n in
       let within = below_within v n ranked.1 at_n in
-      find_only (λ n. is_some (rank_of g.vertices n) && is_at_or_below g.vertices v n)
+      find_only (λ n. is_some (rank_at g.vertices n) && is_at_or_below g.vertices v n)
       (length g.vertices) 0 n (omega arith) (omega (arith, ranked.1)) (and_from _ _ ranked.0 at_n) (λ m lo hi h.
-      let both = and_parts (is_some (rank_of g.vertices m)) (is_at_or_below g.vertices v m) h in
+      let both = and_parts (is_some (rank_at g.vertices m)) (is_at_or_below g.vertices v m) h in
       one_node v m n within (ranked_node g.vertices m both.0) is_n both.1 at_n)
 
   pub node_above_none : (v : ℕ) →
       ((n : ℕ) → IsNode g.vertices n → IsTrue (is_at_or_below g.vertices v n) → ⊥) → node_above g.vertices v ≡ None
   node_above_none v none =
-      find_none (λ n. is_some (rank_of g.vertices n) && is_at_or_below g.vertices v n)
+      find_none (λ n. is_some (rank_at g.vertices n) && is_at_or_below g.vertices v n)
       (length g.vertices) 0 (λ m lo hi. false_from_ne_true _ (λ h.
-      let both = and_parts (is_some (rank_of g.vertices m)) (is_at_or_below g.vertices v m) h in
+      let both = and_parts (is_some (rank_at g.vertices m)) (is_at_or_below g.vertices v m) h in
       none m (ranked_node g.vertices m both.0) both.1))
 
   pub node_above_at : (v n : ℕ) →
       node_above g.vertices v ≡ Some n → IsNode g.vertices n × IsTrue (is_at_or_below g.vertices v n)
   node_above_at v n e =
       let found =
-      find_some (λ n. is_some (rank_of g.vertices n) && is_at_or_below g.vertices v n) (length g.vertices) 0 n e in
-      let both = and_parts (is_some (rank_of g.vertices n)) (is_at_or_below g.vertices v n) found.0 in
+      find_some (λ n. is_some (rank_at g.vertices n) && is_at_or_below g.vertices v n) (length g.vertices) 0 n e in
+      let both = and_parts (is_some (rank_at g.vertices n)) (is_at_or_below g.vertices v n) found.0 in
       (ranked_node g.vertices n both.0, both.1)
 
   -- what the query for a vertex's node answers
@@ -129,24 +130,24 @@ module _ (g : ResourceGraph) (names : List (List ℕ)) (valid : IsValidGraph g n
   -- past the graph there is nothing
   pub rank_above_past : (v : ℕ) → length g.vertices ≤ v → rank_above g.vertices v ≡ None
   rank_above_past v past =
-      ap (option_and_then (rank_of g.vertices)) (node_above_none v (λ n is_n at_n.
+      ap (option_and_then (rank_at g.vertices)) (node_above_none v (λ n is_n at_n.
       let lt : v < length g.vertices = below_within v n (node_ranked g.vertices n is_n).1 at_n in omega arith))
 
   -- what lies in a rank
   pub in_rank_at : (rank v : ℕ) → is_in_rank g.vertices rank v ≡ true →
-      (n : ℕ) × IsNode g.vertices n × IsTrue (is_at_or_below g.vertices v n) × (rank_of g.vertices n ≡ Some rank)
+      (n : ℕ) × IsNode g.vertices n × IsTrue (is_at_or_below g.vertices v n) × (rank_at g.vertices n ≡ Some rank)
   in_rank_at rank v h = by (node_above g.vertices v) refl h
     where
       ranks : (n : ℕ) (o : Option ℕ) →
-          rank_of g.vertices n ≡ o → option_map_or (λ r. r == rank) o false ≡ true → rank_of g.vertices n ≡ Some rank
+          rank_at g.vertices n ≡ o → option_map_or (λ r. r == rank) o false ≡ true → rank_at g.vertices n ≡ Some rank
       ranks n None e t = absurd (true≢false (sym t))
       ranks n (Some r) e t = e ∙ ap Some (equal_to r rank t)
 
       by : (o : Option ℕ) → node_above g.vertices v ≡ o →
-          option_map_or (λ r. r == rank) (option_and_then (rank_of g.vertices) o) false ≡ true →
-          (n : ℕ) × IsNode g.vertices n × IsTrue (is_at_or_below g.vertices v n) × (rank_of g.vertices n ≡ Some rank)
+          option_map_or (λ r. r == rank) (option_and_then (rank_at g.vertices) o) false ≡ true →
+          (n : ℕ) × IsNode g.vertices n × IsTrue (is_at_or_below g.vertices v n) × (rank_at g.vertices n ≡ Some rank)
       by None e t = absurd (true≢false (sym t))
-      by (Some n) e t = let at = node_above_at v n e in (n, at.0, at.1, ranks n (rank_of g.vertices n) refl t)
+      by (Some n) e t = let at = node_above_at v n e in (n, at.0, at.1, ranks n (rank_at g.vertices n) refl t)
 
   pub in_no_rank : (rank : ℕ) → ((n : ℕ) → HasRank g rank n → ⊥) → (v : ℕ) → is_in_rank g.vertices rank v ≡ false
   in_no_rank rank none v =
@@ -156,7 +157,7 @@ module _ (g : ResourceGraph) (names : List (List ℕ)) (valid : IsValidGraph g n
     here : (x : Vertex) × (slice_get g.vertices n ≡ Some x) × (x.rank ≡ Some rank)
     here = value_of (slice_get g.vertices n) (λ x. x.rank ≡ Some rank) has
 
-    rank_here : rank_of g.vertices n ≡ Some rank
+    rank_here : rank_at g.vertices n ≡ Some rank
     rank_here = ap (option_and_then (λ x. x.rank)) here.1 ∙ here.2
 
     node_here : IsNode g.vertices n
@@ -165,7 +166,7 @@ module _ (g : ResourceGraph) (names : List (List ℕ)) (valid : IsValidGraph g n
     pub in_rank_inside : (v : ℕ) → n ≤ v → v < after → is_in_rank g.vertices rank v ≡ true
     in_rank_inside v lo hi =
         let above : node_above g.vertices v ≡ Some n = node_above_is v n node_here (past.covered v lo hi) in
-        ap (λ o. option_map_or (λ r. r == rank) (option_and_then (rank_of g.vertices) o) false) above
+        ap (λ o. option_map_or (λ r. r == rank) (option_and_then (rank_at g.vertices) o) false) above
         ∙ ap (λ o. option_map_or (λ r. r == rank) o false) rank_here ∙ equal_from rank rank refl
 
     in_range : (v : ℕ) → is_in_rank g.vertices rank v ≡ true → (n ≤ v) × (v < after)
@@ -185,7 +186,7 @@ module _ (g : ResourceGraph) (names : List (List ℕ)) (valid : IsValidGraph g n
     in_rank_after v le = false_from_ne_true _ (λ h. let r : v < after = (in_range v h).1 in omega arith)
 
   of_rank : (rank m : ℕ) (o : Option ℕ) →
-      rank_of g.vertices m ≡ o → option_map_or (λ r. r == rank) o false ≡ true → rank_of g.vertices m ≡ Some rank
+      rank_at g.vertices m ≡ o → option_map_or (λ r. r == rank) o false ≡ true → rank_at g.vertices m ≡ Some rank
   of_rank rank m None e t = absurd (true≢false (sym t))
   of_rank rank m (Some r) e t = e ∙ ap Some (equal_to r rank t)
 
@@ -193,19 +194,19 @@ module _ (g : ResourceGraph) (names : List (List ℕ)) (valid : IsValidGraph g n
   pub node_with_found : (rank n : ℕ) → HasRank g rank n → node_with g.vertices rank ≡ Some n
   node_with_found rank n has =
       let at = value_of (slice_get g.vertices n) (λ x. x.rank ≡ Some rank) has in
-      let is : rank_of g.vertices n ≡ Some rank = ap (option_and_then (λ x. x.rank)) at.1 ∙ at.2 in
+      let is : rank_at g.vertices n ≡ Some rank = ap (option_and_then (λ x. x.rank)) at.1 ∙ at.2 in
       let within = slice_get_within g.vertices n at.0 at.1 in
-      find_only (λ v. option_map_or (λ r. r == rank) (rank_of g.vertices v) false)
+      find_only (λ v. option_map_or (λ r. r == rank) (rank_at g.vertices v) false)
       (length g.vertices) 0 n (omega arith) (omega (arith, within))
       (ap (λ o. option_map_or (λ r. r == rank) o false) is ∙ equal_from rank rank refl)
       (λ m lo hi h. valid.ranks m n rank
-      (rank_has g.vertices g rank m refl (of_rank rank m (rank_of g.vertices m) refl h)) has)
+      (rank_has g.vertices g rank m refl (of_rank rank m (rank_at g.vertices m) refl h)) has)
 
   pub node_with_none : (rank : ℕ) → ((n : ℕ) → HasRank g rank n → ⊥) → node_with g.vertices rank ≡ None
   node_with_none rank none =
-      find_none (λ v. option_map_or (λ r. r == rank) (rank_of g.vertices v) false) (length g.vertices) 0
+      find_none (λ v. option_map_or (λ r. r == rank) (rank_at g.vertices v) false) (length g.vertices) 0
       (λ m lo hi. false_from_ne_true _
-      (λ h. none m (rank_has g.vertices g rank m refl (of_rank rank m (rank_of g.vertices m) refl h))))
+      (λ h. none m (rank_has g.vertices g rank m refl (of_rank rank m (rank_at g.vertices m) refl h))))
 
   -- what the query for a type answers
   pub type_called_found : (name : List ℕ) (found : Option ℕ) → IsNamedKind g name found → type_called g name ≡ found

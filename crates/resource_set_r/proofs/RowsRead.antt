@@ -1,14 +1,12 @@
 -- What is known of the rows that are read.
 use Rattle.std.proofs.Common.{◌≡◌, ℕ, suc, ◌≤◌, List, [], ◌∷◌, ◌++◌, Some, None, Result, Ok, Err, refl, ap, subst, All}
-use Rattle.std.proofs.Common.{IfOk, IfErr, ◌+◌, inl, inr, codes, Option, sym, ◌∙◌}
+use Rattle.std.proofs.Common.{IfOk, IfErr, ◌+◌, inl, inr, codes}
 use Rattle.std.specs.List.{AllByRecursion}
 use Rattle.std.specs.Result.{result_map_both}
 use Rattle.std.proofs.lemmas.List.Elements.{All-from_recursion}
 use Rattle.serde_json.specs.Data.{Data, Items, no_items, item}
 use Rattle.serde_json.specs.Find.{get}
 use Rattle.json_whole.specs.Field.{text_field}
-use Rattle.json_whole.specs.Plain.{plain_of}
-use Rattle.json_whole.specs.Whole.{value_in, value_of}
 use Rattle.json_fields.specs.Values.{result_and_then, object_value, object_field, list_field}
 use Rattle.idset_text.specs.declared.idsets.Range.{Range}
 use Rattle.idset_text.specs.Idsets.{idset_of, Rises}
@@ -123,12 +121,6 @@ module _ (e : Data) (rows : List RRow) (read : rows_in e ≡ Ok rows) where
   pub repeated_found : (rank : ℕ) → IsRepeatedRank (ranges_in rows) (Some rank) →
       (d : Data) → execution_of d ≡ Ok e → IsMisreadOf d (misread.RepeatedRank rank)
   repeated_found rank least d is = inr (inl (e, rows, (is, read), rank, least, refl))
-
--- the value of the bytes is that of their plain form
-pub value_here : (bytes text : List ℕ) (o : Option Data) → text ≡ plain_of bytes → value_in text ≡ o →
-    value_of bytes ≡ o
-unfolding value_of
-value_here bytes text o plain is = ap value_in (sym plain) ∙ is
 
 -- what is wrong with a value is told of the bytes
 pub told : (bytes : List ℕ) (m : Misread) (f : RFault) → IsToldAs m f → HasMisread bytes m → IsFirstFault bytes f

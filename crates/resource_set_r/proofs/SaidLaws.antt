@@ -20,7 +20,8 @@ use Rattle.graph_laws.proofs.Preorder.{parents_first}
 use Rattle.resource_graph.specs.Finds.{IsFirstOf}
 use Rattle.resource_graph.proofs.Values.{value_of}
 use Rattle.resource_graph.proofs.Finds.{Passes, finds_position}
-use Rattle.resource_set_r.specs.Rows.{numbers, is_given_by, given_by, given, rank_of, node_above, rank_above}
+use Rattle.resource_set_r.specs.Rows.{numbers, is_given_by, given_by, given, node_above, rank_above}
+use Rattle.resource_graph.specs.Tables.{rank_at}
 use Rattle.resource_set_r.specs.Rows.{is_in_rank, ranks_in, type_called, is_of_type, id_of_type, part_of, ids_among}
 use Rattle.resource_set_r.specs.Said.{IsShared, IsChild, AreRanksOfClaims, AreIdsOfClaims}
 use Rattle.resource_set_r.proofs.Members.{Stands, contains_stands, stands_contains, of_rising, in_rising, of_filter}
@@ -51,23 +52,23 @@ module _ (g : ResourceGraph) (names : List (List ℕ)) (valid : IsValidGraph g n
   first = parents_first g valid.preorder
 
   node_of_rank : (rank n : ℕ) →
-      HasRank g rank n → (rank_of g.vertices n ≡ Some rank) × IsNode g.vertices n × (n < length g.vertices)
+      HasRank g rank n → (rank_at g.vertices n ≡ Some rank) × IsNode g.vertices n × (n < length g.vertices)
   node_of_rank rank n has =
       let x = value_of (slice_get g.vertices n) (λ x. x.rank ≡ Some rank) has in
-      let is : rank_of g.vertices n ≡ Some rank = ap (option_and_then (λ x. x.rank)) x.1 ∙ x.2 in
+      let is : rank_at g.vertices n ≡ Some rank = ap (option_and_then (λ x. x.rank)) x.1 ∙ x.2 in
       (is, ranked_node g.vertices n (ap is_some is), slice_get_within g.vertices n x.0 x.1)
 
   rank_above_is : (rank n v : ℕ) →
       HasRank g rank n → IsTrue (is_at_or_below g.vertices v n) → rank_above g.vertices v ≡ Some rank
   rank_above_is rank n v has at =
       let node = node_of_rank rank n has in
-      ap (option_and_then (rank_of g.vertices)) (node_above_is g names valid v n node.1 at) ∙ node.0
+      ap (option_and_then (rank_at g.vertices)) (node_above_is g names valid v n node.1 at) ∙ node.0
 
   rank_above_at : (rank v : ℕ) →
       rank_above g.vertices v ≡ Some rank → (n : ℕ) × HasRank g rank n × IsTrue (is_at_or_below g.vertices v n)
   rank_above_at rank v e = by (node_above g.vertices v) refl e
     where
-      by : (o : Option ℕ) → node_above g.vertices v ≡ o → option_and_then (rank_of g.vertices) o ≡ Some rank →
+      by : (o : Option ℕ) → node_above g.vertices v ≡ o → option_and_then (rank_at g.vertices) o ≡ Some rank →
           (n : ℕ) × HasRank g rank n × IsTrue (is_at_or_below g.vertices v n)
       by None f h = absurd (cc)
       by (Some n) f h = (n, rank_has g.vertices g rank n refl h, (node_above_at g names valid v n f).1)

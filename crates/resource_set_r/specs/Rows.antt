@@ -11,6 +11,7 @@ use Rattle.flux_defs.specs.declared.claims.Claim.{Claim}
 use Rattle.flux_defs.specs.Graph.{ResourceGraph, is_at_or_below}
 use Rattle.flux_defs.specs.Jobs.{vertex_of, holds_over}
 use Rattle.resource_graph.specs.NamedGraph.{NamedGraph}
+use Rattle.resource_graph.specs.Tables.{rank_at, name_at}
 use Rattle.idset_text.specs.Idsets.{ids_from}
 use Rattle.resource_set_r.specs.declared.rows.Children.{Children}
 use Rattle.resource_set_r.specs.declared.rows.Element.{Element}
@@ -38,16 +39,12 @@ given vertices claims = rising (flat_map (given_by vertices) claims)
 
 -- ---- ranks
 
--- the rank of v, which exactly the nodes have
-abbrev pub rank_of : List Vertex → ℕ → Option ℕ
-rank_of vertices v = option_and_then (λ x. x.rank) (slice_get vertices v)
-
 -- the node that v is or lies below
 abbrev pub node_above : List Vertex → ℕ → Option ℕ
-node_above vertices v = find (λ n. is_some (rank_of vertices n) && is_at_or_below vertices v n) (numbers vertices)
+node_above vertices v = find (λ n. is_some (rank_at vertices n) && is_at_or_below vertices v n) (numbers vertices)
 
 abbrev pub rank_above : List Vertex → ℕ → Option ℕ
-rank_above vertices v = option_and_then (rank_of vertices) (node_above vertices v)
+rank_above vertices v = option_and_then (rank_at vertices) (node_above vertices v)
 
 abbrev pub is_in_rank : List Vertex → ℕ → ℕ → Bool
 is_in_rank vertices rank v = option_map_or (λ r. r == rank) (rank_above vertices v) false
@@ -58,10 +55,10 @@ ranks_in vertices claims = rising (filter_map (rank_above vertices) (given verti
 
 -- the node of a rank, and what it is called
 abbrev pub node_with : List Vertex → ℕ → Option ℕ
-node_with vertices rank = find (λ v. option_map_or (λ r. r == rank) (rank_of vertices v) false) (numbers vertices)
+node_with vertices rank = find (λ v. option_map_or (λ r. r == rank) (rank_at vertices v) false) (numbers vertices)
 
 abbrev pub host_of : NamedGraph → ℕ → List ℕ
-host_of g rank = option_map_or (λ v. unwrap_or (slice_get g.names v) []) (node_with g.resources.vertices rank) []
+host_of g rank = option_map_or (name_at g) (node_with g.resources.vertices rank) []
 
 -- ---- cores and gpus
 

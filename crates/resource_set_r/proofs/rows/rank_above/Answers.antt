@@ -1,6 +1,6 @@
 use Rattle.std.proofs.Common.{◌≡◌, sym, ap, subst, ◌∙◌, ℕ, ◌≤◌, Option, Some, None, length, option_and_then, arith}
 use Rattle.resource_graph.specs.Tables.{IsNodeOf}
-use Rattle.resource_set_r.specs.Rows.{rank_of}
+use Rattle.resource_graph.specs.Tables.{rank_at}
 use Rattle.resource_set_r.proofs.NodeLaws.{node_above_found, rank_above_past}
 use Rattle.resource_set_r.proofs.rows.rank_above.Goals as goal
 
@@ -17,8 +17,8 @@ returns-in-Some c =
     let g = c.args.graph.now in
     let at : IsNodeOf g.resources.vertices c.args.vertex (Some c.in-Some.node) =
     subst (λ (o : Option ℕ). IsNodeOf g.resources.vertices c.args.vertex o) c.in-Some.is c.node_of.ensures in
-    let rank : c.rank_at.result ≡ rank_of g.resources.vertices c.in-Some.node = c.rank_at.ensures in
-    rank ∙ sym (ap (option_and_then (rank_of g.resources.vertices)) (node_above_found
+    let rank : c.rank_at.result ≡ rank_at g.resources.vertices c.in-Some.node = c.rank_at.ensures in
+    rank ∙ sym (ap (option_and_then (rank_at g.resources.vertices)) (node_above_found
     g.resources g.names c.vertices-vertices.ensures.valid.valid c.args.vertex (Some c.in-Some.node) at))
 
 pub returns-in-None : goal.returns-in-None
@@ -26,5 +26,5 @@ returns-in-None c =
     let g = c.args.graph.now in
     let at : IsNodeOf g.resources.vertices c.args.vertex None =
     subst (λ (o : Option ℕ). IsNodeOf g.resources.vertices c.args.vertex o) c.in-None.is c.node_of.ensures in
-    sym (ap (option_and_then (rank_of g.resources.vertices))
+    sym (ap (option_and_then (rank_at g.resources.vertices))
     (node_above_found g.resources g.names c.vertices-vertices.ensures.valid.valid c.args.vertex None at))
