@@ -1,6 +1,6 @@
 -- What a jobspec V1 asks for, the canonical form asks for too.
 use Rattle.std.proofs.Common.{◌≡◌, sym, ◌∙◌, ap, ℕ, ◌==◌, not, Bool, List, Option, Some, None, Result, Ok, Err, codes}
-use Rattle.std.proofs.Common.{◌⊎◌, inl, inr}
+use Rattle.std.proofs.Common.{inl, inr}
 use Rattle.serde_json.specs.Data.{Data}
 use Rattle.json_whole.specs.Whole.{value_of}
 use Rattle.json_fields.specs.Values.{result_and_then, object_value}

@@ -1,3 +1,4 @@
+pub mod KeyLaws
 pub mod SaidLaws
 pub mod RequestLaws
 pub mod TaskLaws

@@ -1,13 +1,11 @@
 -- Lists of request vertices: what is read of them is a request, and one step of the reading.
-use Rattle.std.proofs.Common.{◌≡◌, ◌≢◌, refl, sym, ◌∙◌, ap, subst, ℕ, zero, suc, ◌+◌, ◌^◌, ◌<◌, ◌≤◌, ◌&&◌, ◌||◌, Bool}
-use Rattle.std.proofs.Common.{true, false, Option, List, [], ◌∷◌, ◌++◌, Ok, Err, Result, arith, append_assoc, ◌⊎◌, inl}
-use Rattle.std.proofs.Common.{inr, length, get_or}
+use Rattle.std.proofs.Common.{◌≡◌, ◌≢◌, refl, sym, ◌∙◌, ap, subst, ℕ, ◌+◌, ◌≤◌, ◌&&◌, ◌||◌, Bool}
+use Rattle.std.proofs.Common.{true, false, Option, List, [], ◌∷◌, ◌++◌, Ok, Err, Result, append_assoc, ◌⊎◌, inl}
+use Rattle.std.proofs.Common.{inr}
 use Rattle.std.specs.Result.{result_map_both}
 use Rattle.flux_defs.specs.declared.limits.TheConstants.{GREATEST_NUMBER}
 use denote.Hole
-use Rattle.serde_json.specs.declared.value.Value.{Value}
-use Rattle.serde_json.specs.View.{view, items_view}
-use Rattle.serde_json.specs.Data.{Data, Items, item, depth, items_depth}
+use Rattle.serde_json.specs.Data.{Data, Items, item}
 use Rattle.json_fields.specs.Values.{result_and_then}
 use Rattle.json_fields.specs.Paths.{index}
 use Rattle.need_shape.specs.declared.raw.RawNeed.{RawNeed, Row_of-RawNeed, end_of-RawNeed, more_of-RawNeed}
@@ -28,7 +26,6 @@ use Rattle.jobspec_v1.specs.Requests.{requests_of, request_of}
 use Rattle.jobspec_v1.specs.declared.requests.Requested.{Requested}
 use Rattle.jobspec_v1.proofs.SaidLaws.{said_is}
 use Rattle.json_fields.proofs.Results.{then_ok, both_ok}
-use Rattle.json_fields.proofs.Depths.{at_depth}
 
 -- ---- they are a request
 

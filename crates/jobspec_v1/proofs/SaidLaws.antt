@@ -1,5 +1,5 @@
 -- What a request vertex that has no fault says of itself.
-use Rattle.std.proofs.Common.{◌≡◌, refl, sym, ◌∙◌, ap, subst, ℕ, suc, ◌^◌, ◌<◌, ◌≤◌, ◌&&◌, max, Bool, true, false}
+use Rattle.std.proofs.Common.{◌≡◌, refl, sym, ◌∙◌, ap, subst, ℕ, suc, ◌<◌, ◌≤◌, ◌&&◌, max, Bool, true, false}
 use Rattle.std.proofs.Common.{Option, Some, None, List, Ok, Err, Result, nat_lt, codes, arith, if◌then◌else◌, Ordering}
 use Rattle.std.proofs.Common.{Less, Equal, Greater}
 use Rattle.std.proofs.lemmas.Bool.{ltb-false}

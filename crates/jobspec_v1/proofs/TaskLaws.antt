@@ -1,10 +1,10 @@
 -- The tasks of V1, by how many there are.
 use Rattle.std.proofs.Common.{ℕ, ◌≡◌, ◌⊎◌, inl, inr, refl, ◌∙◌, ap, true, false, not, Some, None, List, [], ◌∷◌, length}
-use Rattle.std.proofs.Common.{◌==◌, Result, Ok, Err, IfErr, codes, arith}
+use Rattle.std.proofs.Common.{◌==◌, Result, Ok, Err, IfErr, Global, codes, arith}
 use Rattle.std.proofs.lemmas.Bool.{ne_eqb}
 use Rattle.json_fields.specs.Values.{result_and_then}
-use Rattle.serde_json.specs.declared.value.Value.{Value}
-use Rattle.serde_json.specs.View.{items_view}
+use Rattle.json.specs.declared.value.Value.{Value}
+use Rattle.json_whole.specs.Values.{items_view}
 use Rattle.serde_json.specs.Data.{Data, Items}
 use Rattle.jobspec_v1.specs.declared.faults.SpecFault.{SpecFault}
 use Rattle.jobspec_v1.specs.declared.faults.SpecFault.TheVariants.{Task, Memory}
@@ -13,7 +13,7 @@ use Rattle.jobspec_v1.specs.Tasks.{task_list, tasks_fault}
 use Rattle.jobspec_v1.specs.Jobspecs.{is_one, unless, unless_fault, v1_tasks}
 
 -- one value
-pub one_value : (vs : List Value) → (length vs == 1) ≡ is_one (items_view vs)
+pub one_value : (vs : List (Value Global)) → (length vs == 1) ≡ is_one (items_view vs)
 one_value [] = refl
 one_value (v ∷ []) = refl
 one_value (v ∷ w ∷ vs) = ne_eqb (length (v ∷ w ∷ vs)) 1 (λ one. omega (arith, one))

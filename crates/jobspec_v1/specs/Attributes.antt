@@ -3,7 +3,7 @@ use Rattle.std.specs.Prelude.{ℕ, List, if◌then◌else◌, Option, Some, None
 use Rattle.std.specs.Prelude.{Ok, codes}
 use Rattle.serde_json.specs.Data.{Data}
 use Rattle.serde_json.specs.Find.{get}
-use Rattle.serde_json.specs.View.{view}
+use Rattle.json_whole.specs.Values.{view}
 use Rattle.json_whole.specs.Field.{u64_field}
 use Rattle.json_whole.specs.declared.fields.FieldFault.{FieldFault}
 use Rattle.json_fields.specs.Values.{result_and_then, given, object_or_none}

@@ -1,6 +1,6 @@
 -- Request vertices (RFC 14) as a jobspec writes them: what each says, and the first fault of them.
 use Rattle.flux_defs.specs.declared.limits.TheConstants.{GREATEST_NUMBER, MOST_TYPE_BYTES}
-use Rattle.std.specs.Prelude.{ℕ, ◌^◌, ◌&&◌, ◌||◌, List, [], ◌∷◌, ◌++◌, ◌+◌, Bool, true, false, not, if◌then◌else◌}
+use Rattle.std.specs.Prelude.{ℕ, ◌&&◌, ◌||◌, List, [], ◌∷◌, ◌++◌, ◌+◌, Bool, true, false, not, if◌then◌else◌}
 use Rattle.std.specs.Prelude.{Option, Some, None, is_some, option_map, Result, Ok, Err, codes, bytes_eq, position}
 use Rattle.std.specs.List.{list_all}
 use Rattle.std.specs.Option.{option_map_or}
@@ -10,7 +10,7 @@ use Rattle.std.specs.Result.{result_map_both}
 use Rattle.serde_json.specs.Data.{Data, null, boolean, number, string, array, object, Items, no_items, item, Members}
 use Rattle.serde_json.specs.Data.{no_members, member}
 use Rattle.serde_json.specs.Find.{get, as_bool, as_str, as_object}
-use Rattle.serde_json.specs.View.{items_view}
+use Rattle.json_whole.specs.Values.{items_view}
 use Rattle.json_whole.specs.Field.{u64_field, text_field}
 use Rattle.json_whole.specs.declared.fields.FieldFault.{FieldFault}
 use Rattle.json_whole.specs.declared.fields.FieldFault.TheVariants.{Missing, Kind}
@@ -22,7 +22,6 @@ use Rattle.need_shape.specs.declared.raw.RawNeed.{RawNeed, roll-RawNeed}
 use Rattle.need_shape.specs.Requests.{is_slot}
 use Rattle.jobspec_v1.specs.declared.requests.Requested.{Requested}
 use Rattle.jobspec_v1.specs.declared.faults.SpecFault.{SpecFault}
-use Rattle.jobspec_v1.specs.declared.headers.VertexKey.{VertexKey}
 use Rattle.jobspec_v1.specs.declared.headers.VertexKey.TheVariants as key
 use Rattle.jobspec_v1.specs.declared.headers.KeyFault.{KeyFault}
 use Rattle.jobspec_v1.specs.declared.headers.KeyFault.TheVariants as of_key

@@ -3,7 +3,7 @@ ghost use Rattle.std.specs.Prelude.{◌≡◌, ◌⊎◌, ◌++◌, [], IsSome, 
 ghost use Rattle.std.specs.List.{list_all, list_any};
 ghost use Rattle.std.specs.Result.{result_map_both};
 ghost use Rattle.serde_json.specs.Find.{as_object};
-ghost use Rattle.serde_json.specs.View.{view, items_view, members_view};
+ghost use Rattle.json_whole.specs.Values.{view, items_view, object_view};
 ghost use Rattle.need_shape.specs.Requests.{is_slot};
 ghost use Rattle.jobspec_v1.specs.Faults.{key_path, vertex_path, fault_at};
 ghost use Rattle.json_fields.specs.Misfits.{at_field};
@@ -13,9 +13,9 @@ ghost use Rattle.jobspec_v1.specs.Requests.{said_held, of_field};
 
 use crate::faults::SpecFault;
 use flux_defs::{GREATEST_NUMBER, MOST_TYPE_BYTES};
+use json::Value;
 use json_fields::{Misfit, at_field, list_value, member_path, name_field, some_value};
-use json_whole::{FieldFault, need_text, need_u64};
-use serde_json::{Map, Value};
+use json_whole::{FieldFault, Object, as_bool, as_object, as_str, get, need_text, need_u64};
 use std::alloc::Global;
 use text_table::TextTable;
 
@@ -45,12 +45,12 @@ pub type KeyMisfit = Misfit<VertexKey, KeyFault>;
 
 /// What a request vertex says of itself: its label where it is a slot, and the values of the list in it.
 #[derive(Clone, Copy)]
-pub struct Header<'a> {
+pub struct Header<'v, 'a> {
     pub kind: &'a str,
     pub count: u64,
     pub exclusive: Option<bool>,
     pub label: Option<&'a str>,
-    pub with: &'a [Value],
+    pub with: &'v [Value<'a>],
 }
 
 /// Where a key stands, behind its request vertex.
@@ -103,17 +103,17 @@ fn is_vertex_key(key: &str) -> bool
         || key == "with"
 }
 
-fn has_own_keys(members: &Map<String, Value>) -> bool
-    ensures { result ≡ has_own_keys (members_view members.now.entries) }
+fn has_own_keys(members: &Object) -> bool
+    ensures { result ≡ has_own_keys (object_view members.now.items) }
 {
-    members.keys().all(|key| is_vertex_key(key.as_str()))
+    members.iter().all(|member| is_vertex_key(member.0))
 }
 
 /// Whether it is an object with no other keys.
 fn keys_given(value: &Value) -> Result<bool, KeyMisfit>
     ensures { result ≡ keys_given (view value.now) }
 {
-    let Some(members) = value.as_object() else {
+    let Some(members) = as_object(value) else {
         return Err(Misfit {
             field: VertexKey::Whole,
             fault: KeyFault::Field(FieldFault::Kind),
@@ -135,7 +135,7 @@ pub(crate) fn is_slot(kind: &str) -> bool
     kind == "slot"
 }
 
-fn type_key(in_slot: bool, value: &Value) -> Result<&str, KeyFault>
+fn type_key<'a>(in_slot: bool, value: &Value<'a>) -> Result<&'a str, KeyFault>
     requires { IsSome (as_object (view value.now)) }
     ensures { at_field VertexKey.TypeName (result_map_both (λ s. s.now) (λ e. e) result) ≡ type_given in_slot
         (view value.now) }
@@ -151,8 +151,8 @@ fn count_key(value: &Value) -> Result<u64, KeyFault>
     requires { IsSome (as_object (view value.now)) }
     ensures { at_field VertexKey.Count result ≡ count_given (view value.now) }
 {
-    if let Some(found) = value.get("count") {
-        if found.is_object() || found.is_string() {
+    if let Some(found) = get(value, "count") {
+        if as_object(found).is_some() || as_str(found).is_some() {
             return Err(KeyFault::NotInProfile);
         }
     }
@@ -162,8 +162,8 @@ fn count_key(value: &Value) -> Result<u64, KeyFault>
 fn unit_key(value: &Value) -> Result<bool, KeyFault>
     ensures { at_field VertexKey.Unit result ≡ unit_given (view value.now) }
 {
-    match value.get("unit") {
-        Some(found) if !found.is_string() => Err(KeyFault::Field(FieldFault::Kind)),
+    match get(value, "unit") {
+        Some(found) if as_str(found).is_none() => Err(KeyFault::Field(FieldFault::Kind)),
         _ => Ok(true),
     }
 }
@@ -171,10 +171,10 @@ fn unit_key(value: &Value) -> Result<bool, KeyFault>
 fn exclusive_key(slot: bool, value: &Value) -> Result<Option<bool>, KeyFault>
     ensures { at_field VertexKey.Exclusive result ≡ exclusive_given slot (view value.now) }
 {
-    let Some(found) = value.get("exclusive") else {
+    let Some(found) = get(value, "exclusive") else {
         return Ok(None);
     };
-    match found.as_bool() {
+    match as_bool(found) {
         None => Err(KeyFault::Field(FieldFault::Kind)),
         Some(held) if slot && !held => Err(KeyFault::NotInProfile),
         Some(held) => Ok(Some(held)),
@@ -191,7 +191,7 @@ pub(crate) fn is_among(texts: &TextTable, text: &str) -> bool
 fn label_key<'a>(
     labels: &TextTable,
     slot: bool,
-    value: &'a Value,
+    value: &Value<'a>,
 ) -> Result<Option<&'a str>, KeyFault>
     requires { IsSome (as_object (view value.now)) }
     ensures { at_field VertexKey.Label
@@ -208,15 +208,15 @@ fn label_key<'a>(
     Ok(Some(label))
 }
 
-fn with_key(slot: bool, value: &Value) -> Result<&[Value], KeyFault>
+fn with_key<'v, 'a>(slot: bool, value: &'v Value<'a>) -> Result<&'v [Value<'a>], KeyFault>
     ensures { at_field VertexKey.With (result_map_both (λ ds. items_view ds.now) (λ e. e) result) ≡ with_given slot
         (view value.now) }
 {
-    let Some(found) = value.get("with") else {
+    let Some(found) = get(value, "with") else {
         if slot {
             return Err(KeyFault::Field(FieldFault::Missing));
         }
-        return Ok(&[]);
+        return Ok(Default::default());
     };
     if slot {
         return of_field(some_value(found));
@@ -227,11 +227,11 @@ fn with_key(slot: bool, value: &Value) -> Result<&[Value], KeyFault>
 
 /// What a request vertex says of itself, in a slot or not and behind slots with these labels; or the first of its keys'
 /// faults.
-pub fn header_of<'a>(
+pub fn header_of<'v, 'a>(
     in_slot: bool,
     labels: &TextTable,
-    value: &'a Value,
-) -> Result<Header<'a>, KeyMisfit>
+    value: &'v Value<'a>,
+) -> Result<Header<'v, 'a>, KeyMisfit>
     ensures { result_map_both said_held (λ m. m) result ≡ said_by in_slot labels.now (view value.now) }
 {
     keys_given(value)?;

@@ -3,14 +3,15 @@ ghost use Rattle.std.specs.Prelude.{◌≡◌, ◌⊎◌, Ok, Err, Some, None, [
 ghost use Rattle.std.specs.Prelude.{option_map};
 ghost use Rattle.std.specs.List.{AllByRecursion};
 ghost use Rattle.serde_json.specs.Find.{as_object};
-ghost use Rattle.serde_json.specs.View.{view, items_view};
+ghost use Rattle.json_whole.specs.Values.{view, items_view};
+ghost use Rattle.json_whole.specs.Whole.{value_in};
 ghost use Rattle.flux_defs.specs.Graph.{IsNode};
 ghost use Rattle.flux_defs.specs.Needs.{IsProperAsk, AreRisingFrom};
 ghost use Rattle.need_shape.specs.Requests.{AreRequests};
 ghost use Rattle.jobspec_v1.specs.Faults.{IsFirstFault};
 ghost use Rattle.jobspec_v1.specs.Forms.{is_v1};
 ghost use Rattle.jobspec_v1.specs.Jobspecs.{version_of, resources_of, bars_in, is_one, ask_for, ask_by, v1_tasks};
-ghost use Rattle.jobspec_v1.specs.Jobspecs.{v1_in, v1_of};
+ghost use Rattle.jobspec_v1.specs.Jobspecs.{v1_in, v1_or_no_json, v1_of};
 
 use crate::attributes::read_attributes;
 use crate::faults::{SpecFault, behind, field_at};
@@ -18,12 +19,12 @@ use crate::forms::is_v1;
 use crate::requests::{Requested, read_requests};
 use crate::tasks::{check_tasks, task_list};
 use flux_defs::{Ask, GREATEST_NUMBER, List, Text};
+use json::{Scratch, Value};
 use json_fields::some_field;
-use json_whole::{FieldFault, ValueFault, need_u64, read_value};
+use json_whole::{FieldFault, PlainText, ValueFault, as_object, need_u64, read_value};
 use need_shape::{RawNeed, ShapeFault, shape};
 use node_constraints::{ConstraintFault, barred};
 use resource_graph::Graph;
-use serde_json::Value;
 use std::alloc::Global;
 use text_table::TextTable;
 
@@ -145,7 +146,7 @@ fn v1_in(alloc: Global, graph: &Graph, value: &Value) -> Result<Ask, SpecFault>
     ensures proper { IfOk result (IsProperAsk graph.now.resources.vertices) }
     ensures told { IfErr result (IsFirstFault (v1_in graph.now (view value.now))) }
 {
-    if !value.is_object() {
+    if as_object(value).is_none() {
         return Err(field_at(alloc, b".", FieldFault::Kind));
     }
     let version = read_version(alloc, value)?;
@@ -160,17 +161,29 @@ fn v1_in(alloc: Global, graph: &Graph, value: &Value) -> Result<Ask, SpecFault>
     ask_by(alloc, graph, value, &needs)
 }
 
+/// What a text in plain form asks for over a graph.
+fn v1_in_text(alloc: Global, graph: &Graph, text: &PlainText) -> Result<Ask, SpecFault>
+    ensures ask { IfOk result (λ ask. v1_or_no_json graph.now (value_in text.now) ≡ Ok ask) }
+    ensures proper { IfOk result (IsProperAsk graph.now.resources.vertices) }
+    ensures told { IfErr result (IsFirstFault (v1_or_no_json graph.now (value_in text.now))) }
+{
+    let mut scratch = Scratch::new(alloc);
+    match read_value(alloc, text, &mut scratch) {
+        Ok(value) => v1_in(alloc, graph, &value),
+        Err(ValueFault::NotJson) => Err(SpecFault::NotJson),
+        Err(ValueFault::Memory) => Err(SpecFault::Memory),
+    }
+}
+
 /// What a jobspec V1 (RFC 25) asks for over a graph, from its bytes. The fault is the first one, in this order: no
 /// JSON, the version, the request vertices, the form, the tasks, the attributes, the constraint, the shape. What is
 /// asked for is proper for the graph.
+#[tactic(auto, unfolding(json_whole::specs::Whole::value_of))]
 pub fn read_v1(alloc: Global, graph: &Graph, bytes: &[u8]) -> Result<Ask, SpecFault>
     ensures ask { IfOk result (λ ask. v1_of graph.now bytes.now ≡ Ok ask) }
     ensures proper { IfOk result (IsProperAsk graph.now.resources.vertices) }
     ensures told { IfErr result (IsFirstFault (v1_of graph.now bytes.now)) }
 {
-    match read_value(alloc, bytes) {
-        Ok(value) => v1_in(alloc, graph, &value),
-        Err(ValueFault::NotJson) => Err(SpecFault::NotJson),
-        Err(ValueFault::Memory) => Err(SpecFault::Memory),
-    }
+    let text = PlainText::of(alloc, bytes)?;
+    v1_in_text(alloc, graph, &text)
 }

@@ -1,6 +1,6 @@
 //! Request vertices as a jobspec lists them.
 ghost use Rattle.std.specs.Prelude.{◌≡◌, ◌⊎◌, ◌||◌, ◌∷◌, [], ℕ, List, Ok, IfOk, IfErr, OnOk, option_map};
-ghost use Rattle.serde_json.specs.View.{view, items_view};
+ghost use Rattle.json_whole.specs.Values.{view, items_view};
 ghost use Rattle.need_shape.specs.Requests.{is_slot, AreRequests};
 ghost use Rattle.jobspec_v1.specs.declared.headers.VertexKey.TheVariants as key;
 ghost use Rattle.jobspec_v1.specs.Faults.{IsFirstBehind, told_behind, vertex_path};
@@ -9,9 +9,9 @@ ghost use Rattle.jobspec_v1.specs.Requests.{requests_of, request_of, labels_with
 use crate::faults::{SpecFault, behind};
 use crate::headers::{VertexKey, header_of, is_slot, key_path, misfit_at};
 use flux_defs::{List, Text};
+use json::Value;
 use json_fields::member_path;
 use need_shape::RawNeed;
-use serde_json::Value;
 use std::alloc::{AllocError, Global};
 use text_forms::push;
 use text_table::TextTable;

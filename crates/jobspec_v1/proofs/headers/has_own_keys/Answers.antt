@@ -1,21 +1,12 @@
-use Rattle.std.proofs.Common.{rules, tests, ◌≡◌, ◌∙◌, refl, ap, List, [], ◌∷◌, map, ◌&&◌, string_bytes}
-use Rattle.std.specs.List.{list_all}
+use Rattle.std.proofs.Common.{rules, tests, ◌∙◌}
+use Rattle.std.proofs.lemmas.Iterator.{YieldsList-from_slice}
 use Rattle.std.proofs.lemmas.Iterator.Search.{all_from_yields_List}
-use Rattle.std.proofs.lemmas.Iterator.Consumers.{YieldsList-from_rest}
-use Rattle.serde_json.specs.View.{members_view}
-use Rattle.serde_json.proofs.Views.{Entry}
-use Rattle.json_fields.specs.Values.{keys_of}
 use Rattle.jobspec_v1.specs.Requests.{is_vertex_key}
+use Rattle.jobspec_v1.proofs.KeyLaws.{keys_as_came}
 use Rattle.jobspec_v1.proofs.headers.has_own_keys.Goals as goal
-
-by_entries : (es : List Entry) → list_all (λ k. is_vertex_key (string_bytes k)) (map (λ e. e.0) es)
-    ≡ list_all is_vertex_key (keys_of (members_view es))
-by_entries [] = refl
-by_entries (e ∷ es) = ap (λ b. is_vertex_key (string_bytes e.0) && b) (by_entries es)
 
 pub returns : goal.returns
 returns c =
-    let all = all_from_yields_List (λ k. is_vertex_key (string_bytes k)) _ _ c.all.result c.all.ensures.ran
-    (YieldsList-from_rest c.keys.result refl) (λ x b q k. search (rules, tests)) in
-    all ∙ ap (list_all (λ k. is_vertex_key (string_bytes k))) c.keys.ensures.rest
-    ∙ by_entries c.args.members.now.entries
+    all_from_yields_List (λ m. is_vertex_key m.0.now) _ _ c.all.result c.all.ensures.ran
+    (YieldsList-from_slice c.args.members.now.items cc) (λ x b q k. search (rules, tests))
+    ∙ keys_as_came is_vertex_key c.args.members.now.items

@@ -1,5 +1,5 @@
 use Rattle.std.proofs.Common.{◌∙◌, sym, ap, Err, inr}
-use Rattle.serde_json.specs.View.{view, items_view}
+use Rattle.json_whole.specs.Values.{view, items_view}
 use Rattle.jobspec_v1.specs.declared.faults.SpecFault.TheVariants.{Task}
 use Rattle.jobspec_v1.proofs.TaskLaws.{not_one, one_fine, one_told, if_err}
 use Rattle.jobspec_v1.proofs.jobspecs.check_v1_tasks.Goals as goal

@@ -1,9 +1,10 @@
-use Rattle.std.proofs.Common.{rules, ◌≡◌, ◌∙◌, sym, ap, ◌++◌, ◌∷◌, ◌+◌, ◌*◌, ◌<◌, ◌≤◌, ◌||◌, [], Ok, Result, drop}
-use Rattle.std.proofs.Common.{subst, arith}
+use Rattle.std.proofs.Common.{rules, ◌≡◌, ◌∙◌, sym, ap, ◌∷◌, ◌+◌, ◌*◌, ◌<◌, ◌≤◌, ◌||◌, [], Ok, Result, drop}
+use Rattle.std.proofs.Common.{subst, arith, List, Global}
 use Rattle.std.proofs.lemmas.List.{drop_more}
 use Rattle.std.specs.Result.{result_map_both}
+use Rattle.json.specs.declared.value.Value.{Value}
 use Rattle.serde_json.specs.Data.{depth, items_depth}
-use Rattle.serde_json.specs.View.{view, items_view}
+use Rattle.json_whole.specs.Values.{view, items_view}
 use Rattle.need_shape.specs.declared.raw.RawNeed.{roll-RawNeed}
 use Rattle.need_shape.specs.Requests.{is_slot, AreRequests}
 use Rattle.jobspec_v1.specs.declared.faults.SpecFault.{SpecFault}
@@ -92,7 +93,7 @@ pub read_requests-read_request-requires : goal.read_requests-read_request-requir
 read_requests-read_request-requires t c =
     let x = c.index-values-at.result in
     let low : depth (view x) ≤ items_depth (items_view c.args.values.now) =
-    subst (λ y. depth (view y) ≤ items_depth (items_view c.args.values.now))
+    subst (λ (y : Value Global). depth (view y) ≤ items_depth (items_view c.args.values.now))
     (sym c.index-values-at.is) (at_depth c.args.values.now c.values.at x (omega arith)) in
     let smaller : 2 * depth (view x) < 2 * items_depth (items_view c.args.values.now) + 1 = omega (arith, low) in
     search rules
@@ -111,7 +112,7 @@ read_requests-values-preserved t c =
       read = λ list.
           let next = next_read c.values.needs.items (view x) rest s list at c.values.labels
           (record { needs = c.in-Ok.need ∷ []; labels = c.read_request.new.labels }) (c.in-Ok.ensures.read list) in
-          let here_read = ap (λ ys. result_map_both (behind c.values.needs.items) (λ f. f)
+          let here_read = ap (λ (ys : List (Value Global)). result_map_both (behind c.values.needs.items) (λ f. f)
           (requests_of (items_view ys) s list at c.values.labels)) (sym here) in
           ap (λ ns. result_map_both (behind ns) (λ f. f)
           (requests_of rest s list (at + 1) c.read_request.new.labels)) more
@@ -130,7 +131,8 @@ read_requests-returns-in-Err-clause-told t c = λ list.
     let here : drop at vs ≡ x ∷ drop (at + 1) vs =
     drop_more vs at x (omega arith) ∙ ap (λ y. y ∷ drop (at + 1) vs) (sym c.index-values-at.is) in
     subst (λ (r : Result Requested SpecFault). IsFirstFault r (told_behind list fault))
-    (ap (λ ys. result_map_both (behind needs) (λ f. f) (requests_of (items_view ys) c.args.in_slot list at
-    c.values.labels)) (sym here) ∙ c.values.invariant.read list)
+    (ap (λ (ys : List (Value Global)). result_map_both (behind needs) (λ f. f)
+    (requests_of (items_view ys) c.args.in_slot list at c.values.labels)) (sym here)
+    ∙ c.values.invariant.read list)
     (member_told needs (view x) (items_view (drop (at + 1) vs)) c.args.in_slot at c.values.labels fault
     c.in-Err.ensures.told list)

@@ -1,7 +1,7 @@
 use Rattle.std.proofs.Common.{◌≡◌, ◌+◌, ◌*◌, ℕ, List, drop}
 use Rattle.std.specs.Result.{result_map_both}
 use Rattle.serde_json.specs.Data.{depth, items_depth}
-use Rattle.serde_json.specs.View.{view, items_view}
+use Rattle.json_whole.specs.Values.{view, items_view}
 use Rattle.need_shape.specs.Requests.{AreRequests}
 use Rattle.jobspec_v1.specs.Requests.{requests_of, behind}
 use Rattle.jobspec_v1.proofs.requests.+requests.Given as goal

@@ -1,5 +1,5 @@
 use Rattle.std.proofs.Common.{◌≡◌, drop}
-use Rattle.serde_json.specs.View.{items_view}
+use Rattle.json_whole.specs.Values.{items_view}
 use Rattle.jobspec_v1.specs.Tasks.{are_texts}
 use Rattle.jobspec_v1.proofs.tasks.are_texts.Given as goal
 

@@ -1,5 +1,5 @@
 use Rattle.std.proofs.Common.{◌≡◌, drop}
-use Rattle.serde_json.specs.View.{items_view}
+use Rattle.json_whole.specs.Values.{items_view}
 use Rattle.jobspec_v1.specs.Tasks.{tasks_fault}
 use Rattle.jobspec_v1.proofs.tasks.check_tasks.Given as goal
 

@@ -1,12 +1,12 @@
-use Rattle.std.proofs.Common.{◌≡◌, refl, sym, ◌∙◌, ap, ◌&&◌, ◌==◌, false, List, [], ◌∷◌, length}
+use Rattle.std.proofs.Common.{◌≡◌, refl, sym, ◌∙◌, ap, ◌&&◌, ◌==◌, false, List, [], ◌∷◌, length, Global}
 use Rattle.std.specs.Option.{option_map_or}
-use Rattle.serde_json.specs.declared.value.Value.{Value}
-use Rattle.serde_json.specs.View.{items_view}
+use Rattle.json.specs.declared.value.Value.{Value}
+use Rattle.json_whole.specs.Values.{items_view}
 use Rattle.serde_json.specs.Data.{Items}
 use Rattle.jobspec_v1.specs.Tasks.{are_texts, is_some_items}
 use Rattle.jobspec_v1.proofs.tasks.is_command.Goals as goal
 
-texts_some : (vs : List Value) →
+texts_some : (vs : List (Value Global)) →
     (length vs == 0) ≡ false → are_texts (items_view vs) ≡ (is_some_items (items_view vs) && are_texts (items_view vs))
 texts_some [] some = absurd (cc)
 texts_some (v ∷ vs) some = refl
