@@ -1,5 +1,5 @@
 -- The graph that is built from nodes that keep their rules is one that a file can hold.
-use Rattle.std.proofs.Common.{◌≡◌, refl, sym, ap, subst, ◌∙◌, ℕ, suc, ◌-◌, ◌^◌, ◌<◌, ◌≤◌, List, [], ◌∷◌, ◌++◌, length}
+use Rattle.std.proofs.Common.{◌≡◌, refl, sym, ap, subst, ◌∙◌, ℕ, suc, ◌<◌, ◌≤◌, List, [], ◌∷◌, ◌++◌, length}
 use Rattle.std.proofs.Common.{take, map, get_or, Bool, true, false, cond, Some, None, if◌then◌else◌, slice_get, IfSome}
 use Rattle.std.proofs.Common.{option_map, option_and_then, arith}
 use Rattle.std.specs.List.{AllByRecursion, list_all, fold}

@@ -1,5 +1,5 @@
 -- The graph of a file keeps the rules of a file.
-use Rattle.std.proofs.Common.{◌≡◌, refl, sym, ap, subst, ◌∙◌, ℕ, zero, suc, ◌+◌, ◌-◌, ◌^◌, ◌<◌, ◌≤◌, pos, negsuc, List}
+use Rattle.std.proofs.Common.{◌≡◌, refl, sym, ap, subst, ◌∙◌, ℕ, zero, suc, ◌+◌, ◌<◌, ◌≤◌, pos, negsuc, List}
 use Rattle.std.proofs.Common.{[], ◌∷◌, ◌++◌, length, Bool, true, false, ◌&&◌, nat_lt, nat_le, Option, Some, None}
 use Rattle.std.proofs.Common.{is_some, Result, Ok, Err, if◌then◌else◌, codes, decimal, IfSome, option_and_then, arith}
 use Rattle.std.specs.List.{AllByRecursion, list_all, fold}

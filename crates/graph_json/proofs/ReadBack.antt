@@ -1,5 +1,5 @@
 -- What is written of a graph is a graph file of that graph.
-use Rattle.std.proofs.Common.{◌≡◌, refl, sym, ap, subst, ◌∙◌, ℕ, zero, suc, ◌+◌, ◌-◌, ◌^◌, ◌<◌, ◌≤◌, List, [], ◌∷◌}
+use Rattle.std.proofs.Common.{◌≡◌, refl, sym, ap, subst, ◌∙◌, ℕ, zero, suc, ◌+◌, ◌^◌, ◌<◌, ◌≤◌, List, [], ◌∷◌}
 use Rattle.std.proofs.Common.{◌++◌, length, take, drop, map, get_or, Bool, true, false, true≢false, not, ◌||◌, cond}
 use Rattle.std.proofs.Common.{if◌then◌else◌, Option, Some, None, is_some, Ok, unwrap_or, slice_get, decimal, IfSome}
 use Rattle.std.proofs.Common.{option_map, option_and_then, append_assoc, append-nil, arith, inl, inr}
@@ -8,7 +8,7 @@ use Rattle.std.specs.Option.{option_map_or, IsSomeAnd}
 use Rattle.std.specs.Str.{bytes_eq}
 use Rattle.std.proofs.lemmas.Bool.{cases_lt, false_from_ne_true, or_from}
 use Rattle.std.proofs.lemmas.Fmt.{decimal_injective}
-use Rattle.std.proofs.lemmas.List.{length-take, take-append-drop, drop_more, take_all, drop_all}
+use Rattle.std.proofs.lemmas.List.{length-take, take-append-drop, take_all, drop_all}
 use Rattle.std.proofs.lemmas.List.Sums.{AllPass-from_list_all}
 use Rattle.std.proofs.lemmas.List.Folds.{list_any_at, Any-from_list_any}
 use Rattle.std.proofs.lemmas.Option.{slice_get-map, slice_get-get_or, slice_get_within, get_or_from_slice_get}

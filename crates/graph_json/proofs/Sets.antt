@@ -1,23 +1,19 @@
 -- Texts without repeats, in the order in which they were added.
 use Rattle.std.proofs.Common.{◌≡◌, refl, sym, ap, subst, ◌∙◌, ℕ, suc, List, [], ◌∷◌, ◌++◌, map, Bool, true, false, not}
-use Rattle.std.proofs.Common.{◌||◌, ◌&&◌, true≢false, Some, arith, ◌+◌, cond, nat_lt, length, None, option_map}
+use Rattle.std.proofs.Common.{◌||◌, true≢false, Some, arith, ◌+◌, cond, nat_lt, length, None, option_map}
 use Rattle.std.proofs.Common.{if◌then◌else◌, Bor, ◌==◌}
 use Rattle.std.proofs.lemmas.Bool.{ne_eqb}
 use Rattle.std.proofs.lemmas.Bool.Decides.{nat_tests}
 use Rattle.std.proofs.lemmas.Map.Keys.{IsDistinct-push}
-use Rattle.std.proofs.lemmas.Map.Text.{is_eq-slice_cmp}
-use Rattle.std.proofs.lemmas.Slice.Eq.{bytes_eq-Decides}
 use Rattle.std.specs.Cmp.Lexicographic.{nat_list_eq_equiv, slice_cmp}
-use Rattle.std.specs.List.{IsDistinct, AllByRecursion, list_all, list_any, position_or_len}
+use Rattle.std.specs.List.{IsDistinct, AllByRecursion, list_any, position_or_len}
 use Rattle.std.specs.Str.{bytes_eq}
-use Rattle.std.specs.Ordering.{nat_cmp, match_ordering, is_eq}
+use Rattle.std.specs.Ordering.{nat_cmp, match_ordering}
 use Rattle.std.specs.declared.cmp.Ordering.{Ordering}
 use Rattle.std.specs.declared.cmp.Ordering.TheVariants.{Less, Equal, Greater}
 use Rattle.std.specs.BTreeSet.{insert_key}
-use Rattle.json.specs.Value.{members_view}
 use Rattle.json.specs.declared.value.Value.{Value}
-use Rattle.serde_json.specs.Data.{Data, Members, no_members, member, put}
-use Rattle.json_whole.specs.Values.{view, members_data, object_view, entries_view}
+use Rattle.json_whole.specs.Values.{entries_view}
 use Rattle.json_fields.specs.Values.{keys_of}
 use Rattle.text_table.specs.Tables.{number_of}
 
@@ -99,57 +95,6 @@ pub keys_of-entries : {A : Type 0} (es : List (Bor (List ℕ) × Bor (Value A)))
     map (λ k. k.now) (map (λ e. e.0) es) ≡ keys_of (entries_view es)
 keys_of-entries [] = refl
 keys_of-entries (e ∷ es) = ap (λ ks. e.0.now ∷ ks) (keys_of-entries es)
-
-twice : (a b : Bool) → (a && b) ≡ (a && (a && b))
-twice true b = refl
-twice false b = refl
-
-swapped : (a b c : Bool) → (a && (b && c)) ≡ (b && (a && c))
-swapped true b c = refl
-swapped false true c = refl
-swapped false false c = refl
-
-behind : (a b c : Bool) → ((a && b) && c) ≡ (b && (a && c))
-behind true b c = refl
-behind false true c = refl
-behind false false c = refl
-
-alone : (a : Bool) → a ≡ (a && true)
-alone true = refl
-alone false = refl
-
-module _ (test : List ℕ → Bool) where
-  abbrev all_pass : Members → Bool
-  all_pass ms = list_all test (keys_of ms)
-
-  pass_by : (o : Ordering) (k l : List ℕ) (d e : Data) (ms rest : Members) →
-      slice_cmp nat_cmp k l ≡ o → all_pass rest ≡ (test k && all_pass ms)
-      → all_pass (match_ordering o (member k d (member l e ms)) (member l d ms) (member l e rest))
-      ≡ (test k && (test l && all_pass ms))
-  pass_by Less k l d e ms rest is more = refl
-  pass_by Equal k l d e ms rest is more =
-      let same : k ≡ l = (bytes_eq-Decides k l).0 (sym (is_eq-slice_cmp k l) ∙ ap is_eq is) in
-      twice (test l) (all_pass ms) ∙ ap (λ x. test x && (test l && all_pass ms)) (sym same)
-  pass_by Greater k l d e ms rest is more =
-      ap (λ b. test l && b) more ∙ swapped (test l) (test k) (all_pass ms)
-
-  -- with one that is put among them, the keys pass a test where it and they do
-  pass_put : (k : List ℕ) (d : Data) (ms : Members) → all_pass (put k d ms) ≡ (test k && all_pass ms)
-  pass_put k d no_members = refl
-  pass_put k d (member l e ms) = pass_by (slice_cmp nat_cmp k l) k l d e ms (put k d ms) refl (pass_put k d ms)
-
-  pass_with : {A : Type 0} (es : List (Bor (List ℕ) × Value A)) (found : Members) →
-      (list_all (λ e. test e.0.now) es && all_pass found) ≡ all_pass (members_data (members_view es) found)
-  pass_with [] found = refl
-  pass_with (e ∷ es) found =
-      behind (test e.0.now) (list_all (λ f. test f.0.now) es) (all_pass found)
-      ∙ ap (λ b. list_all (λ f. test f.0.now) es && b) (sym (pass_put e.0.now (view e.1) found))
-      ∙ pass_with es (put e.0.now (view e.1) found)
-
-  -- the keys of an object pass a test where those of its members do, as they came
-  pub keys_pass : {A : Type 0} (es : List (Bor (List ℕ) × Value A)) →
-      list_all (λ e. test e.0.now) es ≡ all_pass (object_view es)
-  keys_pass es = alone (list_all (λ e. test e.0.now) es) ∙ pass_with es no_members
 
 -- ---- the index past the last
 

@@ -1,5 +1,5 @@
 -- What the value of a graph says as a graph file.
-use Rattle.std.proofs.Common.{◌≡◌, refl, ap, ap₂, ◌∙◌, ℕ, suc, ◌-◌, ◌^◌, ◌<◌, ◌≤◌, List, [], ◌∷◌, length, map, Bool}
+use Rattle.std.proofs.Common.{◌≡◌, refl, ap, ap₂, ◌∙◌, ℕ, suc, ◌<◌, ◌≤◌, List, [], ◌∷◌, length, map, Bool}
 use Rattle.std.proofs.Common.{true, ◌&&◌, nat_lt, nat_le, Option, Some, None, Ok, Err, if◌then◌else◌, unwrap_or}
 use Rattle.std.proofs.Common.{slice_get, get_or, codes, decimal, IsUtf8, IfSome, arith}
 use Rattle.std.specs.List.{list_all}

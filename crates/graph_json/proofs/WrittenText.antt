@@ -1,7 +1,7 @@
 -- The text of a valid graph is JSON of the graph's value, as files are read.
-use Rattle.std.proofs.Common.{◌≡◌, refl, ap, ◌∙◌, ℕ, zero, suc, ◌+◌, ◌^◌, ◌<◌, ◌≤◌, pos, negsuc, List, [], ◌∷◌, ◌++◌}
-use Rattle.std.proofs.Common.{length, map, Bool, true, false, Option, Some, None, if◌then◌else◌, unwrap_or, slice_get}
-use Rattle.std.proofs.Common.{codes, decimal, IsUtf8, IfSome, arith}
+use Rattle.std.proofs.Common.{◌≡◌, refl, ap, ◌∙◌, ℕ, suc, ◌+◌, ◌^◌, ◌<◌, ◌≤◌, List, [], ◌∷◌}
+use Rattle.std.proofs.Common.{length, map, true, Option, Some, None, if◌then◌else◌, unwrap_or, slice_get}
+use Rattle.std.proofs.Common.{codes, IsUtf8, IfSome, arith}
 use Rattle.std.specs.List.{AllByRecursion, fold}
 use Rattle.std.specs.Ordering.{nat_cmp, match_ordering}
 use Rattle.std.specs.declared.cmp.Ordering.{Ordering}
@@ -9,14 +9,10 @@ use Rattle.std.specs.declared.cmp.Ordering.TheVariants.{Less, Equal, Greater}
 use Rattle.std.specs.Cmp.Lexicographic.{slice_cmp}
 use Rattle.std.specs.BTreeSet.{insert_key}
 use Rattle.std.specs.Str.{is_utf8}
-use Rattle.std.proofs.lemmas.Str.{IsUtf8-append, IsUtf8-nil, IsUtf8-from_ascii, IsUtf8-from_is_utf8}
+use Rattle.std.proofs.lemmas.Str.{IsUtf8-nil}
 use Rattle.std.proofs.lemmas.Str.{is_utf8-from_IsUtf8}
-use Rattle.std.proofs.lemmas.Fmt.{IsAscii-decimal, IsAscii-signed}
-use Rattle.json.proofs.Printed.Utf8.{IsUtf8-quoted, IsUtf8-boolean, IsUtf8-are_ascii}
-use Rattle.json.specs.Print.{quoted}
-use Rattle.serde_json.specs.Data.{Num, unsigned, negative, float, Data, null, boolean, number, string, array, object}
-use Rattle.serde_json.specs.Data.{Items, no_items, item, Members, no_members, member}
-use Rattle.serde_json.specs.Written.{number_text, compact_text, items_text, members_text, comma_if}
+use Rattle.json.proofs.Printed.Utf8.{IsUtf8-are_ascii}
+use Rattle.serde_json.specs.Written.{compact_text}
 use Rattle.serde_json.specs.Read.{read}
 use Rattle.json_whole.specs.Whole.{value_in, value_of}
 use Rattle.flux_defs.specs.declared.vertices.Vertex.{Vertex}
@@ -26,7 +22,7 @@ use Rattle.graph_json.specs.Nodes.{in_order}
 use Rattle.graph_json.specs.WrittenGraph.{keys_object, paths_data, metadata_data, node_data, nodes_data, contains_data}
 use Rattle.graph_json.specs.WrittenGraph.{edge_data, with_edge, edges_data, graph_data, graph_text, HasAllSmallNumbers}
 use Rattle.json_written.specs.Texts.{readable}
-use Rattle.json_written.proofs.PlainLaws.{IsWhole, IsPlain, ArePlain, HasPlain}
+use Rattle.json_written.proofs.PlainLaws.{IsPlain}
 use Rattle.json_written.proofs.PlainText.{plain-compact_text}
 use Rattle.json_written.proofs.ClearText.{IsClear, AreClear, HasClear, utf8_value, clear_readable}
 use Rattle.graph_json.proofs.WrittenLaws.{plain_graph, read-graph_text}

@@ -6,9 +6,7 @@ use Rattle.std.specs.List.{AllByRecursion, filter_map, find, list_any}
 use Rattle.std.specs.Option.{option_map_or}
 use Rattle.std.specs.Str.{bytes_eq}
 use Rattle.serde_json.specs.Data.{Data, Items, no_items, item}
-use Rattle.serde_json.specs.Find.{get, as_str, as_object}
-use Rattle.json_whole.specs.declared.fields.FieldFault.{FieldFault}
-use Rattle.json_whole.specs.declared.fields.FieldFault.TheVariants.{Kind}
+use Rattle.serde_json.specs.Find.{get, as_str}
 use Rattle.graph_json.specs.Fields.{id_field}
 use Rattle.json_fields.specs.Values.{result_and_then, given, object_value, object_or_none}
 use Rattle.json_fields.specs.Misfits.{at_field}

@@ -1,5 +1,5 @@
 -- What is written of a graph.
-use Rattle.std.specs.Prelude.{ℕ, ◌<◌, ◌^◌, suc, IfSome, negsuc, zero, List, [], ◌∷◌, map, if◌then◌else◌, Option, Some}
+use Rattle.std.specs.Prelude.{ℕ, ◌<◌, ◌^◌, suc, IfSome, negsuc, zero, List, [], ◌∷◌, map, Option, Some}
 use Rattle.std.specs.Prelude.{None, unwrap_or, slice_get, codes, decimal}
 use Rattle.std.specs.List.{AllByRecursion}
 use Rattle.serde_json.specs.Data.{Num, Data, number, string, array, object, unsigned, negative, Items, no_items, item}

@@ -1,5 +1,5 @@
 -- The tokens of parts of a graph.
-use Rattle.std.specs.Prelude.{◌≡◌, ℕ, List, [], ◌∷◌, ◌++◌, Option, Some, None, slice_get, codes}
+use Rattle.std.specs.Prelude.{ℕ, List, [], ◌∷◌, ◌++◌, Option, Some, None, slice_get, codes}
 use Rattle.std.specs.Option.{option_map_or}
 use Rattle.json.specs.Token.{Token, key, string}
 use Rattle.json_written.specs.Tokens.{value_tokens}

@@ -11,9 +11,10 @@ use Rattle.jobspec_v1.specs.declared.faults.SpecFault.TheVariants.{Version, Form
 use Rattle.jobspec_v1.specs.Faults.{IsFirstFault, at_path}
 use Rattle.jobspec_v1.specs.Forms.{is_v1}
 use Rattle.jobspec_v1.specs.Tasks.{task_list}
-use Rattle.jobspec_v1.specs.Jobspecs.{is_one, unless, version_of, resources_of, v1_tasks, v1_in, v1_or_no_json, v1_of}
+use Rattle.jobspec_v1.specs.Jobspecs.{is_one, unless, version_of, resources_of, tasks_in, v1_tasks, v1_in}
+use Rattle.jobspec_v1.specs.Jobspecs.{v1_or_no_json, v1_of}
 use Rattle.json_fields.proofs.Results.{then_ok, ok_is, no_ok}
-use Rattle.jobspec_canon.specs.Canonical.{tasks_in, canon_in, canon_or_no_json, canon_of}
+use Rattle.jobspec_canon.specs.Canonical.{canon_in, canon_or_no_json, canon_of}
 
 -- what stands behind a result that is Ok
 then_is : {A B E : Type 0} (r : Result A E) (f : A → Result B E) (x : A) (y : Result B E) →

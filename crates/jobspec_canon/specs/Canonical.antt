@@ -1,6 +1,6 @@
 -- What a jobspec in the canonical form (RFC 14) asks for, or the first fault of it, in the order in which faults are
 -- told.
-use Rattle.std.specs.Prelude.{ℕ, List, Bool, Option, Some, None, Result, Err, codes}
+use Rattle.std.specs.Prelude.{ℕ, List, Option, Some, None, Result, Err, codes}
 use Rattle.serde_json.specs.Data.{Data}
 use Rattle.json_whole.specs.Whole.{value_of}
 use Rattle.json_fields.specs.Values.{result_and_then, object_value}
@@ -9,12 +9,7 @@ use Rattle.resource_graph.specs.NamedGraph.{NamedGraph}
 use Rattle.jobspec_v1.specs.declared.faults.SpecFault.{SpecFault}
 use Rattle.jobspec_v1.specs.declared.faults.SpecFault.TheVariants.{NotJson}
 use Rattle.jobspec_v1.specs.Faults.{at_path}
-use Rattle.jobspec_v1.specs.Tasks.{task_list, tasks_fault}
-use Rattle.jobspec_v1.specs.Jobspecs.{unless_fault, version_of, resources_of, ask_by}
-
--- one task or more, each of them well formed
-abbrev pub tasks_in : List (List ℕ) → Data → Result Bool SpecFault
-tasks_in labels d = result_and_then (task_list d) (λ tasks. unless_fault (tasks_fault labels 0 tasks))
+use Rattle.jobspec_v1.specs.Jobspecs.{version_of, resources_of, tasks_in, ask_by}
 
 -- what a value asks for over a graph: any version, any request vertices
 abbrev pub canon_in : NamedGraph → Data → Result Ask SpecFault

@@ -1,4 +1,3 @@
-pub mod KeyLaws
 pub mod SaidLaws
 pub mod RequestLaws
 pub mod TaskLaws

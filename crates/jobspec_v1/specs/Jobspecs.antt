@@ -74,6 +74,10 @@ is_one no_items = false
 is_one (item d no_items) = true
 is_one (item d (item e ds)) = false
 
+-- one task or more, each of them well formed
+abbrev pub tasks_in : List (List ℕ) → Data → Result Bool SpecFault
+tasks_in labels d = result_and_then (task_list d) (λ tasks. unless_fault (tasks_fault labels 0 tasks))
+
 -- V1 has one task
 abbrev pub v1_tasks : List (List ℕ) → Data → Result Bool SpecFault
 v1_tasks labels d =

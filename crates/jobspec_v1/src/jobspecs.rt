@@ -4,14 +4,13 @@ ghost use Rattle.std.specs.Prelude.{option_map};
 ghost use Rattle.std.specs.List.{AllByRecursion};
 ghost use Rattle.serde_json.specs.Find.{as_object};
 ghost use Rattle.json_whole.specs.Values.{view, items_view};
-ghost use Rattle.json_whole.specs.Whole.{value_in};
 ghost use Rattle.flux_defs.specs.Graph.{IsNode};
 ghost use Rattle.flux_defs.specs.Needs.{IsProperAsk, AreRisingFrom};
 ghost use Rattle.need_shape.specs.Requests.{AreRequests};
 ghost use Rattle.jobspec_v1.specs.Faults.{IsFirstFault};
 ghost use Rattle.jobspec_v1.specs.Forms.{is_v1};
 ghost use Rattle.jobspec_v1.specs.Jobspecs.{version_of, resources_of, bars_in, is_one, ask_for, ask_by, v1_tasks};
-ghost use Rattle.jobspec_v1.specs.Jobspecs.{v1_in, v1_or_no_json, v1_of};
+ghost use Rattle.jobspec_v1.specs.Jobspecs.{tasks_in, v1_in, v1_of};
 
 use crate::attributes::read_attributes;
 use crate::faults::{SpecFault, behind, field_at};
@@ -41,8 +40,7 @@ pub fn read_version(alloc: Global, value: &Value) -> Result<u64, SpecFault>
 }
 
 /// The request vertices of a jobspec, one or more, with the labels of their slots. The fault is the first one, vertex
-/// by
-/// vertex, each before those in it, and in each key by key; and Field at `resources` where that is no such list.
+/// by vertex, each before those in it, and in each key by key; and Field at `resources` where that is no such list.
 pub fn read_resources(alloc: Global, value: &Value) -> Result<Requested, SpecFault>
     ensures read { IfOk result (λ read. resources_of (view value.now) ≡ Ok read) }
     ensures fine { IfOk result (λ read. AreRequests false read.needs) }
@@ -140,6 +138,17 @@ fn check_v1_tasks(alloc: Global, labels: &TextTable, value: &Value) -> Result<()
     }
 }
 
+/// Refuses a jobspec that has no task, or has one that breaks a rule of tasks.
+pub fn check_task_list(alloc: Global, labels: &TextTable, value: &Value) -> Result<(), SpecFault>
+    ensures fine { IsOk result → tasks_in labels.now (view value.now) ≡ Ok true }
+    ensures told { IfErr result (IsFirstFault (tasks_in labels.now (view value.now))) }
+{
+    match some_field(value, "tasks") {
+        Ok(tasks) => check_tasks(alloc, labels, tasks),
+        Err(fault) => Err(field_at(alloc, b"tasks", fault)),
+    }
+}
+
 /// What a value asks for over a graph.
 fn v1_in(alloc: Global, graph: &Graph, value: &Value) -> Result<Ask, SpecFault>
     ensures ask { IfOk result (λ ask. v1_in graph.now (view value.now) ≡ Ok ask) }
@@ -161,29 +170,19 @@ fn v1_in(alloc: Global, graph: &Graph, value: &Value) -> Result<Ask, SpecFault>
     ask_by(alloc, graph, value, &needs)
 }
 
-/// What a text in plain form asks for over a graph.
-fn v1_in_text(alloc: Global, graph: &Graph, text: &PlainText) -> Result<Ask, SpecFault>
-    ensures ask { IfOk result (λ ask. v1_or_no_json graph.now (value_in text.now) ≡ Ok ask) }
-    ensures proper { IfOk result (IsProperAsk graph.now.resources.vertices) }
-    ensures told { IfErr result (IsFirstFault (v1_or_no_json graph.now (value_in text.now))) }
-{
-    let mut scratch = Scratch::new(alloc);
-    match read_value(alloc, text, &mut scratch) {
-        Ok(value) => v1_in(alloc, graph, &value),
-        Err(ValueFault::NotJson) => Err(SpecFault::NotJson),
-        Err(ValueFault::Memory) => Err(SpecFault::Memory),
-    }
-}
-
 /// What a jobspec V1 (RFC 25) asks for over a graph, from its bytes. The fault is the first one, in this order: no
 /// JSON, the version, the request vertices, the form, the tasks, the attributes, the constraint, the shape. What is
 /// asked for is proper for the graph.
-#[tactic(auto, unfolding(json_whole::specs::Whole::value_of))]
 pub fn read_v1(alloc: Global, graph: &Graph, bytes: &[u8]) -> Result<Ask, SpecFault>
     ensures ask { IfOk result (λ ask. v1_of graph.now bytes.now ≡ Ok ask) }
     ensures proper { IfOk result (IsProperAsk graph.now.resources.vertices) }
     ensures told { IfErr result (IsFirstFault (v1_of graph.now bytes.now)) }
 {
     let text = PlainText::of(alloc, bytes)?;
-    v1_in_text(alloc, graph, &text)
+    let mut scratch = Scratch::new(alloc);
+    match read_value(alloc, &text, &mut scratch) {
+        Ok(value) => v1_in(alloc, graph, &value),
+        Err(ValueFault::NotJson) => Err(SpecFault::NotJson),
+        Err(ValueFault::Memory) => Err(SpecFault::Memory),
+    }
 }

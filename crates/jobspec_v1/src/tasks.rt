@@ -102,7 +102,11 @@ fn check_task(alloc: Global, labels: &TextTable, at: u64, value: &Value) -> Resu
 
 /// Refuses the first value that is no task of a request whose slots have these labels: Task where it is an object, and
 /// else Field, at its path.
-pub fn check_tasks(alloc: Global, labels: &TextTable, values: &[Value]) -> Result<(), SpecFault>
+pub(crate) fn check_tasks(
+    alloc: Global,
+    labels: &TextTable,
+    values: &[Value],
+) -> Result<(), SpecFault>
     ensures fine { IsOk result → tasks_fault labels.now 0 (items_view values.now) ≡ None }
     ensures told { IfErr result
         (λ fault. (fault ≡ SpecFault.Memory) ⊎ (tasks_fault labels.now 0 (items_view values.now) ≡ Some fault)) }
@@ -114,7 +118,10 @@ pub fn check_tasks(alloc: Global, labels: &TextTable, values: &[Value]) -> Resul
 }
 
 /// The values at `tasks`, one or more: Field at `tasks` where it is no such list.
-pub fn task_list<'v, 'a>(alloc: Global, value: &'v Value<'a>) -> Result<&'v [Value<'a>], SpecFault>
+pub(crate) fn task_list<'v, 'a>(
+    alloc: Global,
+    value: &'v Value<'a>,
+) -> Result<&'v [Value<'a>], SpecFault>
     ensures read { IfOk result (λ values. task_list (view value.now) ≡ Ok (items_view values.now)) }
     ensures told { IfErr result (IsFirstFault (task_list (view value.now))) }
 {

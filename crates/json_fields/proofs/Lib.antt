@@ -1,2 +1,3 @@
 pub mod Results
 pub mod Depths
+pub mod KeyLaws

@@ -2,7 +2,7 @@ use Rattle.std.proofs.Common.{rules, tests, ◌∙◌}
 use Rattle.std.proofs.lemmas.Iterator.{YieldsList-from_slice}
 use Rattle.std.proofs.lemmas.Iterator.Search.{all_from_yields_List}
 use Rattle.jobspec_v1.specs.Requests.{is_vertex_key}
-use Rattle.jobspec_v1.proofs.KeyLaws.{keys_as_came}
+use Rattle.json_fields.proofs.KeyLaws.{keys_as_came}
 use Rattle.jobspec_v1.proofs.headers.has_own_keys.Goals as goal
 
 pub returns : goal.returns
