@@ -1,7 +1,9 @@
 //! JSON with whole numbers: worked texts.
 use flux_defs::GREATEST_NUMBER;
-use json_whole::{FieldFault, ValueFault, need_text, need_u64, plain, read_value};
-use serde_json::Value;
+use json::Scratch;
+use json_whole::{
+    FieldFault, PlainText, ValueFault, as_object, need_text, need_u64, plain, read_value,
+};
 use std::alloc::{AllocError, Global};
 use std::test::Fail;
 
@@ -61,7 +63,11 @@ enum Outcome {
 }
 
 fn reading(alloc: Global, bytes: &[u8]) -> Outcome {
-    match read_value(alloc, bytes) {
+    let Ok(text) = PlainText::of(alloc, bytes) else {
+        return Outcome::Memory;
+    };
+    let mut scratch = Scratch::new(alloc);
+    match read_value(alloc, &text, &mut scratch) {
         Ok(_) => Outcome::Read,
         Err(ValueFault::NotJson) => Outcome::NotJson,
         Err(ValueFault::Memory) => Outcome::Memory,
@@ -126,11 +132,13 @@ fn levels(rt: HostRuntime) -> Result<(), Fail> {
 
 #[test]
 fn whole_numbers(rt: HostRuntime) -> Result<(), Fail> {
-    let value: Value = read_value(
+    let text = PlainText::of(
         rt.alloc(),
         br#"{"a":1,"a":2,"zero":0.0,"half":0.5,"power":1e3,"minus":-1,"none":null,"text":"7","last":70368744177664,"past":70368744177665}"#,
     )?;
-    assert!(rt; value.is_object());
+    let mut scratch = Scratch::new(rt.alloc());
+    let value = read_value(rt.alloc(), &text, &mut scratch)?;
+    assert!(rt; as_object(&value).is_some());
     let rows = [
         ("a", 1, 2, Ok(2)),
         ("a", 2, 2, Ok(2)),
@@ -156,8 +164,10 @@ fn whole_numbers(rt: HostRuntime) -> Result<(), Fail> {
 
 #[test]
 fn texts(rt: HostRuntime) -> Result<(), Fail> {
-    let value: Value = read_value(rt.alloc(), br#"{"a":"b\u00e9","half":0.5,"none":null}"#)?;
-    assert!(rt; value.is_object());
+    let text = PlainText::of(rt.alloc(), br#"{"a":"b\u00e9","half":0.5,"none":null}"#)?;
+    let mut scratch = Scratch::new(rt.alloc());
+    let value = read_value(rt.alloc(), &text, &mut scratch)?;
+    assert!(rt; as_object(&value).is_some());
     assert_eq!(rt; need_text(&value, "a"), Ok("b\u{e9}"));
     assert_eq!(rt; need_text(&value, "half"), Err(FieldFault::Kind));
     assert_eq!(rt; need_text(&value, "none"), Err(FieldFault::Kind));
