@@ -19,9 +19,9 @@ use Rattle.jobspec_v1.specs.declared.faults.SpecFault.{SpecFault}
 use Rattle.jobspec_v1.specs.declared.faults.SpecFault.TheVariants.{Constraint}
 use Rattle.jobspec_v1.specs.Faults.{at_path}
 use Rattle.jobspec_v1.specs.Attributes.{terms_of}
-use Rattle.jobspec_v1.specs.Jobspecs.{version_of, resources_of, unless_shape, ask_for, ask_by}
+use Rattle.jobspec_v1.specs.Jobspecs.{version_of, resources_of, unless_shape, tasks_in, ask_for, ask_by}
 use Rattle.jobspec_v1.specs.Jobspecs as jobspecs
-use Rattle.jobspec_canon.specs.Canonical.{tasks_in, canon_or_no_json, canon_of}
+use Rattle.jobspec_canon.specs.Canonical.{canon_or_no_json, canon_of}
 use Rattle.text_forms.specs.Numbers.{number_in}
 use Rattle.flux_defs.specs.declared.requests.Ask.{Ask}
 use Rattle.flux_defs.specs.declared.journal.Command.{Command}
