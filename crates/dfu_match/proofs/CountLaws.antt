@@ -109,7 +109,8 @@ module _ (vertices : List Vertex) (ok : Claim → Type 0) where
       claimed false claims p = p.2
 
   -- where nothing is asked, one copy fits
-  pub nothing_asked : (scope : Scope) (needs : List Need) → needs ≡ [] → IsGreatest (SomeFits vertices ok scope needs) 1 1
+  pub nothing_asked : (scope : Scope) (needs : List Need) → needs ≡ [] →
+      IsGreatest (SomeFits vertices ok scope needs) 1 1
   nothing_asked scope needs none = rw none record {
     within = omega arith;
     can_be = λ some. ([], refl);

@@ -48,11 +48,13 @@ found_here : (b : Bool) (key k : List ℕ) (j : json.Json) (found : Members) →
 found_here true key k j found e =
     let same : k ≡ key = (bytes_eq-Decides k key).0 e in rw (← same) (get_member-put k (data_of j) found)
 found_here false key k j found e =
-    get_member-put_other key k (data_of j) found (λ same. absurd (true≢false (sym ((bytes_eq-Decides k key).1 (sym same)) ∙ e)))
+    get_member-put_other key k (data_of j) found
+    (λ same. absurd (true≢false (sym ((bytes_eq-Decides k key).1 (sym same)) ∙ e)))
 
 -- the last member of a key among those that come, or else among those that were found before
 members_get : (key : List ℕ) (ms : json.Members) (found : Members) →
-    get_member key (members_data ms found) ≡ or_else (option_map data_of (find.get_member key ms)) (get_member key found)
+    get_member key (members_data ms found)
+    ≡ or_else (option_map data_of (find.get_member key ms)) (get_member key found)
 members_get key json.no_members found = refl
 members_get key (json.member k j ms) found =
     members_get key ms (put k (data_of j) found)

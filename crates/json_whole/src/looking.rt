@@ -1,5 +1,6 @@
 //! What stands in a value. The value at a repeated key is the last one.
-ghost use Rattle.std.specs.Prelude.{◌≡◌, ◌<◌, ◌==◌, length, slice_index, true, false, IsTrue, IfOk, OnOk, is_some, option_map};
+ghost use Rattle.std.specs.Prelude.{◌≡◌, ◌<◌, ◌==◌, length, slice_index, true, false, IsTrue, IfOk, OnOk, is_some};
+ghost use Rattle.std.specs.Prelude.{option_map};
 ghost use Rattle.fast_float.specs.Text.{minus};
 ghost use Rattle.json.specs.Find.{get_member};
 ghost use Rattle.json.specs.Value.{value_view, members_view};

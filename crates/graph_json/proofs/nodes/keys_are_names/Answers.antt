@@ -10,4 +10,5 @@ pub returns : goal.returns
 returns c =
     let members = c.args.members.now.items in
     all_from_yields_List (λ m. is_name MOST_NAME_BYTES m.0.now) _ _ c.all.result c.all.ensures.ran
-    (YieldsList-from_slice members cc) (λ x b q k. search (rules, tests)) ∙ keys_as_came (is_name MOST_NAME_BYTES) members
+    (YieldsList-from_slice members cc) (λ x b q k. search (rules, tests))
+    ∙ keys_as_came (is_name MOST_NAME_BYTES) members
