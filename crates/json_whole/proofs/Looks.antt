@@ -2,6 +2,7 @@
 use Rattle.std.proofs.Common.{◌≡◌, ℕ, List, [], ◌∷◌, Bool, true, false, cond, Option, Some, None, option_map, refl, sym}
 use Rattle.std.proofs.Common.{ap, ◌∙◌, true≢false, Float, Bor, ◌<◌, zero, suc, drop, get_or, length, arith}
 use Rattle.std.proofs.lemmas.Slice.Eq.{bytes_eq-Decides}
+use Rattle.std.specs.Option.{option_or}
 use Rattle.std.specs.Str.{bytes_eq}
 use Rattle.std.specs.BTreeMap.{insert_entry}
 use Rattle.std.specs.Cmp.Lexicographic.{slice_cmp}
@@ -28,23 +29,18 @@ finite_left false x = refl
 pub no_float_left : (sign : Bool) (p : Parts) → whole_or_zero (float_of sign p) ≡ unsigned 0
 no_float_left sign p = finite_left (float_is_finite (nearest binary64 sign p)) _
 
--- the later one of two, where there is one
-abbrev or_else : Option Data → Option Data → Option Data
-or_else None earlier = earlier
-or_else (Some d) earlier = Some d
-
 later_data : (late early : Option json.Json) →
-    option_map data_of (find.later_or late early) ≡ or_else (option_map data_of late) (option_map data_of early)
+    option_map data_of (find.later_or late early) ≡ option_or (option_map data_of late) (option_map data_of early)
 later_data None early = refl
 later_data (Some j) early = refl
 
-or_else_twice : (a b c : Option Data) → or_else (or_else a b) c ≡ or_else a (or_else b c)
-or_else_twice None b c = refl
-or_else_twice (Some d) b c = refl
+or_twice : (a b c : Option Data) → option_or (option_or a b) c ≡ option_or a (option_or b c)
+or_twice None b c = refl
+or_twice (Some d) b c = refl
 
 found_here : (b : Bool) (key k : List ℕ) (j : json.Json) (found : Members) → bytes_eq k key ≡ b →
     get_member key (put k (data_of j) found)
-    ≡ or_else (option_map data_of (cond b (Some j) None)) (get_member key found)
+    ≡ option_or (option_map data_of (cond b (Some j) None)) (get_member key found)
 found_here true key k j found e =
     let same : k ≡ key = (bytes_eq-Decides k key).0 e in rw (← same) (get_member-put k (data_of j) found)
 found_here false key k j found e =
@@ -54,18 +50,18 @@ found_here false key k j found e =
 -- the last member of a key among those that come, or else among those that were found before
 members_get : (key : List ℕ) (ms : json.Members) (found : Members) →
     get_member key (members_data ms found)
-    ≡ or_else (option_map data_of (find.get_member key ms)) (get_member key found)
+    ≡ option_or (option_map data_of (find.get_member key ms)) (get_member key found)
 members_get key json.no_members found = refl
 members_get key (json.member k j ms) found =
     members_get key ms (put k (data_of j) found)
-    ∙ ap (or_else (option_map data_of (find.get_member key ms))) (found_here (bytes_eq k key) key k j found refl)
-    ∙ sym (ap (λ o. or_else o (get_member key found))
+    ∙ ap (option_or (option_map data_of (find.get_member key ms))) (found_here (bytes_eq k key) key k j found refl)
+    ∙ sym (ap (λ o. option_or o (get_member key found))
     (later_data (find.get_member key ms) (cond (bytes_eq k key) (Some j) None))
-    ∙ or_else_twice (option_map data_of (find.get_member key ms)) _ (get_member key found))
+    ∙ or_twice (option_map data_of (find.get_member key ms)) _ (get_member key found))
 
-or_else_none : (a : Option Data) → or_else a None ≡ a
-or_else_none None = refl
-or_else_none (Some d) = refl
+or_none : (a : Option Data) → option_or a None ≡ a
+or_none None = refl
+or_none (Some d) = refl
 
 pub get-data : (key : List ℕ) (j : json.Json) → option_map data_of (find.get key j) ≡ get key (data_of j)
 get-data key json.null = refl
@@ -73,7 +69,7 @@ get-data key (json.boolean b) = refl
 get-data key (json.number s) = refl
 get-data key (json.string s) = refl
 get-data key (json.array js) = refl
-get-data key (json.object ms) = sym (members_get key ms no_members ∙ or_else_none _)
+get-data key (json.object ms) = sym (members_get key ms no_members ∙ or_none _)
 
 mapped_twice : {A : Type 0} (found : Option (Bor (Value A))) →
     option_map (λ v. view v.now) found ≡ option_map data_of (option_map (λ v. value_view v.now) found)
