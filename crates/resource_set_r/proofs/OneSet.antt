@@ -10,7 +10,7 @@ use Rattle.resource_set_r.specs.declared.faults.Misread.{Misread}
 use Rattle.resource_set_r.specs.declared.faults.Misread.TheVariants as misread
 use Rattle.resource_set_r.specs.declared.faults.RFault.{RFault}
 use Rattle.resource_set_r.specs.declared.faults.RFault.TheVariants as fault
-use Rattle.resource_set_r.specs.Misreads.{field_path}
+use Rattle.resource_set_r.specs.Misreads.{field_path, field_misread}
 use Rattle.idset_text.specs.declared.idsets.Range.{Range}
 use Rattle.std.proofs.lemmas.Bool.{cases_order}
 use Rattle.resource_set_r.specs.declared.sets_read.RRow.{RRow}
@@ -142,7 +142,7 @@ module _ (d : Data) where
 
 -- the fault that tells of a misread
 abbrev fault_of : Misread → RFault
-fault_of (misread.Field at k) = fault.Field (field_path at) k
+fault_of (misread.Field m) = fault.Field (field_path m.field) m.fault
 fault_of misread.Version = fault.Version
 fault_of (misread.Idset at) = fault.Idset (field_path at)
 fault_of misread.Hosts = fault.Hosts
@@ -156,7 +156,7 @@ Cause bytes f = ((value_of bytes ≡ None) × (f ≡ fault.NotJson))
 cause_of : (bytes : List ℕ) (f : RFault) → (f ≡ fault.Memory → ⊥) → IsFirstFault bytes f → Cause bytes f
 cause_of bytes fault.NotJson other told = inl (told, refl)
 cause_of bytes (fault.Field path k) other told =
-    inr (misread.Field told.0 k, told.2, ap (λ (p : List ℕ). fault.Field p k) told.1)
+    inr (field_misread told.0 k, told.2, ap (λ (p : List ℕ). fault.Field p k) told.1)
 cause_of bytes fault.Version other told = inr (misread.Version, told, refl)
 cause_of bytes (fault.Idset path) other told =
     inr (misread.Idset told.0, told.2, ap (λ (p : List ℕ). fault.Idset p) told.1)

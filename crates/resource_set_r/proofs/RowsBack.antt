@@ -1,5 +1,5 @@
 -- Elements and hosts that are written are read again.
-use Rattle.std.proofs.Common.{◌≡◌, ℕ, suc, ◌^◌, ◌≤◌, true, List, [], ◌∷◌, ◌++◌, length, map, Some, Ok, Err, refl, sym}
+use Rattle.std.proofs.Common.{◌≡◌, ℕ, suc, ◌≤◌, true, List, [], ◌∷◌, ◌++◌, length, map, Some, Ok, Err, refl, sym}
 use Rattle.std.proofs.Common.{◌∙◌, ap, arith, if◌then◌else◌, IsUtf8, codes}
 use Rattle.std.specs.List.{AllByRecursion, flat_map}
 use Rattle.std.specs.Result.{result_map_both}

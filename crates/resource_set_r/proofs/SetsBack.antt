@@ -1,5 +1,5 @@
 -- R that is written of a job is R of a set that says what the job has.
-use Rattle.std.proofs.Common.{◌≡◌, refl, sym, ap, subst, ◌∙◌, ℕ, ◌^◌, ◌≤◌, List, [], ◌∷◌, length, map, Option, None, Ok}
+use Rattle.std.proofs.Common.{◌≡◌, refl, sym, ap, subst, ◌∙◌, ℕ, ◌≤◌, List, [], ◌∷◌, length, map, Option, None, Ok}
 use Rattle.std.proofs.Common.{IsTrue, codes, arith}
 use Rattle.std.specs.List.{AllByRecursion, filter_map, filter}
 use Rattle.std.specs.List.Sorted.{IsStrictlyIncreasing}

@@ -28,9 +28,13 @@ field_path (Host at) = codes "execution.nodelist" ++ index at
 field_path Starttime = codes "execution.starttime"
 field_path Expiration = codes "execution.expiration"
 
+-- the fault stands at the field
+abbrev pub field_misread : FieldPath → FieldFault → Misread
+field_misread field fault = Field (record { field = field; fault = fault })
+
 -- what is read of a field, or its fault there
 abbrev pub at_field : {A : Type 0} → FieldPath → Result A FieldFault → Result A Misread
-at_field field read = result_map_both (λ x. x) (λ fault. Field field fault) read
+at_field field read = result_map_both (λ x. x) (field_misread field) read
 
 -- the answer is what is read there, a value or what is wrong; want of memory may come at any time
 abbrev pub IsResultOf : {X : Type 0} → Result X ReadError → Result X Misread → Type 0

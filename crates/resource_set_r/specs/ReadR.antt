@@ -22,7 +22,7 @@ use Rattle.resource_set_r.specs.declared.faults.ReadError.{ReadError}
 use Rattle.resource_set_r.specs.declared.faults.ReadError.TheVariants as error
 use Rattle.resource_set_r.specs.declared.sets_read.RRow.{RRow}
 use Rattle.resource_set_r.specs.declared.sets_read.RSet.{RSet}
-use Rattle.resource_set_r.specs.Misreads.{field_path, at_field}
+use Rattle.resource_set_r.specs.Misreads.{field_path, field_misread, at_field}
 use Rattle.resource_set_r.specs.ReadRows.{execution_of, rows_in, ranges_in, IsRepeatedRank}
 
 -- ---- hosts
@@ -30,7 +30,7 @@ use Rattle.resource_set_r.specs.ReadRows.{execution_of, rows_in, ranges_in, IsRe
 -- what is read of a hostlist at a place
 abbrev pub hosts_read : FieldPath → Result (List Hosts) ℕ → Result (List Hosts) Misread
 hosts_read at (Ok hosts) = Ok hosts
-hosts_read at (Err k) = Err (misread.Field at Text)
+hosts_read at (Err k) = Err (field_misread at Text)
 
 -- the hosts that the value with this index is
 abbrev pub host_value : ℕ → Data → Result (List Hosts) Misread
@@ -124,7 +124,7 @@ HasMisread bytes m = (d : Data) × (value_of bytes ≡ Some d) × IsMisreadOf d 
 abbrev pub IsFirstFault : List ℕ → RFault → Type 0
 IsFirstFault bytes fault.NotJson = value_of bytes ≡ None
 IsFirstFault bytes (fault.Field path f) = (at : FieldPath) × (path ≡ field_path at)
-    × HasMisread bytes (misread.Field at f)
+    × HasMisread bytes (field_misread at f)
 IsFirstFault bytes fault.Version = HasMisread bytes misread.Version
 IsFirstFault bytes (fault.Idset path) = (at : FieldPath) × (path ≡ field_path at) × HasMisread bytes (misread.Idset at)
 IsFirstFault bytes fault.Hosts = HasMisread bytes misread.Hosts
@@ -136,7 +136,7 @@ IsFirstFault bytes fault.Memory = ⊤
 -- the fault tells of this misread, or of want of memory
 abbrev pub IsToldAs : Misread → RFault → Type 0
 IsToldAs m fault.NotJson = ⊥
-IsToldAs m (fault.Field path f) = (at : FieldPath) × (path ≡ field_path at) × (m ≡ misread.Field at f)
+IsToldAs m (fault.Field path f) = (at : FieldPath) × (path ≡ field_path at) × (m ≡ field_misread at f)
 IsToldAs m fault.Version = m ≡ misread.Version
 IsToldAs m (fault.Idset path) = (at : FieldPath) × (path ≡ field_path at) × (m ≡ misread.Idset at)
 IsToldAs m fault.Hosts = m ≡ misread.Hosts

@@ -1,6 +1,6 @@
 -- What a job has of the nodes: their ranks, and by rank the ids of cores and gpus.
 use Rattle.std.specs.Prelude.{ℕ, ◌==◌, Bool, false, not, ◌&&◌, ◌||◌, nat_lt, if◌then◌else◌, List, [], ◌∷◌, ◌++◌, length}
-use Rattle.std.specs.Prelude.{Option, None, is_some, unwrap_or, slice_get, option_and_then, codes}
+use Rattle.std.specs.Prelude.{Option, None, is_some, slice_get, option_and_then, codes}
 use Rattle.std.specs.List.{fold, filter, filter_map, flat_map, find, position}
 use Rattle.std.specs.Option.{option_map_or}
 use Rattle.std.specs.Ordering.{nat_cmp}

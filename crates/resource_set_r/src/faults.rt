@@ -1,5 +1,6 @@
 //! Why bytes are no resource set.
 use flux_defs::Text;
+use json_fields::Misfit;
 use json_whole::FieldFault;
 use std::alloc::AllocError;
 
@@ -41,10 +42,13 @@ pub(crate) enum FieldPath {
     Expiration,
 }
 
+/// A field that breaks the rule of its key.
+pub(crate) type FieldMisfit = Misfit<FieldPath, FieldFault>;
+
 /// What is wrong with a value.
 #[derive(Clone, Copy, Debug, PartialEq, Eq)]
 pub(crate) enum Misread {
-    Field { field: FieldPath, fault: FieldFault },
+    Field(FieldMisfit),
     Version,
     Idset { field: FieldPath },
     Hosts,

@@ -12,7 +12,7 @@ ghost use Rattle.resource_set_r.specs.ReadR.{second_or_zero};
 use crate::faults::{FieldPath, Misread};
 use flux_defs::{GREATEST_NUMBER, Text};
 use json::Value;
-use json_fields::{list_field, list_value, member_path, object_field, object_value};
+use json_fields::{Misfit, list_field, list_value, member_path, object_field, object_value};
 use json_whole::{FieldFault, as_str, get, need_text, need_u64};
 use std::alloc::{AllocError, Global};
 
@@ -46,9 +46,9 @@ pub(crate) fn field_path(alloc: Global, field: FieldPath) -> Result<Text, AllocE
 pub(crate) fn at_field<T>(field: FieldPath, read: Result<T, FieldFault>) -> Result<T, Misread>
     ensures { result ≡ at_field field read }
 {
-    match read {
+    match json_fields::at_field(field, read) {
         Ok(found) => Ok(found),
-        Err(fault) => Err(Misread::Field { field, fault }),
+        Err(misfit) => Err(Misread::Field(misfit)),
     }
 }
 
@@ -103,10 +103,10 @@ pub(crate) fn text_value<'a>(value: &Value<'a>, field: FieldPath) -> Result<&'a 
 {
     match as_str(value) {
         Some(text) => Ok(text),
-        None => Err(Misread::Field {
+        None => Err(Misread::Field(Misfit {
             field,
             fault: FieldFault::Kind,
-        }),
+        })),
     }
 }
 

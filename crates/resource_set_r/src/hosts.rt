@@ -13,6 +13,7 @@ use crate::fields::{list_of, text_value};
 use flux_defs::List;
 use idset_text::{Hosts, Range, TextFault, read_hostlist};
 use json::Value;
+use json_fields::Misfit;
 use json_whole::{FieldFault, get};
 use std::alloc::{AllocError, Global};
 
@@ -26,10 +27,10 @@ fn host_value(alloc: Global, at: u64, value: &Value) -> Result<List<Hosts>, Read
     };
     match read_hostlist(alloc, text.as_bytes()) {
         Ok(hosts) => Ok(hosts),
-        Err(TextFault::Form { .. }) => Err(ReadError::Misread(Misread::Field {
+        Err(TextFault::Form { .. }) => Err(ReadError::Misread(Misread::Field(Misfit {
             field: FieldPath::Host { at },
             fault: FieldFault::Text,
-        })),
+        }))),
         Err(TextFault::Memory) => Err(ReadError::Memory),
     }
 }

@@ -19,6 +19,7 @@ use crate::ranks::{ranges_in, repeated_rank, rows_in};
 use crate::sets_read::{RRow, RSet};
 use flux_defs::List;
 use json::{Scratch, Value};
+use json_fields::Misfit;
 use json_whole::{PlainText, ValueFault, read_value};
 use std::alloc::Global;
 
@@ -95,7 +96,7 @@ fn fault_of(alloc: Global, misread: Misread) -> RFault
     ensures { IsToldAs misread result }
 {
     match misread {
-        Misread::Field { field, fault } => match field_path(alloc, field) {
+        Misread::Field(Misfit { field, fault }) => match field_path(alloc, field) {
             Ok(path) => RFault::Field { path, fault },
             Err(_) => RFault::Memory,
         },
