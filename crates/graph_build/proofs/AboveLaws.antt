@@ -1,4 +1,4 @@
--- What stands above a vertex is what its line has besides it.
+-- What stands above a vertex is what its chain has besides it.
 use Rattle.std.proofs.Common.{◌≡◌, ◌≢◌, ℕ, ◌+◌, ◌<◌, nat_eq, not, Bool, true, false, List, [], ◌∷◌, ◌++◌, length}
 use Rattle.std.proofs.Common.{get_or, set, Option, Some, None, inl, inr, refl, sym, ◌∙◌, ap, subst, arith, IsTrue}
 use Rattle.std.proofs.Common.{true≢false}
@@ -13,37 +13,37 @@ use Rattle.std.proofs.lemmas.Option.{slice_get-get_or, slice_get_within, get_or_
 use Rattle.flux_defs.specs.declared.vertices.Vertex.{Vertex}
 use Rattle.flux_defs.specs.Graph.{ResourceGraph, parent_of, is_at_or_below, is_below, HasKind, is_pool, is_pool_kind}
 use Rattle.graph_laws.proofs.Containment.{at_or_below-opens}
-use Rattle.resource_graph.specs.Lines.{line_of}
+use Rattle.resource_graph.specs.Chains.{chain_of}
 use Rattle.graph_build.specs.Faults.{IsNodeType, IsNestedInKind, IsHoused}
 use Rattle.graph_build.specs.Checks.{graph_in, IsHouse, HasHouses, HasChildTo, HasChildren}
-use Rattle.resource_graph.proofs.LineLaws.{no_vertex}
+use Rattle.resource_graph.proofs.ChainLaws.{no_vertex}
 use Rattle.graph_build.proofs.OwnLaws.{fact_here, fact_read}
 use Rattle.resource_graph.proofs.TableLaws.{push_cases}
 
 module _ (vertices : List Vertex) where
-  -- what is below another has that one in its line, at some index
-  pub in_line : (v u : ℕ) → IsTrue (is_below vertices v u) → ((i : ℕ) × (slice_get (line_of vertices v) i ≡ Some u))
+  -- what is below another has that one in its chain, at some index
+  pub in_chain : (v u : ℕ) → IsTrue (is_below vertices v u) → ((i : ℕ) × (slice_get (chain_of vertices v) i ≡ Some u))
       × (u ≢ v)
-  in_line v u h =
+  in_chain v u h =
       let parts = and_parts (is_at_or_below vertices v u) (not (nat_eq v u)) h in
-      let any = Any-from_list_any (nat_eq u) (line_of vertices v) (sym (at_or_below-opens vertices v u) ∙ parts.0) in
+      let any = Any-from_list_any (nat_eq u) (chain_of vertices v) (sym (at_or_below-opens vertices v u) ∙ parts.0) in
       let is : u ≡ any.1 = eqb-true u any.1 any.4 in (
-        (any.0, slice_get-get_or (line_of vertices v) any.0 any.1 any.2 ∙ ap Some (any.3 ∙ sym is)),
+        (any.0, slice_get-get_or (chain_of vertices v) any.0 any.1 any.2 ∙ ap Some (any.3 ∙ sym is)),
         (λ same. both_ways (nat_eq v u) (not-true (nat_eq v u) parts.1) (eq-eqb v u (sym same))),
       )
 
-  pub from_line : (v u i : ℕ) → slice_get (line_of vertices v) i ≡ Some u → u ≢ v → IsTrue (is_below vertices v u)
-  from_line v u i e differ =
-      let lt = slice_get_within (line_of vertices v) i u e in
-      let at : get_or (line_of vertices v) i u ≡ u = get_or_from_slice_get (line_of vertices v) i u u e in
-      let any : list_any (nat_eq u) (line_of vertices v) ≡ true = list_any_at (nat_eq u) (line_of vertices v) i u lt
+  pub from_chain : (v u i : ℕ) → slice_get (chain_of vertices v) i ≡ Some u → u ≢ v → IsTrue (is_below vertices v u)
+  from_chain v u i e differ =
+      let lt = slice_get_within (chain_of vertices v) i u e in
+      let at : get_or (chain_of vertices v) i u ≡ u = get_or_from_slice_get (chain_of vertices v) i u u e in
+      let any : list_any (nat_eq u) (chain_of vertices v) ≡ true = list_any_at (nat_eq u) (chain_of vertices v) i u lt
       (ap (nat_eq u) at ∙ eq-eqb u u refl) in
       and_from (is_at_or_below vertices v u) (not (nat_eq v u)) (at_or_below-opens vertices v u ∙ any)
       (not_from_false (nat_eq v u) (ne_eqb v u (λ same. differ (sym same))))
 
 module _ (kinds : List (List ℕ)) (vertices : List Vertex) (v : ℕ) where
   pub nested_here : (u i : ℕ) → v < length vertices → u < length vertices →
-      slice_get (line_of vertices v) i ≡ Some u → u ≢ v →
+      slice_get (chain_of vertices v) i ≡ Some u → u ≢ v →
       (get_or vertices u no_vertex).kind ≡ (get_or vertices v no_vertex).kind →
       IsNestedInKind (graph_in kinds vertices) v
   nested_here u i v_in u_in e differ same = (
@@ -52,16 +52,16 @@ module _ (kinds : List (List ℕ)) (vertices : List Vertex) (v : ℕ) where
     fact_here vertices v (λ x. x.kind ≡ (get_or vertices v no_vertex).kind)
         v_in refl,
     fact_here vertices u (λ x. x.kind ≡ (get_or vertices v no_vertex).kind) u_in same,
-    from_line vertices v u i e differ,
+    from_chain vertices v u i e differ,
   )
 
-  pub nested_nowhere : (line : List ℕ) → line ≡ line_of vertices v →
-      ((i u : ℕ) → i < length line → slice_get line i ≡ Some u → u ≢ v → (kind : ℕ) → HasKind vertices kind v →
+  pub nested_nowhere : (chain : List ℕ) → chain ≡ chain_of vertices v →
+      ((i u : ℕ) → i < length chain → slice_get chain i ≡ Some u → u ≢ v → (kind : ℕ) → HasKind vertices kind v →
       HasKind vertices kind u → ⊥) → IsNestedInKind (graph_in kinds vertices) v → ⊥
-  nested_nowhere line is none bad =
-      let there = in_line vertices v bad.0 bad.4 in
-      let at : slice_get line there.0.0 ≡ Some bad.0 = ap (λ l. slice_get l there.0.0) is ∙ there.0.1 in
-      none there.0.0 bad.0 (slice_get_within line there.0.0 bad.0 at) at there.1 bad.1 bad.2 bad.3
+  nested_nowhere chain is none bad =
+      let there = in_chain vertices v bad.0 bad.4 in
+      let at : slice_get chain there.0.0 ≡ Some bad.0 = ap (λ l. slice_get l there.0.0) is ∙ there.0.1 in
+      none there.0.0 bad.0 (slice_get_within chain there.0.0 bad.0 at) at there.1 bad.1 bad.2 bad.3
 
   pub kinds_differ : (u kind : ℕ) → v < length vertices → u < length vertices →
       (get_or vertices u no_vertex).kind ≢ (get_or vertices v no_vertex).kind → HasKind vertices kind v →
@@ -70,13 +70,13 @@ module _ (kinds : List (List ℕ)) (vertices : List Vertex) (v : ℕ) where
       differ (fact_read vertices u (λ x. x.kind ≡ kind) u_in at_u
       ∙ sym (fact_read vertices v (λ x. x.kind ≡ kind) v_in at_v))
 
-  pub house_nowhere : (line : List ℕ) → line ≡ line_of vertices v →
-      ((i u : ℕ) → i < length line → slice_get line i ≡ Some u → u ≢ v → IsNodeType (graph_in kinds vertices) u → ⊥) →
+  pub house_nowhere : (chain : List ℕ) → chain ≡ chain_of vertices v →
+      ((i u : ℕ) → i < length chain → slice_get chain i ≡ Some u → u ≢ v → IsNodeType (graph_in kinds vertices) u → ⊥) →
       IsHoused (graph_in kinds vertices) v → ⊥
-  house_nowhere line is none house =
-      let there = in_line vertices v house.0 house.2 in
-      let at : slice_get line there.0.0 ≡ Some house.0 = ap (λ l. slice_get l there.0.0) is ∙ there.0.1 in
-      none there.0.0 house.0 (slice_get_within line there.0.0 house.0 at) at there.1 house.1
+  house_nowhere chain is none house =
+      let there = in_chain vertices v house.0 house.2 in
+      let at : slice_get chain there.0.0 ≡ Some house.0 = ap (λ l. slice_get l there.0.0) is ∙ there.0.1 in
+      none there.0.0 house.0 (slice_get_within chain there.0.0 house.0 at) at there.1 house.1
 
 pub houses_more : (g : ResourceGraph) (v : ℕ) (houses grown : List (Option ℕ)) (o : Option ℕ) → HasHouses g v houses →
     IsHouse g v o → grown ≡ houses ++ o ∷ [] → HasHouses g (v + 1) grown

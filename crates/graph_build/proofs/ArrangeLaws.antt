@@ -13,10 +13,10 @@ use Rattle.flux_defs.specs.declared.vertices.Vertex.{Vertex}
 use Rattle.flux_defs.specs.Graph.{ResourceGraph, parent_of, chain, is_at_or_below, is_below}
 use Rattle.flux_defs.specs.ValidGraph.{StandsInPreorder}
 use Rattle.graph_laws.proofs.Containment.{at_or_below-opens}
-use Rattle.resource_graph.specs.Lines.{line_of}
+use Rattle.resource_graph.specs.Chains.{chain_of}
 use Rattle.graph_build.specs.Orders.{IsPreorderOf, IsRooted}
 use Rattle.graph_build.specs.Raw.{IsArranged, IsRenumbered}
-use Rattle.resource_graph.proofs.LineLaws.{no_vertex, parent_read}
+use Rattle.resource_graph.proofs.ChainLaws.{no_vertex, parent_read}
 
 module _ (kinds : List (List ℕ)) (vertices : List Vertex) (order : List ℕ) (g : ResourceGraph)
     (arranged : IsArranged kinds vertices order g) where
@@ -132,8 +132,8 @@ module _ (kinds : List (List ℕ)) (vertices : List Vertex) (order : List ℕ) (
       ap (λ b. b && not (nat_eq (index_of v) (index_of u))) (same_at_or_below v u u_in)
       ∙ ap (λ b. is_at_or_below g.vertices v u && not b) (same_test v u v_in)
 
-  pub same_line_length : (v : ℕ) → length (line_of g.vertices v) ≡ length (line_of vertices (index_of v))
-  same_line_length v =
+  pub same_chain_length : (v : ℕ) → length (chain_of g.vertices v) ≡ length (chain_of vertices (index_of v))
+  same_chain_length v =
       ap (λ n. length (chain g.vertices n (Some v))) arranged.as_many
       ∙ (sym (length-map (chain g.vertices (length vertices) (Some v)) index_of)
       ∙ ap length (sym (chain_indices (length vertices) (Some v))))

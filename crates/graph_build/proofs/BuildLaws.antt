@@ -10,7 +10,7 @@ use Rattle.flux_defs.specs.declared.limits.TheConstants.{MOST_TYPES}
 use Rattle.flux_defs.specs.declared.vertices.Vertex.{Vertex}
 use Rattle.flux_defs.specs.Graph.{ResourceGraph, parent_of, HasKind}
 use Rattle.flux_defs.specs.ValidGraph.{IsValidGraph, NumbersKinds}
-use Rattle.resource_graph.specs.Lines.{KnowsParents}
+use Rattle.resource_graph.specs.Chains.{KnowsParents}
 use Rattle.graph_build.specs.Orders.{IsOrderOf, IsPreorderOf, IsRooted}
 use Rattle.resource_graph.specs.Preorder.{KnowsKinds}
 use Rattle.graph_build.proofs.Facts.{Facts}
@@ -22,7 +22,7 @@ use Rattle.graph_build.specs.Arranged.{HasKindNumbers, HasMadeTo}
 use Rattle.graph_build.specs.declared.raw.RawVertex.{RawVertex}
 use Rattle.resource_graph.specs.declared.graph.Texts.{Texts}
 use Rattle.graph_build.specs.declared.arrange.KindNumbering.{KindNumbering}
-use Rattle.resource_graph.proofs.LineLaws.{no_vertex, parent_read}
+use Rattle.resource_graph.proofs.ChainLaws.{no_vertex, parent_read}
 use Rattle.graph_build.proofs.ValidLaws.{rooted_of_faultless, valid_of_faultless}
 use Rattle.resource_graph.proofs.Values.{from_value}
 use Rattle.graph_build.proofs.ArrangeLaws.{index_of, index_at, index_is, parent_index}

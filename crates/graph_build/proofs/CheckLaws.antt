@@ -9,7 +9,7 @@ use Rattle.graph_build.specs.Faults.{HasUnknownParent, IsRoot, IsSecondRoot}
 use Rattle.graph_build.specs.Checks.{graph_in, has_parent_from}
 use Rattle.resource_graph.specs.Finds.{IsFirstOf}
 use Rattle.resource_graph.specs.Preorder.{plain}
-use Rattle.resource_graph.proofs.LineLaws.{parent_read, parent_at, no_vertex}
+use Rattle.resource_graph.proofs.ChainLaws.{parent_read, parent_at, no_vertex}
 use Rattle.resource_graph.proofs.Finds.{Passes, finds_position, finds_same}
 use Rattle.resource_graph.proofs.Values.{from_value, value_of}
 

@@ -7,7 +7,7 @@ use Rattle.std.proofs.lemmas.Bool.{cases_lt}
 use Rattle.std.proofs.lemmas.Option.{slice_get-get_or, slice_get_within, same_Some}
 use Rattle.flux_defs.specs.declared.vertices.Vertex.{Vertex}
 use Rattle.flux_defs.specs.Graph.{parent_of, chain}
-use Rattle.resource_graph.specs.Lines.{KnowsParents}
+use Rattle.resource_graph.specs.Chains.{KnowsParents}
 use Rattle.graph_build.specs.Checks.{climb, HasClimbs, LeadsWithin}
 use Rattle.resource_graph.proofs.TableLaws.{push_cases}
 use Rattle.std.proofs.lemmas.List.{length_push}

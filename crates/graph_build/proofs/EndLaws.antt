@@ -7,11 +7,11 @@ use Rattle.std.proofs.lemmas.Option.{slice_get-get_or, slice_get_within}
 use Rattle.flux_defs.specs.declared.limits.TheConstants.{MOST_LEVELS}
 use Rattle.flux_defs.specs.declared.vertices.Vertex.{Vertex}
 use Rattle.flux_defs.specs.Graph.{parent_of, chain}
-use Rattle.resource_graph.specs.Lines.{line_of}
+use Rattle.resource_graph.specs.Chains.{chain_of}
 use Rattle.graph_build.specs.Faults.{NeverEnds, IsDeep}
 use Rattle.graph_build.specs.Checks.{graph_in, climb, HasClimbs}
 use Rattle.resource_graph.specs.Finds.{IsFirstOf}
-use Rattle.resource_graph.proofs.LineLaws.{chains_agree, chain_short}
+use Rattle.resource_graph.proofs.ChainLaws.{chains_agree, chain_short}
 use Rattle.graph_build.proofs.ClimbLaws.{climb-None, climb-climb, chain_ends, chain_goes_on}
 use Rattle.resource_graph.proofs.Finds.{Passes, finds_position, finds_same}
 use Rattle.resource_graph.proofs.Values.{value_of, from_value}
@@ -76,24 +76,24 @@ module _ (kinds : List (List ℕ)) (vertices : List Vertex) where
       finds_same (Passes (λ o. is_some o) climbs) (IsDeep (graph_in kinds vertices)) found
       (λ v h. (let r = reached_to MOST_LEVELS climbs has v h in (r.0, deep v r.0 r.1.0 r.1.1)))
       (λ v bad. reached_from MOST_LEVELS climbs has v bad.0 (λ none.
-      (let over : MOST_LEVELS < length (line_of vertices v) = bad.1 in
-      let long : length (line_of vertices v) ≤ length vertices = chain_short vertices (length vertices) (Some v) in
-      let same : length (line_of vertices v) ≡ length (chain vertices MOST_LEVELS (Some v)) =
+      (let over : MOST_LEVELS < length (chain_of vertices v) = bad.1 in
+      let long : length (chain_of vertices v) ≤ length vertices = chain_short vertices (length vertices) (Some v) in
+      let same : length (chain_of vertices v) ≡ length (chain vertices MOST_LEVELS (Some v)) =
       ap length (chain_stops vertices MOST_LEVELS (length vertices) (Some v) none (omega arith)) in
       let short : length (chain vertices MOST_LEVELS (Some v)) ≤ MOST_LEVELS =
       chain_short vertices MOST_LEVELS (Some v) in omega arith)))
       (finds_position (λ o. is_some o) climbs found e)
     where
       deep : (v : ℕ) → v < length vertices → (u : ℕ) → climb vertices MOST_LEVELS (Some v) ≡ Some u →
-          MOST_LEVELS < length (line_of vertices v)
+          MOST_LEVELS < length (chain_of vertices v)
       deep v lt u on =
           let long : length (chain vertices (MOST_LEVELS + 1) (Some v)) ≡ (MOST_LEVELS + 1) =
           chain_goes_on vertices MOST_LEVELS u (Some v) on in
           elim (cases_lt MOST_LEVELS (length vertices)) [
-            | inl many ↦ elim (cases_lt MOST_LEVELS (length (line_of vertices v))) [
+            | inl many ↦ elim (cases_lt MOST_LEVELS (length (chain_of vertices v))) [
               | inl over ↦ over
               | inr short ↦ absurd (
-                  let same : length (line_of vertices v) ≡ length (chain vertices (MOST_LEVELS + 1) (Some v)) =
+                  let same : length (chain_of vertices v) ≡ length (chain vertices (MOST_LEVELS + 1) (Some v)) =
                   ap length (chains_agree vertices
                   (length vertices) (MOST_LEVELS + 1) (Some v) (omega arith) (omega arith)) in
                   omega arith)

@@ -15,7 +15,7 @@ use Rattle.flux_defs.specs.Graph.{ResourceGraph, parent_of, chain, is_at_or_belo
 use Rattle.flux_defs.specs.ValidGraph.{HasType, HasId, HasRank, IsDevice}
 use Rattle.graph_laws.proofs.Containment.{at_or_below-opens, up, up-up, on_chain}
 use Rattle.graph_laws.proofs.Preorder.{has_parent}
-use Rattle.resource_graph.specs.Lines.{line_of}
+use Rattle.resource_graph.specs.Chains.{chain_of}
 use Rattle.graph_build.specs.Faults.{IsNodeType, IsNestedInKind, HasDoubleId, HasDoubleName, HasBadRank, RanksSome}
 use Rattle.graph_build.specs.Checks.{graph_in, HasHouses}
 use Rattle.resource_graph.specs.Finds.{IsFirstOf}
@@ -25,7 +25,7 @@ use Rattle.graph_build.specs.Keys.{lesser}
 use Rattle.graph_build.specs.declared.raw.RawVertex.{RawVertex}
 use Rattle.graph_build.specs.declared.doubles.DeviceKey.{DeviceKey}
 use Rattle.graph_build.specs.declared.doubles.SiblingKey.{SiblingKey}
-use Rattle.graph_build.proofs.AboveLaws.{in_line}
+use Rattle.graph_build.proofs.AboveLaws.{in_chain}
 use Rattle.resource_graph.proofs.Finds.{finds_same}
 use Rattle.graph_build.proofs.OwnLaws.{type_within, device_within}
 use Rattle.resource_graph.proofs.TableLaws.{push_cases}
@@ -80,24 +80,24 @@ finds_either P Q (Some a) (Some b) first_p first_q = (
 )
 
 module _ (kinds : List (List ℕ)) (vertices : List Vertex) where
-  on_line : (most i u : ℕ) (o : Option ℕ) → slice_get (chain vertices most o) i ≡ Some u → (i < most)
+  in_its_chain : (most i u : ℕ) (o : Option ℕ) → slice_get (chain vertices most o) i ≡ Some u → (i < most)
       × (up vertices i o ≡ Some u)
-  on_line zero i u o e = absurd (cc)
-  on_line (suc most) i u None e = absurd (cc)
-  on_line (suc most) zero u (Some v) e = (omega arith, e)
-  on_line (suc most) (suc i) u (Some v) e = let rest = on_line most i u (parent_of vertices v) e in
+  in_its_chain zero i u o e = absurd (cc)
+  in_its_chain (suc most) i u None e = absurd (cc)
+  in_its_chain (suc most) zero u (Some v) e = (omega arith, e)
+  in_its_chain (suc most) (suc i) u (Some v) e = let rest = in_its_chain most i u (parent_of vertices v) e in
       (let lt = rest.0 in omega arith, rest.1)
 
   module _ (apart : KindsApart kinds) (unnested : (v : ℕ) → IsNestedInKind (graph_in kinds vertices) v → ⊥) where
-    -- no node is above another node on a line
-    above_node : (v a b i j : ℕ) → i ≤ j → slice_get (line_of vertices v) i ≡ Some a →
-        slice_get (line_of vertices v) j ≡ Some b → IsNodeType (graph_in kinds vertices) a →
+    -- no node is above another node on a chain
+    above_node : (v a b i j : ℕ) → i ≤ j → slice_get (chain_of vertices v) i ≡ Some a →
+        slice_get (chain_of vertices v) j ≡ Some b → IsNodeType (graph_in kinds vertices) a →
         IsNodeType (graph_in kinds vertices) b → a ≡ b
     above_node v a b i j le at_a at_b node_a node_b = elim (cases_eq a b) [
       | inl same ↦ same
       | inr differ ↦ absurd (
-          let to_a = on_line (length vertices) i a (Some v) at_a in
-          let to_b = on_line (length vertices) j b (Some v) at_b in
+          let to_a = in_its_chain (length vertices) i a (Some v) at_a in
+          let to_b = in_its_chain (length vertices) j b (Some v) at_b in
           let split : i + (j - i) ≡ j = omega arith in
           let from_a : up vertices (j - i) (Some a) ≡ Some b = ap (up vertices (j - i)) (sym to_a.1)
           ∙ (up-up vertices i (j - i) (Some v) ∙ (ap (λ k. up vertices k (Some v)) split ∙ to_b.1)) in
@@ -121,8 +121,8 @@ module _ (kinds : List (List ℕ)) (vertices : List Vertex) where
     pub one_house : (v a b : ℕ) → IsNodeType (graph_in kinds vertices) a → IsNodeType (graph_in kinds vertices) b →
         IsTrue (is_below vertices v a) → IsTrue (is_below vertices v b) → a ≡ b
     one_house v a b node_a node_b below_a below_b =
-        let at_a = (in_line vertices v a below_a).0 in
-        let at_b = (in_line vertices v b below_b).0 in
+        let at_a = (in_chain vertices v a below_a).0 in
+        let at_b = (in_chain vertices v b below_b).0 in
         elim (cases_lt at_b.0 at_a.0) [
           | inl less ↦ sym (above_node v b a at_b.0 at_a.0 (omega arith) at_b.1 at_a.1 node_b node_a)
           | inr more ↦ above_node v a b at_a.0 at_b.0 more at_a.1 at_b.1 node_a node_b

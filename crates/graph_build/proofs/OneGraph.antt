@@ -15,7 +15,7 @@ use Rattle.graph_build.specs.Raw.{IsArranged, IsRenumbered, KeepsSiblings, Keeps
 use Rattle.graph_build.specs.declared.raw.RawVertex.{RawVertex}
 use Rattle.graph_build.proofs.ArrangeLaws.{index_at, index_in, index_past, same_index, number_of, parent_back}
 use Rattle.graph_build.proofs.ArrangeLaws.{parent_forth, parent_index}
-use Rattle.resource_graph.proofs.LineLaws.{no_vertex}
+use Rattle.resource_graph.proofs.ChainLaws.{no_vertex}
 use Rattle.resource_graph.proofs.Values.{value_of, at_value}
 
 -- lists with the same items

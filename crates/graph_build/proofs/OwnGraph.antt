@@ -23,10 +23,10 @@ use Rattle.graph_build.specs.Raw.{IsArranged, IsRenumbered, IsBuiltFrom, shape_o
 use Rattle.graph_build.specs.Raw.{is_node_of, some_ranked, nodes_among}
 use Rattle.graph_build.specs.OwnList.{own_vertex, own_list_from, own_list}
 use Rattle.graph_build.specs.declared.raw.RawVertex.{RawVertex}
-use Rattle.resource_graph.proofs.LineLaws.{no_vertex, parent_read}
+use Rattle.resource_graph.proofs.ChainLaws.{no_vertex, parent_read}
 use Rattle.graph_build.proofs.Facts.{node_test, node_tested}
 use Rattle.resource_graph.proofs.Values.{value_of, at_value, from_value}
-use Rattle.resource_graph.proofs.Queries.{parents_known, lines_short}
+use Rattle.resource_graph.proofs.Queries.{parents_known, chains_short}
 use Rattle.graph_build.proofs.OneGraph.{same_items}
 
 -- ---- nothing is wrong with a valid graph
@@ -86,7 +86,7 @@ module _ (g : ResourceGraph) (names : List (List ℕ)) (valid : IsValidGraph g n
         let within : v < length g.vertices = has.0 in
         let long : length g.vertices < length (chain g.vertices (suc (length g.vertices)) (Some v)) = has.1 in
         omega arith;
-    shallow = λ v has. let short = lines_short g names valid v has.0 in let deep = has.1 in omega arith;
+    shallow = λ v has. let short = chains_short g names valid v has.0 in let deep = has.1 in omega arith;
     unnested = λ v has. valid.unnested v has.0 has.1 has.2 has.3 has.4;
     unreserved = λ v has. let x = value_of (slice_get g.vertices v)
         (λ x. slice_get g.kinds x.kind ≡ Some (codes "slot")) has in valid.unreserved v x.0 x.1 x.2;

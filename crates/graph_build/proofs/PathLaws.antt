@@ -1,4 +1,4 @@
--- Preorder is the order of the lines from the root down, compared from their first numbers on.
+-- Preorder is the order of the chains from the root down, compared from their first numbers on.
 use Rattle.std.proofs.Common.{◌≡◌, ℕ, zero, suc, ◌+◌, ◌-◌, ◌<◌, ◌≤◌, nat_eq, Bool, true, false, List, [], ◌∷◌, ◌++◌}
 use Rattle.std.proofs.Common.{length, get_or, reverse, Option, Some, None, inl, inr, refl, sym, ◌∙◌, ap, subst, arith}
 use Rattle.std.proofs.Common.{IsTrue, true≢false}
@@ -13,9 +13,9 @@ use Rattle.std.proofs.lemmas.List.Folds.{list_any-append}
 use Rattle.flux_defs.specs.declared.vertices.Vertex.{Vertex}
 use Rattle.flux_defs.specs.Graph.{parent_of, chain, is_at_or_below}
 use Rattle.graph_laws.proofs.Containment.{at_or_below-opens, equal_from}
-use Rattle.resource_graph.specs.Lines.{line_of}
+use Rattle.resource_graph.specs.Chains.{chain_of}
 use Rattle.graph_build.specs.Orders.{IsRooted, IsOrderOf, IsPreorderOf}
-use Rattle.resource_graph.proofs.LineLaws.{chains_agree, chain_short}
+use Rattle.resource_graph.proofs.ChainLaws.{chains_agree, chain_short}
 
 pub cmp_less : (x y : ℕ) → x < y → nat_cmp x y ≡ Less
 cmp_less x y lt = ap (λ b. cond b Less (cond (nat_eq x y) Equal Greater)) (lt-ltb x y lt)
@@ -65,16 +65,16 @@ begins_between (x ∷ p) (y ∷ b) w low high =
     ]
 
 module _ (vertices : List Vertex) (rooted : IsRooted vertices) where
-  -- the line from the root down
+  -- the chain from the root down
   abbrev pub path_to : ℕ → List ℕ
-  path_to v = reverse (line_of vertices v)
+  path_to v = reverse (chain_of vertices v)
 
-  -- a line is the vertex and its parent's line
-  line_step : (v : ℕ) → v < length vertices → line_of vertices v ≡ v
+  -- a chain is the vertex and its parent's chain
+  chain_step : (v : ℕ) → v < length vertices → chain_of vertices v ≡ v
       ∷ chain vertices (length vertices) (parent_of vertices v)
-  line_step v lt = by_length (length vertices) refl
+  chain_step v lt = by_length (length vertices) refl
     where
-      by_length : (n : ℕ) → length vertices ≡ n → line_of vertices v ≡ v
+      by_length : (n : ℕ) → length vertices ≡ n → chain_of vertices v ≡ v
           ∷ chain vertices (length vertices) (parent_of vertices v)
       by_length zero e = absurd (let none : v < 0 = subst (λ (n : ℕ). v < n) e lt in omega arith)
       by_length (suc n) e =
@@ -88,21 +88,21 @@ module _ (vertices : List Vertex) (rooted : IsRooted vertices) where
           ap (λ m. chain vertices m (Some v)) e ∙ (ap (λ l. v ∷ l) same
           ∙ ap (λ m. v ∷ chain vertices m (parent_of vertices v)) (sym e))
 
-  none_line : (n : ℕ) → chain vertices n None ≡ []
-  none_line zero = refl
-  none_line (suc n) = refl
+  none_chain : (n : ℕ) → chain vertices n None ≡ []
+  none_chain zero = refl
+  none_chain (suc n) = refl
 
   pub path_below : (v p : ℕ) → v < length vertices → parent_of vertices v ≡ Some p → path_to v ≡ path_to p ++ v ∷ []
   path_below v p lt e =
-      let line : line_of vertices v ≡ v ∷ line_of vertices p = line_step v lt
+      let found : chain_of vertices v ≡ v ∷ chain_of vertices p = chain_step v lt
       ∙ ap (λ o. v ∷ chain vertices (length vertices) o) e in
-      ap reverse line ∙ reverse-append (v ∷ []) (line_of vertices p)
+      ap reverse found ∙ reverse-append (v ∷ []) (chain_of vertices p)
 
   pub path_root : (v : ℕ) → v < length vertices → parent_of vertices v ≡ None → path_to v ≡ v ∷ []
   path_root v lt e =
-      let line : line_of vertices v ≡ v ∷ [] = line_step v lt
-      ∙ (ap (λ o. v ∷ chain vertices (length vertices) o) e ∙ ap (λ l. v ∷ l) (none_line (length vertices))) in
-      ap reverse line
+      let found : chain_of vertices v ≡ v ∷ [] = chain_step v lt
+      ∙ (ap (λ o. v ∷ chain vertices (length vertices) o) e ∙ ap (λ l. v ∷ l) (none_chain (length vertices))) in
+      ap reverse found
 
   -- each path ends in its vertex
   pub path_ends : (v : ℕ) → v < length vertices → (above : List ℕ) × (path_to v ≡ above ++ v ∷ [])
@@ -125,15 +125,15 @@ module _ (vertices : List Vertex) (rooted : IsRooted vertices) where
   begins_below v p ys lt e =
       let ends = path_ends p lt in
       let split : path_to v ≡ ends.0 ++ (p ∷ ys) = e ∙ (ap (λ l. l ++ ys) ends.1 ∙ append_assoc ends.0 (p ∷ []) ys) in
-      let line : line_of vertices v ≡ (reverse (p ∷ ys) ++ reverse ends.0) =
-      sym (reverse-reverse (line_of vertices v)) ∙ (ap reverse split ∙ reverse-append ends.0 (p ∷ ys)) in
+      let found : chain_of vertices v ≡ (reverse (p ∷ ys) ++ reverse ends.0) =
+      sym (reverse-reverse (chain_of vertices v)) ∙ (ap reverse split ∙ reverse-append ends.0 (p ∷ ys)) in
       let turned : reverse (p ∷ ys) ≡ (reverse ys ++ p ∷ []) = reverse-append (p ∷ []) ys in
       let here : list_any (nat_eq p) (reverse ys ++ p ∷ []) ≡ true =
       list_any-append (nat_eq p) (reverse ys) (p ∷ [])
       ∙ or_right (list_any (nat_eq p) (reverse ys)) (list_any (nat_eq p) (p ∷ []))
       (or_left (nat_eq p p) false (equal_from p p refl)) in
-      let there : list_any (nat_eq p) (line_of vertices v) ≡ true =
-      ap (list_any (nat_eq p)) line ∙ (list_any-append (nat_eq p) (reverse (p ∷ ys)) (reverse ends.0) ∙
+      let there : list_any (nat_eq p) (chain_of vertices v) ≡ true =
+      ap (list_any (nat_eq p)) found ∙ (list_any-append (nat_eq p) (reverse (p ∷ ys)) (reverse ends.0) ∙
       or_left (list_any (nat_eq p) (reverse (p ∷ ys))) (list_any (nat_eq p) (reverse ends.0))
       (ap (list_any (nat_eq p)) turned ∙ here)) in
       at_or_below-opens vertices v p ∙ there

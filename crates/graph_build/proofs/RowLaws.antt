@@ -3,7 +3,7 @@ use Rattle.std.proofs.Common.{◌≡◌, ℕ, ◌++◌, List, [], ◌∷◌, len
 use Rattle.std.proofs.lemmas.Bool.{cases_lt}
 use Rattle.flux_defs.specs.Graph.{ResourceGraph}
 use Rattle.resource_graph.specs.Finds.{Nowhere}
-use Rattle.resource_graph.specs.Lines.{KnowsParents}
+use Rattle.resource_graph.specs.Chains.{KnowsParents}
 use Rattle.graph_build.specs.Faults.{HasUnknownParent}
 use Rattle.graph_build.specs.Table.{Row, row, NoneHolds, IsFirstRow, IsFirstIn, IsFirstFault, IsFaultless, table}
 use Rattle.graph_build.specs.declared.raw.GraphFault.{GraphFault}

@@ -16,14 +16,14 @@ use Rattle.flux_defs.specs.declared.vertices.Vertex.{Vertex}
 use Rattle.flux_defs.specs.Graph.{ResourceGraph, parent_of, chain, is_below, HasKind, IsNode, is_pool, is_pool_kind}
 use Rattle.flux_defs.specs.ValidGraph.{IsValidGraph, HasType, HasId, HasRank, IsDevice, NumbersKinds, HasFairSizes}
 use Rattle.flux_defs.specs.ValidGraph.{NumbersDevices}
-use Rattle.resource_graph.specs.Lines.{line_of}
+use Rattle.resource_graph.specs.Chains.{chain_of}
 use Rattle.graph_build.specs.Orders.{IsPreorderOf, IsRooted}
 use Rattle.graph_build.specs.Faults.{IsNodeType, HasDoubleName}
 use Rattle.graph_build.specs.Raw.{IsArranged, IsRenumbered, KindsApart, is_node_of, some_ranked, nodes_among, rank_of}
 use Rattle.resource_graph.proofs.Values.{value_of, at_value, from_value}
 use Rattle.graph_build.proofs.Facts.{Facts, node_test, node_tested}
 use Rattle.graph_build.proofs.ArrangeLaws.{index_of, index_at, index_in, same_index, number_of, both_of, same_below}
-use Rattle.graph_build.proofs.ArrangeLaws.{same_line_length, parent_back, preorder_arranged}
+use Rattle.graph_build.proofs.ArrangeLaws.{same_chain_length, parent_back, preorder_arranged}
 
 -- a list with which nothing is wrong hangs on one root
 pub rooted_of_faultless : (g : ResourceGraph) (names : List (List ℕ)) → Facts g names → IsRooted g.vertices
@@ -32,7 +32,7 @@ rooted_of_faultless g names fine = record {
       [ inl less ↦ less | inr past ↦ absurd (fine.parents v (p, e, past)) ];
   ends = λ v lt. elim (cases_lt (length g.vertices) (length (chain g.vertices (suc (length g.vertices)) (Some v))))
       [ inl over ↦ absurd (fine.ends v (lt, over)) | inr le ↦ le ];
-  short = λ v lt. elim (cases_lt MOST_LEVELS (length (line_of g.vertices v)))
+  short = λ v lt. elim (cases_lt MOST_LEVELS (length (chain_of g.vertices v)))
       [ inl over ↦ absurd (fine.shallow v (lt, over)) | inr le ↦ le ];
   root = (fine.root.0, fine.root.1.0, fine.root.1.1);
   alone = λ u v u_in v_in at_u at_v.
@@ -536,9 +536,9 @@ module _ (kinds : List (List ℕ)) (vertices : List Vertex) (names : List (List 
           kinds = numbers;
           preorder = preorder_arranged kinds vertices order g arranged rooted pre;
           shallow = λ v y at.
-              let short : length (line_of vertices (index v)) ≤ MOST_LEVELS =
+              let short : length (chain_of vertices (index v)) ≤ MOST_LEVELS =
               rooted.short (index v) (index_in kinds vertices order g arranged v (within v y at)) in
-              subst (λ (n : ℕ). n ≤ MOST_LEVELS) (sym (same_line_length kinds vertices order g arranged v)) short;
+              subst (λ (n : ℕ). n ≤ MOST_LEVELS) (sym (same_chain_length kinds vertices order g arranged v)) short;
           unnested = λ v u kind at_v at_u below.
               let same = same_kind v u kind at_v at_u in
               fine.unnested (index v) (index u, same.2.0, same.2.1, same.2.2, below_back v u same.0 same.1 below);

@@ -5,7 +5,7 @@ use Rattle.std.specs.Option.{IsSomeAnd}
 use Rattle.flux_defs.specs.declared.limits.TheConstants.{GREATEST_NUMBER, MOST_LEVELS}
 use Rattle.flux_defs.specs.Graph.{ResourceGraph, parent_of, chain, is_below, HasKind, is_pool}
 use Rattle.flux_defs.specs.ValidGraph.{HasType, HasId, HasRank, IsDevice}
-use Rattle.resource_graph.specs.Lines.{line_of}
+use Rattle.resource_graph.specs.Chains.{chain_of}
 
 -- v is a vertex of the type node
 abbrev pub IsNodeType : ResourceGraph → ℕ → Type 0
@@ -34,7 +34,7 @@ NeverEnds g v = (v < length g.vertices) ×
 
 -- more than 16 vertices from the root to it, both counted
 abbrev pub IsDeep : ResourceGraph → ℕ → Type 0
-IsDeep g v = (v < length g.vertices) × (MOST_LEVELS < length (line_of g.vertices v))
+IsDeep g v = (v < length g.vertices) × (MOST_LEVELS < length (chain_of g.vertices v))
 
 -- a vertex above has its kind
 abbrev pub IsNestedInKind : ResourceGraph → ℕ → Type 0

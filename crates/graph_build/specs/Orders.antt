@@ -5,7 +5,7 @@ use Rattle.std.specs.declared.alloc.Global.{Global}
 use Rattle.flux_defs.specs.declared.limits.TheConstants.{MOST_LEVELS}
 use Rattle.flux_defs.specs.declared.vertices.Vertex.{Vertex}
 use Rattle.flux_defs.specs.Graph.{parent_of, chain, is_at_or_below}
-use Rattle.resource_graph.specs.Lines.{line_of, KnowsParents}
+use Rattle.resource_graph.specs.Chains.{chain_of, KnowsParents}
 
 -- The vertices hang on one root, whatever their order: each parent is one of them, no chain of parents is longer than
 -- the graph,
@@ -13,7 +13,7 @@ use Rattle.resource_graph.specs.Lines.{line_of, KnowsParents}
 pub record IsRooted (vertices : List Vertex) : Type 0 where
   pub known : KnowsParents vertices
   pub ends : (v : ℕ) → v < length vertices → length (chain vertices (suc (length vertices)) (Some v)) ≤ length vertices
-  pub short : (v : ℕ) → v < length vertices → length (line_of vertices v) ≤ MOST_LEVELS
+  pub short : (v : ℕ) → v < length vertices → length (chain_of vertices v) ≤ MOST_LEVELS
   pub root : (r : ℕ) × (r < length vertices) × (parent_of vertices r ≡ None)
   pub alone : (u v : ℕ) → u < length vertices → v < length vertices → parent_of vertices u ≡ None →
       parent_of vertices v ≡ None → u ≡ v
@@ -38,10 +38,10 @@ pub record IsPreorderOf (vertices : List Vertex) (order : List ℕ) : Type 0 whe
   pub siblings : (j k u v : ℕ) → j < k → slice_get order j ≡ Some u → slice_get order k ≡ Some v →
       parent_of vertices u ≡ parent_of vertices v → u < v
 
--- each vertex's line from the root down
+-- each vertex's chain from the root down
 pub record HasPaths (vertices : List Vertex) (most : ℕ) (paths : List (Vec ℕ Global)) : Type 0 where
   pub as_many : length paths ≡ most
-  pub each : (v : ℕ) (path : Vec ℕ Global) → slice_get paths v ≡ Some path → path.items ≡ reverse (line_of vertices v)
+  pub each : (v : ℕ) (path : Vec ℕ Global) → slice_get paths v ≡ Some path → path.items ≡ reverse (chain_of vertices v)
 
 -- the last number of each list
 pub record HasEnds (lists : List (Vec ℕ Global)) (most : ℕ) (ends : List ℕ) : Type 0 where

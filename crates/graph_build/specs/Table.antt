@@ -32,9 +32,9 @@ link_rows g =
     ∷ row ManyRoots (IsSecondRoot g)
     ∷ []
 
--- the lines from the root down
-abbrev pub line_rows : ResourceGraph → List Row
-line_rows g = row Cycle (NeverEnds g) ∷ row Depth (IsDeep g) ∷ row NestedKind (IsNestedInKind g) ∷ []
+-- the chains from the root down
+abbrev pub chain_rows : ResourceGraph → List Row
+chain_rows g = row Cycle (NeverEnds g) ∷ row Depth (IsDeep g) ∷ row NestedKind (IsNestedInKind g) ∷ []
 
 -- the types' names, the pools and the sizes
 abbrev pub size_rows : ResourceGraph → List Row
@@ -47,7 +47,7 @@ device_rows g = row Loose (IsLoose g) ∷ row NoId (HasNoId g) ∷ row Duplicate
 
 -- the rows that need no names
 abbrev pub vertex_rows : ResourceGraph → List Row
-vertex_rows g = link_rows g ++ (line_rows g ++ (size_rows g ++ device_rows g))
+vertex_rows g = link_rows g ++ (chain_rows g ++ (size_rows g ++ device_rows g))
 
 -- the names of siblings and of nodes
 abbrev pub name_rows : ResourceGraph → List (List ℕ) → List Row

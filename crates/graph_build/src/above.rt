@@ -2,7 +2,7 @@
 ghost use Rattle.std.specs.Prelude.{◌≡◌, ◌<◌, ◌≤◌, ◌↔◌, ℕ, IsTrue, IfSome, IfOk, length};
 ghost use Rattle.flux_defs.specs.declared.limits.TheConstants.{MOST_VERTICES, MOST_LEVELS};
 ghost use Rattle.graph_build.specs.Faults.{IsNestedInKind, IsPoolWithChild, IsLoose};
-ghost use Rattle.resource_graph.specs.Lines.{line_of, KnowsParents, AllBelow};
+ghost use Rattle.resource_graph.specs.Chains.{chain_of, KnowsParents, AllBelow};
 ghost use Rattle.resource_graph.specs.Preorder.{plain, KnowsKinds};
 ghost use Rattle.resource_graph.specs.Holds.{HasPools};
 ghost use Rattle.graph_build.specs.Checks.{graph_in, IsHouse, HasHouses, HasChildren};
@@ -11,7 +11,7 @@ ghost use Rattle.resource_graph.specs.Finds.{IsFirstOf};
 use crate::finding::first_where;
 use crate::own::{is_device_at, is_node_at};
 use flux_defs::{Text, Vertex};
-use resource_graph::lines::line_up;
+use resource_graph::chains::chain_up;
 use resource_graph::tables::pool_table;
 use std::alloc::{AllocError, Global};
 
@@ -19,27 +19,27 @@ use std::alloc::{AllocError, Global};
 pub(crate) fn first_nested(alloc: Global, vertices: &[Vertex]) -> Result<Option<usize>, AllocError>
     requires few { length vertices.now ≤ MOST_VERTICES }
     requires parents { KnowsParents vertices.now }
-    requires short { (v : ℕ) → v < length vertices.now → length (line_of vertices.now v) ≤ MOST_LEVELS }
+    requires short { (v : ℕ) → v < length vertices.now → length (chain_of vertices.now v) ≤ MOST_LEVELS }
     ensures first { IfOk result (IsFirstOf (IsNestedInKind (plain vertices.now))) }
     ensures within { IfOk result (λ found. IfSome found (λ v. v < length vertices.now)) }
 {
     for v in 0..vertices.len() {
-        let line = line_up(alloc, vertices, v as u32)?;
-        if is_nested(vertices, line.as_slice(), v) {
+        let chain = chain_up(alloc, vertices, v as u32)?;
+        if is_nested(vertices, chain.as_slice(), v) {
             return Ok(Some(v));
         }
     }
     Ok(None)
 }
 
-/// Whether a vertex of its line other than itself is of its type.
-fn is_nested(vertices: &[Vertex], line: &[u32], v: usize) -> bool
+/// Whether a vertex of its chain other than itself is of its type.
+fn is_nested(vertices: &[Vertex], chain: &[u32], v: usize) -> bool
     requires within { v < length vertices.now }
-    requires line { line.now ≡ line_of vertices.now v }
-    requires below { AllBelow (length vertices.now) line.now }
+    requires chain { chain.now ≡ chain_of vertices.now v }
+    requires below { AllBelow (length vertices.now) chain.now }
     ensures { IsTrue result ↔ IsNestedInKind (plain vertices.now) v }
 {
-    for above in line {
+    for above in chain {
         let u = *above as usize;
         if u == v {
             continue;
@@ -59,26 +59,26 @@ pub(crate) fn house_table(
 ) -> Result<Vec<Option<u32>>, AllocError>
     requires few { length vertices.now ≤ MOST_VERTICES }
     requires parents { KnowsParents vertices.now }
-    requires short { (v : ℕ) → v < length vertices.now → length (line_of vertices.now v) ≤ MOST_LEVELS }
+    requires short { (v : ℕ) → v < length vertices.now → length (chain_of vertices.now v) ≤ MOST_LEVELS }
     ensures { IfOk result (λ houses. HasHouses (graph_in kinds.now vertices.now) (length vertices.now) houses.items) }
 {
     let mut houses = Vec::with_capacity(alloc, vertices.len())?;
     for v in 0..vertices.len() {
-        let line = line_up(alloc, vertices, v as u32)?;
-        let house = house_of(kinds, vertices, line.as_slice(), v);
+        let chain = chain_up(alloc, vertices, v as u32)?;
+        let house = house_of(kinds, vertices, chain.as_slice(), v);
         houses.push(house)?;
     }
     Ok(houses)
 }
 
-/// A node of the vertex's line other than itself.
-fn house_of(kinds: &[Text], vertices: &[Vertex], line: &[u32], v: usize) -> Option<u32>
+/// A node of the vertex's chain other than itself.
+fn house_of(kinds: &[Text], vertices: &[Vertex], chain: &[u32], v: usize) -> Option<u32>
     requires within { v < length vertices.now }
-    requires line { line.now ≡ line_of vertices.now v }
-    requires below { AllBelow (length vertices.now) line.now }
+    requires chain { chain.now ≡ chain_of vertices.now v }
+    requires below { AllBelow (length vertices.now) chain.now }
     ensures { IsHouse (graph_in kinds.now vertices.now) v result }
 {
-    for above in line {
+    for above in chain {
         let u = *above;
         if u as usize == v {
             continue;

@@ -2,7 +2,7 @@
 ghost use Rattle.std.specs.Prelude.{◌≡◌, ℕ, ◌<◌, ◌≤◌, [], cond, length, map, slice_get, slice_index, Some, IfOk, OnOk};
 ghost use Rattle.flux_defs.specs.declared.limits.TheConstants.{MOST_VERTICES, MOST_TYPES};
 ghost use Rattle.std.specs.Option.{option_map};
-ghost use Rattle.resource_graph.specs.Lines.{KnowsParents};
+ghost use Rattle.resource_graph.specs.Chains.{KnowsParents};
 ghost use Rattle.graph_build.specs.Orders.{IsOrderOf};
 ghost use Rattle.resource_graph.specs.Preorder.{KnowsKinds};
 ghost use Rattle.graph_build.specs.Raw.{shape_of, is_node_of, some_ranked};

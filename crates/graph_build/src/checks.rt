@@ -3,7 +3,7 @@ ghost use Rattle.std.specs.Prelude.{◌≡◌, ◌≤◌, length, map, OnOk, IfE
 ghost use Rattle.flux_defs.specs.declared.limits.TheConstants.{MOST_VERTICES};
 ghost use Rattle.graph_build.specs.Checks.{graph_in};
 ghost use Rattle.graph_build.specs.Raw.{KindsApart, raw_graph, raw_names, shape_of};
-ghost use Rattle.graph_build.specs.Table.{link_rows, line_rows, size_rows, device_rows, vertex_rows, name_rows};
+ghost use Rattle.graph_build.specs.Table.{link_rows, chain_rows, size_rows, device_rows, vertex_rows, name_rows};
 ghost use Rattle.graph_build.specs.Table.{rank_rows, table};
 ghost use Rattle.graph_build.specs.Table.{NoneHolds, IsFirstIn};
 
@@ -52,11 +52,11 @@ fn check_links(kinds: &[Text], vertices: &[Vertex]) -> Result<(), GraphFault>
     Ok(())
 }
 
-/// The lines from the root down.
-fn check_lines(alloc: Global, kinds: &[Text], vertices: &[Vertex]) -> Result<(), GraphFault>
+/// The chains from the root down.
+fn check_chains(alloc: Global, kinds: &[Text], vertices: &[Vertex]) -> Result<(), GraphFault>
     requires { NoneHolds (link_rows (graph_in kinds.now vertices.now)) }
-    ensures ok { OnOk result (NoneHolds (line_rows (graph_in kinds.now vertices.now))) }
-    ensures err { IfErr result (IsFirstIn (line_rows (graph_in kinds.now vertices.now))) }
+    ensures ok { OnOk result (NoneHolds (chain_rows (graph_in kinds.now vertices.now))) }
+    ensures err { IfErr result (IsFirstIn (chain_rows (graph_in kinds.now vertices.now))) }
 {
     if let Some(vertex) = first_endless(alloc, vertices)? {
         return Err(GraphFault::Cycle {
@@ -109,7 +109,7 @@ fn check_sizes(alloc: Global, kinds: &[Text], vertices: &[Vertex]) -> Result<(),
 fn check_devices(alloc: Global, kinds: &[Text], vertices: &[Vertex]) -> Result<(), GraphFault>
     requires apart { KindsApart kinds.now }
     requires links { NoneHolds (link_rows (graph_in kinds.now vertices.now)) }
-    requires lines { NoneHolds (line_rows (graph_in kinds.now vertices.now)) }
+    requires chains { NoneHolds (chain_rows (graph_in kinds.now vertices.now)) }
     ensures ok { OnOk result (NoneHolds (device_rows (graph_in kinds.now vertices.now))) }
     ensures err { IfErr result (IsFirstIn (device_rows (graph_in kinds.now vertices.now))) }
 {
@@ -139,7 +139,7 @@ fn check_vertices(alloc: Global, kinds: &[Text], vertices: &[Vertex]) -> Result<
     ensures err { IfErr result (IsFirstIn (vertex_rows (graph_in kinds.now vertices.now))) }
 {
     check_links(kinds, vertices)?;
-    check_lines(alloc, kinds, vertices)?;
+    check_chains(alloc, kinds, vertices)?;
     check_sizes(alloc, kinds, vertices)?;
     check_devices(alloc, kinds, vertices)
 }

@@ -3,7 +3,7 @@ ghost use Rattle.std.specs.Prelude.{◌≡◌, ℕ, ◌+◌, ◌<◌, ◌≤◌,
 ghost use Rattle.std.specs.Prelude.{Some, None};
 ghost use Rattle.flux_defs.specs.declared.limits.TheConstants.{MOST_VERTICES};
 ghost use Rattle.flux_defs.specs.declared.vertices.Vertex.{Vertex};
-ghost use Rattle.resource_graph.specs.Lines.{KnowsParents};
+ghost use Rattle.resource_graph.specs.Chains.{KnowsParents};
 ghost use Rattle.graph_build.specs.Checks.{HasClimbs, LeadsWithin};
 
 use flux_defs::Vertex;

@@ -3,7 +3,7 @@ ghost use Rattle.std.specs.Prelude.{◌≡◌, ◌<◌, ◌≤◌, ℕ, suc, IfO
 ghost use Rattle.flux_defs.specs.declared.limits.TheConstants.{MOST_VERTICES};
 ghost use Rattle.flux_defs.specs.Graph.{chain};
 ghost use Rattle.graph_build.specs.Faults.{NeverEnds, IsDeep};
-ghost use Rattle.resource_graph.specs.Lines.{KnowsParents};
+ghost use Rattle.resource_graph.specs.Chains.{KnowsParents};
 ghost use Rattle.resource_graph.specs.Preorder.{plain};
 ghost use Rattle.resource_graph.specs.Finds.{IsFirstOf};
 

@@ -4,7 +4,7 @@ ghost use Rattle.flux_defs.specs.declared.limits.TheConstants.{MOST_VERTICES};
 ghost use Rattle.graph_build.specs.Orders.{IsRooted, IsPreorderOf, HasPaths, HasEnds, NoneIsEmpty};
 
 use flux_defs::Vertex;
-use resource_graph::lines::line_up;
+use resource_graph::chains::chain_up;
 use std::alloc::{AllocError, Global};
 
 /// The indices of the vertices in preorder, siblings by their indices in the list.
@@ -18,7 +18,7 @@ pub(crate) fn preorder_of(alloc: Global, vertices: &[Vertex]) -> Result<Vec<u32>
     ends_of(alloc, paths.as_slice())
 }
 
-/// Each vertex's line from the root down.
+/// Each vertex's chain from the root down.
 fn path_table(alloc: Global, vertices: &[Vertex]) -> Result<Vec<Vec<u32>>, AllocError>
     requires few { length vertices.now ≤ MOST_VERTICES }
     requires rooted { IsRooted vertices.now }
@@ -26,7 +26,7 @@ fn path_table(alloc: Global, vertices: &[Vertex]) -> Result<Vec<Vec<u32>>, Alloc
 {
     let mut paths = Vec::with_capacity(alloc, vertices.len())?;
     for v in 0..vertices.len() {
-        let mut path = line_up(alloc, vertices, v as u32)?;
+        let mut path = chain_up(alloc, vertices, v as u32)?;
         path.reverse();
         paths.push(path)?;
     }

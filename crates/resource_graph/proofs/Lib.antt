@@ -2,7 +2,7 @@ pub mod Values
 pub mod NestLaws
 pub mod Finds
 pub mod Queries
-pub mod LineLaws
+pub mod ChainLaws
 pub mod TableLaws
 pub mod PastLaws
 pub mod MarkLaws

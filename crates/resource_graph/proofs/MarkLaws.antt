@@ -13,7 +13,7 @@ use Rattle.graph_laws.proofs.Containment.{parent_below}
 use Rattle.graph_laws.proofs.Preorder.{parents_first}
 use Rattle.resource_graph.specs.Preorder.{plain, InPreorder, KnowsKinds}
 use Rattle.resource_graph.specs.Holds.{LiesIn, AddsNested}
-use Rattle.resource_graph.proofs.LineLaws.{no_vertex}
+use Rattle.resource_graph.proofs.ChainLaws.{no_vertex}
 
 -- what an index of the list has as its kind
 pub kind_here : (vertices : List Vertex) (v : ℕ) →

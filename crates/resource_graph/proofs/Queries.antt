@@ -12,7 +12,7 @@ use Rattle.flux_defs.specs.ValidGraph.{IsValidGraph, StandsInPreorder}
 use Rattle.graph_laws.proofs.Containment.{ParentsFirst, below_le, below_from, below_to}
 use Rattle.graph_laws.proofs.Preorder.{parents_first, has_parent}
 use Rattle.list_laws.proofs.Tests.{same_tests}
-use Rattle.resource_graph.specs.Lines.{line_of, KnowsParents}
+use Rattle.resource_graph.specs.Chains.{chain_of, KnowsParents}
 use Rattle.resource_graph.specs.Preorder.{InPreorder}
 use Rattle.resource_graph.specs.Tables.{IsPast, IsNextOfKind, HasNoneOfKind, IsNextIn, HasNoneIn, ListsKind}
 
@@ -64,15 +64,15 @@ next_of_list vertices kind list from to (Some v) lists next = record {
       omega arith;
 }
 
--- in a valid graph each parent is a vertex, and each line is short
+-- in a valid graph each parent is a vertex, and each chain is short
 pub parents_known : (g : ResourceGraph) (names : List (List ℕ)) → IsValidGraph g names → KnowsParents g.vertices
 parents_known g names valid v p e =
     let before : p < v = parents_first g valid.preorder v p e in
     let within : v < length g.vertices = has_parent g.vertices v p e in omega arith
 
-pub lines_short : (g : ResourceGraph) (names : List (List ℕ)) →
-    IsValidGraph g names → (v : ℕ) → v < length g.vertices → length (line_of g.vertices v) ≤ MOST_LEVELS
-lines_short g names valid v lt =
+pub chains_short : (g : ResourceGraph) (names : List (List ℕ)) →
+    IsValidGraph g names → (v : ℕ) → v < length g.vertices → length (chain_of g.vertices v) ≤ MOST_LEVELS
+chains_short g names valid v lt =
     valid.shallow v (get_or g.vertices v no_vertex) (slice_get-get_or g.vertices v no_vertex lt)
   where
     no_vertex : Vertex

@@ -19,7 +19,7 @@ use Rattle.graph_laws.proofs.Preorder.{parents_first}
 use Rattle.resource_graph.specs.Preorder.{plain, InPreorder}
 use Rattle.resource_graph.specs.Tables.{IsNodeOf}
 use Rattle.resource_graph.specs.Holds.{HasNodes, HasLists, HasNested, AreEmpty, HasNodesTo, LiesIn, AddsNested}
-use Rattle.resource_graph.proofs.LineLaws.{no_vertex}
+use Rattle.resource_graph.proofs.ChainLaws.{no_vertex}
 
 -- a pushed element is the last one, and the others stay
 pub push_cases : {X : Type 0} (xs : List X) (y x : X) (i : ℕ) →

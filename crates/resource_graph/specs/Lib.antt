@@ -1,8 +1,8 @@
-pub mod Lines
+pub mod Chains
 pub mod NamedGraph
 pub mod Tables
 pub mod Preorder
 pub mod Holds
-pub mod Keeps
+pub mod HasTables
 pub mod Made
 pub mod Finds

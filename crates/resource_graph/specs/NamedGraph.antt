@@ -2,7 +2,7 @@
 use Rattle.std.specs.Prelude.{◌≡◌, ℕ, List, [], ◌++◌, length, reverse, slice_get, unwrap_or, codes}
 use Rattle.std.specs.List.{flat_map}
 use Rattle.flux_defs.specs.Graph.{ResourceGraph}
-use Rattle.resource_graph.specs.Lines.{line_of}
+use Rattle.resource_graph.specs.Chains.{chain_of}
 use Rattle.flux_defs.specs.ValidGraph.{IsValidGraph}
 
 -- a graph, and by the number of the vertex: its name, its basename, its unit and its properties
@@ -26,4 +26,4 @@ name_step names v = codes "/" ++ unwrap_or (slice_get names v) []
 
 -- a vertex's path: a slash and the name of each vertex from the root down to it
 abbrev pub path_text : NamedGraph → ℕ → List ℕ
-path_text g v = flat_map (name_step g.names) (reverse (line_of g.resources.vertices v))
+path_text g v = flat_map (name_step g.names) (reverse (chain_of g.resources.vertices v))

@@ -3,14 +3,14 @@ ghost use Rattle.std.specs.Prelude.{◌≡◌, ℕ, ◌<◌, ◌≤◌, ◌↔�
 ghost use Rattle.std.specs.Option.{option_copied};
 ghost use Rattle.std.specs.List.{flat_map};
 ghost use Rattle.flux_defs.specs.Graph.{HasKind, is_below, is_pool_kind};
-ghost use Rattle.resource_graph.specs.Lines.{AllBelow};
+ghost use Rattle.resource_graph.specs.Chains.{AllBelow};
 ghost use Rattle.resource_graph.specs.NamedGraph.{IsWhole, name_step, path_text};
 ghost use Rattle.resource_graph.specs.Made.{named_graph};
 ghost use Rattle.resource_graph.specs.Tables.{IsPast, IsNodeOf, IsRanked, IsNamedKind, contains_kind, IsNextOfKind};
 ghost use Rattle.resource_graph.specs.Tables.{HasNoneOfKind, IsNextIn, HasNoneIn, IsFirstIndex, rank_at, name_at};
 ghost use Rattle.std.specs.List.Sorted.{IsStrictlyIncreasing};
 
-use crate::lines::line_up;
+use crate::chains::chain_up;
 use crate::tables::{list_table, nested_table, node_table, past_table, pool_table, rank_table};
 use flux_defs::{List, Text, Vertex};
 use std::alloc::{AllocError, Global};
@@ -41,11 +41,11 @@ impl Model for Graph {
 
     ghost Value = { NamedGraph };
 
-    ghost use Rattle.resource_graph.specs.Keeps.{graph_of, Keeps};
+    ghost use Rattle.resource_graph.specs.HasTables.{graph_of, HasTables};
 
     ghost view = { graph_of };
 
-    ghost invariant = { Keeps };
+    ghost invariant = { HasTables };
 }
 
 /// By the vertex's number, its texts.
@@ -271,22 +271,22 @@ impl Graph {
         requires { vertex < length self.now.resources.vertices }
         ensures { IfOk result (λ path. path ≡ path_text self.now vertex) }
     {
-        let line = line_up(alloc, self.vertices.items(), vertex)?;
-        path_along(alloc, self.names.items(), line.as_slice())
+        let chain = chain_up(alloc, self.vertices.items(), vertex)?;
+        path_along(alloc, self.names.items(), chain.as_slice())
     }
 }
 
-/// `/` and the name of each vertex of the line, the last one first.
-fn path_along(alloc: Global, names: &[Text], line: &[u32]) -> Result<Text, AllocError>
-    requires { AllBelow (length names.now) line.now }
-    ensures { IfOk result (λ path. path ≡ flat_map (name_step names.now) (reverse line.now)) }
+/// `/` and the name of each vertex of the chain, the last one first.
+fn path_along(alloc: Global, names: &[Text], chain: &[u32]) -> Result<Text, AllocError>
+    requires { AllBelow (length names.now) chain.now }
+    ensures { IfOk result (λ path. path ≡ flat_map (name_step names.now) (reverse chain.now)) }
 {
     let mut path = Vec::new(alloc);
-    let mut left = line.len();
+    let mut left = chain.len();
     while left > 0 {
         left -= 1;
         path.push(b'/')?;
-        path.extend_from_slice(names[line[left] as usize].bytes())?;
+        path.extend_from_slice(names[chain[left] as usize].bytes())?;
     }
     Ok(Text::of_vec(path))
 }

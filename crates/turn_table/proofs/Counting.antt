@@ -10,7 +10,7 @@ use Rattle.turn_table.specs.declared.view.View.{View}
 use Rattle.turn_table.specs.declared.view.TurnPhase.TheVariants.{Idle, Holding}
 use Rattle.turn_table.specs.Positions.{RisesBelow}
 use Rattle.turn_table.specs.Rule.{Fits, IsKept}
-use Rattle.turn_table.specs.Plays.{stores, looks, Stores, Loads}
+use Rattle.turn_table.specs.Plays.{stores, looks, IsCountStored, IsCountSeen}
 use Rattle.list_laws.proofs.Lists.{prefix_length}
 use Rattle.turn_table.proofs.Views.{each_set, counted_more, fits_more, fits_stores, fits_looks, rises}
 use Rattle.turn_table.proofs.Places.{HasIt, has_it, still_taken, unmoved}
@@ -48,7 +48,7 @@ module _ {V E K : Type 0} (history : V → List E) (setting : V → K) (k : K) w
   store_allows_of : (slots i n : ℕ) (v : View E K) (b : V) (c : List (ℕ × Option V)) → v.setting ≡ Some k
       → v.phase ≡ Holding → IsPrefix v.seen (history b) → length (history b) ≡ n
       → Allows Rule slots i (v, (0, Some b) ∷ c) 1 (λ _. n)
-      (λ _. Stores history (step slots 1 n 0 none) (v, (0, Some b) ∷ c) n)
+      (λ _. IsCountStored history (step slots 1 n 0 none) (v, (0, Some b) ∷ c) n)
   store_allows_of slots i n v b c is holding later count s r _ at _ =
       let busy : v.phase ≢ Idle = λ e. cc in
       let more : List E = history b in
@@ -71,21 +71,21 @@ module _ {V E K : Type 0} (history : V → List E) (setting : V → K) (k : K) w
   -- the same of a seat whose hand is known by an equation
   pub store_allows : (slots i n : ℕ) (m : Me (Option V) (View E K)) (b : V) → m.1 ≡ (0, Some b) ∷ []
       → m.0.setting ≡ Some k → m.0.phase ≡ Holding → IsPrefix m.0.seen (history b) → length (history b) ≡ n
-      → Allows Rule slots i m 1 (λ _. n) (λ _. Stores history (step slots 1 n 0 none) m n)
+      → Allows Rule slots i m 1 (λ _. n) (λ _. IsCountStored history (step slots 1 n 0 none) m n)
   store_allows slots i n m b hand is holding later count =
       subst (λ (c : List (ℕ × Option V)).
-      Allows Rule slots i (m.0, c) 1 (λ _. n) (λ _. Stores history (step slots 1 n 0 none) (m.0, c) n))
+      Allows Rule slots i (m.0, c) 1 (λ _. n) (λ _. IsCountStored history (step slots 1 n 0 none) (m.0, c) n))
       (sym hand) (store_allows_of slots i n m.0 b [] is holding later count)
 
   pub load_allows : (slots i : ℕ) (v : View E K) (c : List (ℕ × Option V)) → v.setting ≡ Some k
-      → Allows Rule slots i (v, c) 1 (λ n. n) (Loads (step slots 1 0 0 none) (v, c))
+      → Allows Rule slots i (v, c) 1 (λ n. n) (IsCountSeen (step slots 1 0 0 none) (v, c))
   load_allows slots i v c is s r _ at _ =
       let w : View E K = looks r.log v in
       let fit : Fits r.log k v = r.fits i v at in
       let Goes : List ℕ → Type 0 = λ ws.
       (w : View E K) × (a : Act (Option V)) × Valid s.homes c a
       × Rule record { words = set ws 1 (get_or ws 1 0); homes = homes_after s.homes c a; views = set s.views i w }
-      × Loads (step slots 1 0 0 none) (v, c) (get_or ws 1 0) (w, carried_after c a) in
+      × IsCountSeen (step slots 1 0 0 none) (v, c) (get_or ws 1 0) (w, carried_after c a) in
       subst Goes (sym r.words) (
         w,
         keeps,

@@ -12,7 +12,7 @@ use Rattle.turn_table.specs.declared.view.View.{View}
 use Rattle.turn_table.specs.declared.view.TurnPhase.TheVariants.{Idle, Stored}
 use Rattle.turn_table.specs.Positions.{RisesBelow}
 use Rattle.turn_table.specs.Rule.{Fits, IsIdle, IsFree, IsTaken, IsKept}
-use Rattle.turn_table.specs.Plays.{holds, rests, Takes, Gives}
+use Rattle.turn_table.specs.Plays.{holds, rests, IsTurnTaken, IsTurnGiven}
 use Rattle.turn_table.proofs.Views.{each_kept, each_again, counted_same, fits_holds, fits_rests, rises}
 use Rattle.turn_table.proofs.Places.{HasIt, has_it, still_taken, unmoved}
 
@@ -29,7 +29,7 @@ module _ {V E K : Type 0} (history : V → List E) (setting : V → K) (k : K) w
         homes = homes_after s.homes c a;
         views = set s.views i w;
       }
-      × Takes history setting (step 1 0 0 1 none) (v, c) (get_or ws 0 0) (w, carried_after c a)
+      × IsTurnTaken history setting (step 1 0 0 1 none) (v, c) (get_or ws 0 0) (w, carried_after c a)
 
   -- the turn is free: it is taken, with the value
   take_free : (s : State (Option V) (View E K)) (r : Rule s) (i : ℕ) (v : View E K) (c : List (ℕ × Option V))
@@ -78,7 +78,8 @@ module _ {V E K : Type 0} (history : V → List E) (setting : V → K) (k : K) w
   )
 
   pub take_allows : (slots i : ℕ) (v : View E K) (c : List (ℕ × Option V)) → v.setting ≡ Some k
-      → Allows Rule slots i (v, c) 0 (λ n. either (n == 0) 1 n) (Takes history setting (step slots 0 0 1 none) (v, c))
+      → Allows Rule slots i (v, c) 0 (λ n. either (n == 0) 1 n)
+      (IsTurnTaken history setting (step slots 0 0 1 none) (v, c))
   take_allows slots i v c is s r _ at _ =
       let Ready : ℕ → Type 0 = λ n. Goes s i v c (n ∷ length r.log ∷ []) in
       subst (Goes s i v c) (sym r.words) (⊎_elim
@@ -91,7 +92,7 @@ module _ {V E K : Type 0} (history : V → List E) (setting : V → K) (k : K) w
   give_allows_of : (slots i : ℕ) (v : View E K) (b : V) → v.setting ≡ Some k → v.phase ≡ Stored → v.seen ≡ history b
       → setting b ≡ k
       → Allows Rule slots i (v, (0, Some b) ∷ []) 0 (λ _. 0)
-      (λ _. Gives (step slots 0 0 0 none) (v, (0, Some b) ∷ []) 0)
+      (λ _. IsTurnGiven (step slots 0 0 0 none) (v, (0, Some b) ∷ []) 0)
   give_allows_of slots i v b is stored here set_is s r _ at _ =
       let busy : v.phase ≢ Idle = λ e. cc in
       let fit : Fits r.log k v = r.fits i v at in
@@ -125,8 +126,8 @@ module _ {V E K : Type 0} (history : V → List E) (setting : V → K) (k : K) w
   -- the same of a seat whose hand is known by an equation
   pub give_allows : (slots i : ℕ) (m : Me (Option V) (View E K)) (b : V) → m.1 ≡ (0, Some b) ∷ []
       → m.0.setting ≡ Some k → m.0.phase ≡ Stored → m.0.seen ≡ history b → setting b ≡ k
-      → Allows Rule slots i m 0 (λ _. 0) (λ _. Gives (step slots 0 0 0 none) m 0)
+      → Allows Rule slots i m 0 (λ _. 0) (λ _. IsTurnGiven (step slots 0 0 0 none) m 0)
   give_allows slots i m b hand is stored here set_is =
       subst (λ (c : List (ℕ × Option V)).
-      Allows Rule slots i (m.0, c) 0 (λ _. 0) (λ _. Gives (step slots 0 0 0 none) (m.0, c) 0))
+      Allows Rule slots i (m.0, c) 0 (λ _. 0) (λ _. IsTurnGiven (step slots 0 0 0 none) (m.0, c) 0))
       (sym hand) (give_allows_of slots i m.0 b is stored here set_is)

@@ -59,8 +59,8 @@ Hand V E K = Me (Option V) (View E K)
 module _ {V E K : Type 0} where
   module _ (history : V → List E) (setting : V → K) where
     -- the turn was free, and was taken with the value, whose history begins with what was seen; or nothing changed
-    abbrev pub Takes : Step (Option V) → Hand V E K → ℕ → Hand V E K → Type 0
-    Takes st m found m' =
+    abbrev pub IsTurnTaken : Step (Option V) → Hand V E K → ℕ → Hand V E K → Type 0
+    IsTurnTaken st m found m' =
         (found ≡ 0
         → (b : V) × (m' ≡ (holds (history b) m.0, (0, Some b) ∷ m.1)) × IsPrefix m.0.seen (history b)
         × (m.0.setting ≡ Some (setting b)) × RisesBelow (length (history b)) m.0.mine)
@@ -68,21 +68,21 @@ module _ {V E K : Type 0} where
 
   module _ (history : V → List E) where
     -- the history of the value in hand is now the history of all
-    abbrev pub Stores : Step (Option V) → Hand V E K → ℕ → Hand V E K → Type 0
-    Stores st m stored m' =
+    abbrev pub IsCountStored : Step (Option V) → Hand V E K → ℕ → Hand V E K → Type 0
+    IsCountStored st m stored m' =
         (b : V) → m.1 ≡ (0, Some b) ∷ []
         → (m' ≡ (stores (history b) m.0, m.1)) × RisesBelow (length (history b)) m'.0.mine
 
   -- the turn and the slot were given up
-  abbrev pub Gives : Step (Option V) → Hand V E K → ℕ → Hand V E K → Type 0
-  Gives st m stored m' = m' ≡ (rests m.0, rest m.1)
+  abbrev pub IsTurnGiven : Step (Option V) → Hand V E K → ℕ → Hand V E K → Type 0
+  IsTurnGiven st m stored m' = m' ≡ (rests m.0, rest m.1)
 
   -- a history of this length was seen, which begins with all that was seen before
-  abbrev pub Looks : ℕ → Hand V E K → Hand V E K → Type 0
-  Looks found m m' =
+  abbrev pub IsSeen : ℕ → Hand V E K → Hand V E K → Type 0
+  IsSeen found m m' =
       (log : List E) × (m' ≡ (looks log m.0, m.1)) × (length log ≡ found) × IsPrefix m.0.seen log
       × All (λ old. IsPrefix old log) m.0.earlier × RisesBelow (length log) m.0.mine
 
   -- a load of the count tells this
-  abbrev pub Loads : Step (Option V) → Hand V E K → ℕ → Hand V E K → Type 0
-  Loads st m found m' = Looks found m m'
+  abbrev pub IsCountSeen : Step (Option V) → Hand V E K → ℕ → Hand V E K → Type 0
+  IsCountSeen st m found m' = IsSeen found m m'

@@ -3,7 +3,7 @@ ghost use Rattle.std.specs.Prelude.{◌≡◌, [], ◌∷◌, length, Some, None
 ghost use mathlib.Core.List.{IsPrefix};
 ghost use Rattle.turn_table.specs.declared.view.TurnPhase.TheVariants.{Holding, Stored};
 ghost use Rattle.turn_table.specs.Positions.{RisesBelow};
-ghost use Rattle.turn_table.specs.Plays.{stores, rests, Looks};
+ghost use Rattle.turn_table.specs.Plays.{stores, rests, IsSeen};
 ghost use Rattle.turn_table.specs.Seats.{seen, HasInHand, Took};
 ghost use Rattle.turn_table.specs.Turns.{setting_of, Stands};
 
@@ -101,7 +101,7 @@ impl<V: Logged> Turn<V> {
     pub(crate) fn load_count(&self, seat: &mut Seat<V>) -> u64
         requires own { Stands V.setting self.now seat.old }
         ensures own { seat.new.table_id ≡ seat.old.table_id }
-        ensures looked { Looks result seat.old.me seat.new.me }
+        ensures looked { IsSeen result seat.old.me seat.new.me }
     {
         self.table.shared.load::<Load>(seat, COUNT)
     }

@@ -1,5 +1,6 @@
 //! What each kind of step tells the seat that makes it, and how a split and a join change views.
-ghost use Rattle.turn_table.specs.Plays.{Takes, Stores, Gives, Loads, kept_share, given_share, joined};
+ghost use Rattle.turn_table.specs.Plays.{IsTurnTaken, IsCountStored, IsTurnGiven, IsCountSeen, kept_share, given_share};
+ghost use Rattle.turn_table.specs.Plays.{joined};
 ghost use Rattle.turn_table.specs.Rule.{spent};
 
 use crate::logged::Logged;
@@ -10,28 +11,28 @@ use atomic_table::{Join, Play, Split};
 pub(crate) struct Take;
 
 impl<V: Logged> Play<Option<V>, View<V::Entry, V::Setting>> for Take {
-    ghost then = { Takes V.history V.setting };
+    ghost then = { IsTurnTaken V.history V.setting };
 }
 
 // The count word becomes the length of the history of the value in hand.
 pub(crate) struct Store;
 
 impl<V: Logged> Play<Option<V>, View<V::Entry, V::Setting>> for Store {
-    ghost then = { Stores V.history };
+    ghost then = { IsCountStored V.history };
 }
 
 // The turn word becomes 0.
 pub(crate) struct Give;
 
 impl<V: Logged> Play<Option<V>, View<V::Entry, V::Setting>> for Give {
-    ghost then = { Gives };
+    ghost then = { IsTurnGiven };
 }
 
 // The count word is read.
 pub(crate) struct Load;
 
 impl<V: Logged> Play<Option<V>, View<V::Entry, V::Setting>> for Load {
-    ghost then = { Loads };
+    ghost then = { IsCountSeen };
 }
 
 // A seat gives one share to a new one.

@@ -1,7 +1,7 @@
 use Rattle.std.proofs.Common.{◌≡◌, ◌<◌, ◌+◌, Some, Bool, Vec, Global, length, sym, ◌∙◌, subst, arith}
 use Rattle.flux_defs.specs.Graph.{parent_of}
 use Rattle.graph_build.specs.Checks.{HasChildren}
-use Rattle.resource_graph.proofs.LineLaws.{parent_at, parent_at_none, no_vertex}
+use Rattle.resource_graph.proofs.ChainLaws.{parent_at, parent_at_none, no_vertex}
 use Rattle.graph_build.proofs.AboveLaws.{children_more, children_same}
 use Rattle.graph_build.proofs.above.child_table.Goals as goal
 use Rattle.graph_build.proofs.above.child_table.Goals.{in-Some, in_default}

@@ -1,5 +1,5 @@
 use Rattle.std.proofs.Common.{get_or}
-use Rattle.resource_graph.proofs.LineLaws.{no_vertex}
+use Rattle.resource_graph.proofs.ChainLaws.{no_vertex}
 use Rattle.graph_build.proofs.AboveLaws.{parent_pool}
 use Rattle.graph_build.proofs.above.is_parent_pool.Goals as goal
 

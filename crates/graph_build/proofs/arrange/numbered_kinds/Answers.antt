@@ -2,7 +2,7 @@ use Rattle.std.proofs.Common.{◌≡◌, ◌<◌, ◌+◌, suc, ℕ, length, get
 use Rattle.std.specs.Prelude.{slice_get}
 use Rattle.std.proofs.lemmas.Option.{slice_get-get_or}
 use Rattle.graph_build.specs.Arranged.{IsKindNumbering}
-use Rattle.resource_graph.proofs.LineLaws.{no_vertex}
+use Rattle.resource_graph.proofs.ChainLaws.{no_vertex}
 use Rattle.graph_build.proofs.KindLaws.{Numbering, numbering_more}
 use Rattle.graph_build.proofs.arrange.numbered_kinds.Goals as goal
 

@@ -2,7 +2,7 @@ use Rattle.std.proofs.Common.{◌≡◌, ◌<◌, ◌≤◌, cond, length, get_o
 use Rattle.std.specs.Prelude.{slice_get}
 use Rattle.std.proofs.lemmas.Bool.{cases_Bool}
 use Rattle.std.proofs.lemmas.Option.{slice_get-get_or}
-use Rattle.resource_graph.proofs.LineLaws.{parent_at, no_vertex}
+use Rattle.resource_graph.proofs.ChainLaws.{parent_at, no_vertex}
 use Rattle.graph_build.proofs.MadeLaws.{made_more, rank_made, nodes_more}
 use Rattle.graph_build.proofs.arrange.vertices_of.Goals as goal
 

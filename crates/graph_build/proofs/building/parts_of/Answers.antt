@@ -1,6 +1,6 @@
 use Rattle.std.proofs.Common.{ℕ, List, length, map, sym, subst}
 use Rattle.flux_defs.specs.declared.vertices.Vertex.{Vertex}
-use Rattle.resource_graph.specs.Lines.{KnowsParents}
+use Rattle.resource_graph.specs.Chains.{KnowsParents}
 use Rattle.graph_build.specs.Orders.{IsRooted, IsOrderOf}
 use Rattle.graph_build.specs.Raw.{shape_of, raw_graph, raw_names}
 use Rattle.graph_build.specs.Arranged.{HasKindNumbers}

@@ -1,6 +1,6 @@
 use Rattle.std.proofs.Common.{◌≡◌, ℕ, Option, get_or, arith}
 use Rattle.flux_defs.specs.Graph.{parent_of}
-use Rattle.resource_graph.proofs.LineLaws.{parent_at, no_vertex}
+use Rattle.resource_graph.proofs.ChainLaws.{parent_at, no_vertex}
 use Rattle.graph_build.proofs.ClimbLaws.{entries_more}
 use Rattle.graph_build.proofs.climbs.parents.Goals as goal
 

@@ -1,6 +1,6 @@
 use Rattle.std.proofs.Common.{◌<◌, Option, Some, true, get_or, length, set, sym, ◌∙◌, subst, arith, ℕ}
 use Rattle.flux_defs.specs.Graph.{parent_of}
-use Rattle.resource_graph.proofs.LineLaws.{parent_at, no_vertex}
+use Rattle.resource_graph.proofs.ChainLaws.{parent_at, no_vertex}
 use Rattle.resource_graph.proofs.TableLaws.{parent_before}
 use Rattle.resource_graph.proofs.MarkLaws.{Marks, marks_none, marks_more, marks_all, kind_low, reach_in, climb_falls}
 use Rattle.resource_graph.proofs.tables.mark_above.Goals as goal

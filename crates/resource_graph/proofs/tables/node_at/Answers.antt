@@ -1,7 +1,7 @@
 use Rattle.std.proofs.Common.{◌≡◌, ◌<◌, None, Some, length, sym, ◌∙◌, arith}
 use Rattle.std.proofs.lemmas.Option.{slice_get-get_or}
 use Rattle.flux_defs.specs.Graph.{parent_of}
-use Rattle.resource_graph.proofs.LineLaws.{parent_at, no_vertex}
+use Rattle.resource_graph.proofs.ChainLaws.{parent_at, no_vertex}
 use Rattle.resource_graph.proofs.TableLaws.{node_here, no_node_here, node_from_parent, node_of_root, self_node}
 use Rattle.resource_graph.proofs.TableLaws.{parent_before}
 use Rattle.resource_graph.proofs.tables.node_at.Goals as goal

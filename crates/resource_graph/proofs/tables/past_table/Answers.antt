@@ -1,7 +1,7 @@
 use Rattle.std.proofs.Common.{◌≡◌, ◌<◌, ◌+◌, ◌-◌, Some, get_or, length, max, set, sym, ◌∙◌, ap, subst, arith, ℕ}
 use Rattle.std.proofs.lemmas.List.{get_or_read}
 use Rattle.flux_defs.specs.Graph.{parent_of}
-use Rattle.resource_graph.proofs.LineLaws.{parent_at, parent_at_none, no_vertex}
+use Rattle.resource_graph.proofs.ChainLaws.{parent_at, parent_at_none, no_vertex}
 use Rattle.resource_graph.proofs.TableLaws.{parent_before}
 use Rattle.resource_graph.proofs.PastLaws.{HasPastsFrom, pasts_none, pasts_root, pasts_more, pasts_all}
 use Rattle.resource_graph.proofs.tables.past_table.Goals as goal

@@ -1,7 +1,7 @@
 use Rattle.std.proofs.Common.{◌≡◌, ◌+◌, ◌<◌, Bool, Vec, Global, get_or, length, true, sym, ◌∙◌, subst, refl, arith}
 use Rattle.std.proofs.lemmas.List.{length-set}
 use Rattle.std.proofs.lemmas.Option.{slice_get-get_or}
-use Rattle.resource_graph.proofs.LineLaws.{no_vertex}
+use Rattle.resource_graph.proofs.ChainLaws.{no_vertex}
 use Rattle.resource_graph.proofs.TableLaws.{PoolsTo, pools_more, pools_same}
 use Rattle.resource_graph.proofs.tables.pool_table.Goals as goal
 use Rattle.resource_graph.proofs.tables.pool_table.Goals.{then-vertex-ne1, else-vertex-ne1}

@@ -1,6 +1,6 @@
 use Rattle.graph_build.specs.Checks.{graph_in}
 use Rattle.graph_build.proofs.RowLaws.{parents_clear}
-use Rattle.graph_build.proofs.checks.check_lines.Goals as goal
+use Rattle.graph_build.proofs.checks.check_chains.Goals as goal
 
 pub first_endless-requires-clause-known : goal.first_endless-requires-clause-known
 first_endless-requires-clause-known c = parents_clear (graph_in c.args.kinds.now c.args.vertices.now) c.requires.1.1.0

@@ -1,4 +1,4 @@
--- What every graph keeps beside its vertices: the tables that answer its queries.
+-- What every graph has beside its vertices: the tables that answer its queries.
 use Rattle.std.specs.Prelude.{length}
 use Rattle.resource_graph.specs.NamedGraph.{NamedGraph, IsWhole}
 use Rattle.resource_graph.specs.Holds.{HasPasts, HasNodes, HasLists, HasRanked, HasPools, HasNested}
@@ -15,7 +15,7 @@ graph_of a = record {
 }
 
 -- the graph is valid, and each table holds what it answers
-pub record Keeps (a : Inside) : Type 0 where
+pub record HasTables (a : Inside) : Type 0 where
   pub whole : IsWhole (graph_of a)
   pub past : HasPasts a.vertices a.past.items
   pub nodes : HasNodes a.vertices a.nodes.items

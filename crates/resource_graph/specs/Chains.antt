@@ -1,11 +1,11 @@
--- Lines of parents, in a list of vertices whose order is free.
+-- Chains of parents, in a list of vertices whose order is free.
 use Rattle.std.specs.Prelude.{◌≡◌, ℕ, ◌<◌, List, length, Some, slice_get}
 use Rattle.flux_defs.specs.declared.vertices.Vertex.{Vertex}
 use Rattle.flux_defs.specs.Graph.{parent_of, chain}
 
 -- the vertex and those above it, up to the root
-abbrev pub line_of : List Vertex → ℕ → List ℕ
-line_of vertices v = chain vertices (length vertices) (Some v)
+abbrev pub chain_of : List Vertex → ℕ → List ℕ
+chain_of vertices v = chain vertices (length vertices) (Some v)
 
 -- each parent is a vertex of the list
 abbrev pub KnowsParents : List Vertex → Type 0
