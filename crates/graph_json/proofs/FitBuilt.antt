@@ -14,7 +14,7 @@ use Rattle.resource_graph.specs.NamedGraph.{NamedGraph}
 use Rattle.graph_build.specs.Raw.{IsBuiltFrom, IsRenumbered, shape_of, rank_of, is_node_of, some_ranked, nodes_among}
 use Rattle.graph_build.specs.declared.raw.RawVertex.{RawVertex}
 use Rattle.graph_build.proofs.ArrangeLaws.{index_at, index_in}
-use Rattle.resource_graph.proofs.LineLaws.{no_vertex}
+use Rattle.resource_graph.proofs.ChainLaws.{no_vertex}
 use Rattle.resource_graph.proofs.Values.{value_of}
 use Rattle.graph_json.specs.Fields.{is_unit}
 use Rattle.text_forms.specs.Names.{is_name}

@@ -23,7 +23,7 @@ use Rattle.graph_build.specs.Raw.{IsBuiltFrom, raw_graph, raw_names}
 use Rattle.graph_build.specs.Table.{IsFaultless}
 use Rattle.graph_build.specs.OwnList.{own_vertex, own_list}
 use Rattle.graph_build.specs.declared.raw.RawVertex.{RawVertex}
-use Rattle.resource_graph.proofs.LineLaws.{no_vertex, parent_read}
+use Rattle.resource_graph.proofs.ChainLaws.{no_vertex, parent_read}
 use Rattle.graph_build.proofs.OneGraph.{same_items}
 use Rattle.graph_build.proofs.OwnGraph.{built_from_itself, own_faultless, own_at}
 use Rattle.resource_graph.proofs.Queries.{parents_known}
