@@ -38,7 +38,7 @@ use Rattle.prune_filters.specs.declared.rules.Rule.{Rule}
 use Rattle.prune_filters.specs.Filters.{IsCounted}
 use Rattle.resource_graph.specs.NamedGraph.{NamedGraph}
 use Rattle.vertex_accounts.specs.declared.books.Accounts.{Accounts}
-use Rattle.vertex_accounts.specs.Books.{AreAccounts, KeepsKind, types_of}
+use Rattle.vertex_accounts.specs.Books.{AreAccounts, HasTotals, types_of}
 use Rattle.book_state.specs.Books.{vertices_of, StandsIn, StandsFor}
 use Rattle.book_state.proofs.TieLaws.{agree_none, agree_more, agree_less, agree_along, without_middle}
 
@@ -141,7 +141,7 @@ moved g h r s a b t u jobs eg er ea et x =
 pub added : (g : NamedGraph) (r : List Rule)
     (a b : Accounts Plan) (t : FinMap nat_cmp Row) (jobs : List Job) (job : Job) (at : ℕ) → get t job.id ≡ None →
     AreAccounts (λ (p : Plan). p.total) Plans.StandsFor g.resources.vertices (jobs ++ job ∷ []) b →
-    ((kind : ℕ) → KeepsKind a kind → KeepsKind b kind) → types_of b ≡ types_of a →
+    ((kind : ℕ) → HasTotals a kind → HasTotals b kind) → types_of b ≡ types_of a →
     StandsIn g r a t jobs → StandsIn g r b (insert t job.id (live_row at)) (jobs ++ job ∷ [])
 added g r a b t jobs job at fresh accounts kinds same x = record {
   accounts_are = accounts;
@@ -154,7 +154,7 @@ added g r a b t jobs job at fresh accounts kinds same x = record {
 pub removed : (g : NamedGraph) (r : List Rule) (a b : Accounts Plan) (t : FinMap nat_cmp Row)
     (before : List Job) (job : Job) (after : List Job) (at : ℕ) → get t job.id ≡ Some (live_row at) →
     AreAccounts (λ (p : Plan). p.total) Plans.StandsFor g.resources.vertices (before ++ after) b →
-    ((kind : ℕ) → KeepsKind a kind → KeepsKind b kind) → types_of b ≡ types_of a →
+    ((kind : ℕ) → HasTotals a kind → HasTotals b kind) → types_of b ≡ types_of a →
     StandsIn g r a t (before ++ job ∷ after) → StandsIn g r b (insert t job.id (cancelled_row at)) (before ++ after)
 removed g r a b t before job after at live accounts kinds same x = record {
   accounts_are = accounts;
@@ -169,7 +169,7 @@ removed g r a b t before job after at live accounts kinds same x = record {
 -- no jobs
 pub none_stands : (g : NamedGraph) (r : List Rule) (a : Accounts Plan) →
     AreAccounts (λ (p : Plan). p.total) Plans.StandsFor g.resources.vertices [] a →
-    ((kind : ℕ) (name : List ℕ) → slice_get g.resources.kinds kind ≡ Some name → IsCounted r name → KeepsKind a kind) →
+    ((kind : ℕ) (name : List ℕ) → slice_get g.resources.kinds kind ≡ Some name → IsCounted r name → HasTotals a kind) →
     types_of a ≤ length r → StandsIn g r a empty []
 none_stands g r a accounts kinds types =
     record { accounts_are = accounts; ties = agree_none; few = omega arith; kinds = kinds; types = types }

@@ -15,9 +15,9 @@ use Rattle.vertex_planners.specs.Lists.{items_of}
 use Rattle.vertex_planners.specs.Work.{CostWithin}
 use Rattle.vertex_accounts.specs.declared.books.Accounts.{Accounts}
 use Rattle.vertex_accounts.specs.Costs.{look_most, closed_most, accounts_most}
-use Rattle.vertex_accounts.specs.Books.{AreAccountsOf, AreAccounts, KeepsKind, types_of}
+use Rattle.vertex_accounts.specs.Books.{AreAccountsOf, AreAccounts, HasTotals, types_of}
 use Rattle.book_state.specs.declared.held.Kept.{Kept}
-use Rattle.book_state.specs.Books.{graph_of, vertices_of, rules_of, accounts_of, rows_of, KeepsPair, KeepsTotal}
+use Rattle.book_state.specs.Books.{graph_of, vertices_of, rules_of, accounts_of, rows_of, IsPairKept, IsTotalKept}
 use Rattle.book_state.specs.Books.{StandsFor, IsBook, MayAdd, cost_of, change_cost_of}
 use Rattle.flux_defs.specs.Closed.{no_bars}
 use Rattle.flux_defs.specs.Available.{IsAvailable}
@@ -102,16 +102,16 @@ there None P h = absurd h
 there (Some x) P h = (x, refl, h)
 
 pub kind_kept : (a : Accounts Plan) (book : Kept) → a ≡ accounts_of book → (jobs : List Job) → StandsFor book jobs →
-    (v kind : ℕ) → KeepsTotal book v kind → KeepsKind a kind
+    (v kind : ℕ) → IsTotalKept book v kind → HasTotals a kind
 kind_kept a book ea jobs is v kind keeps =
     let kinds = (graph_of book).resources.kinds in
     let rules = rules_of book in
     let (x, at, pair) =
-    there (slice_get (vertices_of book) v) (λ x. KeepsPair (graph_of book) rules x.kind kind) keeps in
+    there (slice_get (vertices_of book) v) (λ x. IsPairKept (graph_of book) rules x.kind kind) keeps in
     let (high, upper, some) =
     there (slice_get kinds x.kind) (λ high. IsSomeAnd (slice_get kinds kind) (λ low. IsKept rules high low)) pair in
     let (low, lower, rule) = there (slice_get kinds kind) (λ low. IsKept rules high low) some in
-    subst (λ (b : Accounts Plan). KeepsKind b kind) (sym ea)
+    subst (λ (b : Accounts Plan). HasTotals b kind) (sym ea)
     (is.kinds kind low lower (rule.0, rule.1, rule.2, rule.3, rule.4.0))
 
 -- the next point

@@ -20,7 +20,7 @@ use Rattle.book_laws.specs.Amounts.{TakesFromPool}
 use Rattle.planner_min_tree.specs.Plans as Plans
 use Rattle.planner_min_tree.specs.Plans.{Plan}
 use Rattle.vertex_accounts.specs.declared.books.Accounts.{Accounts}
-use Rattle.vertex_accounts.specs.Books.{AreAccounts, KeepsKind, types_of}
+use Rattle.vertex_accounts.specs.Books.{AreAccounts, HasTotals, types_of}
 use Rattle.book_state.specs.Ties.{Agree}
 use Rattle.book_state.specs.declared.held.Kept.{Kept}
 
@@ -49,14 +49,14 @@ abbrev pub rows_of : Kept → FinMap nat_cmp Row
 rows_of book = book.table
 
 -- the rules keep totals of this type (the second) at vertices of that one (the first): some rule has these two
-abbrev pub KeepsPair : NamedGraph → List Rule → ℕ → ℕ → Type 0
-KeepsPair graph rules upper kind = IsSomeAnd (slice_get graph.resources.kinds upper)
+abbrev pub IsPairKept : NamedGraph → List Rule → ℕ → ℕ → Type 0
+IsPairKept graph rules upper kind = IsSomeAnd (slice_get graph.resources.kinds upper)
     (λ high. IsSomeAnd (slice_get graph.resources.kinds kind) (λ low. IsKept rules high low))
 
 -- the rules keep a total of this type (the second) at this vertex (the first)
-abbrev pub KeepsTotal : Kept → ℕ → ℕ → Type 0
-KeepsTotal book v kind =
-    IsSomeAnd (slice_get (vertices_of book) v) (λ x. KeepsPair (graph_of book) (rules_of book) x.kind kind)
+abbrev pub IsTotalKept : Kept → ℕ → ℕ → Type 0
+IsTotalKept book v kind =
+    IsSomeAnd (slice_get (vertices_of book) v) (λ x. IsPairKept (graph_of book) (rules_of book) x.kind kind)
 
 -- the accounts of a book
 abbrev pub accounts_of : Kept → Accounts Plan
@@ -71,7 +71,7 @@ pub record StandsIn (graph : NamedGraph)
   pub ties : Agree rows jobs
   pub few : length jobs ≤ len rows
   pub kinds : (kind : ℕ) (name : List ℕ) →
-      slice_get graph.resources.kinds kind ≡ Some name → IsCounted rules name → KeepsKind accounts kind
+      slice_get graph.resources.kinds kind ≡ Some name → IsCounted rules name → HasTotals accounts kind
   pub types : types_of accounts ≤ length rules
 
 -- the book stands for these jobs
@@ -83,7 +83,7 @@ abbrev pub IsBook : Kept → Type 0
 IsBook book = (jobs : List Job) × StandsFor book jobs
 
 -- the other book has the graph, the rules and the horizon of this one
-pub record KeepsSetting (book other : Kept) : Type 0 where
+pub record HaveOneSetting (book other : Kept) : Type 0 where
   pub graph : graph_of other ≡ graph_of book
   pub rules : rules_of other ≡ rules_of book
   pub horizon : horizon_of other ≡ horizon_of book

@@ -10,9 +10,9 @@ ghost use Rattle.job_table.specs.Rows.{live_row, cancelled_row, HasLiveRow};
 ghost use Rattle.prune_filters.specs.Filters.{IsCounted};
 ghost use Rattle.planner_min_tree.specs.Plans as Plans;
 ghost use Rattle.planner_min_tree.specs.Plans.{Plan};
-ghost use Rattle.vertex_accounts.specs.Books.{AreAccounts, KeepsKind, types_of};
+ghost use Rattle.vertex_accounts.specs.Books.{AreAccounts, HasTotals, types_of};
 ghost use Rattle.book_state.specs.Ties.{has_job};
-ghost use Rattle.book_state.specs.Books.{graph_of, rules_of, horizon_of, moment_of, rows_of, StandsFor, KeepsSetting};
+ghost use Rattle.book_state.specs.Books.{graph_of, rules_of, horizon_of, moment_of, rows_of, StandsFor, HaveOneSetting};
 ghost use Rattle.book_state.specs.Books.{MayAdd, change_cost_of};
 
 use crate::filtered::FilteredGraph;
@@ -76,7 +76,7 @@ impl BookState {
 
     /// The same book, without a copy.
     pub fn share(&self) -> Result<BookState, AllocError>
-        ensures setting { IfOk result (λ book. KeepsSetting self.now book) }
+        ensures setting { IfOk result (λ book. HaveOneSetting self.now book) }
         ensures moment { IfOk result (λ book. moment_of book ≡ moment_of self.now) }
         ensures rows { IfOk result (λ book. rows_of book ≡ rows_of self.now) }
         ensures jobs { IfOk result (λ book. (jobs : List Job) → StandsFor self.now jobs → StandsFor book jobs) }
@@ -86,7 +86,7 @@ impl BookState {
 
     /// The book at another moment.
     pub fn after_advance(&self, to: u64) -> Result<BookState, AllocError>
-        ensures setting { IfOk result (λ book. KeepsSetting self.now book) }
+        ensures setting { IfOk result (λ book. HaveOneSetting self.now book) }
         ensures moment { IfOk result (λ book. moment_of book ≡ to) }
         ensures rows { IfOk result (λ book. rows_of book ≡ rows_of self.now) }
         ensures jobs { IfOk result (λ book. (jobs : List Job) → StandsFor self.now jobs → StandsFor book jobs) }
@@ -112,7 +112,7 @@ impl BookState {
         steps: &mut Steps<L>,
     ) -> Result<BookState, AllocError>
         requires { MayAdd self.now job.now }
-        ensures setting { IfOk result (λ book. KeepsSetting self.now book) }
+        ensures setting { IfOk result (λ book. HaveOneSetting self.now book) }
         ensures moment { IfOk result (λ book. moment_of book ≡ moment_of self.now) }
         ensures rows { IfOk result (λ book. rows_of book ≡ map.insert (rows_of self.now) job.now.id (live_row at)) }
         ensures jobs { IfOk result
@@ -142,7 +142,7 @@ impl BookState {
     ) -> Result<BookState, AllocError>
         requires there { (jobs : List Job) × StandsFor self.now jobs × Contains jobs job.now }
         requires live { HasLiveRow (rows_of self.now) job.now.id }
-        ensures setting { IfOk result (λ book. KeepsSetting self.now book) }
+        ensures setting { IfOk result (λ book. HaveOneSetting self.now book) }
         ensures moment { IfOk result (λ book. moment_of book ≡ moment_of self.now) }
         ensures rows { IfOk result (λ book. (at : ℕ) → map.get (rows_of self.now) job.now.id ≡ Some (live_row at) →
             rows_of book ≡ map.insert (rows_of self.now) job.now.id (cancelled_row at)) }
@@ -177,7 +177,7 @@ fn first_accounts(
     ensures accounts { IfOk result
         (λ book. AreAccounts (λ (p : Plan). p.total) Plans.StandsFor graph.now.resources.vertices [] book) }
     ensures kinds { IfOk result (λ book. (kind : ℕ) (name : List ℕ) →
-        slice_get graph.now.resources.kinds kind ≡ Some name → IsCounted rules.now name → KeepsKind book kind) }
+        slice_get graph.now.resources.kinds kind ≡ Some name → IsCounted rules.now name → HasTotals book kind) }
     ensures types { IfOk result (λ book. types_of book ≤ length rules.now) }
 {
     counted_accounts::<Brand>(alloc, graph, rules, horizon, Blank::new(1))
@@ -196,7 +196,7 @@ fn counted_accounts<L: Ledger>(
     ensures accounts { IfOk result
         (λ book. AreAccounts (λ (p : Plan). p.total) Plans.StandsFor graph.now.resources.vertices [] book) }
     ensures kinds { IfOk result (λ book. (kind : ℕ) (name : List ℕ) →
-        slice_get graph.now.resources.kinds kind ≡ Some name → IsCounted rules.now name → KeepsKind book kind) }
+        slice_get graph.now.resources.kinds kind ≡ Some name → IsCounted rules.now name → HasTotals book kind) }
     ensures types { IfOk result (λ book. types_of book ≤ length rules.now) }
 {
     let mut steps: Steps<L> = Steps::new(blank);

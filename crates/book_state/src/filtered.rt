@@ -3,7 +3,7 @@ ghost use Rattle.std.specs.Prelude.{◌≡◌, ◌↔◌, IsTrue, IfOk, slice_ge
 ghost use Rattle.std.specs.Arc.{arc_value};
 ghost use Rattle.resource_graph.specs.NamedGraph.{IsWhole};
 ghost use Rattle.book_state.specs.Filtered.{IsKeptRow, AreKeptRows};
-ghost use Rattle.book_state.specs.Books.{KeepsPair};
+ghost use Rattle.book_state.specs.Books.{IsPairKept};
 
 use flux_defs::List;
 use prune_filters::Rules;
@@ -57,7 +57,7 @@ impl FilteredGraph {
 
     /// Whether the rules keep totals of the lower type at vertices of the upper one.
     pub(crate) fn keeps(&self, upper: u32, lower: u32) -> bool
-        ensures { IsTrue result ↔ KeepsPair self.now.graph self.now.rules upper lower }
+        ensures { IsTrue result ↔ IsPairKept self.now.graph self.now.rules upper lower }
     {
         match self.rows.get(upper as usize) {
             None => false,

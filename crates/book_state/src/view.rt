@@ -13,13 +13,13 @@ impl FreeView for BookState {
     ghost use Rattle.std.specs.Arc.{arc_value};
     ghost use Rattle.std.specs.FinMap as map;
     ghost use Rattle.flux_defs.specs.Digits.{dig};
-    ghost use Rattle.book_state.specs.Books.{vertices_of, StandsFor, KeepsTotal, cost_of};
+    ghost use Rattle.book_state.specs.Books.{vertices_of, StandsFor, IsTotalKept, cost_of};
 
     ghost graph = { vertices_of };
 
     ghost stands_for = { StandsFor };
 
-    ghost keeps = { KeepsTotal };
+    ghost keeps = { IsTotalKept };
 
     ghost cost = { cost_of };
 
@@ -97,7 +97,7 @@ impl TotalsView for BookState {
 impl BookState {
     ghost use Rattle.std.specs.Prelude.{◌≡◌, ◌↔◌, IsTrue};
     ghost use Rattle.resource_graph.specs.NamedGraph.{IsWhole};
-    ghost use Rattle.book_state.specs.Books.{graph_of, accounts_of, IsBook, KeepsTotal};
+    ghost use Rattle.book_state.specs.Books.{graph_of, accounts_of, IsBook, IsTotalKept};
 
     /// The graph.
     pub(crate) fn graph(&self) -> &Graph
@@ -117,7 +117,7 @@ impl BookState {
 
     /// Whether the rules keep a total of the type at the vertex.
     fn keeps_total(&self, vertex: u32, kind: u32) -> bool
-        ensures { IsTrue result ↔ KeepsTotal self.now vertex kind }
+        ensures { IsTrue result ↔ IsTotalKept self.now vertex kind }
     {
         match self.graph().vertices().get(vertex as usize) {
             Some(found) => return self.kept.filtered.keeps(found.kind, kind),

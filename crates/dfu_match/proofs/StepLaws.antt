@@ -21,7 +21,7 @@ use Rattle.prune_filters.specs.Shorts.{IsShortFor}
 use Rattle.dfu_match.specs.declared.wanting.Wanted.{Wanted}
 use Rattle.dfu_match.specs.Tables.{all_of, needs_all}
 use Rattle.dfu_match.specs.Pairs.{Pair, HasEachOpen, IsOpenFor, IsClear, IsClearScope, IsClearBetween, IsClearBefore}
-use Rattle.dfu_match.specs.Pairs.{IsPlaceOf, IsPlaceOfAll, IsSpanOf, Looks, LooksAll, TakesEach, asked_totals}
+use Rattle.dfu_match.specs.Pairs.{IsPlaceOf, IsPlaceOfAll, IsSpanOf, AreLooks, AreLooksAll, TakesEach, asked_totals}
 use Rattle.dfu_match.specs.Pairs.{count_among}
 use Rattle.dfu_match.proofs.DemandLaws.{all_Vert, all_Spread, all_next}
 use Rattle.dfu_match.proofs.CountLaws.{each_at, plain_copy, valid_copy, valid_inside}
@@ -38,22 +38,22 @@ look_costs k m cost le = let few : (k + 2) * cost ≤ (m + 2) * cost = mul-le-mu
 pub times_costs : (times steps : ℕ) → 1 ≤ times → steps ≤ times * steps
 times_costs times steps some = let few : 1 * steps ≤ times * steps = mul-le-mul_right steps some in omega (arith, few)
 
-pub looks_some : (times : ℕ) (need : Need) → Looks times need → 1 ≤ times
+pub looks_some : (times : ℕ) (need : Need) → AreLooks times need → 1 ≤ times
 looks_some times need (inl e) = omega (arith, e)
 looks_some times need (inr e) = let one = e.0 in omega (arith, one)
 
 -- what is written within a need, and of a need of a list
-pub looks_Vert : (times kind count : ℕ) (hold : Bool) (needs : List Need) → Looks times (Vert kind count hold needs) →
-    LooksAll times needs
+pub looks_Vert : (times kind count : ℕ) (hold : Bool) (needs : List Need) →
+    AreLooks times (Vert kind count hold needs) → AreLooksAll times needs
 looks_Vert times kind count hold needs (inl e) = inl e
 looks_Vert times kind count hold needs (inr e) = inr (e.0, no_spread_to_list needs e.1)
 
-pub looks_Spread : (times count : ℕ) (needs : List Need) → Looks times (Spread count needs) → times ≡ 2
+pub looks_Spread : (times count : ℕ) (needs : List Need) → AreLooks times (Spread count needs) → times ≡ 2
 looks_Spread times count needs (inl e) = e
 looks_Spread times count needs (inr e) = absurd (elim e.1 [ ])
 
 pub looks_at : (times : ℕ) (needs : List Need) (i : ℕ) (need : Need) (rest : List Need) → drop i needs ≡ need ∷ rest →
-    LooksAll times needs → Looks times need
+    AreLooksAll times needs → AreLooks times need
 looks_at times needs i need rest split (inl e) = inl e
 looks_at times needs i need rest split (inr e) = inr (e.0, each_at HasNoSpread needs i need rest split e.1)
 

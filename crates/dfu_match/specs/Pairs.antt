@@ -96,8 +96,8 @@ TakesEach each steps old new first after from to =
     (pairs : List Pair) → each pairs → new ≤ old + steps * count_among first after from to pairs
 
 -- writing looks twice at what stands within a spread, and once where there is none
-abbrev pub Looks : ℕ → Need → Type 0
-Looks times need = (times ≡ 2) ⊎ ((times ≡ 1) × HasNoSpread need)
+abbrev pub AreLooks : ℕ → Need → Type 0
+AreLooks times need = (times ≡ 2) ⊎ ((times ≡ 1) × HasNoSpread need)
 
-abbrev pub LooksAll : ℕ → List Need → Type 0
-LooksAll times needs = (times ≡ 2) ⊎ ((times ≡ 1) × AllByRecursion HasNoSpread needs)
+abbrev pub AreLooksAll : ℕ → List Need → Type 0
+AreLooksAll times needs = (times ≡ 2) ⊎ ((times ≡ 1) × AllByRecursion HasNoSpread needs)

@@ -31,16 +31,16 @@ abbrev pub IsNodesKind : List Vertex → Option ℕ → Type 0
 IsNodesKind vertices nodes = (kind : ℕ) → (IsTrue (is_node_kind vertices kind) ↔ (nodes ≡ Some kind))
 
 -- the entry tells what one of the need demands, and how many needs it is with those within it
-pub record TellsNeed (vertices : List Vertex) (need : Need) (wanted : Wanted) : Type 0 where
+pub record IsWantedBy (vertices : List Vertex) (need : Need) (wanted : Wanted) : Type 0 where
   pub demands : AreDemandsOf vertices need wanted.demands
   pub few : length wanted.demands ≤ length (all_of need)
   pub within : wanted.within ≡ capped (length (all_of need))
 
 -- each entry of the table tells of the need at its index
-abbrev pub TellsNeeds : List Vertex → List Need → List Wanted → Type 0
-TellsNeeds vertices all table = (i : ℕ) (need : Need) (wanted : Wanted) → slice_get all i ≡ Some need →
+abbrev pub AreWantedBy : List Vertex → List Need → List Wanted → Type 0
+AreWantedBy vertices all table = (i : ℕ) (need : Need) (wanted : Wanted) → slice_get all i ≡ Some need →
     slice_get table i ≡ Some wanted →
-    TellsNeed vertices need wanted
+    IsWantedBy vertices need wanted
 
 -- a need of the list stands at this index with those within it, unless there is no table
 abbrev pub StandsAt : List Need → List Wanted → ℕ → Need → Type 0

@@ -6,7 +6,7 @@ ghost use Rattle.flux_defs.specs.Asks.{SomeFit, IsLowestFirst};
 ghost use Rattle.flux_defs.specs.declared.requests.Need.{Need};
 ghost use Rattle.std.proofs.Props.{props};
 ghost use Rattle.dfu_match.specs.Bars.{BarsAll};
-ghost use Rattle.dfu_match.specs.Tables.{needs_all, TellsNeeds, AreDemandsOfAll};
+ghost use Rattle.dfu_match.specs.Tables.{needs_all, AreWantedBy, AreDemandsOfAll};
 ghost use Rattle.dfu_match.specs.Pairs.{Pair, HasEachOpen, IsRootShort, IsEnoughFor};
 ghost use Rattle.dfu_match.specs.Matches.{IsMatched, IsKeptShort};
 
@@ -66,7 +66,7 @@ pub struct Matcher<'a> {
     shut: bool,
     ghost demands: { AreDemandsOfAll graph.now.resources.vertices ask.now.needs whole } by { Prim.hlevel props },
     ghost few: { length whole ≤ length (needs_all ask.now.needs) },
-    ghost tells: { TellsNeeds graph.now.resources.vertices (needs_all ask.now.needs) wanted } by { Prim.hlevel props },
+    ghost tells: { AreWantedBy graph.now.resources.vertices (needs_all ask.now.needs) wanted } by { Prim.hlevel props },
     ghost all: { length wanted ≡ length (needs_all ask.now.needs) },
     ghost shuts: { IsTrue shut → BarsAll graph.now.resources.vertices ask.now.barred },
 }

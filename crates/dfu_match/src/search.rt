@@ -10,7 +10,7 @@ ghost use Rattle.flux_defs.specs.Free.{IsFreeIn};
 ghost use Rattle.dfu_match.specs.Searches.{meets, open_to, claim_on};
 ghost use Rattle.std.specs.List.Sorted.{IsStrictlyIncreasing};
 ghost use Rattle.dfu_match.specs.Bars.{AreNodesOf, BarsAll};
-ghost use Rattle.dfu_match.specs.Tables.{needs_all, TellsNeeds};
+ghost use Rattle.dfu_match.specs.Tables.{needs_all, AreWantedBy};
 ghost use Rattle.std.proofs.Props.{props};
 
 use crate::bars::least_from;
@@ -31,7 +31,7 @@ pub(crate) struct Search<'a, F: FreeView> {
     pub(crate) shut: bool,
     pub(crate) window: Window,
     ghost over: { F.graph view.now ≡ graph.now.resources.vertices },
-    ghost tells: { TellsNeeds graph.now.resources.vertices (needs_all needs.now) wanted.now } by { Prim.hlevel props },
+    ghost tells: { AreWantedBy graph.now.resources.vertices (needs_all needs.now) wanted.now } by { Prim.hlevel props },
     ghost fits: { length wanted.now < 2 ^ 64 },
     ghost whole: { wanted.now ≢ [] → length wanted.now ≡ length (needs_all needs.now) },
     ghost shuts: { IsTrue shut → BarsAll graph.now.resources.vertices barred.now },

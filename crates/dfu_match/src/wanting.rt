@@ -3,7 +3,7 @@ ghost use Rattle.std.specs.Prelude.{◌≡◌, List, ◌++◌, length, IfOk, OnO
 ghost use Rattle.std.specs.List.{AllZip};
 ghost use Rattle.flux_defs.specs.declared.vertices.Vertex.{Vertex};
 ghost use Rattle.prune_filters.specs.Demands.{capped};
-ghost use Rattle.dfu_match.specs.Tables.{all_of, needs_all, TellsNeed};
+ghost use Rattle.dfu_match.specs.Tables.{all_of, needs_all, IsWantedBy};
 ghost use Rattle.dfu_match.specs.declared.wanting.Wanted.{Wanted};
 ghost use Rattle.dfu_match.specs.Tables.{Grows};
 
@@ -50,7 +50,7 @@ pub(crate) fn table_of(
     kinds: &Kinds,
     needs: &List<Need>,
 ) -> Result<List<Wanted>, AllocError>
-    ensures { IfOk result (AllZip (TellsNeed kinds.now.graph.now.resources.vertices) (needs_all needs.now)) }
+    ensures { IfOk result (AllZip (IsWantedBy kinds.now.graph.now.resources.vertices) (needs_all needs.now)) }
 {
     let mut table = Vec::new(alloc);
     list_all(alloc, kinds, needs, &mut table)?;
@@ -65,7 +65,7 @@ fn list_all(
     needs: &List<Need>,
     table: &mut Vec<Wanted>,
 ) -> Result<(), AllocError>
-    ensures { OnOk result (Grows (TellsNeed kinds.now.graph.now.resources.vertices) (needs_all needs.now)
+    ensures { OnOk result (Grows (IsWantedBy kinds.now.graph.now.resources.vertices) (needs_all needs.now)
         table.old.items table.new.items) }
 {
     for need in needs.items() {
@@ -82,7 +82,7 @@ fn list_one(
     need: &Need,
     table: &mut Vec<Wanted>,
 ) -> Result<(), AllocError>
-    ensures { OnOk result (Grows (TellsNeed kinds.now.graph.now.resources.vertices) (all_of need.now)
+    ensures { OnOk result (Grows (IsWantedBy kinds.now.graph.now.resources.vertices) (all_of need.now)
         table.old.items table.new.items) }
 {
     let wanted = wanted_of(alloc, kinds, need)?;
@@ -102,7 +102,7 @@ fn list_one(
 
 /// The entry of the need.
 fn wanted_of(alloc: Global, kinds: &Kinds, need: &Need) -> Result<Wanted, AllocError>
-    ensures { IfOk result (TellsNeed kinds.now.graph.now.resources.vertices need.now) }
+    ensures { IfOk result (IsWantedBy kinds.now.graph.now.resources.vertices need.now) }
 {
     Ok(Wanted {
         demands: demands_of(alloc, kinds, need)?,

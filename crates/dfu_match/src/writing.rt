@@ -9,8 +9,8 @@ ghost use Rattle.flux_defs.specs.Lowest.{CanServe, FollowsPass, LowestPiece, Low
 ghost use Rattle.match_laws.specs.Offers.{Extends, Offers, SomeGroup, SomeFits, LowestGroup};
 ghost use Rattle.dfu_match.specs.Searches.{open_to, scope_of, IsScope, MayAsk, MayScale, MayScaleNeed};
 ghost use Rattle.dfu_match.specs.Tables.{all_of, needs_all, StandsAt, StandAt};
-ghost use Rattle.dfu_match.specs.Pairs.{HasEachOpen, IsClear, IsClearScope, IsPlaceOf, IsPlaceOfAll, IsSpanOf, Looks};
-ghost use Rattle.dfu_match.specs.Pairs.{LooksAll, TakesEach, asked_totals};
+ghost use Rattle.dfu_match.specs.Pairs.{HasEachOpen, IsClear, IsClearScope, IsPlaceOf, IsPlaceOfAll, IsSpanOf};
+ghost use Rattle.dfu_match.specs.Pairs.{AreLooks, AreLooksAll, TakesEach, asked_totals};
 ghost use Rattle.flux_defs.specs.declared.requests.Need.{Need};
 ghost use Rattle.resource_graph.specs.Tables.{IsPast};
 ghost use Rattle.std.specs.List.{AllByRecursion};
@@ -54,7 +54,7 @@ pub(crate) fn write_needs<F: FreeView, L: Ledger>(
         let all : List Need = needs_all s.now.needs.now in
         IsPlaceOfAll all place needs.now →
         AllByRecursion (IsClearScope vs jobs s.now.window keeps scope) needs.now → IsSpanOf vs scope from to →
-        LooksAll times needs.now →
+        AreLooksAll times needs.now →
         TakesEach (HasEachOpen vs jobs s.now.window keeps all) (times * ((length all + 2) * F.cost s.now.view.now))
         steps.old steps.new place (place + length (needs_all needs.now)) from to) }
 {
@@ -98,7 +98,7 @@ fn write_group<F: FreeView, L: Ledger>(
         let keeps : ℕ → ℕ → Type 0 = asked_totals s.now.wanted.now (F.keeps s.now.view.now) in
         let all : List Need = needs_all s.now.needs.now in
         IsPlaceOf all place need.now → IsClearScope vs jobs s.now.window keeps scope need.now →
-        IsSpanOf vs scope from to → Looks times need.now →
+        IsSpanOf vs scope from to → AreLooks times need.now →
         TakesEach (HasEachOpen vs jobs s.now.window keeps all) (times * ((length all + 2) * F.cost s.now.view.now))
         steps.old steps.new place (place + length (all_of need.now)) from to) }
 {
@@ -151,7 +151,7 @@ fn offer<F: FreeView, L: Ledger>(
         let keeps : ℕ → ℕ → Type 0 = asked_totals s.now.wanted.now (F.keeps s.now.view.now) in
         let all : List Need = needs_all s.now.needs.now in
         IsPlaceOf all place need.now → IsClear vs jobs s.now.window keeps need.now vertex →
-        IsPast vs vertex past → Looks times need.now →
+        IsPast vs vertex past → AreLooks times need.now →
         TakesEach (HasEachOpen vs jobs s.now.window keeps all) (times * ((length all + 2) * F.cost s.now.view.now))
         (steps.old + 2 * F.cost s.now.view.now) steps.new (place + 1) (place + length (all_of need.now))
         (vertex + 1) past) }
@@ -252,7 +252,7 @@ fn write_shared<F: FreeView, L: Ledger>(
         let all : List Need = needs_all s.now.needs.now in
         IsPlaceOfAll all place needs.now →
         AllByRecursion (λ need. IsClear vs jobs s.now.window keeps need vertex) needs.now → IsPast vs vertex past →
-        LooksAll times needs.now →
+        AreLooksAll times needs.now →
         TakesEach (HasEachOpen vs jobs s.now.window keeps all) (times * ((length all + 2) * F.cost s.now.view.now))
         steps.old steps.new place (place + length (needs_all needs.now)) (vertex + 1) past) }
 {

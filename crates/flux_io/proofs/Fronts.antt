@@ -3,7 +3,7 @@ use Rattle.std.proofs.lemmas.List.{take_rest, drop-drop}
 use Rattle.std.proofs.Common.{◌≡◌, ◌≤◌, ℕ, ◌+◌, ◌-◌, List, [], ◌++◌, length, take, drop, Option, Some, None, IfSome}
 use Rattle.std.proofs.Common.{Result, IsOk, sym, ap, ◌∙◌, subst, arith, append_assoc, length-append, length-take-le}
 use Rattle.std.proofs.Common.{take-append-drop}
-use Rattle.flux_io.specs.Streams.{KeepsRoom}
+use Rattle.flux_io.specs.Streams.{IsRoomAfter}
 
 -- the piece is at the end of the front, and what is behind it is the new rest
 pub front_grows : (all front rest : List ℕ) (n : ℕ) →
@@ -27,7 +27,7 @@ room_falls (Some room) mid now front rest n within fell falls =
 pub still_fits : {E : Type 0} (before mid now : Option ℕ) (r : Result ℕ E) (f0 f1 f2 : ℕ) (all front rest : List ℕ) →
     all ≡ front ++ rest
     → IfSome before (λ room. mid ≡ Some (room - length front)) → IfSome before (λ room. length all ≤ room → f1 ≡ f0)
-    → KeepsRoom mid now f1 f2 r rest → IfSome before (λ room. length all ≤ room → f2 ≡ f0)
+    → IsRoomAfter mid now f1 f2 r rest → IfSome before (λ room. length all ≤ room → f2 ≡ f0)
 still_fits None mid now r f0 f1 f2 all front rest whole fell none kept = tt
 still_fits {E} (Some room) mid now r f0 f1 f2 all front rest whole fell none kept = λ fits.
     let size : length all ≡ length front + length rest = ap length whole ∙ length-append front rest in

@@ -50,7 +50,7 @@ abbrev pub next_call : Schedule → Schedule
 next_call calls = record calls { made = next_count calls.made }
 
 -- a pull gave the next bytes, as many as the room and a piece hold, and changed nothing behind them
-pub record GivesNext (old new : SourceState) (count : ℕ) (before after : List ℕ) : Type 0 where
+pub record AreNextBytes (old new : SourceState) (count : ℕ) (before after : List ℕ) : Type 0 where
   pub most : count ≡ min (length before) (min old.piece (length old.left))
   pub bytes : after ≡ take count old.left ++ drop count before
   pub rest : new ≡ record old { left = drop count old.left }

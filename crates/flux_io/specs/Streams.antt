@@ -8,7 +8,7 @@ abbrev pub TakesSome : {E : Type 0} → Result ℕ E → List ℕ → Type 0
 TakesSome result bytes = IfOk result (λ count. (count ≤ length bytes) × (0 < length bytes → 0 < count))
 
 -- where the sink tells a room: it falls by the bytes taken, and a piece no longer than it is taken without a fault
-pub record KeepsRoom {E : Type 0} (before now : Option ℕ) (faults_before faults_now : ℕ) (result : Result ℕ E)
+pub record IsRoomAfter {E : Type 0} (before now : Option ℕ) (faults_before faults_now : ℕ) (result : Result ℕ E)
     (bytes : List ℕ) : Type 0 where
   pub taken : IfSome before (λ room. IfOk result (λ count. now ≡ Some (room - count)))
   pub failed : IfSome before (λ room. OnErr result (now ≡ Some room))

@@ -4,7 +4,7 @@ ghost use Rattle.std.specs.Prelude.{Some, length, max, min};
 ghost use Rattle.std.specs.Io.KnownBytes.{WriteAppends};
 ghost use Rattle.flux_io.specs.Counts.{HasCause, next_count};
 ghost use Rattle.flux_io.specs.Memory.{TakesPiece, next_call};
-ghost use Rattle.flux_io.specs.Streams.{KeepsRoom, TakesSome};
+ghost use Rattle.flux_io.specs.Streams.{IsRoomAfter, TakesSome};
 
 use crate::calls::Calls;
 use crate::streams::{Failed, Sink};
@@ -98,7 +98,7 @@ impl Sink for SureSink {
         ensures bound { TakesSome result bytes.now }
         ensures bytes { WriteAppends (Some self.old.held) (Some self.new.held) result bytes.now }
         ensures cause { HasCause self.old.faults self.new.faults result }
-        ensures room { KeepsRoom (Some self.old.room) (Some self.new.room)
+        ensures room { IsRoomAfter (Some self.old.room) (Some self.new.room)
             self.old.faults self.new.faults result bytes.now }
         ensures takes { TakesPiece self.old self.new bytes.now result }
     {
@@ -178,7 +178,7 @@ impl Sink for MemSink {
         ensures bytes { WriteAppends (Some self.old.sink.held) (Some self.new.sink.held)
             result bytes.now }
         ensures cause { HasCause self.old.sink.faults self.new.sink.faults result }
-        ensures room { KeepsRoom None None self.old.sink.faults self.new.sink.faults result bytes.now }
+        ensures room { IsRoomAfter None None self.old.sink.faults self.new.sink.faults result bytes.now }
         ensures listed { Contains self.old.calls.fails (next_count self.old.calls.made)
             → IsErr result
             × (self.new.sink ≡ record self.old.sink { faults = next_count self.old.sink.faults }) }

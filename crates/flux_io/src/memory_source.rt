@@ -4,7 +4,7 @@ ghost use Rattle.std.specs.Prelude.{length, min, take};
 ghost use Rattle.std.specs.Io.{ReadsAtMost};
 ghost use Rattle.std.specs.Io.KnownBytes.{ReadConsumes};
 ghost use Rattle.flux_io.specs.Counts.{HasCause, count_after, next_count};
-ghost use Rattle.flux_io.specs.Memory.{GivesNext, next_call};
+ghost use Rattle.flux_io.specs.Memory.{AreNextBytes, next_call};
 
 use crate::calls::Calls;
 use crate::streams::{Failed, Source};
@@ -56,7 +56,7 @@ impl Source for SureSource {
         ensures bytes { ReadConsumes (Some self.old.left) (Some self.new.left) result into.new }
         ensures cause { HasCause 0 0 result }
         ensures sure { IsOk result }
-        ensures gives { IfOk result (λ count. GivesNext self.old self.new count into.old into.new) }
+        ensures gives { IfOk result (λ count. AreNextBytes self.old self.new count into.old into.new) }
     {
         let rest = &self.bytes.bytes()[self.at..];
         let count = fill_front(into, rest, self.piece);
@@ -124,7 +124,7 @@ impl Source for MemSource {
         ensures cause { HasCause self.old.faults self.new.faults result }
         ensures failed { IsErr result ↔ Contains self.old.calls.fails (next_count self.old.calls.made) }
         ensures gives { MatchResult result
-            (λ count. GivesNext self.old.source self.new.source count into.old into.new)
+            (λ count. AreNextBytes self.old.source self.new.source count into.old into.new)
             (λ _. (self.new.source ≡ self.old.source) × (into.new ≡ into.old)) }
         ensures calls { self.new.calls ≡ next_call self.old.calls }
         ensures faults { self.new.faults ≡ count_after self.old.faults result }

@@ -2,7 +2,7 @@
 ghost use Rattle.std.specs.Prelude.{◌≡◌, None};
 ghost use Rattle.std.specs.Io.KnownBytes.{WriteAppends};
 ghost use Rattle.flux_io.specs.Counts.{HasCause, count_after};
-ghost use Rattle.flux_io.specs.Streams.{KeepsRoom, TakesSome};
+ghost use Rattle.flux_io.specs.Streams.{IsRoomAfter, TakesSome};
 
 use crate::std_source::RETRIES;
 use crate::streams::{Failed, Sink};
@@ -50,7 +50,7 @@ impl<W: Write + Drop> Sink for StdSink<W> {
         ensures bound { TakesSome result bytes.now }
         ensures bytes { WriteAppends (W.contents self.old.inner) (W.contents self.new.inner) result bytes.now }
         ensures cause { HasCause self.old.faults self.new.faults result }
-        ensures room { KeepsRoom None None self.old.faults self.new.faults result bytes.now }
+        ensures room { IsRoomAfter None None self.old.faults self.new.faults result bytes.now }
         ensures count { self.new.faults ≡ count_after self.old.faults result }
     {
         'tries: for _ in 0..RETRIES + 1 {

@@ -3,7 +3,7 @@ ghost use Rattle.std.specs.Prelude.{ℕ, List, Option};
 ghost use Rattle.std.specs.Io.{ReadsAtMost};
 ghost use Rattle.std.specs.Io.KnownBytes.{ReadConsumes, WriteAppends};
 ghost use Rattle.flux_io.specs.Counts.{HasCause};
-ghost use Rattle.flux_io.specs.Streams.{KeepsRoom, TakesSome};
+ghost use Rattle.flux_io.specs.Streams.{IsRoomAfter, TakesSome};
 
 /// A pull or a push failed. The count of faults of the source or the sink rose in that call.
 #[derive(Clone, Copy, Debug, PartialEq, Eq)]
@@ -48,6 +48,6 @@ pub trait Sink {
         ensures bound { TakesSome result bytes.now }
         ensures bytes { WriteAppends (held self.old) (held self.new) result bytes.now }
         ensures cause { HasCause (faults self.old) (faults self.new) result }
-        ensures room { KeepsRoom (room self.old) (room self.new) (faults self.old) (faults self.new)
+        ensures room { IsRoomAfter (room self.old) (room self.new) (faults self.old) (faults self.new)
             result bytes.now };
 }

@@ -13,7 +13,8 @@ use Rattle.flux_defs.specs.Needs.{IsOfNeed, AreApartKinds, AreApartKindsRow, IsV
 use Rattle.flux_defs.specs.Jobs.{vertex_of, holds_over}
 use Rattle.flux_defs.specs.Fits.{Pick, NoneFor, AreDistinct, Pieces, Piece, FitsRow}
 use Rattle.flux_defs.specs.Sound.{AreSeparate, AreAllSeparate}
-use Rattle.graph_laws.proofs.Containment.{ParentsFirst, below_trans, below_le, below_self, below_from, below_to, line}
+use Rattle.graph_laws.proofs.Containment.{ParentsFirst, above_is_chain, below_trans, below_le, below_self}
+use Rattle.graph_laws.proofs.Containment.{below_from, below_to}
 use Rattle.list_laws.proofs.Lists.{all_append, all_along}
 
 same_kind : (k j : ℕ) (x : Option Vertex) → IsSomeAnd x (λ y. y.kind ≡ k) → IsSomeAnd x (λ y. y.kind ≡ j) → k ≡ j
@@ -33,9 +34,9 @@ module _ (vertices : List Vertex) (first : ParentsFirst vertices) (unnested : No
   abbrev pub AreDisjoint : ℕ → ℕ → Type 0
   AreDisjoint a b = (w : ℕ) → AtOrBelow w a → AtOrBelow w b → ⊥
 
-  from_line : (a b : ℕ) →
+  from_chain : (a b : ℕ) →
       (IsTrue (is_at_or_below vertices a b) → ⊥) → (IsTrue (is_at_or_below vertices b a) → ⊥) → AreDisjoint a b
-  from_line a b p q w ha hb = elim (line vertices first w a b ha.0 ha.1 hb.1) [ inl x ↦ p x | inr y ↦ q y ]
+  from_chain a b p q w ha hb = elim (above_is_chain vertices first w a b ha.0 ha.1 hb.1) [ inl x ↦ p x | inr y ↦ q y ]
 
   pub disjoint_sym : (a b : ℕ) → AreDisjoint a b → AreDisjoint b a
   disjoint_sym a b d w hb ha = d w ha hb
@@ -44,7 +45,7 @@ module _ (vertices : List Vertex) (first : ParentsFirst vertices) (unnested : No
   pub picks_disjoint : (need : Need) (a b : ℕ) →
       a ≢ b → IsOfNeed vertices need a → IsOfNeed vertices need b → AreDisjoint a b
   picks_disjoint need a b ne ha hb =
-      from_line a b (λ h. unnested need a b ha hb (below_from vertices first a b ne h))
+      from_chain a b (λ h. unnested need a b ha hb (below_from vertices first a b ne h))
       (λ h. unnested need b a hb ha (below_from vertices first b a (λ e. ne (sym e)) h))
 
   -- a vertex of two needs gives them a kind in common
@@ -67,7 +68,7 @@ module _ (vertices : List Vertex) (first : ParentsFirst vertices) (unnested : No
       AreApartKinds vertices n m → IsOfNeed vertices n a → IsOfNeed vertices m b → AreDisjoint a b
   siblings_disjoint n m a b apart ha hb =
       let ne : a ≢ b = λ e. kinds_meet n m b apart (subst (IsOfNeed vertices n) e ha) hb in
-      from_line a b (λ h. apart.nested (b, a, hb, ha, below_from vertices first a b ne h))
+      from_chain a b (λ h. apart.nested (b, a, hb, ha, below_from vertices first a b ne h))
       (λ h. apart.nests (a, b, ha, hb, below_from vertices first b a (λ e. ne (sym e)) h))
 
   -- a claim at or below a vertex

@@ -10,7 +10,7 @@ use Rattle.fluxion_shell.specs.Causes.{WhereTold, AppendsSome, AppendsFrontOfSom
 use Rattle.fluxion_shell.specs.Outputs.{IsAnswerTo}
 
 -- Usage is the answer exactly where the words are no call, but that memory may have been wanting to read them.
-pub record TellsUsage (words : List Word) (result : Status) : Type 0 where
+pub record IsUsage (words : List Word) (result : Status) : Type 0 where
   pub no_call : result ≡ status.Usage → (call : Call) → IsCallOf words call → ⊥
   pub told : ((call : Call) → IsCallOf words call → ⊥) → (result ≡ status.Usage) ⊎ (result ≡ status.Memory)
 

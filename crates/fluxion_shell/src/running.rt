@@ -6,7 +6,7 @@ ghost use Rattle.fluxion_lines.specs.declared.input.Over.{Over};
 ghost use Rattle.load_script.specs.declared.lines.TheConstants.{MOST_COMMANDS};
 ghost use Rattle.asked_calls.specs.Calls.{Call, serve, print, load, IsCallOf, served_held};
 ghost use Rattle.fluxion_shell.specs.Causes.{limit_of, LeavesInput, LeavesFiles, HasCause, IsFirstShown};
-ghost use Rattle.fluxion_shell.specs.Runs.{TellsUsage, IsAnswered, IsAnsweredInPart, WritesNothing, FitsRoom};
+ghost use Rattle.fluxion_shell.specs.Runs.{IsUsage, IsAnswered, IsAnsweredInPart, WritesNothing, FitsRoom};
 
 use crate::answering::answer;
 use crate::loading::{load, too_long};
@@ -166,7 +166,7 @@ pub fn run<R: Threads + Wait + Sync, F: Files, S: Source, O: Sink, G: Gate + Syn
     out: &mut O,
     gate: &G,
 ) -> Status
-    ensures usage { TellsUsage words.now result }
+    ensures usage { IsUsage words.now result }
     ensures answered { (call : Call) → IsCallOf words.now call →
         IsAnswered call (F.told files.old) (S.left input.old) (O.held out.old) (O.held out.new) result }
     ensures front { (call : Call) → IsCallOf words.now call →

@@ -15,8 +15,8 @@ use Rattle.graph_build.specs.Orders.{IsOrderOf, IsPreorderOf, IsRooted}
 use Rattle.resource_graph.specs.Preorder.{KnowsKinds}
 use Rattle.graph_build.proofs.Facts.{Facts}
 use Rattle.resource_graph.specs.Made.{named_graph}
-use Rattle.graph_build.specs.Raw.{shape_of, raw_graph, raw_names, KindsApart, IsArranged, KeepsSiblings, KeepsTexts}
-use Rattle.graph_build.specs.Raw.{IsBuiltFrom}
+use Rattle.graph_build.specs.Raw.{shape_of, raw_graph, raw_names, KindsApart, IsArranged, AreSiblingsInOrder}
+use Rattle.graph_build.specs.Raw.{AreTextsOf, IsBuiltFrom}
 use Rattle.graph_build.specs.Arranged.{HasNumbers, IsArrangedList, HasTexts, HasKindAt, IsNumbered, IsKindNumbering}
 use Rattle.graph_build.specs.Arranged.{HasKindNumbers, HasMadeTo}
 use Rattle.graph_build.specs.declared.raw.RawVertex.{RawVertex}
@@ -141,7 +141,7 @@ module _ (kinds : List (List ℕ)) (vertices : List Vertex) (order : List ℕ)
 
 -- the siblings of an arrangement by preorder rise
 pub siblings_kept : (kinds : List (List ℕ)) (vertices : List Vertex) (order : List ℕ) (g : ResourceGraph) →
-    IsArranged kinds vertices order g → IsPreorderOf vertices order → KeepsSiblings order g
+    IsArranged kinds vertices order g → IsPreorderOf vertices order → AreSiblingsInOrder order g
 siblings_kept kinds vertices order g arranged pre j k u v lt same at_u at_v =
     let index = index_of kinds vertices order g arranged in
     let pj : parent_of vertices u ≡ option_map index (parent_of g.vertices j) =
@@ -169,7 +169,7 @@ said_at {X} raw list order said indices arranged k = slice_get-map said list k �
 
 pub texts_kept : (raw list : List RawVertex) (order : List ℕ) (g : ResourceGraph) (texts : Texts) →
     IsOrderOf (length raw) order → IsArrangedList raw order (length order) list → HasTexts list texts →
-    KeepsTexts raw order (named_graph g.kinds g.vertices texts)
+    AreTextsOf raw order (named_graph g.kinds g.vertices texts)
 texts_kept raw list order g texts indices arranged has = record {
   names = λ k. ap (λ l. slice_get l k) has.names ∙ said_at raw list order (λ r. r.name) indices arranged k;
   bases = λ k. ap (λ l. slice_get l k) has.bases ∙ said_at raw list order (λ r. r.base) indices arranged k;

@@ -11,7 +11,8 @@ use Rattle.flux_defs.specs.ValidGraph.{StandsInPreorder, NumbersKinds}
 use Rattle.graph_laws.proofs.Containment.{below_parent, below_from, below_le, parent_below}
 use Rattle.graph_laws.proofs.Preorder.{parents_first, between_below}
 use Rattle.resource_graph.specs.NamedGraph.{NamedGraph}
-use Rattle.graph_build.specs.Raw.{IsArranged, IsRenumbered, KeepsSiblings, KeepsTexts, IsBuiltFrom, shape_of, rank_of}
+use Rattle.graph_build.specs.Raw.{IsArranged, IsRenumbered, AreSiblingsInOrder, AreTextsOf, IsBuiltFrom, shape_of}
+use Rattle.graph_build.specs.Raw.{rank_of}
 use Rattle.graph_build.specs.declared.raw.RawVertex.{RawVertex}
 use Rattle.graph_build.proofs.ArrangeLaws.{index_at, index_in, index_past, same_index, number_of, parent_back}
 use Rattle.graph_build.proofs.ArrangeLaws.{parent_forth, parent_index}
@@ -32,7 +33,7 @@ same_items (x ∷ xs) (y ∷ ys) e = ap₂ (λ z zs. z ∷ zs) (same_Some x y (e
 -- earlier sibling of that.
 module _ (kinds : List (List ℕ)) (vertices : List Vertex) (order : List ℕ) (g : ResourceGraph)
     (ag : IsArranged kinds vertices order g) (other : List ℕ) (h : ResourceGraph)
-    (ah : IsArranged kinds vertices other h) (sh : StandsInPreorder h) (kh : KeepsSiblings other h) (k : ℕ)
+    (ah : IsArranged kinds vertices other h) (sh : StandsInPreorder h) (kh : AreSiblingsInOrder other h) (k : ℕ)
     (within : k < length vertices)
     (same : (j : ℕ) → j < k → get_or order j (length vertices) ≡ get_or other j (length vertices)) (p q : ℕ)
     (parent_g : parent_of g.vertices k ≡ Some p) (p_lt : p < k)
@@ -92,9 +93,9 @@ no_parent : {A : Type 0} (o : Option A) (x : A) → o ≡ None → o ≡ Some x 
 no_parent o x e f = let clash : None ≡ Some x = sym e ∙ f in cc
 
 module _ (kinds : List (List ℕ)) (vertices : List Vertex) (order : List ℕ) (g : ResourceGraph)
-    (ag : IsArranged kinds vertices order g) (sg : StandsInPreorder g) (kg : KeepsSiblings order g)
+    (ag : IsArranged kinds vertices order g) (sg : StandsInPreorder g) (kg : AreSiblingsInOrder order g)
     (other : List ℕ) (h : ResourceGraph) (ah : IsArranged kinds vertices other h) (sh : StandsInPreorder h)
-    (kh : KeepsSiblings other h) where
+    (kh : AreSiblingsInOrder other h) where
   -- the root stands first
   first_same : 0 < length vertices → get_or order 0 (length vertices) ≡ get_or other 0 (length vertices)
   first_same within = let found = number_of kinds vertices other h ah (get_or order 0 (length vertices))
@@ -389,7 +390,7 @@ one_graph kinds raw g h a b =
     a.siblings b.order h.resources b.arranged b.whole.valid.preorder b.siblings in
     let arranged : IsArranged kinds vertices a.order h.resources =
     subst (λ (o : List ℕ). IsArranged kinds vertices o h.resources) (sym order) b.arranged in
-    let texts : KeepsTexts raw a.order h = subst (λ (o : List ℕ). KeepsTexts raw o h) (sym order) b.texts in
+    let texts : AreTextsOf raw a.order h = subst (λ (o : List ℕ). AreTextsOf raw o h) (sym order) b.texts in
     let types : g.resources.kinds ≡ h.resources.kinds = same_kinds kinds vertices a.order g.resources a.arranged
     a.whole.valid.kinds h.resources arranged b.whole.valid.kinds in
     let list : g.resources.vertices ≡ h.resources.vertices = same_vertices kinds vertices a.order g.resources

@@ -64,12 +64,12 @@ pub record IsArranged (kinds : List (List ℕ)) (vertices : List Vertex) (order 
         slice_get g.vertices k ≡ Some y → y.rank ≡ rank_of kinds vertices order k x
 
 -- siblings stand in the order of the raw list
-abbrev pub KeepsSiblings : List ℕ → ResourceGraph → Type 0
-KeepsSiblings order g = (j k u v : ℕ) → j < k → parent_of g.vertices j ≡ parent_of g.vertices k →
+abbrev pub AreSiblingsInOrder : List ℕ → ResourceGraph → Type 0
+AreSiblingsInOrder order g = (j k u v : ℕ) → j < k → parent_of g.vertices j ≡ parent_of g.vertices k →
     slice_get order j ≡ Some u → slice_get order k ≡ Some v → u < v
 
 -- each vertex has the texts of its raw vertex
-pub record KeepsTexts (raw : List RawVertex) (order : List ℕ) (g : NamedGraph) : Type 0 where
+pub record AreTextsOf (raw : List RawVertex) (order : List ℕ) (g : NamedGraph) : Type 0 where
   pub names : (k : ℕ) → slice_get g.names k ≡ option_and_then (λ i. option_map (λ r. r.name) (slice_get raw i))
       (slice_get order k)
   pub bases : (k : ℕ) → slice_get g.bases k ≡ option_and_then (λ i. option_map (λ r. r.base) (slice_get raw i))
@@ -86,5 +86,5 @@ pub record IsBuiltFrom (kinds : List (List ℕ)) (raw : List RawVertex) (g : Nam
   pub whole : IsWhole g
   pub order : List ℕ
   pub arranged : IsArranged kinds (map shape_of raw) order g.resources
-  pub siblings : KeepsSiblings order g.resources
-  pub texts : KeepsTexts raw order g
+  pub siblings : AreSiblingsInOrder order g.resources
+  pub texts : AreTextsOf raw order g

@@ -110,11 +110,11 @@ abbrev pub IsWrongEdge : List (List ℕ) → List (Result FileEdge FileMisfit) �
 IsWrongEdge ids edges k = IsTrue (option_map_or (is_wrong ids (counted (take k edges))) (slice_get edges k) false)
 
 -- what is told of an edge as it is read with this index
-abbrev pub TellsEdge : Result FileEdge FileMisfit → ℕ → EdgeFault → Type 0
-TellsEdge (Ok e) at (Wrong k) = k ≡ at
-TellsEdge (Ok e) at (Unfit m) = ⊥
-TellsEdge (Err m) at (Wrong k) = ⊥
-TellsEdge (Err m) at (Unfit n) = n ≡ m
+abbrev pub IsFaultOfEdge : Result FileEdge FileMisfit → ℕ → EdgeFault → Type 0
+IsFaultOfEdge (Ok e) at (Wrong k) = k ≡ at
+IsFaultOfEdge (Ok e) at (Unfit m) = ⊥
+IsFaultOfEdge (Err m) at (Wrong k) = ⊥
+IsFaultOfEdge (Err m) at (Unfit n) = n ≡ m
 
 -- the fault is that of the first wrong edge
 pub record IsFirstWrong
@@ -124,7 +124,7 @@ pub record IsFirstWrong
   pub here : slice_get edges at ≡ Some read
   pub wrong : IsWrongEdge ids edges at
   pub first : (k : ℕ) → k < at → IsWrongEdge ids edges k → ⊥
-  pub told : TellsEdge read at fault
+  pub told : IsFaultOfEdge read at fault
 
 -- ---- parents
 

@@ -126,10 +126,10 @@ module _ (vertices : List Vertex) (first : ParentsFirst vertices) where
       ∙ (up-up vertices n (m - n) (Some w) ∙ (ap (λ k. up vertices k (Some w)) e ∙ eb))
 
   -- of two vertices above a third, one is at or below the other
-  pub line : (w a b : ℕ) →
+  pub above_is_chain : (w a b : ℕ) →
       w < length vertices → IsTrue (is_at_or_below vertices w a) → IsTrue (is_at_or_below vertices w b) →
       IsTrue (is_at_or_below vertices a b) ⊎ IsTrue (is_at_or_below vertices b a)
-  line w a b lt ha hb =
+  above_is_chain w a b lt ha hb =
       let s = steps_of w a ha in
       let t = steps_of w b hb in
       let la : a ≤ w = below_le w a ha in

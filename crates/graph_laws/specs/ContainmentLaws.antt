@@ -11,8 +11,8 @@ IsTransitive = (g : ResourceGraph) → StandsInPreorder g → (w v u : ℕ) → 
     IsTrue (is_at_or_below g.vertices w v) →
     IsTrue (is_at_or_below g.vertices v u) → IsTrue (is_at_or_below g.vertices w u)
 
-abbrev pub IsLine : Type 0
-IsLine = (g : ResourceGraph) → StandsInPreorder g → (w a b : ℕ) → w < length g.vertices →
+abbrev pub IsChain : Type 0
+IsChain = (g : ResourceGraph) → StandsInPreorder g → (w a b : ℕ) → w < length g.vertices →
     IsTrue (is_at_or_below g.vertices w a) → IsTrue (is_at_or_below g.vertices w b) →
     IsTrue (is_at_or_below g.vertices a b) ⊎ IsTrue (is_at_or_below g.vertices b a)
 

@@ -1,7 +1,7 @@
 //! Laws of containment, each the contract of a public function that does nothing.
 #![tactic(auto)]
 
-ghost use Rattle.graph_laws.specs.ContainmentLaws.{ParentsStandFirst, IsTransitive, IsLine, FollowsWithoutGap};
+ghost use Rattle.graph_laws.specs.ContainmentLaws.{ParentsStandFirst, IsTransitive, IsChain, FollowsWithoutGap};
 
 /// In a valid graph's preorder parents stand before their children.
 pub fn parents_stand_first()
@@ -13,9 +13,9 @@ pub fn containment_is_transitive()
     ensures { IsTransitive }
 {}
 
-/// What a vertex is at or below is a line: of two such vertices one is at or below the other.
-pub fn what_is_above_is_a_line()
-    ensures { IsLine }
+/// What a vertex is at or below is a chain: of two such vertices one is at or below the other.
+pub fn what_is_above_is_a_chain()
+    ensures { IsChain }
 {}
 
 /// The vertices at or below a vertex follow it without a gap.

@@ -4,7 +4,7 @@ use Rattle.flux_defs.specs.declared.journal.Entry.{Entry}
 use Rattle.flux_defs.specs.Scheduler.{Setting, IsProper, Replies, after, first_state}
 use Rattle.flux_defs.specs.Histories.{IsLegal, HasProperCommands}
 use Rattle.list_laws.proofs.Lists.{all_append}
-use Rattle.book_state.specs.Books.{KeepsSetting}
+use Rattle.book_state.specs.Books.{HaveOneSetting}
 use Rattle.sched_core.specs.declared.held.Site.{Site}
 use Rattle.sched_core.specs.declared.held.Kept.{Kept}
 use Rattle.sched_core.specs.Courses.{left_by, graph_at, vertices_at, journal_in, setting_of, setting_in, IsBookOf}
@@ -23,7 +23,7 @@ module _ (site : Site) (kept : Kept) (core : IsCore site kept) (entry : Entry)
       kept.book core.book-of (ap (λ n. n.resources.vertices) core.graph-is) core.horizon-is
       entry.command entry.reply proper replies
 
-  pub grows : (next : Kept) → KeepsSetting kept.book next.book → IsBookOf (journal_in kept ++ entry ∷ []) next.book →
+  pub grows : (next : Kept) → HaveOneSetting kept.book next.book → IsBookOf (journal_in kept ++ entry ∷ []) next.book →
       journal_in next ≡ journal_in kept ++ entry ∷ [] →
       next.claim_count ≡ (after (left_by (journal_in kept)) entry.command entry.reply).claim_count →
       Grows site kept next entry

@@ -25,14 +25,14 @@ use Rattle.flux_defs.proofs.DigitLaws.{dig_mono}
 use Rattle.resource_graph.specs.NamedGraph.{NamedGraph}
 use Rattle.book_laws.specs.Grouped.{count_claims}
 use Rattle.earliest_search.proofs.TriedLaws.{enough_more, tries_along, tries_later}
-use Rattle.book_state.specs.Books.{graph_of, rules_of, accounts_of, rows_of, moment_of, StandsFor, KeepsPair}
-use Rattle.book_state.specs.Books.{KeepsTotal, cost_of}
+use Rattle.book_state.specs.Books.{graph_of, rules_of, accounts_of, rows_of, moment_of, StandsFor, IsPairKept}
+use Rattle.book_state.specs.Books.{IsTotalKept, cost_of}
 use Rattle.sched_core.specs.declared.held.Site.{Site}
 use Rattle.sched_core.specs.declared.held.Kept.{Kept}
 use Rattle.sched_core.specs.declared.finding.Starts.{Starts}
 use Rattle.sched_core.specs.declared.finding.Starts.TheVariants as starts
 use Rattle.sched_core.specs.Courses.{left_by, journal_in, vertices_at, graph_at, setting_in, pair_of, IsCore}
-use Rattle.sched_core.specs.SearchCosts.{SearchTakes, CommandTakes, CourseTakes, KeepsAt, last_in, satisfy_most}
+use Rattle.sched_core.specs.SearchCosts.{SearchTakes, CommandTakes, CourseTakes, IsKindKeptAt, last_in, satisfy_most}
 use Rattle.sched_core.proofs.Searched.{has_row}
 
 -- a map of no more keys than the list that has them
@@ -94,10 +94,10 @@ some_along (Some x) P Q along h = along x h
 
 -- what the setting's rules keep, the book keeps
 keeps_at : (site : Site) (kept : Kept) → graph_of kept.book ≡ graph_at site → (v kind : ℕ) →
-    KeepsAt (setting_in site kept) v kind → KeepsTotal kept.book v kind
+    IsKindKeptAt (setting_in site kept) v kind → IsTotalKept kept.book v kind
 keeps_at site kept same v kind h =
     let rules = rules_of kept.book in
-    subst (λ (n : NamedGraph). IsSomeAnd (slice_get n.resources.vertices v) (λ x. KeepsPair n rules x.kind kind)) (sym
+    subst (λ (n : NamedGraph). IsSomeAnd (slice_get n.resources.vertices v) (λ x. IsPairKept n rules x.kind kind)) (sym
     same)
     (some_along (slice_get (vertices_at site) v) _ _ (λ x. some_along (slice_get (graph_at site).resources.kinds
     x.kind) _ _
@@ -155,7 +155,7 @@ module _ (vertices : List Vertex) (jobs : List Job) (horizon moment : ℕ) where
 -- what is taken over the book is taken in the state of the course
 pub course_takes : (site : Site) (kept : Kept) → IsCore site kept → (c : Command) (last old new : ℕ) →
     ((jobs : List Job) → StandsFor kept.book jobs →
-    CommandTakes (vertices_at site) jobs (KeepsTotal kept.book) (cost_of kept.book) site.horizon (moment_of kept.book)
+    CommandTakes (vertices_at site) jobs (IsTotalKept kept.book) (cost_of kept.book) site.horizon (moment_of kept.book)
     (16 * dig (len (rows_of kept.book) + 2)) c last old new) →
     CourseTakes (record { setting = setting_in site kept; journal = journal_in kept }) c last old new
 course_takes site kept core c last old new takes =
@@ -171,8 +171,8 @@ course_takes site kept core c last old new takes =
     let find : 16 * dig (len (rows_of kept.book) + 2) ≤ 16 * digits =
     mul-le-mul_left 16 (dig_mono (len (rows_of kept.book) + 2) (2 * count_claims s.jobs + length s.used + 4)
     (omega (arith, few))) in
-    command_along (vertices_at site) s.jobs site.horizon s.moment (KeepsAt (setting_in site kept))
-    (KeepsTotal kept.book) (keeps_at site kept core.graph-is) (cost_of kept.book) (512 * digits) view
+    command_along (vertices_at site) s.jobs site.horizon s.moment (IsKindKeptAt (setting_in site kept))
+    (IsTotalKept kept.book) (keeps_at site kept core.graph-is) (cost_of kept.book) (512 * digits) view
     (16 * dig (len (rows_of kept.book) + 2)) (16 * digits) find c last old new
-    (subst (λ m. CommandTakes (vertices_at site) s.jobs (KeepsTotal kept.book) (cost_of kept.book) site.horizon m
+    (subst (λ m. CommandTakes (vertices_at site) s.jobs (IsTotalKept kept.book) (cost_of kept.book) site.horizon m
     (16 * dig (len (rows_of kept.book) + 2)) c last old new) of.moment (takes s.jobs of.jobs))

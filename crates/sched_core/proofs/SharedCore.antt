@@ -9,7 +9,7 @@ use Rattle.flux_defs.specs.Histories.{IsLegal, HasProperCommands}
 use Rattle.resource_graph.specs.NamedGraph.{NamedGraph, IsWhole}
 use Rattle.prune_filters.specs.declared.rules.Rule.{Rule}
 use Rattle.job_table.specs.declared.tables.Row.{Row}
-use Rattle.book_state.specs.Books.{rules_of, moment_of, rows_of, StandsFor, KeepsSetting}
+use Rattle.book_state.specs.Books.{rules_of, moment_of, rows_of, StandsFor, HaveOneSetting}
 use Rattle.sched_core.specs.declared.held.Site.{Site}
 use Rattle.sched_core.specs.declared.held.Kept.{Kept}
 use Rattle.sched_core.specs.Courses.{left_by, graph_at, vertices_at, journal_in, setting_of, setting_in, IsNew, IsRowOf}
@@ -21,7 +21,7 @@ same_setting a b r q h k l m e f i j = cc
 
 module _ (site other : Site) (kept same : Kept) (core : IsCore site kept) (graph : graph_at other ≡ graph_at site)
     (horizon : other.horizon ≡ site.horizon) (limit : other.claim_limit ≡ site.claim_limit)
-    (keeps : KeepsSetting kept.book same.book) (journal : journal_in same ≡ journal_in kept) where
+    (keeps : HaveOneSetting kept.book same.book) (journal : journal_in same ≡ journal_in kept) where
   pub same_setting_in : setting_in other same ≡ setting_in site kept
   same_setting_in =
       same_setting (graph_at other) (graph_at site) (rules_of same.book) (rules_of kept.book) other.horizon site.horizon

@@ -17,9 +17,9 @@ AddsAtMost most reply.Cancelled = ⊥
 AddsAtMost most r = Unit {0}
 
 -- the same of the reply that is told of a candidate, if one is
-abbrev pub TellsAtMost : ℕ → Judged → Type 0
-TellsAtMost most (judged.Fresh reply) = AddsAtMost most reply
-TellsAtMost most (judged.Overtaken cause) = Unit {0}
+abbrev pub IsToldAtMost : ℕ → Judged → Type 0
+IsToldAtMost most (judged.Fresh reply) = AddsAtMost most reply
+IsToldAtMost most (judged.Overtaken cause) = Unit {0}
 
 -- the binary digits of what the trees of a course hold once it has so many claims more: all claims twice, and the
 -- entries

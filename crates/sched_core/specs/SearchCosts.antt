@@ -17,7 +17,7 @@ use Rattle.dfu_match.specs.Tables.{needs_all}
 use Rattle.dfu_match.specs.Pairs.{IsEnoughFor}
 use Rattle.earliest_search.specs.Tried.{TakesTries}
 use Rattle.book_state.specs.declared.held.BookState.{BookState}
-use Rattle.book_state.specs.Books.{StandsFor, KeepsTotal, cost_of}
+use Rattle.book_state.specs.Books.{StandsFor, IsTotalKept, cost_of}
 use Rattle.sched_core.specs.declared.finding.Starts.{Starts}
 use Rattle.sched_core.specs.declared.finding.Starts.TheVariants as starts
 use Rattle.sched_core.specs.Courses.{Course, state_of}
@@ -65,12 +65,12 @@ abbrev pub BookTakes : {E : Type 0} → ResourceGraph → ℕ → BookState → 
     Type 0
 BookTakes g horizon book moment starts ask result old new =
     (jobs : List Job) → StandsFor book jobs →
-    SearchTakes g.vertices jobs (KeepsTotal book) (cost_of book) horizon moment starts ask (last_in horizon result) old
+    SearchTakes g.vertices jobs (IsTotalKept book) (cost_of book) horizon moment starts ask (last_in horizon result) old
     new
 
 -- the setting's filter rules keep totals of this type (the second) at this vertex (the first)
-abbrev pub KeepsAt : Setting → ℕ → ℕ → Type 0
-KeepsAt g v kind =
+abbrev pub IsKindKeptAt : Setting → ℕ → ℕ → Type 0
+IsKindKeptAt g v kind =
     IsSomeAnd (slice_get g.graph.vertices v) (λ x.
     IsSomeAnd (slice_get g.graph.kinds x.kind) (λ high.
     IsSomeAnd (slice_get g.graph.kinds kind) (λ low.
@@ -84,5 +84,5 @@ digits_held course = dig (2 * count_claims (state_of course).jobs + length (stat
 -- so many steps are taken for a command in the state of a course
 abbrev pub CourseTakes : Course → Command → ℕ → ℕ → ℕ → Type 0
 CourseTakes course c last old new =
-    CommandTakes course.setting.graph.vertices (state_of course).jobs (KeepsAt course.setting)
+    CommandTakes course.setting.graph.vertices (state_of course).jobs (IsKindKeptAt course.setting)
     (512 * digits_held course) course.setting.horizon (state_of course).moment (16 * digits_held course) c last old new

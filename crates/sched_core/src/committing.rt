@@ -14,7 +14,7 @@ ghost use Rattle.overtaken_check.specs.Costs.{scan_most, claims_found};
 ghost use Rattle.sched_core.specs.Courses.{left_by, journal_in, setting_in, IsCore};
 ghost use Rattle.sched_core.specs.Answered.{FindsAt, none_at};
 ghost use Rattle.sched_core.specs.Judged.{IsJudgedOf};
-ghost use Rattle.sched_core.specs.Costs.{AddsAtMost, TellsAtMost};
+ghost use Rattle.sched_core.specs.Costs.{AddsAtMost, IsToldAtMost};
 
 use crate::candidates::copy_verdict;
 use crate::finding::{Starts, is_used};
@@ -171,7 +171,7 @@ fn fresh<L: Ledger>(
     ensures answer { present ≡ (left_by (journal_in kept.now)).moment →
         StillStands (setting_in site.now kept.now) (journal_in kept.now) (candidate_of command.now place verdict.now) →
         IfOk result (IsJudgedOf (setting_in site.now kept.now) (journal_in kept.now) command.now place verdict.now) }
-    ensures few { IfOk result (TellsAtMost (length (claims_found verdict.now))) }
+    ensures few { IfOk result (IsToldAtMost (length (claims_found verdict.now))) }
     ensures work { steps.new ≤ steps.old + 16 * dig (len (rows_of kept.now.book) + 2) }
 {
     let copied = copy_verdict(site.alloc, verdict)?;
@@ -194,7 +194,7 @@ pub(crate) fn judge<L: Ledger>(
         verdict.now }
     ensures answer { IfOk result (IsJudgedOf (setting_in site.now kept.now) (journal_in kept.now) command.now place
         verdict.now) }
-    ensures few { IfOk result (TellsAtMost (length (claims_found verdict.now))) }
+    ensures few { IfOk result (IsToldAtMost (length (claims_found verdict.now))) }
     ensures work { steps.new ≤ steps.old
         + (2 * cost_of kept.now.book * length (claims_found verdict.now) + 3 * scan_most (journal_in kept.now) place
         + 16 * dig (len (rows_of kept.now.book) + 2)) }

@@ -5,7 +5,7 @@ ghost use Rattle.flux_defs.specs.declared.journal.Entry.{Entry};
 ghost use Rattle.flux_defs.specs.declared.journal.Reply.TheVariants as reply;
 ghost use Rattle.flux_defs.specs.Scheduler.{job_with};
 ghost use Rattle.flux_defs.specs.Overtaken.{HasAccepted};
-ghost use Rattle.book_state.specs.Books.{KeepsSetting, MayAdd, change_cost_of};
+ghost use Rattle.book_state.specs.Books.{HaveOneSetting, MayAdd, change_cost_of};
 ghost use Rattle.sched_core.specs.Courses.{left_by, IsBookOf};
 ghost use Rattle.sched_core.specs.Answered.{ChangesNothing, MayFollow};
 ghost use Rattle.sched_core.specs.Costs.{AddsAtMost};
@@ -27,7 +27,7 @@ fn after_accepted<L: Ledger>(
 ) -> Result<BookState, AllocError>
     requires book { IsBookOf entries.now book.now }
     requires may { MayAdd book.now job.now }
-    ensures setting { IfOk result (KeepsSetting book.now) }
+    ensures setting { IfOk result (HaveOneSetting book.now) }
     ensures book { IfOk result (λ next. (e : Entry) → HasAccepted e job.now → IsBookOf (entries.now ++ e ∷ []) next) }
     ensures work { steps.new ≤ steps.old + change_cost_of book.now (length job.now.claims) }
 {
@@ -45,7 +45,7 @@ fn after_cancelled<L: Ledger>(
 ) -> Result<BookState, AllocError>
     requires book { IsBookOf entries.now book.now }
     requires there { IsSome (job_with id (left_by entries.now).jobs) }
-    ensures setting { IfOk result (KeepsSetting book.now) }
+    ensures setting { IfOk result (HaveOneSetting book.now) }
     ensures book { IfOk result (λ next. (e : Entry) →
         e.command ≡ command.Cancel id → e.reply ≡ reply.Cancelled → IsBookOf (entries.now ++ e ∷ []) next) }
 {
@@ -60,7 +60,7 @@ fn after_cancelled<L: Ledger>(
 
 /// The book at another moment.
 fn after_moved(book: &BookState, to: u64) -> Result<BookState, AllocError>
-    ensures setting { IfOk result (KeepsSetting book.now) }
+    ensures setting { IfOk result (HaveOneSetting book.now) }
     ensures book { IfOk result (λ next. (journal : List Entry) (e : Entry) →
         IsBookOf journal book.now → e.reply ≡ reply.Now to → IsBookOf (journal ++ e ∷ []) next) }
 {
@@ -70,7 +70,7 @@ fn after_moved(book: &BookState, to: u64) -> Result<BookState, AllocError>
 
 /// The same book.
 fn unchanged(book: &BookState) -> Result<BookState, AllocError>
-    ensures setting { IfOk result (KeepsSetting book.now) }
+    ensures setting { IfOk result (HaveOneSetting book.now) }
     ensures book { IfOk result (λ next. (journal : List Entry) (e : Entry) →
         IsBookOf journal book.now → ChangesNothing e.reply → IsBookOf (journal ++ e ∷ []) next) }
 {
@@ -89,7 +89,7 @@ pub(crate) fn follow<L: Ledger>(
 ) -> Result<BookState, AllocError>
     requires book { IsBookOf entries.now book.now }
     requires may { MayFollow book.now (left_by entries.now) command.now reply.now }
-    ensures setting { IfOk result (KeepsSetting book.now) }
+    ensures setting { IfOk result (HaveOneSetting book.now) }
     ensures book { IfOk result
         (λ next. (e : Entry) → e.command ≡ command.now → e.reply ≡ reply.now → IsBookOf (entries.now ++ e ∷ []) next) }
     ensures work { (most : ℕ) → AddsAtMost most reply.now → steps.new ≤ steps.old + change_cost_of book.now most }

@@ -10,7 +10,7 @@ ghost use Rattle.sched_core.specs.Courses.{state_of, empty_course};
 ghost use Rattle.sched_core.specs.Answered.{IsDecided};
 ghost use Rattle.overtaken_check.specs.Costs.{claims_found};
 ghost use Rattle.sched_core.specs.Candidates.{IsFor, IsJudged, IsCommitted};
-ghost use Rattle.sched_core.specs.Costs.{AddsAtMost, TellsAtMost, judge_most, append_most, commit_most};
+ghost use Rattle.sched_core.specs.Costs.{AddsAtMost, IsToldAtMost, judge_most, append_most, commit_most};
 ghost use Rattle.sched_core.specs.SearchCosts.{CourseTakes, last_found};
 
 use crate::appending::append;
@@ -217,7 +217,7 @@ impl Core {
     ) -> Result<Judged, AllocError>
         requires { IsFor self.now candidate.now }
         ensures answer { IfOk result (IsJudged self.now candidate.now) }
-        ensures few { IfOk result (TellsAtMost (length (claims_found candidate.now.verdict))) }
+        ensures few { IfOk result (IsToldAtMost (length (claims_found candidate.now.verdict))) }
         ensures work { steps.new ≤ steps.old + judge_most self.now candidate.now }
     {
         let moment = candidate.snap.now();

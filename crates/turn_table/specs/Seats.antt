@@ -38,8 +38,8 @@ module _ {V E K : Type 0} where
   HasTurn s = (s.me.1 ≡ (0, None) ∷ []) × (s.me.0.phase ≡ Holding) × (s.me.0.earlier ≡ [])
 
   -- the seat has the turn afterwards exactly where it had it before
-  abbrev pub KeepsTurn : Seat (Option V) (View E K) → Seat (Option V) (View E K) → Type 0
-  KeepsTurn s s' = (Rests s → Rests s') × (HasTurn s → HasTurn s')
+  abbrev pub IsTurnAsBefore : Seat (Option V) (View E K) → Seat (Option V) (View E K) → Type 0
+  IsTurnAsBefore s s' = (Rests s → Rests s') × (HasTurn s → HasTurn s')
 
   -- the seat has in hand the slot with this value in it
   abbrev pub HasInHand : Seat (Option V) (View E K) → V → Type 0

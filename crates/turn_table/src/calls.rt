@@ -4,7 +4,7 @@ ghost use Rattle.std.specs.List.{range_with_len};
 ghost use mathlib.Core.List.{IsPrefix};
 ghost use Rattle.turn_table.specs.declared.view.TheConstants.{ALL_SHARES};
 ghost use Rattle.turn_table.specs.Positions.{times};
-ghost use Rattle.turn_table.specs.Seats.{seen, mine, share, Rests, HasTurn, KeepsTurn};
+ghost use Rattle.turn_table.specs.Seats.{seen, mine, share, Rests, HasTurn, IsTurnAsBefore};
 ghost use Rattle.turn_table.specs.Turns.{setting_of, Belongs};
 
 use crate::logged::Logged;
@@ -114,7 +114,7 @@ impl<V: Logged> Turn<V> {
     pub fn version(&self, seat: &mut Seat<V>) -> u64
         requires own { Belongs V.setting self.now seat.old }
         ensures own { Belongs V.setting self.now seat.new }
-        ensures turn { KeepsTurn seat.old seat.new }
+        ensures turn { IsTurnAsBefore seat.old seat.new }
         ensures later { IsPrefix (seen seat.old) (seen seat.new) }
         ensures count { result ≡ length (seen seat.new) }
         ensures same { (mine seat.new ≡ mine seat.old) × (share seat.new ≡ share seat.old) }
@@ -130,7 +130,7 @@ impl<V: Logged> Turn<V> {
         ensures always { IsOk result }
         ensures own { Belongs V.setting self.now seat.new }
         ensures new { IfOk result (λ new. Belongs V.setting self.now new × Rests new) }
-        ensures turn { KeepsTurn seat.old seat.new }
+        ensures turn { IsTurnAsBefore seat.old seat.new }
         ensures seen { (seen seat.new ≡ seen seat.old) × IfOk result (λ new. seen new ≡ seen seat.old) }
         ensures mine { (mine seat.new ≡ mine seat.old) × IfOk result (λ new. mine new ≡ []) }
         ensures share { (share seat.new + 1 ≡ share seat.old) × IfOk result (λ new. share new ≡ 1) }

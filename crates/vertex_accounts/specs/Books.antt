@@ -24,8 +24,8 @@ abbrev pub types_of : {P : Type 0} → Accounts P → ℕ
 types_of book = types_in (arc_value book.counted)
 
 -- the book keeps totals of this type
-abbrev pub KeepsKind : {P : Type 0} → Accounts P → ℕ → Type 0
-KeepsKind book kind = (place : ℕ) × (slice_get (arc_value book.counted).places kind ≡ Some (Some place))
+abbrev pub HasTotals : {P : Type 0} → Accounts P → ℕ → Type 0
+HasTotals book kind = (place : ℕ) × (slice_get (arc_value book.counted).places kind ≡ Some (Some place))
 
 -- what is counted is of the graph of these vertices, and each vertex has a planner for each place
 pub record ArePlanned {P : Type 0} (vertices : List Vertex) (counted : Counted) (items : List (List P)) : Type 0 where

@@ -28,7 +28,7 @@ use std::sync::ledger::Ledger;
 use vertex_planners::{Item, parent_in};
 
 impl<P: Planner + Drop> Accounts<P> {
-    ghost use Rattle.vertex_accounts.specs.Books.{AreAccountsOf, AreAccounts, KeepsKind, counted_of};
+    ghost use Rattle.vertex_accounts.specs.Books.{AreAccountsOf, AreAccounts, HasTotals, counted_of};
 
     /// Whether a job holds one of the first so many vertices on the way up from this one, at some moment of the window.
     fn held_up<L: Ledger>(
@@ -233,7 +233,7 @@ impl<P: Planner + Drop> Accounts<P> {
         ensures answer { (jobs : List Job) →
             AreAccounts P.total_of P.stands_for graph.now.resources.vertices jobs self.now →
             IfSome result (IsTotalOver graph.now.resources.vertices jobs window kind vertex) }
-        ensures kept { KeepsKind self.now kind → IsSome result }
+        ensures kept { HasTotals self.now kind → IsSome result }
         ensures some_work { steps.old < steps.new }
         ensures work { (most_looks : ℕ) → CostWithin P.look_cost most_looks (items_of self.now.planners) →
             steps.new ≤ steps.old + (closed_most (length graph.now.resources.vertices) most_looks + most_looks) }
@@ -263,8 +263,8 @@ impl<P: Planner + Drop> Accounts<P> {
         ensures answer { (jobs : List Job) →
             AreAccounts P.total_of P.stands_for graph.now.resources.vertices jobs self.now →
             (IsTrue result ↔
-            (KeepsKind self.now kind × IsTooLittle graph.now.resources.vertices jobs window vertex kind amount)) }
-        ensures kept { IsTrue result → KeepsKind self.now kind }
+            (HasTotals self.now kind × IsTooLittle graph.now.resources.vertices jobs window vertex kind amount)) }
+        ensures kept { IsTrue result → HasTotals self.now kind }
         ensures some_work { steps.old < steps.new }
         ensures work { (most_looks : ℕ) → CostWithin P.look_cost most_looks (items_of self.now.planners) →
             steps.new ≤ steps.old + (closed_most (length graph.now.resources.vertices) most_looks + most_looks) }
@@ -342,7 +342,7 @@ impl<P: Planner + Drop> Accounts<P> {
         steps: &mut Steps<L>,
     ) -> Option<u64>
         requires graph { AreAccountsOf graph.now.resources.vertices self.now }
-        requires kept { KeepsKind self.now kind }
+        requires kept { HasTotals self.now kind }
         ensures answer { (jobs : List Job) →
             AreAccounts P.total_of P.stands_for graph.now.resources.vertices jobs self.now →
             IsNextAmpleOrNone graph.now.resources.vertices jobs kind amount after result }

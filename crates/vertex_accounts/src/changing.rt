@@ -5,7 +5,7 @@ ghost use Rattle.book_laws.specs.TotalLaws.{AreFair};
 ghost use Rattle.planner_points.specs.Work.{renew_cost};
 ghost use Rattle.vertex_planners.specs.Lists.{items_of};
 ghost use Rattle.vertex_planners.specs.Work.{CostWithin};
-ghost use Rattle.vertex_accounts.specs.Books.{IsOnGraph, AreAccounts, KeepsKind, types_of};
+ghost use Rattle.vertex_accounts.specs.Books.{IsOnGraph, AreAccounts, HasTotals, types_of};
 ghost use Rattle.vertex_accounts.specs.Costs.{accounts_most};
 
 use crate::books::Accounts;
@@ -36,7 +36,7 @@ impl<P: Planner + Drop> Accounts<P> {
             AreAccounts P.total_of P.stands_for graph.now.resources.vertices jobs self.now →
             AreFair graph.now.resources.vertices (jobs ++ job.now ∷ []) →
             AreAccounts P.total_of P.stands_for graph.now.resources.vertices (jobs ++ job.now ∷ []) book) }
-        ensures kinds { IfOk result (λ book. (kind : ℕ) → KeepsKind self.now kind → KeepsKind book kind) }
+        ensures kinds { IfOk result (λ book. (kind : ℕ) → HasTotals self.now kind → HasTotals book kind) }
         ensures types { IfOk result (λ book. types_of book ≡ types_of self.now) }
         ensures work { (most : ℕ) → CostWithin
             (renew_cost P.settle_cost P.change_cost) most (items_of self.now.planners) → steps.new ≤ steps.old +
@@ -80,7 +80,7 @@ impl<P: Planner + Drop> Accounts<P> {
         ensures accounts { IfOk result (λ book. (before after : List Job) →
             AreAccounts P.total_of P.stands_for graph.now.resources.vertices (before ++ job.now ∷ after) self.now →
             AreAccounts P.total_of P.stands_for graph.now.resources.vertices (before ++ after) book) }
-        ensures kinds { IfOk result (λ book. (kind : ℕ) → KeepsKind self.now kind → KeepsKind book kind) }
+        ensures kinds { IfOk result (λ book. (kind : ℕ) → HasTotals self.now kind → HasTotals book kind) }
         ensures types { IfOk result (λ book. types_of book ≡ types_of self.now) }
         ensures work { (most : ℕ) → CostWithin
             (renew_cost P.settle_cost P.change_cost) most (items_of self.now.planners) → steps.new ≤ steps.old +

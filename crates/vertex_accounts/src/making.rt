@@ -5,7 +5,7 @@ ghost use Rattle.prune_filters.specs.Filters.{IsCounted};
 ghost use Rattle.vertex_planners.specs.Lists.{items_of, AreWide};
 ghost use Rattle.vertex_accounts.specs.Quantities.{KnowCapacities};
 ghost use Rattle.vertex_accounts.specs.Counts.{AreNew};
-ghost use Rattle.vertex_accounts.specs.Books.{AreAccounts, KeepsKind, types_of};
+ghost use Rattle.vertex_accounts.specs.Books.{AreAccounts, HasTotals, types_of};
 
 use crate::books::Accounts;
 use crate::counted::{Counted, totals_at};
@@ -54,7 +54,7 @@ impl<P: Planner + Drop> Accounts<P> {
         ensures accounts { IfOk result
             (λ book. AreAccounts P.total_of P.stands_for graph.now.resources.vertices [] book) }
         ensures kinds { IfOk result (λ book. (kind : ℕ) (name : List ℕ) →
-            slice_get graph.now.resources.kinds kind ≡ Some name → IsCounted rules.now name → KeepsKind book kind) }
+            slice_get graph.now.resources.kinds kind ≡ Some name → IsCounted rules.now name → HasTotals book kind) }
         ensures types { IfOk result (λ book. types_of book ≤ length rules.now) }
     {
         let counted = Counted::new(alloc, graph, rules)?;

@@ -7,7 +7,7 @@ use Rattle.match_laws.specs.Offers.{Extends}
 use Rattle.match_laws.proofs.Walk.{Filled}
 use Rattle.match_laws.proofs.NeedLists.{Completes}
 use Rattle.dfu_match.specs.Tables.{needs_all, StandAt}
-use Rattle.dfu_match.specs.Pairs.{HasEachOpen, IsClearScope, IsPlaceOf, IsPlaceOfAll, IsSpanOf, Looks, LooksAll}
+use Rattle.dfu_match.specs.Pairs.{HasEachOpen, IsClearScope, IsPlaceOf, IsPlaceOfAll, IsSpanOf, AreLooks, AreLooksAll}
 use Rattle.dfu_match.specs.Pairs.{TakesEach, asked_totals}
 use Rattle.dfu_match.proofs.StepLaws.{Walked}
 use Rattle.dfu_match.specs.Searches.{open_to, scope_of}
@@ -26,7 +26,7 @@ invariant-write_needs-loop-need g l = record {
       IsPlaceOfAll (needs_all l.s.needs.now) place l.need-items →
       AllByRecursion (IsClearScope l.s.graph.now.resources.vertices jobs l.s.window
       (asked_totals l.s.wanted.now (g.F.FreeView.keeps l.s.view.now)) l.scope) l.need-items →
-      IsSpanOf l.s.graph.now.resources.vertices l.scope from to → LooksAll times l.need-items →
+      IsSpanOf l.s.graph.now.resources.vertices l.scope from to → AreLooksAll times l.need-items →
       TakesEach (HasEachOpen l.s.graph.now.resources.vertices jobs l.s.window
       (asked_totals l.s.wanted.now (g.F.FreeView.keeps l.s.view.now)) (needs_all l.s.needs.now))
       (times * ((length (needs_all l.s.needs.now) + 2) * g.F.FreeView.cost l.s.view.now)) l.initial.steps l.steps place
@@ -48,7 +48,7 @@ invariant-write_group-loop-missing g l = record {
   walked : (jobs : List Job) → g.F.FreeView.stands_for l.s.view.now jobs → (place times : ℕ) →
       IsPlaceOf (needs_all l.s.needs.now) place l.need →
       IsClearScope l.s.graph.now.resources.vertices jobs l.s.window
-      (asked_totals l.s.wanted.now (g.F.FreeView.keeps l.s.view.now)) l.fn.scope l.need → Looks times l.need →
+      (asked_totals l.s.wanted.now (g.F.FreeView.keeps l.s.view.now)) l.fn.scope l.need → AreLooks times l.need →
       Walked l.s.graph.now.resources.vertices jobs l.s.window
       (asked_totals l.s.wanted.now (g.F.FreeView.keeps l.s.view.now)) (needs_all l.s.needs.now) l.need place
       (times * ((length (needs_all l.s.needs.now) + 2) * g.F.FreeView.cost l.s.view.now)) l.initial.steps l.steps

@@ -6,7 +6,7 @@ use Rattle.sched_core.proofs.Searched.{test_no, job_at}
 use Rattle.std.proofs.Common.{◌+◌, ◌*◌, arith}
 use Rattle.std.specs.FinMap.{len}
 use Rattle.flux_defs.specs.Digits.{dig}
-use Rattle.book_state.specs.Books.{rows_of, moment_of, KeepsTotal, cost_of}
+use Rattle.book_state.specs.Books.{rows_of, moment_of, IsTotalKept, cost_of}
 use Rattle.sched_core.specs.SearchCosts.{last_in, satisfy_most}
 use Rattle.sched_core.proofs.SearchCounts.{search_none, search_later}
 use Rattle.sched_core.proofs.finding.find_job.Goals as goal
@@ -29,7 +29,7 @@ returns-then-is_used-clause-work g c = λ jobs stands.
     let vs = c.args.graph.now.resources.vertices in
     let book = c.args.book.now in
     let most = c.args.steps.now + 16 * dig (len (rows_of book) + 2) + satisfy_most vs ask in
-    search_none vs jobs c.args.horizon (moment_of book) (KeepsTotal book) (cost_of book) c.args.starts ask
+    search_none vs jobs c.args.horizon (moment_of book) (IsTotalKept book) (cost_of book) c.args.starts ask
     c.args.horizon
     most c.is_used.new.steps (omega (arith, c.is_used.ensures.work))
 
@@ -39,7 +39,7 @@ returns-then-not-is_satisfiable-clause-work g c = λ jobs stands.
     let vs = c.args.graph.now.resources.vertices in
     let book = c.args.book.now in
     let most = c.args.steps.now + 16 * dig (len (rows_of book) + 2) + satisfy_most vs ask in
-    search_none vs jobs c.args.horizon (moment_of book) (KeepsTotal book) (cost_of book) c.args.starts ask
+    search_none vs jobs c.args.horizon (moment_of book) (IsTotalKept book) (cost_of book) c.args.starts ask
     c.args.horizon
     most c.is_satisfiable.new.steps (omega (arith, c.is_used.ensures.work, c.is_satisfiable.ensures.work))
 
@@ -49,7 +49,7 @@ returns-then-not-counts-clause-work g c = λ jobs stands.
     let vs = c.args.graph.now.resources.vertices in
     let book = c.args.book.now in
     let most = c.args.steps.now + 16 * dig (len (rows_of book) + 2) + satisfy_most vs ask in
-    search_none vs jobs c.args.horizon (moment_of book) (KeepsTotal book) (cost_of book) c.args.starts ask
+    search_none vs jobs c.args.horizon (moment_of book) (IsTotalKept book) (cost_of book) c.args.starts ask
     c.args.horizon
     most c.is_satisfiable.new.steps (omega (arith, c.is_used.ensures.work, c.is_satisfiable.ensures.work))
 
@@ -59,7 +59,7 @@ returns-clause-work g c = λ jobs stands.
     let vs = c.args.graph.now.resources.vertices in
     let book = c.args.book.now in
     let most = c.args.steps.now + 16 * dig (len (rows_of book) + 2) + satisfy_most vs ask in
-    search_later vs jobs c.args.horizon (moment_of book) (KeepsTotal book) (cost_of book) c.args.starts ask
+    search_later vs jobs c.args.horizon (moment_of book) (IsTotalKept book) (cost_of book) c.args.starts ask
     (last_in c.args.horizon c.find_at.result) most c.is_satisfiable.new.steps c.find_at.new.steps
     (omega (arith, c.is_used.ensures.work, c.is_satisfiable.ensures.work))
     (rw c.now-moment.ensures at (c.find_at.ensures.work jobs stands))

@@ -8,7 +8,7 @@ use Rattle.job_table.specs.Rows.{live_row}
 use Rattle.planner_min_tree.specs.Plans as Plans
 use Rattle.planner_min_tree.specs.Plans.{Plan}
 use Rattle.vertex_accounts.specs.declared.books.Accounts.{Accounts}
-use Rattle.vertex_accounts.specs.Books.{AreAccounts, KeepsKind, types_of}
+use Rattle.vertex_accounts.specs.Books.{AreAccounts, HasTotals, types_of}
 use Rattle.book_state.specs.declared.held.Kept.{Kept}
 use Rattle.book_state.specs.Filtered.{Filtered}
 use Rattle.book_state.specs.Books.{graph_of, rules_of, rows_of, accounts_of}
@@ -53,7 +53,7 @@ returns-clause-jobs g c = λ jobs x.
     c.in_ok-new.ensures.ok
     (c.in_ok-with_new.ensures.added ∙ ap (λ (b : Kept). insert (rows_of b) job.id (live_row c.args.at)) c.self.view_is)
     (added (graph_of k) (rules_of k) (accounts_of k) new (rows_of k) jobs job c.args.at c.requires.fresh acc
-    (λ kind h. c.in_ok-accounts.ensures.kinds kind (subst (λ (a : Accounts Plan). KeepsKind a kind) (sym ea) h))
+    (λ kind h. c.in_ok-accounts.ensures.kinds kind (subst (λ (a : Accounts Plan). HasTotals a kind) (sym ea) h))
     (c.in_ok-accounts.ensures.types ∙ ap (λ (a : Accounts Plan). types_of a) ea) x)
 
 pub invariant_of-result : goal.invariant_of-result
@@ -77,7 +77,7 @@ invariant_of-result g c =
           (c.in_ok-with_new.ensures.added
           ∙ ap (λ (b : Kept). insert (rows_of b) job.id (live_row c.args.at)) c.self.view_is)
           (added (graph_of k) (rules_of k) (accounts_of k) new (rows_of k) jobs job c.args.at c.requires.fresh acc
-          (λ kind h. c.in_ok-accounts.ensures.kinds kind (subst (λ (a : Accounts Plan). KeepsKind a kind) (sym ea) h))
+          (λ kind h. c.in_ok-accounts.ensures.kinds kind (subst (λ (a : Accounts Plan). HasTotals a kind) (sym ea) h))
           (c.in_ok-accounts.ensures.types ∙ ap (λ (a : Accounts Plan). types_of a) ea) x),
     )
 

@@ -7,7 +7,7 @@ use Rattle.job_table.specs.Rows.{live_row, cancelled_row}
 use Rattle.planner_min_tree.specs.Plans as Plans
 use Rattle.planner_min_tree.specs.Plans.{Plan}
 use Rattle.vertex_accounts.specs.declared.books.Accounts.{Accounts}
-use Rattle.vertex_accounts.specs.Books.{AreAccounts, KeepsKind, IsOnGraph, types_of}
+use Rattle.vertex_accounts.specs.Books.{AreAccounts, HasTotals, IsOnGraph, types_of}
 use Rattle.vertex_accounts.proofs.JoinLaws.{middle_of}
 use Rattle.book_state.specs.declared.held.Kept.{Kept}
 use Rattle.book_state.specs.Filtered.{Filtered}
@@ -57,7 +57,7 @@ returns-clause-once g c = λ before after x.
     (subst (λ (b : Kept). get (rows_of b) job.id ≡ Some (live_row at)) (sym c.self.view_is) live)
     ∙ ap (λ (b : Kept). insert (rows_of b) job.id (cancelled_row at)) c.self.view_is)
     (removed (graph_of k) (rules_of k) (accounts_of k) new (rows_of k) before job after at live acc
-    (λ kind h. c.in_ok-accounts.ensures.kinds kind (subst (λ (a : Accounts Plan). KeepsKind a kind) (sym ea) h))
+    (λ kind h. c.in_ok-accounts.ensures.kinds kind (subst (λ (a : Accounts Plan). HasTotals a kind) (sym ea) h))
     (c.in_ok-accounts.ensures.types ∙ ap (λ (a : Accounts Plan). types_of a) ea) x)
 
 pub returns-clause-jobs : goal.returns-clause-jobs
@@ -85,7 +85,7 @@ returns-clause-jobs g c = λ jobs y has.
     (subst (λ (b : Kept). get (rows_of b) job.id ≡ Some (live_row at)) (sym c.self.view_is) live)
     ∙ ap (λ (b : Kept). insert (rows_of b) job.id (cancelled_row at)) c.self.view_is)
     (removed (graph_of k) (rules_of k) (accounts_of k) new (rows_of k) before job after at live acc
-    (λ kind h. c.in_ok-accounts.ensures.kinds kind (subst (λ (a : Accounts Plan). KeepsKind a kind) (sym ea) h))
+    (λ kind h. c.in_ok-accounts.ensures.kinds kind (subst (λ (a : Accounts Plan). HasTotals a kind) (sym ea) h))
     (c.in_ok-accounts.ensures.types ∙ ap (λ (a : Accounts Plan). types_of a) ea) x)
 
 pub invariant_of-result : goal.invariant_of-result
@@ -112,7 +112,7 @@ invariant_of-result g c =
           (subst (λ (b : Kept). get (rows_of b) job.id ≡ Some (live_row at)) (sym c.self.view_is) live)
           ∙ ap (λ (b : Kept). insert (rows_of b) job.id (cancelled_row at)) c.self.view_is)
           (removed (graph_of k) (rules_of k) (accounts_of k) new (rows_of k) before job after at live acc
-          (λ kind h. c.in_ok-accounts.ensures.kinds kind (subst (λ (a : Accounts Plan). KeepsKind a kind) (sym ea) h))
+          (λ kind h. c.in_ok-accounts.ensures.kinds kind (subst (λ (a : Accounts Plan). HasTotals a kind) (sym ea) h))
           (c.in_ok-accounts.ensures.types ∙ ap (λ (a : Accounts Plan). types_of a) ea) x),
     )
 

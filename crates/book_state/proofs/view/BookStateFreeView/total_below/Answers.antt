@@ -2,7 +2,7 @@ use Rattle.std.proofs.Common.{◌+◌, ◌*◌, ◌↔◌, IsTrue, arith}
 use Rattle.std.specs.FinMap.{len}
 use Rattle.flux_defs.specs.Free.{IsTooLittle}
 use Rattle.flux_defs.proofs.DigitLaws.{some_dig}
-use Rattle.vertex_accounts.specs.Books.{KeepsKind}
+use Rattle.vertex_accounts.specs.Books.{HasTotals}
 use Rattle.book_state.specs.Books.{accounts_of, rows_of}
 use Rattle.book_state.proofs.ViewLaws.{graph_at, answer_at, inside_at, work_at, kind_kept}
 use Rattle.book_state.proofs.view.BookStateFreeView.total_below.Goals as goal
@@ -26,7 +26,7 @@ returns-clause-answer g c = λ jobs is.
     let accounts = c.accounts-accounts.result.now in
     let told = answer_at
     c.graph-graph.result.now accounts c.args.self.now c.graph-graph.ensures.value c.accounts-accounts.ensures.value
-    (λ vs js. IsTrue c.total_below.result ↔ (KeepsKind accounts c.args.kind × IsTooLittle
+    (λ vs js. IsTrue c.total_below.result ↔ (HasTotals accounts c.args.kind × IsTooLittle
     vs js c.args.window c.args.vertex c.args.kind c.args.amount)) c.total_below.ensures.answer jobs is in
     let keeps = c.keeps_total.ensures.0 c.if-not-keeps_total.false in (
       λ t. (keeps, (told.0 t).1),

@@ -1,4 +1,4 @@
-use Rattle.dfu_match.specs.Tables.{needs_all, TellsNeed}
+use Rattle.dfu_match.specs.Tables.{needs_all, IsWantedBy}
 use Rattle.dfu_match.proofs.DemandLaws.{tell_at, tell_many}
 use Rattle.dfu_match.proofs.ScopeLaws.{nodes_told}
 use Rattle.dfu_match.proofs.matching.Matcher.of.Goals as goal
@@ -16,7 +16,7 @@ invariant_of-result c =
     record {
       demands = c.in_ok-whole.ensures.demands;
       few = c.in_ok-whole.ensures.few;
-      tells = tell_at (TellsNeed vs) all c.in_ok-wanted.wanted c.in_ok-wanted.ensures;
-      all = tell_many (TellsNeed vs) all c.in_ok-wanted.wanted c.in_ok-wanted.ensures;
+      tells = tell_at (IsWantedBy vs) all c.in_ok-wanted.wanted c.in_ok-wanted.ensures;
+      all = tell_many (IsWantedBy vs) all c.in_ok-wanted.wanted c.in_ok-wanted.ensures;
       shuts = rw c.items.ensures at c.bars_all-shut.ensures;
     }
