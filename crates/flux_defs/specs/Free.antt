@@ -43,6 +43,10 @@ IsFreeOver vertices jobs w v n = IsFreeIn (no_bars vertices jobs) w v n
 abbrev pub IsTotalOver : List Vertex → List Job → Window → ℕ → ℕ → ℕ → Type 0
 IsTotalOver vertices jobs w kind v n = IsLeastIn w (λ m. total_at vertices jobs kind m v) n
 
--- the least total of the kind at v is below the amount
+-- the total of the kind at v is below the amount at m
+abbrev pub IsTooLittleAt : List Vertex → List Job → ℕ → ℕ → ℕ → ℕ → Type 0
+IsTooLittleAt vertices jobs v kind amount m = total_at vertices jobs kind m v < amount
+
+-- the same at some moment of the window
 abbrev pub IsTooLittle : List Vertex → List Job → Window → ℕ → ℕ → ℕ → Type 0
-IsTooLittle vertices jobs w v kind amount = (n : ℕ) × IsTotalOver vertices jobs w kind v n × (n < amount)
+IsTooLittle vertices jobs w v kind amount = SomeMoment w (IsTooLittleAt vertices jobs v kind amount)

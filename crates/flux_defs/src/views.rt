@@ -4,7 +4,7 @@ ghost use Rattle.flux_defs.specs.declared.vertices.Vertex.{Vertex};
 ghost use Rattle.flux_defs.specs.declared.claims.Job.{Job};
 ghost use Rattle.flux_defs.specs.Jobs.{IsPoint, IsNextPoint};
 ghost use Rattle.flux_defs.specs.Closed.{IsClosedOver, IsTouchedOver};
-ghost use Rattle.flux_defs.specs.Free.{IsFreeOver, IsTotalOver, IsTooLittle};
+ghost use Rattle.flux_defs.specs.Free.{IsFreeOver, IsTotalOver, IsTooLittle, IsTooLittleAt};
 
 use crate::claims::Window;
 use crate::lists::List;
@@ -72,8 +72,8 @@ pub trait FreeView {
         ensures some_work { steps.old < steps.new }
         ensures work { steps.new ≤ steps.old + cost self.now };
 
-    /// Whether the least total of the kind, over its vertices at this one or below it, at a moment of the window, is
-    /// below the amount; false where the view's filter rules keep no such total.
+    /// A moment of the window at which the total of the kind, over its vertices at this one or below it, is below the
+    /// amount; `None` exactly where there is none, or the view's filter rules keep no such total.
     fn total_below<L: Ledger>(
         &self,
         vertex: u32,
@@ -81,13 +81,15 @@ pub trait FreeView {
         amount: u64,
         window: Window,
         steps: &mut Steps<L>,
-    ) -> bool
+    ) -> Option<u64>
         requires vertex { vertex < length (graph self.now) }
         requires window { window.from < window.to }
         ensures answer { (jobs : List Job) → stands_for self.now jobs →
-            (IsTrue result
-            ↔ (keeps self.now vertex kind × IsTooLittle (graph self.now) jobs window vertex kind amount)) }
-        ensures kept { IsTrue result → keeps self.now vertex kind }
+            MatchOption result
+            (keeps self.now vertex kind → IsTooLittle (graph self.now) jobs window vertex kind amount → ⊥)
+            (IsTooLittleAt (graph self.now) jobs vertex kind amount) }
+        ensures within { IfSome result (λ m. (window.from ≤ m) × (m < window.to)) }
+        ensures kept { IfSome result (λ _. keeps self.now vertex kind) }
         ensures some_work { steps.old < steps.new }
         ensures work { steps.new ≤ steps.old + cost self.now };
 
@@ -161,9 +163,9 @@ impl<'a> FreeView for NoJobs<'a> {
         _amount: u64,
         _window: Window,
         steps: &mut Steps<L>,
-    ) -> bool {
+    ) -> Option<u64> {
         steps.tick();
-        false
+        None
     }
 
     fn next_point<L: Ledger>(&self, _after: u64, steps: &mut Steps<L>) -> Option<u64> {

@@ -77,9 +77,9 @@ impl<'a> FreeView for PlainJobs<'a> {
         _amount: u64,
         _window: Window,
         steps: &mut Steps<L>,
-    ) -> bool {
+    ) -> Option<u64> {
         steps.tick();
-        false
+        None
     }
 
     fn next_point<L: Ledger>(&self, after: u64, steps: &mut Steps<L>) -> Option<u64> {

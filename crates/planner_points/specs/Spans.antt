@@ -30,6 +30,13 @@ HasRoom total spans window quantity = EachMoment window (λ m. quantity ≤ free
 abbrev pub IsLeastFree : ℕ → List Span → Window → ℕ → Type 0
 IsLeastFree total spans window least = IsLeastIn window (λ m. free_at total spans m) least
 
+-- the last moment of the window at which less than so much is free
+pub record IsLastBelow (total : ℕ) (spans : List Span) (window : Window) (quantity t : ℕ) : Type 0 where
+  pub later : window.from ≤ t
+  pub sooner : t < window.to
+  pub less : free_at total spans t < quantity
+  pub last : (u : ℕ) → t < u → u < window.to → quantity ≤ free_at total spans u
+
 -- some list of these lists has the span
 abbrev pub HasSpan : (List Span → Type 0) → Span → Type 0
 HasSpan StandsFor span = (before : List Span) × (after : List Span) × StandsFor (before ++ span ∷ after)

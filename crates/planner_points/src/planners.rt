@@ -2,7 +2,7 @@
 ghost use Rattle.std.specs.Prelude.{◌≡◌, ℕ, ◌+◌, ◌<◌, ◌≤◌, List, [], ◌∷◌, ◌++◌, ◌↔◌, IfOk, IfSome, MatchOption};
 ghost use Rattle.planner_points.specs.declared.spans.Span.{Span};
 ghost use Rattle.planner_points.specs.Spans.{free_at, span_of, HasRoom, HasSpan, IsLeastFree, IsEnd, IsNextEnd};
-ghost use Rattle.planner_points.specs.Spans.{MayStart, IsFirstStart, IsFirstFree};
+ghost use Rattle.planner_points.specs.Spans.{MayStart, IsFirstStart, IsFirstFree, IsLastBelow};
 
 use flux_defs::{Steps, Window};
 use std::alloc::{AllocError, Global};
@@ -20,7 +20,7 @@ pub trait Planner: Sized {
     /// The planner stands for these spans. It need not keep them.
     ghost stands_for: { Self → List Span → Type 0 };
 
-    /// How many steps `min_over`, `first_free` and `next_point` take at most.
+    /// How many steps `min_over`, `last_below`, `first_free` and `next_point` take at most.
     ghost look_cost: { Self → ℕ };
 
     /// How many steps `with_span` and `without_span` take at most.
@@ -96,6 +96,16 @@ pub trait Planner: Sized {
         requires { window.from < window.to }
         ensures least { (spans : List Span) → stands_for self.now spans →
             IsLeastFree (total_of self.now) spans window result }
+        ensures work { steps.new ≤ steps.old + look_cost self.now }
+        ensures counted { steps.old ≤ steps.new };
+
+    /// The last second of the window at which less than so much is free; `None` exactly where at each so much is. It
+    /// takes no memory.
+    fn last_below<L: Ledger>(&self, window: Window, quantity: u64, steps: &mut Steps<L>) -> Option<u64>
+        requires { window.from < window.to }
+        ensures last { (spans : List Span) → stands_for self.now spans →
+            MatchOption result (HasRoom (total_of self.now) spans window quantity)
+            (IsLastBelow (total_of self.now) spans window quantity) }
         ensures work { steps.new ≤ steps.old + look_cost self.now }
         ensures counted { steps.old ≤ steps.new };
 
