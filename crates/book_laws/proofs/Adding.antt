@@ -23,7 +23,7 @@ use Rattle.flux_defs.specs.Available.{is_available_at, IsAvailable}
 use Rattle.flux_defs.specs.Sound.{AreSeparate, AreAllSeparate}
 use Rattle.list_laws.proofs.Tests.{false_from}
 use Rattle.list_laws.proofs.Lists.{all_append}
-use Rattle.graph_laws.proofs.Containment.{line, not_to, equal_to}
+use Rattle.graph_laws.proofs.Containment.{above_is_chain, not_to, equal_to}
 use Rattle.graph_laws.proofs.Preorder.{parents_first}
 use Rattle.sound_laws.proofs.Sounds.{TakesOne, takes_one}
 use Rattle.book_laws.specs.Amounts.{live_sum, use_of, AreWithinSizes, TakesFromPool}
@@ -46,7 +46,7 @@ module _ (g : ResourceGraph) (o : StandsInPreorder g) where
   covered_apart u lt (Hold h) (Hold k) covers apart =
       ap (λ b. cond b (size_of g.vertices u) 0)
       (false_from (is_at_or_below g.vertices u k)
-      (λ both. elim (line g.vertices (parents_first g o) u h k lt covers both) [
+      (λ both. elim (above_is_chain g.vertices (parents_first g o) u h k lt covers both) [
         | inl up ↦ apart.1.second up
         | inr down ↦ apart.1.first down
       ]))
@@ -132,7 +132,7 @@ module _ (g : ResourceGraph) (o : StandsInPreorder g) where
         unused (Hold k) none =
             ap (λ b. cond b (size_of g.vertices u) 0)
             (false_from (is_at_or_below g.vertices u k)
-            (λ both. elim (line g.vertices (parents_first g o) u h k lt under both) [
+            (λ both. elim (above_is_chain g.vertices (parents_first g o) u h k lt under both) [
               | inl up ↦
                   true≢false (sym (or_left (is_at_or_below g.vertices h k) (is_at_or_below g.vertices k h) up) ∙ none)
               | inr down ↦ true≢false

@@ -17,7 +17,7 @@ use Rattle.flux_defs.specs.Jobs.{vertex_of, some_live_claim, holds_over, is_on_o
 use Rattle.flux_defs.specs.Closed.{no_bars, is_closed}
 use Rattle.flux_defs.specs.Free.{free_at, taken_at, total_at}
 use Rattle.list_laws.proofs.Tests.{false_from}
-use Rattle.graph_laws.proofs.Containment.{below_trans, line}
+use Rattle.graph_laws.proofs.Containment.{below_trans, above_is_chain}
 use Rattle.graph_laws.proofs.Preorder.{parents_first}
 use Rattle.book_laws.specs.Amounts.{live_sum, is_of_kind, kind_sum, capacity, part_of, part_within, use_of}
 use Rattle.book_laws.specs.Amounts.{AreWithinSizes, TakesFromPool}
@@ -150,7 +150,7 @@ module _ (g : ResourceGraph) (o : StandsInPreorder g) (kind v : ℕ) where
       all_same g.vertices (λ u x. cond (counts u x) (use_of g.vertices u (Hold h)) 0) (λ u x. 0)
       (λ u x e. by_tests
       (x.kind == kind) (is_at_or_below g.vertices u v) (is_at_or_below g.vertices u h) (size_of g.vertices u)
-      (λ a b. elim (line g.vertices (parents_first g o) u v h (inside u x g.vertices e) a b) [
+      (λ a b. elim (above_is_chain g.vertices (parents_first g o) u v h (inside u x g.vertices e) a b) [
         | inl up ↦ true≢false (sym up ∙ over)
         | inr down ↦ true≢false (sym down ∙ apart)
       ]))

@@ -18,7 +18,7 @@ use Rattle.flux_defs.specs.Jobs.{vertex_of, is_live, some_live_claim, holds_over
 use Rattle.flux_defs.specs.Closed.{no_bars, is_closed}
 use Rattle.flux_defs.specs.Free.{free_at, taken_at, total_at}
 use Rattle.list_laws.proofs.Tests.{false_from}
-use Rattle.graph_laws.proofs.Containment.{below_trans, line}
+use Rattle.graph_laws.proofs.Containment.{below_trans, above_is_chain}
 use Rattle.graph_laws.proofs.Preorder.{parents_first}
 use Rattle.book_laws.specs.Amounts.{live_sum, is_of_kind, kind_sum, capacity, part_of, part_within, use_of}
 use Rattle.book_laws.specs.Amounts.{AreWithinSizes, TakesFromPool}

@@ -17,7 +17,8 @@ use Rattle.flux_defs.specs.Jobs.{vertex_of, is_live, some_live_claim, holds_over
 use Rattle.flux_defs.specs.Closed.{Scene, is_withheld, has_withheld, is_closed, is_touched}
 use Rattle.flux_defs.specs.Free.{taken_at}
 use Rattle.flux_defs.specs.Available.{is_available_at, IsAvailable}
-use Rattle.graph_laws.proofs.Containment.{ParentsFirst, not_from, not_to, up, up-None, steps_of, below_trans, line}
+use Rattle.graph_laws.proofs.Containment.{ParentsFirst, above_is_chain, not_from, not_to, up}
+use Rattle.graph_laws.proofs.Containment.{up-None, steps_of, below_trans}
 use Rattle.graph_laws.proofs.Preorder.{has_parent}
 
 -- what the ask meets with these jobs
@@ -177,7 +178,7 @@ module _ (vertices : List Vertex) (first : ParentsFirst vertices) where
         IsTrue (holds_over vertices v x) ⊎ IsTrue (is_on_or_below vertices v x)
     hold_over (Take y q) k = absurd (true≢false (sym k))
     hold_over (Pass y) k = absurd (true≢false (sym k))
-    hold_over (Hold y) k = elim (line vertices first u v y lt under k) [ inl a ↦ inl a | inr b ↦ inr b ]
+    hold_over (Hold y) k = elim (above_is_chain vertices first u v y lt under k) [ inl a ↦ inl a | inr b ↦ inr b ]
 
     on_below : (x : Claim) → IsTrue (is_on_or_below vertices u x) → IsTrue (is_on_or_below vertices v x)
     on_below x k =

@@ -14,7 +14,7 @@ use Rattle.flux_defs.specs.declared.vertices.Vertex.{Vertex}
 use Rattle.flux_defs.specs.Graph.{ResourceGraph, is_at_or_below, IsNode}
 use Rattle.flux_defs.specs.Needs.{AreRisingFrom}
 use Rattle.flux_defs.specs.ValidGraph.{IsValidGraph}
-use Rattle.graph_laws.proofs.Containment.{ParentsFirst, below_le, below_self, line, below_from}
+use Rattle.graph_laws.proofs.Containment.{ParentsFirst, below_le, below_self, above_is_chain, below_from}
 use Rattle.graph_laws.proofs.Preorder.{parents_first}
 use Rattle.flux_laws.proofs.Valid.{nodes_alike}
 use Rattle.resource_graph.specs.Tables.{IsPast, rank_at}
@@ -107,7 +107,7 @@ module _ (g : ResourceGraph) (names : List (List ℕ)) (valid : IsValidGraph g n
   one_node v a b lt na nb ha hb ne =
       let first = parents_first g valid.preorder in
       let k = nodes_alike g names valid a b na nb in
-      elim (line g.vertices first v a b lt ha hb) [
+      elim (above_is_chain g.vertices first v a b lt ha hb) [
         | inl ab ↦ valid.unnested a b k.0 k.1 k.2 (below_from g.vertices first a b ne ab)
         | inr ba ↦ valid.unnested b a k.0 k.2 k.1 (below_from g.vertices first b a (λ e. ne (sym e)) ba)
       ]

@@ -6,7 +6,7 @@ use Rattle.std.proofs.lemmas.Bool.{cases_lt, or_cases, or_left, or_right}
 use Rattle.graph_laws.proofs.Containment.{equal_to, equal_from}
 use Rattle.std.specs.Prelude.{Any, Contains, map}
 use Rattle.prune_filters.specs.declared.shorts.Demand.{Demand}
-use Rattle.prune_filters.specs.Shorts.{AreDemandsOf, IsBelow, IsShortOf, IsShortFor}
+use Rattle.prune_filters.specs.Shorts.{AreDemandsOf, IsBelow, IsShortOf, IsShortOfAt, IsShortFor, IsShortForAt}
 use Rattle.flux_defs.specs.declared.claims.Job.{Job}
 use Rattle.flux_defs.specs.declared.claims.Window.{Window}
 use Rattle.std.proofs.lemmas.List.{get_or-map, length-map, take_more}
@@ -14,7 +14,7 @@ use Rattle.flux_defs.specs.declared.vertices.Vertex.{Vertex}
 use Rattle.flux_defs.specs.declared.requests.Need.{Need, Vert, Vert', Pool, Spread, Spread', Row_of-Need, end_of-Need}
 use Rattle.flux_defs.specs.declared.requests.Need.{more_of-Need, items-the_row-Need, items_hidden-the_row-Need-0}
 use Rattle.flux_defs.specs.declared.requests.Need.TheBlock.{hidden-the_row-Need-0}
-use Rattle.flux_defs.specs.Free.{IsTooLittle}
+use Rattle.flux_defs.specs.Free.{total_at, IsTooLittle, IsTooLittleAt}
 use Rattle.flux_defs.specs.Needs.{amount_of}
 use Rattle.prune_filters.specs.Demands.{one_if, is_node_kind, demand, row_demand, needs_demand, capped}
 use Rattle.std.specs.List.{AllZip, list_any}
@@ -256,7 +256,7 @@ module _ (vertices : List Vertex) (jobs : List Job) (w : Window) (keeps : ℕ �
       (kind : ℕ) → IsBelow vertices jobs w keeps v kind (capped (amount kind)) →
       IsShortOf vertices jobs w keeps demands v
   below_from each all k is =
-      let few : is.1.0 < capped (amount k) = is.1.2 in
+      let few : total_at vertices jobs k is.1.0 v < capped (amount k) = is.1.3 in
       let any = some_item demands k (all k (omega arith)) in
       let d = any.1 in
       let kind : d.kind ≡ k = any.4 in (
@@ -280,6 +280,17 @@ module _ (vertices : List Vertex) (jobs : List Job) (w : Window) (keeps : ℕ �
   pub short_from : IsShortFor vertices jobs w keeps need v → IsShortOf vertices jobs w keeps demands v
   short_from is = below_from vertices jobs w keeps v (λ kind. demand vertices kind 1 need) demands are.each are.all is.0
       is.1
+
+  -- and the same at a moment
+  pub short_to_at : (m : ℕ) → IsShortOfAt vertices jobs keeps demands v m → IsShortForAt vertices jobs keeps need v m
+  short_to_at m any =
+      let d = any.1 in (
+        d.kind,
+        (
+          any.4.0,
+          subst (λ amount. IsTooLittleAt vertices jobs v d.kind amount m) (are.each d (any.0, any.2, any.3)) any.4.1,
+        ),
+      )
 
 -- counted in numbers of 64 bits
 pub count_Vert : (kind count : ℕ) (hold : Bool) (needs : List Need) (inner r : ℕ) →

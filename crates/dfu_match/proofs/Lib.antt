@@ -10,3 +10,4 @@ pub mod OpenLaws
 pub mod StepLaws
 pub mod MatchedLaws
 pub mod HoldLaws
+pub mod ReachLaws

@@ -9,6 +9,7 @@ use Rattle.flux_defs.specs.declared.claims.Job.{Job}
 use Rattle.flux_defs.specs.declared.claims.Claim.{Claim}
 use Rattle.flux_defs.specs.declared.claims.Window.{Window}
 use Rattle.flux_defs.specs.declared.requests.Need.{Need, Vert, Vert', Pool, Spread, Spread'}
+use Rattle.flux_defs.specs.Free.{total_at}
 use Rattle.flux_defs.specs.Graph.{ResourceGraph, HasKind, parent_of, is_at_or_below}
 use Rattle.flux_defs.specs.ValidGraph.{IsValidGraph}
 use Rattle.flux_defs.specs.Needs.{amount_of, AreValidNeeds}
@@ -188,8 +189,9 @@ module _ (g : ResourceGraph) (names : List (List ℕ)) (valid : IsValidGraph g n
         IsClear g.vertices jobs w keeps need v → IsClear g.vertices jobs w keeps less v
     clear_less less v le clear u above is =
         let few = le is.0 in
-        let under : is.1.1.0 < capped (demand g.vertices is.0 1 less) = is.1.1.2 in
-        clear u above (is.0, (is.1.0, (is.1.1.0, is.1.1.1, omega (arith, few, under))))
+        let m = is.1.1.0 in
+        let under : total_at g.vertices jobs is.0 m u < capped (demand g.vertices is.0 1 less) = is.1.1.3 in
+        clear u above (is.0, (is.1.0, (m, is.1.1.1, is.1.1.2, omega (arith, few, under))))
 
 module _ (vertices : List Vertex) where
   -- of a kind, one of a need demands no more than its amount does

@@ -4,6 +4,7 @@
 #![tactic(auto)]
 
 mod bars;
+mod bounding;
 mod counting;
 mod demanding;
 mod matching;

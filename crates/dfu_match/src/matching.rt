@@ -17,7 +17,7 @@ use crate::search::Search;
 use crate::wanting::{Wanted, table_of};
 use crate::writing::write_needs;
 use flux_defs::{Ask, Claim, FreeView, List, Steps, Window};
-use prune_filters::{Demand, first_short};
+use prune_filters::{Demand, Shortage, first_short};
 use resource_graph::Graph;
 use std::alloc::{AllocError, Global};
 use std::sync::ledger::Ledger;
@@ -76,11 +76,12 @@ pub struct Matcher<'a> {
 pub enum Matched {
     /// The lowest-first claims.
     Fits(List<Claim>),
-    /// No claims fit: the root's total of this kind is below this amount, which the ask demands in full, at some
-    /// moment.
-    Short(Demand),
-    /// No claims fit, though no total that is kept at the root is below what the ask demands.
-    NoFit,
+    /// No claims fit: the root's total of this kind is below this amount, which the ask demands in full, at this moment
+    /// of the window.
+    Short(Shortage),
+    /// No claims fit, though no total that is kept at the root is below what the ask demands; nor do any fit over a
+    /// window that begins at this second or before and ends no sooner than this one.
+    NoFit(u64),
 }
 
 impl<'a> Matcher<'a> {
@@ -118,14 +119,14 @@ impl<'a> Matcher<'a> {
         requires opens { window.from < window.to }
         ensures matched { IfOk result (λ matched. (jobs : List Job) → F.stands_for view.now jobs →
             IsMatched self.now.graph.now.resources.vertices jobs (F.keeps view.now) self.now.ask.now window matched) }
-        ensures kept { IfOk result (IsKeptShort (F.keeps view.now)) }
+        ensures kept { IfOk result (IsKeptShort (F.keeps view.now) window.from) }
         ensures work { (jobs : List Job) → F.stands_for view.now jobs → (looks : ℕ) →
             IsEnoughFor self.now.graph.now.resources.vertices jobs window (F.keeps view.now) self.now.ask.now.needs
             looks → steps.new ≤ steps.old + looks * F.cost view.now }
     {
         self.graph.is_valid();
         match first_short(view, 0, &self.whole, window, steps) {
-            Some(demand) => Ok(Matched::Short(demand)),
+            Some(shortage) => Ok(Matched::Short(shortage)),
             None => self.walked(alloc, view, window, steps),
         }
     }
@@ -146,7 +147,7 @@ impl<'a> Matcher<'a> {
             → ⊥ }
         ensures matched { IfOk result (λ matched. (jobs : List Job) → F.stands_for view.now jobs →
             IsMatched self.now.graph.now.resources.vertices jobs (F.keeps view.now) self.now.ask.now window matched) }
-        ensures kept { IfOk result (IsKeptShort (F.keeps view.now)) }
+        ensures kept { IfOk result (IsKeptShort (F.keeps view.now) window.from) }
         ensures work { (jobs : List Job) → F.stands_for view.now jobs → (pairs : List Pair) →
             (let all : List Need = needs_all self.now.ask.now.needs in
             HasEachOpen self.now.graph.now.resources.vertices jobs window (F.keeps view.now) all pairs →
@@ -162,8 +163,18 @@ impl<'a> Matcher<'a> {
             window,
         };
         let mut claims = Vec::new(alloc);
-        if !write_needs(&search, &self.ask.needs, 0, 1, None, &mut claims, steps)? {
-            return Ok(Matched::NoFit);
+        let mut until = window.from;
+        if !write_needs(
+            &search,
+            &self.ask.needs,
+            0,
+            1,
+            None,
+            &mut claims,
+            &mut until,
+            steps,
+        )? {
+            return Ok(Matched::NoFit(until));
         }
         Ok(Matched::Fits(List::of_vec(claims)))
     }
@@ -197,6 +208,6 @@ pub fn match_at<F: FreeView, L: Ledger>(
     match matcher.over(alloc, view, window, steps)? {
         Matched::Fits(claims) => Ok(Some(claims)),
         Matched::Short(_) => Ok(None),
-        Matched::NoFit => Ok(None),
+        Matched::NoFit(_) => Ok(None),
     }
 }

@@ -7,12 +7,14 @@ ghost use Rattle.flux_defs.specs.declared.claims.Claim.{Claim};
 ghost use Rattle.flux_defs.specs.declared.requests.Need.{Need};
 ghost use Rattle.flux_defs.specs.Graph.{HasKind, is_at_or_below};
 ghost use Rattle.flux_defs.specs.Needs.{IsValidNeed};
-ghost use Rattle.prune_filters.specs.Shorts.{IsShortFor};
+ghost use Rattle.flux_defs.specs.declared.claims.Window.{Window};
+ghost use Rattle.prune_filters.specs.Shorts.{IsShortFor, IsShortForAt};
 ghost use Rattle.dfu_match.specs.Searches.{open_to, IsKindOfNeed};
 ghost use Rattle.dfu_match.specs.Tables.{all_of, needs_all, StandsAt};
 ghost use Rattle.dfu_match.specs.Walks.{IsParentFrom, ServesNone};
 ghost use Rattle.dfu_match.specs.Pairs.{HasEachOpen, IsClear, IsClearBetween, IsClearBefore, IsPlaceOf, TakesEach};
 ghost use Rattle.dfu_match.specs.Pairs.{asked_totals};
+ghost use Rattle.dfu_match.specs.Reaches.{FallsWithin, ReachesOver};
 
 use crate::search::Search;
 use flux_defs::{FreeView, Need, Steps};
@@ -20,23 +22,28 @@ use prune_filters::short;
 use resource_graph::Graph;
 use std::sync::ledger::Ledger;
 
-/// Whether the vertex is short for the need at this index of all needs; it never is where there is no table.
-fn is_short<F: FreeView, L: Ledger>(
+/// A moment of the window at which the vertex is short for the need at this index of all needs; none where it never is,
+/// as where there is no table.
+fn short_at<F: FreeView, L: Ledger>(
     s: &Search<F>,
     need: &Need,
     index: usize,
     vertex: u32,
     steps: &mut Steps<L>,
-) -> bool
+) -> Option<u64>
     requires stands { StandsAt (needs_all s.now.needs.now) s.now.wanted.now index need.now }
     requires vertex { vertex < length s.now.graph.now.resources.vertices }
     ensures short { (jobs : List Job) → F.stands_for s.now.view.now jobs →
-        (IsTrue result ↔ IsShortFor s.now.graph.now.resources.vertices jobs s.now.window
+        MatchOption result
+        (IsShortFor s.now.graph.now.resources.vertices jobs s.now.window
+        (asked_totals s.now.wanted.now (F.keeps s.now.view.now)) need.now vertex → ⊥)
+        (IsShortForAt s.now.graph.now.resources.vertices jobs
         (asked_totals s.now.wanted.now (F.keeps s.now.view.now)) need.now vertex) }
+    ensures within { IfSome result (λ m. (s.now.window.from ≤ m) × (m < s.now.window.to)) }
     ensures work { steps.new ≤ steps.old + length (all_of need.now) * F.cost s.now.view.now }
 {
     match s.wanted.get(index) {
-        None => false,
+        None => None,
         Some(wanted) => short(s.view, vertex, &wanted.demands, s.window, steps),
     }
 }
@@ -53,32 +60,40 @@ fn parent_from(graph: &Graph, vertex: u32, low: u32) -> Option<u32>
     Some(parent)
 }
 
-/// The vertex, where it is short for the need.
+/// The vertex, where it is short for the need, as it is for all windows that reach over what is left of this one from
+/// `until` on, which falls to a moment at which it is short.
 fn own_short<F: FreeView, L: Ledger>(
     s: &Search<F>,
     need: &Need,
     index: usize,
     vertex: u32,
+    until: &mut u64,
     steps: &mut Steps<L>,
 ) -> Option<u32>
     requires stands { StandsAt (needs_all s.now.needs.now) s.now.wanted.now index need.now }
     requires vertex { vertex < length s.now.graph.now.resources.vertices }
     ensures same { IfSome result (λ top. top ≡ vertex) }
-    ensures short { (jobs : List Job) → F.stands_for s.now.view.now jobs →
-        IfSome result (IsShortFor s.now.graph.now.resources.vertices jobs s.now.window
+    ensures short { (jobs : List Job) → F.stands_for s.now.view.now jobs → (w : Window) →
+        ReachesOver s.now.window until.new w →
+        IfSome result (IsShortFor s.now.graph.now.resources.vertices jobs w
         (asked_totals s.now.wanted.now (F.keeps s.now.view.now)) need.now) }
     ensures enough { (jobs : List Job) → F.stands_for s.now.view.now jobs →
         IfNone result (IsShortFor s.now.graph.now.resources.vertices jobs s.now.window
         (asked_totals s.now.wanted.now (F.keeps s.now.view.now)) need.now vertex → ⊥) }
+    ensures falls { FallsWithin s.now.window until.old until.new }
     ensures work { steps.new ≤ steps.old + length (all_of need.now) * F.cost s.now.view.now }
 {
-    if is_short(s, need, index, vertex, steps) {
-        return Some(vertex);
+    match short_at(s, need, index, vertex, steps) {
+        None => None,
+        Some(moment) => {
+            *until = moment.min(*until);
+            Some(vertex)
+        }
     }
-    None
 }
 
-/// The uppermost of the vertex and those above it, from `low` on, that is short for the need. It looks from the top.
+/// The uppermost of the vertex and those above it, from `low` on, that is short for the need, as `own_short` tells it.
+/// It looks from the top.
 #[cycle(tops)]
 fn top_short<F: FreeView, L: Ledger>(
     s: &Search<F>,
@@ -86,6 +101,7 @@ fn top_short<F: FreeView, L: Ledger>(
     index: usize,
     low: u32,
     vertex: u32,
+    until: &mut u64,
     steps: &mut Steps<L>,
 ) -> Option<u32>
     requires stands { StandsAt (needs_all s.now.needs.now) s.now.wanted.now index need.now }
@@ -93,13 +109,15 @@ fn top_short<F: FreeView, L: Ledger>(
     requires low { low ≤ vertex }
     ensures above { IfSome result (λ top. (low ≤ top)
         × IsTrue (is_at_or_below s.now.graph.now.resources.vertices vertex top)) }
-    ensures short { (jobs : List Job) → F.stands_for s.now.view.now jobs →
-        IfSome result (IsShortFor s.now.graph.now.resources.vertices jobs s.now.window
+    ensures short { (jobs : List Job) → F.stands_for s.now.view.now jobs → (w : Window) →
+        ReachesOver s.now.window until.new w →
+        IfSome result (IsShortFor s.now.graph.now.resources.vertices jobs w
         (asked_totals s.now.wanted.now (F.keeps s.now.view.now)) need.now) }
     ensures clear { (jobs : List Job) → F.stands_for s.now.view.now jobs →
         (let clear : ℕ → ℕ → Type 0 = IsClearBetween s.now.graph.now.resources.vertices jobs s.now.window
         (asked_totals s.now.wanted.now (F.keeps s.now.view.now)) need.now vertex in
         MatchOption result (clear low (vertex + 1)) (clear low)) }
+    ensures falls { FallsWithin s.now.window until.old until.new }
     ensures work { (jobs : List Job) → F.stands_for s.now.view.now jobs → (place : ℕ) →
         (let vs : List Vertex = s.now.graph.now.resources.vertices in
         let keeps : ℕ → ℕ → Type 0 = asked_totals s.now.wanted.now (F.keeps s.now.view.now) in
@@ -110,11 +128,66 @@ fn top_short<F: FreeView, L: Ledger>(
 {
     s.graph.is_valid();
     match parent_from(s.graph, vertex, low) {
-        None => own_short(s, need, index, vertex, steps),
-        Some(parent) => match top_short(s, need, index, low, parent, steps) {
+        None => own_short(s, need, index, vertex, until, steps),
+        Some(parent) => match top_short(s, need, index, low, parent, until, steps) {
             Some(top) => Some(top),
-            None => own_short(s, need, index, vertex, steps),
+            None => own_short(s, need, index, vertex, until, steps),
         },
+    }
+}
+
+/// The least vertex of the need's kind from `from` on and before `to` that lies in no subtree which is short for the
+/// need. Those passed over can't serve it over any window that reaches over what is left of this one from `until` on,
+/// which falls to the least moment that tells so.
+pub(crate) fn next_open_until<F: FreeView, L: Ledger>(
+    s: &Search<F>,
+    need: &Need,
+    index: usize,
+    kind: u32,
+    from: u32,
+    to: u32,
+    until: &mut u64,
+    steps: &mut Steps<L>,
+) -> Option<u32>
+    requires stands { StandsAt (needs_all s.now.needs.now) s.now.wanted.now index need.now }
+    requires valid { IsValidNeed s.now.graph.now.resources.vertices need.now }
+    requires of_kind { IsKindOfNeed s.now.graph.now.resources.vertices need.now (Some kind) }
+    requires within { to ≤ length s.now.graph.now.resources.vertices }
+    ensures of_kind { IfSome result (λ vertex. HasKind s.now.graph.now.resources.vertices kind vertex
+        × (from ≤ vertex) × (vertex < to)) }
+    ensures skipped { (jobs : List Job) → F.stands_for s.now.view.now jobs → (w : Window) →
+        ReachesOver s.now.window until.new w →
+        (let vs : List Vertex = s.now.graph.now.resources.vertices in
+        let ok : Claim → Type 0 = open_to vs jobs s.now.barred.now w in
+        MatchOption result (ServesNone vs ok need.now from to) (ServesNone vs ok need.now from)) }
+    ensures clear { (jobs : List Job) → F.stands_for s.now.view.now jobs →
+        (let vs : List Vertex = s.now.graph.now.resources.vertices in
+        let keeps : ℕ → ℕ → Type 0 = asked_totals s.now.wanted.now (F.keeps s.now.view.now) in
+        IsClearBefore vs jobs s.now.window keeps need.now from to →
+        IfSome result (IsClear vs jobs s.now.window keeps need.now)) }
+    ensures falls { FallsWithin s.now.window until.old until.new }
+    ensures work { (jobs : List Job) → F.stands_for s.now.view.now jobs → (place : ℕ) →
+        (let vs : List Vertex = s.now.graph.now.resources.vertices in
+        let keeps : ℕ → ℕ → Type 0 = asked_totals s.now.wanted.now (F.keeps s.now.view.now) in
+        let all : List Need = needs_all s.now.needs.now in
+        let taken : ℕ → Type 0 = TakesEach (HasEachOpen vs jobs s.now.window keeps all)
+        (length (all_of need.now) * F.cost s.now.view.now) steps.old steps.new place (place + 1) from in
+        IsPlaceOf all place need.now → IsClearBefore vs jobs s.now.window keeps need.now from to →
+        MatchOption result (taken to) (λ vertex. taken (vertex + 1))) }
+{
+    s.graph.is_valid();
+    let mut at = from;
+    'look: loop {
+        let Some(vertex) = s.graph.next_of_kind(kind, at, to) else {
+            return None;
+        };
+        if s.shut && s.graph.rank_at(vertex).is_some() {
+            return None;
+        }
+        match top_short(s, need, index, at, vertex, until, steps) {
+            None => return Some(vertex),
+            Some(top) => at = s.graph.past(top),
+        }
     }
 }
 
@@ -153,20 +226,8 @@ pub(crate) fn next_open<F: FreeView, L: Ledger>(
         IsPlaceOf all place need.now → IsClearBefore vs jobs s.now.window keeps need.now from to →
         MatchOption result (taken to) (λ vertex. taken (vertex + 1))) }
 {
-    s.graph.is_valid();
-    let mut at = from;
-    'look: loop {
-        let Some(vertex) = s.graph.next_of_kind(kind, at, to) else {
-            return None;
-        };
-        if s.shut && s.graph.rank_at(vertex).is_some() {
-            return None;
-        }
-        match top_short(s, need, index, at, vertex, steps) {
-            None => return Some(vertex),
-            Some(top) => at = s.graph.past(top),
-        }
-    }
+    let mut until = s.window.from;
+    next_open_until(s, need, index, kind, from, to, &mut until, steps)
 }
 
 /// The index after those of the need and of those within it.

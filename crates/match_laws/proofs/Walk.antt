@@ -76,6 +76,20 @@ pub record Reached (can : ℕ → ℕ → Type 0) (most at done : ℕ) : Type 0 
   pub serves : served picks ≡ done
   pub left : (n : ℕ) → done < n → n ≤ most → CanFill can 0 n → CanFill can at (n - done)
 
+-- if anything can fill the total, the vertices from `at` on can fill what is lacking
+abbrev pub Lacks : (ℕ → ℕ → Type 0) → ℕ → ℕ → ℕ → Type 0
+Lacks can total at lacking = CanFill can 0 total → CanFill can at lacking
+
+module _ (can : ℕ → ℕ → Type 0) (total : ℕ) where
+  -- all of it, where no vertex before can serve
+  pub lacks_start : (from : ℕ) → NoneBetween can 0 from → Lacks can total from total
+  lacks_start from none f = can_fill_over can 0 from total none f
+
+  -- passing over vertices that can serve nothing
+  pub lacks_over : (at to lacking : ℕ) → NoneBetween can at to → Lacks can total at lacking →
+      Lacks can total to lacking
+  lacks_over at to lacking none lacks f = can_fill_over can at to lacking none (lacks f)
+
 module _ (can : ℕ → ℕ → Type 0) (piece : ℕ → ℕ → List Claim → Type 0) (total : ℕ) where
   -- a walk begins at the first vertex that can serve
   pub filled_start : (from : ℕ) → NoneBetween can 0 from → Filled can piece total from total []
@@ -114,20 +128,22 @@ module _ (can : ℕ → ℕ → Type 0) (down : IsDownward can) where
         | inr ge ↦ none_left (at + 1) (missing - q) (let le : q ≤ missing = o.within in omega arith)
       ]
 
+  -- where no vertex from here on can serve, nothing fills some amount
+  none_fill : (low n : ℕ) → ((v q : ℕ) → low ≤ v → 1 ≤ q → can v q → ⊥) → 1 ≤ n → CanFill can low n → ⊥
+  none_fill low n never some f =
+      let z : served f.picks ≡ 0 = no_picks f.picks f.each in
+      let s : served f.picks ≡ n = f.serves in
+      omega arith
+    where
+      no_picks : (ps : List Pick) → AllByRecursion (IsPickFrom can low) ps → served ps ≡ 0
+      no_picks [] each = refl
+      no_picks (p ∷ ps) each = absurd (never p.0 p.1 each.0.0 each.0.1 each.0.2)
+
   -- no vertex from here on can serve, and something is missing: nothing fills the total
   pub filled_none : (piece : ℕ → ℕ → List Claim → Type 0) (total at missing : ℕ) (claims : List Claim) →
       ((v q : ℕ) → at ≤ v → 1 ≤ q → can v q → ⊥) → 1 ≤ missing →
       Filled can piece total at missing claims → CanFill can 0 total → ⊥
-  filled_none piece total at missing claims none some f h = stop_here at missing none some (f.left h)
-    where
-      no_picks : (low : ℕ) → ((v q : ℕ) → low ≤ v → 1 ≤ q → can v q → ⊥) →
-          (ps : List Pick) → AllByRecursion (IsPickFrom can low) ps → served ps ≡ 0
-      no_picks low never [] each = refl
-      no_picks low never (p ∷ ps) each = absurd (never p.0 p.1 each.0.0 each.0.1 each.0.2)
-
-      stop_here : (low n : ℕ) → ((v q : ℕ) → low ≤ v → 1 ≤ q → can v q → ⊥) → 1 ≤ n → CanFill can low n → ⊥
-      stop_here low n never more g = let z : served g.picks ≡ 0 = no_picks low never g.picks g.each in
-          let s : served g.picks ≡ n = g.serves in omega arith
+  filled_none piece total at missing claims none some f h = none_fill at missing none some (f.left h)
 
   -- the next vertex serves all that it can, and writes its piece
   pub filled_next : (piece : ℕ → ℕ → List Claim → Type 0) (total at missing q : ℕ) (claims more : List Claim) →
@@ -238,13 +254,21 @@ module _ (can : ℕ → ℕ → Type 0) (down : IsDownward can) where
   reached_end most at done never r = record {
     within = r.within;
     can_be = λ some. reached_fills most at done r;
-    full = λ lt f.
-        let rest = r.left (done + 1) (omega arith) (omega arith) f in
-        let none : served rest.picks ≡ 0 = no_picks rest.picks rest.each in
-        let s : served rest.picks ≡ (done + 1) - done = rest.serves in
-        omega arith;
+    full = λ lt f. none_fill at ((done + 1) - done) never (omega arith) (r.left (done + 1) (omega arith) (omega arith) f);
   }
-    where
-      no_picks : (ps : List Pick) → AllByRecursion (IsPickFrom can at) ps → served ps ≡ 0
-      no_picks [] each = refl
-      no_picks (p ∷ ps) each = absurd (never p.0 p.1 each.0.0 each.0.1 each.0.2)
+
+  -- where no more than n can be served by vertex `at`, the vertices behind it can fill what that leaves
+  pub lacks_next : (total at lacking n : ℕ) → ((q : ℕ) → n < q → can at q → ⊥) → Lacks can total at lacking →
+      Lacks can total (at + 1) (lacking - n)
+  lacks_next total at lacking n most lacks f = elim (cases_lt n lacking) [
+    | inl lt ↦ rest_can_fill can down at lacking n (omega arith) (most (n + 1) (omega arith)) (lacks f)
+    | inr ge ↦ none_left (at + 1) (lacking - n) (omega arith)
+  ]
+
+  pub lacks_nothing : (total at : ℕ) → Lacks can total at 0
+  lacks_nothing total at f = none_left at 0 refl
+
+  -- no vertex from here on can serve, and something is lacking: nothing fills the total
+  pub lacks_end : (total at lacking : ℕ) → ((v q : ℕ) → at ≤ v → 1 ≤ q → can v q → ⊥) → 1 ≤ lacking →
+      Lacks can total at lacking → CanFill can 0 total → ⊥
+  lacks_end total at lacking never some lacks f = none_fill at lacking never some (lacks f)

@@ -1,6 +1,6 @@
 -- Which demand of a list is below.
-use Rattle.std.proofs.Common.{◌≡◌, ℕ, ◌+◌, ◌<◌, ◌≤◌, ◌↔◌, List, length, get_or, false, IsTrue, true≢false, inl, inr}
-use Rattle.std.proofs.Common.{sym, ◌∙◌, subst, arith, Bool}
+use Rattle.std.proofs.Common.{◌≡◌, ℕ, ◌+◌, ◌<◌, ◌≤◌, List, length, get_or, inl, inr}
+use Rattle.std.proofs.Common.{sym, ◌∙◌, subst, arith}
 use Rattle.std.specs.Prelude.{Any, Contains}
 use Rattle.std.proofs.lemmas.Bool.{cases_lt}
 use Rattle.std.proofs.lemmas.List.{get_or_default}
@@ -16,17 +16,16 @@ module _ (P : Demand → Type 0) (xs : List Demand) where
   any_of d (there, p) = (there.0, d, there.1, there.2, p)
 
   -- where the items so far don't have it and the next one doesn't either, those up to it don't
-  pub none_next : (i : ℕ) (x : Demand) (b : Bool) → b ≡ false → (IsTrue b ↔ P (get_or xs i x)) →
-      i < length xs →
+  pub none_next : (i : ℕ) (x : Demand) → (P (get_or xs i x) → ⊥) → i < length xs →
       ((k : ℕ) (d : Demand) → k < i → get_or xs k d ≡ d → P d → ⊥) → (k : ℕ) (d : Demand) → k < i + 1 →
       get_or xs k d ≡ d → P d → ⊥
-  none_next i x b fails told within before k d lt e p =
+  none_next i x never within before k d lt e p =
       elim (cases_lt k i) [
         | inl earlier ↦ before k d earlier e p
         | inr here ↦ (
             let same : i ≡ k = omega arith in
             let is : d ≡ get_or xs i x = rw same (sym e ∙ get_or_default xs k d x (omega arith)) in
-            true≢false (sym (told.1 (subst P is p)) ∙ fails))
+            never (subst P is p))
       ]
 
   -- where no item has it, none of the list has

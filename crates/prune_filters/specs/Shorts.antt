@@ -5,8 +5,9 @@ use Rattle.flux_defs.specs.declared.vertices.Vertex.{Vertex}
 use Rattle.flux_defs.specs.declared.claims.Job.{Job}
 use Rattle.flux_defs.specs.declared.claims.Window.{Window}
 use Rattle.flux_defs.specs.declared.requests.Need.{Need}
-use Rattle.flux_defs.specs.Free.{IsTooLittle}
+use Rattle.flux_defs.specs.Free.{IsTooLittle, IsTooLittleAt}
 use Rattle.prune_filters.specs.declared.shorts.Demand.{Demand}
+use Rattle.prune_filters.specs.declared.shorts.Shortage.{Shortage}
 use Rattle.prune_filters.specs.Demands.{demand, capped}
 
 -- over the vertices, the jobs and a window
@@ -25,13 +26,27 @@ module _ (vertices : List Vertex) (jobs : List Job) (w : Window) where
     abbrev pub IsShortOf : List Demand → ℕ → Type 0
     IsShortOf demands v = Any (λ d. IsBelow v d.kind d.amount) demands
 
-    -- v is short of this one of these demands
-    abbrev pub IsShortIn : List Demand → ℕ → Demand → Type 0
-    IsShortIn demands v d = Contains demands d × IsBelow v d.kind d.amount
-
     -- v is short for the need: a total that is kept there is below what one of it demands
     abbrev pub IsShortFor : Need → ℕ → Type 0
     IsShortFor need v = (kind : ℕ) × IsBelow v kind (capped (demand vertices kind 1 need))
+
+-- over the vertices, the jobs, and the totals that are kept
+module _ (vertices : List Vertex) (jobs : List Job) (keeps : ℕ → ℕ → Type 0) where
+  -- a total of the kind is kept at v, and it is below the amount at a moment
+  abbrev pub IsBelowAt : ℕ → ℕ → ℕ → ℕ → Type 0
+  IsBelowAt v kind amount m = keeps v kind × IsTooLittleAt vertices jobs v kind amount m
+
+  -- v is short of some of these demands at a moment
+  abbrev pub IsShortOfAt : List Demand → ℕ → ℕ → Type 0
+  IsShortOfAt demands v m = Any (λ d. IsBelowAt v d.kind d.amount m) demands
+
+  -- v is short of this one of these demands at this moment
+  abbrev pub IsShortInAt : List Demand → ℕ → Shortage → Type 0
+  IsShortInAt demands v s = Contains demands s.demand × IsBelowAt v s.demand.kind s.demand.amount s.moment
+
+  -- v is short for the need at a moment
+  abbrev pub IsShortForAt : Need → ℕ → ℕ → Type 0
+  IsShortForAt need v m = (kind : ℕ) × IsBelowAt v kind (capped (demand vertices kind 1 need)) m
 
 -- The demands are those of one of the need: of each kind that it demands as much as it does.
 pub record AreDemandsOf (vertices : List Vertex) (need : Need) (demands : List Demand) : Type 0 where

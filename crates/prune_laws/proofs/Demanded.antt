@@ -411,12 +411,10 @@ module _ (g : ResourceGraph) (names : List (List ℕ)) (valid : IsValidGraph g n
 pub too_little_none : TooLittleServesNone
 too_little_none g names valid jobs barred w need fine v short scope u q under some can =
     let kind = short.0 in
-    let least = short.1.1 in
-    let m = least.reached.0 in
-    let lo = least.reached.1 in
-    let hi = least.reached.2 in
-    let few : short.1.0 < capped (demand g.vertices kind 1 need) = short.1.2 in
-    let is : total_at g.vertices jobs kind m v ≡ short.1.0 = least.reached.3 in
+    let m = short.1.0 in
+    let lo = short.1.1 in
+    let hi = short.1.2 in
+    let few : total_at g.vertices jobs kind m v < capped (demand g.vertices kind 1 need) = short.1.3 in
     let there = piece_total g names valid jobs barred w kind m lo hi scope need fine u q can.0 some can.1 in
     let one = demand_more g.vertices kind 1 q need some in
     let part : total_at g.vertices jobs kind m u ≤ total_at g.vertices jobs kind m v =
@@ -424,7 +422,7 @@ too_little_none g names valid jobs barred w need fine v short scope u q under so
     (λ x. is_at_or_below g.vertices x v)
     (λ x lt h. below_trans g.vertices (parents_first g valid.preorder) x u v lt h under) in
     let all : demand g.vertices kind q need ≤ total_at g.vertices jobs kind m u = there in
-    omega (arith, part, all, one, few, is)
+    omega (arith, part, all, one, few)
 
 -- each vertex is the root or below it
 root_over : (g : ResourceGraph) (names : List (List ℕ)) → IsValidGraph g names → (most v : ℕ) → v ≤ most →
@@ -462,9 +460,7 @@ fit_total g names valid jobs barred w needs fine kind m lo hi claims fits =
 pub too_little_fit : TooLittleFitsNone
 too_little_fit g names valid jobs barred w needs fine kind short claims fits =
     let vs = g.vertices in
-    let least = short.1 in
-    let m = least.reached.0 in
-    let few : short.0 < capped (needs_demand vs kind needs) = short.2 in
-    let is : total_at vs jobs kind m 0 ≡ short.0 = least.reached.3 in
-    let all = fit_total g names valid jobs barred w needs fine kind m least.reached.1 least.reached.2 claims fits in
-    omega (arith, all, few, is)
+    let m = short.0 in
+    let few : total_at vs jobs kind m 0 < capped (needs_demand vs kind needs) = short.3 in
+    let all = fit_total g names valid jobs barred w needs fine kind m short.1 short.2 claims fits in
+    omega (arith, all, few)

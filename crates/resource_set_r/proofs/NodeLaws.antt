@@ -10,7 +10,8 @@ use Rattle.std.proofs.lemmas.Slice.Eq.{bytes_eq-Decides}
 use Rattle.flux_defs.specs.declared.vertices.Vertex.{Vertex}
 use Rattle.flux_defs.specs.Graph.{ResourceGraph, parent_of, is_at_or_below, IsNode}
 use Rattle.flux_defs.specs.ValidGraph.{IsValidGraph, HasRank}
-use Rattle.graph_laws.proofs.Containment.{ParentsFirst, up, up-None, steps_of, below_le, below_from, line, equal_to}
+use Rattle.graph_laws.proofs.Containment.{ParentsFirst, above_is_chain, up, up-None, steps_of}
+use Rattle.graph_laws.proofs.Containment.{below_le, below_from, equal_to}
 use Rattle.graph_laws.proofs.Containment.{equal_from}
 use Rattle.graph_laws.proofs.Preorder.{parents_first}
 use Rattle.resource_graph.specs.Tables.{IsPast, IsNodeOf, IsNamedKind}
@@ -91,7 +92,7 @@ module _ (g : ResourceGraph) (names : List (List ℕ)) (valid : IsValidGraph g n
   pub one_node : (v n m : ℕ) → v < length g.vertices → IsNode g.vertices n →
       IsNode g.vertices m → IsTrue (is_at_or_below g.vertices v n) → IsTrue (is_at_or_below g.vertices v m) → n ≡ m
   one_node v n m lt is_n is_m at_n at_m =
-      elim (line g.vertices first v n m lt at_n at_m) [
+      elim (above_is_chain g.vertices first v n m lt at_n at_m) [
         | inl below ↦ nodes_apart n m is_n is_m below
         | inr above ↦ sym (nodes_apart m n is_m is_n above)
       ]

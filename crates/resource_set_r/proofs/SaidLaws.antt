@@ -15,7 +15,7 @@ use Rattle.flux_defs.specs.declared.claims.Claim.TheVariants.{Take, Hold, Pass}
 use Rattle.flux_defs.specs.Graph.{ResourceGraph, is_at_or_below, IsNode}
 use Rattle.flux_defs.specs.Jobs.{vertex_of, holds_over, is_on_or_below}
 use Rattle.flux_defs.specs.ValidGraph.{IsValidGraph, HasType, HasId, HasRank}
-use Rattle.graph_laws.proofs.Containment.{ParentsFirst, below_self, line, equal_to, equal_from}
+use Rattle.graph_laws.proofs.Containment.{ParentsFirst, below_self, above_is_chain, equal_to, equal_from}
 use Rattle.graph_laws.proofs.Preorder.{parents_first}
 use Rattle.resource_graph.specs.Finds.{IsFirstOf}
 use Rattle.resource_graph.proofs.Values.{value_of}
@@ -87,7 +87,7 @@ module _ (g : ResourceGraph) (names : List (List ℕ)) (valid : IsValidGraph g n
           holds_over g.vertices v c ≡ true → (is_on_or_below g.vertices n c || holds_over g.vertices n c) ≡ true
       by (Take u q) h = absurd (true≢false (sym h))
       by (Hold u) h =
-          elim (line g.vertices first v n u lt at h) [
+          elim (above_is_chain g.vertices first v n u lt at h) [
             | inl inside ↦ or_right (is_at_or_below g.vertices u n) (is_at_or_below g.vertices n u) inside
             | inr above ↦ or_left (is_at_or_below g.vertices u n) (is_at_or_below g.vertices n u) above
           ]

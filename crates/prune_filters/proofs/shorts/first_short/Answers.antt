@@ -1,18 +1,19 @@
 use Rattle.std.proofs.Common.{arith}
 use Rattle.std.proofs.Math.Nat.{mul-le-mul_right}
-use Rattle.prune_filters.specs.Shorts.{IsBelow}
+use Rattle.prune_filters.specs.Shorts.{IsBelow, IsBelowAt}
 use Rattle.prune_filters.proofs.ShortLaws.{found, none_next, none_at_all}
 use Rattle.prune_filters.proofs.shorts.first_short.Goals as goal
 
-pub returns-then-total_below : goal.returns-then-total_below
-returns-then-total_below g c =
+pub returns-in-Some : goal.returns-in-Some
+returns-in-Some g c =
     let v = c.args.view.now in
     record {
       answer = λ jobs stands. rw (← c.items-demand-items.ensures) (found
-          (λ d. IsBelow (g.F.FreeView.graph v) jobs c.args.window (g.F.FreeView.keeps v) c.args.vertex d.kind d.amount)
-          c.items-demand-items.result.now c.loop-demand.demand-index _ c.loop-demand-test.true
-          ((c.total_below.ensures.answer jobs stands).0 c.if-total_below.true));
-      kept = c.total_below.ensures.kept c.if-total_below.true;
+          (λ d. IsBelowAt (g.F.FreeView.graph v) jobs (g.F.FreeView.keeps v) c.args.vertex d.kind d.amount
+          c.in-Some.moment) c.items-demand-items.result.now c.loop-demand.demand-index _ c.loop-demand-test.true
+          (c.in-Some.ensures.kept, c.in-Some.ensures.answer jobs stands));
+      within = c.in-Some.ensures.within;
+      kept = c.in-Some.ensures.kept;
       work = (
           let each = mul-le-mul_right (g.F.FreeView.cost v) c.loop-demand-test.true in
           let same = c.items-demand-items.ensures in
@@ -25,8 +26,9 @@ loop-demand-preserved g c =
     record {
       none = λ jobs stands. none_next
           (λ d. IsBelow (g.F.FreeView.graph v) jobs c.args.window (g.F.FreeView.keeps v) c.args.vertex d.kind d.amount)
-          c.items-demand-items.result.now c.loop-demand.demand-index _ c.total_below.result c.if-total_below.false
-          (c.total_below.ensures.answer jobs stands) c.loop-demand-test.true (c.loop-demand.invariant.none jobs stands);
+          c.items-demand-items.result.now c.loop-demand.demand-index _
+          (λ below. c.in_default.ensures.answer jobs stands below.0 below.1) c.loop-demand-test.true
+          (c.loop-demand.invariant.none jobs stands);
       spent = omega (arith, c.loop-demand.invariant.spent, c.total_below.ensures.work);
     }
 
@@ -38,6 +40,7 @@ returns g c =
           (λ d. IsBelow (g.F.FreeView.graph v) jobs c.args.window (g.F.FreeView.keeps v) c.args.vertex d.kind d.amount)
           c.items-demand-items.result.now c.loop-demand.demand-index c.loop-demand-test.false
           (c.loop-demand.invariant.none jobs stands));
+      within = tt;
       kept = tt;
       work = (
           let all = mul-le-mul_right (g.F.FreeView.cost v) c.loop-demand.auto.demand-index-end in

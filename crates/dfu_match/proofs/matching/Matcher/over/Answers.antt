@@ -1,7 +1,7 @@
 use Rattle.std.proofs.Common.{List, length, inl, inr, subst}
 use Rattle.flux_defs.specs.declared.vertices.Vertex.{Vertex}
 use Rattle.prune_filters.specs.Demands.{needs_demand}
-use Rattle.prune_filters.specs.Shorts.{IsShortIn}
+use Rattle.prune_filters.specs.Shorts.{IsShortInAt}
 use Rattle.dfu_match.specs.Tables.{needs_all}
 use Rattle.dfu_match.proofs.DemandLaws.{below_from}
 use Rattle.dfu_match.proofs.MatchedLaws.{short_is}
@@ -13,10 +13,11 @@ returns-in-Some-clause-matched g c = λ jobs stands.
     let matcher = c.args.self.now in
     let graph = matcher.graph.now in
     let keeps = g.F.FreeView.keeps c.args.view.now in
-    let short = subst (λ (us : List Vertex). IsShortIn us jobs c.args.window keeps matcher.whole 0 c.in-Some.demand)
-    c.requires.over (rw c.in-Some.is at (c.first_short.ensures.answer jobs stands)) in
+    let within = c.in-Some.ensures.within in
+    let short = subst (λ (us : List Vertex). IsShortInAt us jobs keeps matcher.whole 0 c.in-Some.shortage)
+    c.requires.over (c.in-Some.ensures.answer jobs stands) in
     short_is graph.resources graph.names c.is_valid.ensures.valid jobs keeps matcher.ask.now c.args.window matcher.whole
-    matcher.demands c.requires.proper c.in-Some.demand short
+    matcher.demands c.requires.proper c.in-Some.shortage within.0 within.1 short
 
 pub walked-requires-clause-enough : goal.walked-requires-clause-enough
 walked-requires-clause-enough g c = λ jobs stands root.

@@ -65,3 +65,12 @@ returns-clause-work g c = λ jobs stands pairs has.
     (c.write_needs.ensures.work jobs stands 0 0 (length vs) 2 (first_place needs)
     (clear_everywhere vs jobs c.args.window (asked_totals table keeps) needs) (refl, refl) (inl refl)) in
     omega (arith, work)
+
+-- none fit, the root isn't short, and none fit over later windows either
+pub returns-then-not-branch-clause-matched : goal.returns-then-not-branch-clause-matched
+returns-then-not-branch-clause-matched g c = λ jobs stands.
+    let never = rw c.if-not-branch.true at (c.in_ok-write_needs.ensures.written.2 jobs stands) in (
+      never,
+      c.requires.enough jobs stands,
+      (c.in_ok-write_needs.ensures.later c.if-not-branch.true).1 jobs stands,
+    )

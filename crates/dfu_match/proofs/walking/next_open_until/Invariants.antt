@@ -1,18 +1,21 @@
 use Rattle.std.proofs.Common.{◌-◌, ◌+◌, ◌*◌, ◌≤◌, ℕ, List, length, min}
 use Rattle.flux_defs.specs.declared.claims.Job.{Job}
+use Rattle.flux_defs.specs.declared.claims.Window.{Window}
 use Rattle.dfu_match.specs.Searches.{open_to}
 use Rattle.dfu_match.specs.Walks.{ServesNone}
 use Rattle.dfu_match.specs.Tables.{all_of, needs_all}
 use Rattle.dfu_match.specs.Pairs.{HasEachOpen, IsClearBefore, IsPlaceOf, TakesEach, asked_totals}
-use Rattle.dfu_match.proofs.walking.next_open.Given as goal
+use Rattle.dfu_match.specs.Reaches.{FallsWithin, ReachesOver}
+use Rattle.dfu_match.proofs.walking.next_open_until.Given as goal
 
 -- what the walk has passed over can't serve the need
 abbrev pub invariant-look : goal.invariant-look
 invariant-look g l = record {
   later : l.from ≤ l.at;
-  skipped : (jobs : List Job) → g.F.FreeView.stands_for l.s.view.now jobs →
-      ServesNone l.s.graph.now.resources.vertices
-      (open_to l.s.graph.now.resources.vertices jobs l.s.barred.now l.s.window) l.need l.from l.at;
+  falls : FallsWithin l.s.window l.initial.until l.until;
+  skipped : (jobs : List Job) → g.F.FreeView.stands_for l.s.view.now jobs → (w : Window) →
+      ReachesOver l.s.window l.until w → ServesNone l.s.graph.now.resources.vertices
+      (open_to l.s.graph.now.resources.vertices jobs l.s.barred.now w) l.need l.from l.at;
   clear : (jobs : List Job) → g.F.FreeView.stands_for l.s.view.now jobs →
       IsClearBefore l.s.graph.now.resources.vertices jobs l.s.window
       (asked_totals l.s.wanted.now (g.F.FreeView.keeps l.s.view.now)) l.need l.from l.to →

@@ -1,0 +1,26 @@
+-- Later windows that a search's answer also holds for.
+use Rattle.std.specs.Prelude.{ℕ, ◌<◌, ◌≤◌, List}
+use Rattle.flux_defs.specs.declared.vertices.Vertex.{Vertex}
+use Rattle.flux_defs.specs.declared.claims.Claim.{Claim}
+use Rattle.flux_defs.specs.declared.claims.Window.{Window}
+use Rattle.flux_defs.specs.declared.requests.Need.{Need}
+use Rattle.flux_defs.specs.Graph.{Scope}
+use Rattle.flux_defs.specs.Lowest.{CanServe}
+
+-- the other window, which isn't empty, begins at `until` or before and ends no sooner than this one: it has each moment
+-- of this one from `until` on
+abbrev pub ReachesOver : Window → ℕ → Window → Type 0
+ReachesOver w until other = (other.from ≤ until) × (w.to ≤ other.to) × (other.from < other.to)
+
+-- a moment falls, and not below the window's start where it was not
+abbrev pub FallsWithin : Window → ℕ → ℕ → Type 0
+FallsWithin w old new = (new ≤ old) × (w.from ≤ old → w.from ≤ new)
+
+-- the vertex serves no more than n of the need, wherever it is looked for
+abbrev pub ServesAtMost : List Vertex → (Claim → Type 0) → Need → ℕ → ℕ → Type 0
+ServesAtMost vertices ok need v n = (scope : Scope) (q : ℕ) → n < q → CanServe vertices ok scope need v q → ⊥
+
+-- nothing of this kind is so over a window that reaches over w from a moment on, which isn't before its start; where
+-- it is the start itself, nothing is said
+abbrev pub NoneUntil : (Window → Type 0) → Window → ℕ → Type 0
+NoneUntil P w until = w.from < until → (other : Window) → ReachesOver w until other → P other → ⊥
