@@ -2,3 +2,4 @@ pub mod Starts
 pub mod Ends
 pub mod Sames
 pub mod Frees
+pub mod Lasts

@@ -101,7 +101,12 @@ pub trait Planner: Sized {
 
     /// The last second of the window at which less than so much is free; `None` exactly where at each so much is. It
     /// takes no memory.
-    fn last_below<L: Ledger>(&self, window: Window, quantity: u64, steps: &mut Steps<L>) -> Option<u64>
+    fn last_below<L: Ledger>(
+        &self,
+        window: Window,
+        quantity: u64,
+        steps: &mut Steps<L>,
+    ) -> Option<u64>
         requires { window.from < window.to }
         ensures last { (spans : List Span) → stands_for self.now spans →
             MatchOption result (HasRoom (total_of self.now) spans window quantity)

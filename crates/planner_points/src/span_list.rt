@@ -3,7 +3,7 @@ ghost use Rattle.std.specs.Prelude.{◌≡◌, ℕ, ◌+◌, ◌-◌, ◌<◌, �
 ghost use Rattle.std.specs.Prelude.{slice_get, IfOk, MatchOption};
 ghost use Rattle.planner_points.specs.declared.spans.Span.{Span};
 ghost use Rattle.planner_points.specs.Spans.{used_at, free_at, span_of, HasRoom, HasSpan, IsLeastFree, IsEnd};
-ghost use Rattle.planner_points.specs.Spans.{IsNextEnd, MayStart, IsFirstStart, IsFirstFree};
+ghost use Rattle.planner_points.specs.Spans.{IsNextEnd, MayStart, IsFirstStart, IsFirstFree, IsLastBelow};
 ghost use Rattle.planner_points.specs.Lists.{sooner, count_of};
 
 use crate::planners::Planner;
@@ -60,6 +60,19 @@ fn next_end(spans: &[Span], after: u64) -> Option<u64>
             let with_stop = sooner(later, span.window.to, after);
             sooner(with_stop, span.window.from, after)
         }
+    }
+}
+
+/// The end of the stretch from t on over which no span starts or ends: the next start or end of one, or `to`.
+fn stretch_end(spans: &[Span], t: u64, to: u64) -> u64
+    requires { t < to }
+    ensures later { t < result }
+    ensures within { result ≤ to }
+    ensures same { (e : ℕ) → t < e → e < result → IsEnd spans.now e → ⊥ }
+{
+    match next_end(spans, t) {
+        None => to,
+        Some(next) => next.min(to),
     }
 }
 
@@ -160,6 +173,28 @@ impl SpanList {
     }
 }
 
+impl SpanList {
+    /// The last second of the window at which less than so much is free: the last one of a stretch over which no span
+    /// starts or ends.
+    fn last_left(&self, window: Window, quantity: u64) -> Option<u64>
+        requires { window.from < window.to }
+        ensures { MatchOption result (HasRoom self.now.total self.now.spans.items window quantity)
+            (IsLastBelow self.now.total self.now.spans.items window quantity) }
+    {
+        let spans = self.spans.as_slice();
+        let mut t = window.from;
+        let mut last = None;
+        'stretches: while t < window.to {
+            let end = stretch_end(spans, t, window.to);
+            if left_at(spans, t, self.total) < quantity {
+                last = Some(end - 1);
+            }
+            t = end;
+        }
+        last
+    }
+}
+
 impl Planner for SpanList {
     ghost use Rattle.planner_points.specs.Lists.{AreSame, same_free_of};
 
@@ -233,6 +268,15 @@ impl Planner for SpanList {
 
     fn min_over<L: Ledger>(&self, window: Window, _steps: &mut Steps<L>) -> u64 {
         self.least_over(window)
+    }
+
+    fn last_below<L: Ledger>(
+        &self,
+        window: Window,
+        quantity: u64,
+        _steps: &mut Steps<L>,
+    ) -> Option<u64> {
+        self.last_left(window, quantity)
     }
 
     fn first_at_least<L: Ledger>(
