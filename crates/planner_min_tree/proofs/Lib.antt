@@ -10,3 +10,5 @@ pub mod Counts
 pub mod PlanFacts
 pub mod Rises
 pub mod Timelines
+pub mod Lows
+pub mod LowEnds

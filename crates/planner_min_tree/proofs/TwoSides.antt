@@ -5,8 +5,10 @@ use Rattle.std.proofs.lemmas.Bool.{cases_lt}
 use Rattle.planner_min_tree.specs.declared.points.Point.{Point}
 use Rattle.planner_min_tree.specs.Points.{latest_of, need_of, rest_of, after, Runs, lowest_before, lowest_from}
 use Rattle.planner_min_tree.specs.Points.{lowest_in, first_from, top_of, highest, value_at, first_rise, rise_after}
+use Rattle.planner_min_tree.specs.Points.{low_end, last_rise}
 use Rattle.planner_min_tree.specs.Chunks.{flat, chunk_at}
 use Rattle.planner_min_tree.proofs.Dips as dips
+use Rattle.planner_min_tree.proofs.Lows as lows
 use Rattle.planner_min_tree.proofs.Dips.{if_le, if_gt}
 
 pub flat_append : {X : Type 0} (xs ys : List (List X)) → flat (xs ++ ys) ≡ flat xs ++ flat ys
@@ -186,6 +188,50 @@ module _ (xs ys : Chunks) where
             let l = dips.later_less from q (flat xs) x later (omega arith) none in
             omega arith
 
+    pub end_left : (to q : ℕ) → to ≤ latest_of (flat xs) → 0 < to →
+        low_end to q (flat (xs ++ ys)) x ≡ low_end to q (flat xs) x
+    end_left to q h s = ap (λ ps. low_end to q ps x) (flat_append xs ys) ∙ lows.end_left to q (flat xs) (flat ys) x h s
+
+    module _ (to q : ℕ) (early : latest_of (flat xs) < to) where
+      pub end_first : (t : ℕ) → low_end to q (flat ys) (x - need_of (flat xs) + rest_of (flat xs)) ≡ Some t →
+          low_end to q (flat (xs ++ ys)) x ≡ Some t
+      end_first t e = ap (λ ps. low_end to q ps x) (flat_append xs ys)
+          ∙ lows.end_first to q (flat xs) (flat ys) x t early (ap (low_end to q (flat ys)) after_is ∙ e)
+
+      module _ (none : low_end to q (flat ys) (x - need_of (flat xs) + rest_of (flat xs)) ≡ None) where
+        pub end_second : low_end to q (flat (xs ++ ys)) x ≡ last_rise q (flat xs) x
+        end_second = ap (λ ps. low_end to q ps x) (flat_append xs ys)
+            ∙ lows.end_second to q (flat xs) (flat ys) x early (ap (low_end to q (flat ys)) after_is ∙ none)
+
+        pub end_much : q ≤ after (flat xs) x
+        end_much = let a = after_is in let m = lows.end_much to q (flat ys) _ none in omega arith
+
+    -- where the second list comes lower than so much, and where it doesn't
+    pub last_right : (q : ℕ) → x - need_of (flat xs) + rest_of (flat xs) - need_of (flat ys) < q →
+        q ≤ after (flat (xs ++ ys)) x →
+        last_rise q (flat (xs ++ ys)) x ≡ last_rise q (flat ys) (x - need_of (flat xs) + rest_of (flat xs))
+    last_right q low much = ap (λ ps. last_rise q ps x) (flat_append xs ys)
+        ∙ lows.rise_right q (flat xs) (flat ys) x (dips.runs_right (flat xs) (flat ys) x runs)
+        (let a = after_is in omega arith)
+        (let b = ap (λ ps. after ps x) (flat_append xs ys) ∙ lows.after_append (flat xs) (flat ys) x in omega arith)
+        ∙ ap (last_rise q (flat ys)) after_is
+
+    pub much_right : (q : ℕ) → q ≤ after (flat (xs ++ ys)) x →
+        q ≤ after (flat ys) (x - need_of (flat xs) + rest_of (flat xs))
+    much_right q much =
+        let b = ap (λ ps. after ps x) (flat_append xs ys) ∙ lows.after_append (flat xs) (flat ys) x
+        ∙ ap (after (flat ys)) after_is in
+        omega arith
+
+    module _ (q : ℕ) (high : q ≤ x - need_of (flat xs) + rest_of (flat xs) - need_of (flat ys)) where
+      pub last_left : last_rise q (flat (xs ++ ys)) x ≡ last_rise q (flat xs) x
+      last_left = ap (λ ps. last_rise q ps x) (flat_append xs ys)
+          ∙ lows.rise_left q (flat xs) (flat ys) x (dips.runs_right (flat xs) (flat ys) x runs)
+          (let a = after_is in omega arith)
+
+      pub much_left : q ≤ after (flat xs) x
+      much_left = let a = after_is in omega arith
+
 pub ruleset place_facts = (place_right, place_left)
 
 pub ruleset first_facts = (first_right, first_left)
@@ -215,3 +261,28 @@ pub ruleset after_facts = (
 )
 
 pub ruleset some_facts = (dips.rise_not, dips.runs_need)
+
+pub ruleset low_facts = (
+  end_left,
+  end_first,
+  end_second,
+  end_much,
+  runs_left,
+  runs_right,
+  need_left,
+  fits_left,
+)
+
+pub ruleset last_facts = (
+  last_right,
+  last_left,
+  much_right,
+  much_left,
+  runs_left,
+  runs_right,
+  need_left,
+  fits_left,
+  need_right,
+)
+
+pub ruleset any_facts = (lows.rise_not, dips.runs_need)

@@ -1,6 +1,7 @@
 -- Points of time at which what is free changes, and what a list of them does to a number.
 use Rattle.std.specs.Prelude.{ℕ, suc, ◌+◌, ◌-◌, ◌^◌, ◌<◌, ◌≤◌, min, max, nat_le, nat_lt, if◌then◌else◌, Option, Some}
 use Rattle.std.specs.Prelude.{None, List, [], ◌∷◌, length}
+use Rattle.std.specs.Option.{option_or}
 use Rattle.planner_min_tree.specs.declared.points.Point.{Point}
 use Rattle.planner_min_tree.specs.declared.points.Dip.{Dip}
 
@@ -97,3 +98,18 @@ first_rise q (p ∷ ps) x = if nat_le q (past p x) then Some p.time else first_r
 abbrev pub rise_after : ℕ → ℕ → List Point → ℕ → Option ℕ
 rise_after from q [] x = None
 rise_after from q (p ∷ ps) x = if nat_le p.time from then rise_after from q ps (past p x) else first_rise q (p ∷ ps) x
+
+-- a second, where the number is less than so much before it
+abbrev pub low_to : ℕ → ℕ → ℕ → Option ℕ
+low_to t q x = if nat_lt x q then Some t else None
+
+-- the second at which the last stretch before a moment ends over which it is less: the moment itself if it lasts so long
+abbrev pub low_end : ℕ → ℕ → List Point → ℕ → Option ℕ
+low_end to q [] x = low_to to q x
+low_end to q (p ∷ ps) x = if nat_lt p.time to then option_or (low_end to q ps (past p x)) (low_to p.time q x)
+    else low_to to q x
+
+-- the time of the last point before which it is less
+abbrev pub last_rise : ℕ → List Point → ℕ → Option ℕ
+last_rise q [] x = None
+last_rise q (p ∷ ps) x = option_or (last_rise q ps (past p x)) (low_to p.time q x)

@@ -3,7 +3,7 @@ ghost use Rattle.std.specs.Prelude.{◌≡◌, ℕ, ◌+◌, ◌*◌, ◌<◌, �
 ghost use Rattle.flux_defs.specs.Digits.{dig};
 ghost use Rattle.planner_points.specs.declared.spans.Span.{Span};
 ghost use Rattle.planner_points.specs.Spans.{span_of, HasRoom, HasSpan, IsLeastFree, IsEnd, IsNextEnd, MayStart};
-ghost use Rattle.planner_points.specs.Spans.{IsFirstStart, IsFirstFree, free_at};
+ghost use Rattle.planner_points.specs.Spans.{IsFirstStart, IsFirstFree, IsLastBelow, free_at};
 ghost use Rattle.planner_min_tree.specs.Plans.{StandsFor};
 
 use crate::marking::{Change, Mark};
@@ -219,6 +219,29 @@ impl Planner for MinTree {
     {
         self.points
             .lowest_in(window.from, window.to, self.total, steps)
+    }
+
+    #[tactic(auto, using(crate::proofs::PlanFacts::marks_run))]
+    fn last_below<L: Ledger>(
+        &self,
+        window: Window,
+        quantity: u64,
+        steps: &mut Steps<L>,
+    ) -> Option<u64>
+        requires { window.from < window.to }
+        ensures last { (spans : List Span) → StandsFor self.now spans →
+            MatchOption result (HasRoom self.now.total spans window quantity)
+            (IsLastBelow self.now.total spans window quantity) }
+        ensures work { steps.new ≤ steps.old + 4 * dig (length self.now.points + 2) }
+        ensures counted { steps.old ≤ steps.new }
+    {
+        let Some(end) = self.points.low_end(window.to, quantity, self.total, steps) else {
+            return None;
+        };
+        if end <= window.from {
+            return None;
+        }
+        Some(end - 1)
     }
 
     fn first_at_least<L: Ledger>(

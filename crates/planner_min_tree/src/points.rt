@@ -4,6 +4,7 @@ ghost use Rattle.std.specs.Prelude.{IfOk};
 ghost use Rattle.std.specs.Option.{option_copied};
 ghost use Rattle.planner_min_tree.specs.Points.{past, Runs, dip_of, latest_of, lowest, lowest_before, lowest_from};
 ghost use Rattle.planner_min_tree.specs.Points.{lowest_in, count_before, first_from, value_at, first_rise, rise_after};
+ghost use Rattle.planner_min_tree.specs.Points.{low_to, low_end, last_rise};
 
 use std::alloc::AllocError;
 
@@ -288,6 +289,45 @@ pub fn rise_after(points: &[Point], from: u64, quantity: u64, free: u64) -> Opti
             } else {
                 first_rise(points, quantity, free)
             }
+        }
+    }
+}
+
+/// A second, where less than so much is free before it.
+pub fn low_to(t: u64, quantity: u64, free: u64) -> Option<u64>
+    ensures { result ≡ low_to t quantity free }
+{
+    if free < quantity { Some(t) } else { None }
+}
+
+/// The second at which the last stretch before a moment ends over which less than so much is free.
+pub fn low_end(points: &[Point], to: u64, quantity: u64, free: u64) -> Option<u64>
+    requires { Runs points.now free }
+    ensures { result ≡ low_end to quantity points.now free }
+{
+    match points {
+        [] => low_to(to, quantity, free),
+        [point, rest @ ..] => {
+            if point.time < to {
+                let later = low_end(rest, to, quantity, point.past(free));
+                later.or(low_to(point.time, quantity, free))
+            } else {
+                low_to(to, quantity, free)
+            }
+        }
+    }
+}
+
+/// The time of the last point before which less than so much is free.
+pub fn last_rise(points: &[Point], quantity: u64, free: u64) -> Option<u64>
+    requires { Runs points.now free }
+    ensures { result ≡ last_rise quantity points.now free }
+{
+    match points {
+        [] => None,
+        [point, rest @ ..] => {
+            let later = last_rise(rest, quantity, point.past(free));
+            later.or(low_to(point.time, quantity, free))
         }
     }
 }

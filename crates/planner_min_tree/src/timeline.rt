@@ -5,7 +5,7 @@ ghost use Rattle.flux_defs.specs.Digits.{dig};
 ghost use Rattle.balanced_tree.specs.Edits.{made};
 ghost use Rattle.planner_min_tree.specs.declared.points.Point.{Point};
 ghost use Rattle.planner_min_tree.specs.Chunks.{flat, AreFilled};
-ghost use Rattle.planner_min_tree.specs.Points.{Runs, lowest_in, first_from, value_at, rise_after, HasPlace};
+ghost use Rattle.planner_min_tree.specs.Points.{Runs, lowest_in, first_from, value_at, rise_after, low_end, HasPlace};
 ghost use Rattle.planner_min_tree.specs.Marks.{changed, StaysLate};
 
 use crate::chunks::{Chunk, copied};
@@ -268,6 +268,39 @@ impl Timeline {
         match walks::rise_after(Side { tree: &self.past }, from, quantity, free, steps) {
             Some(t) => Some(t),
             None => walks::some_rise(Side { tree: &self.coming }, quantity, past, steps),
+        }
+    }
+
+    /// The second at which the last stretch before a moment ends over which less than so much is free.
+    #[tactic(auto, using(crate::proofs::TwoSides::low_facts))]
+    pub fn low_end<L: Ledger>(
+        &self,
+        to: u64,
+        quantity: u64,
+        free: u64,
+        steps: &mut Steps<L>,
+    ) -> Option<u64>
+        requires runs { Runs self.now free }
+        requires later { 0 < to }
+        ensures value { result ≡ low_end to quantity self.now free }
+        ensures work { steps.new ≤ steps.old + 4 * dig (length self.now + 2) }
+        ensures counted { steps.old ≤ steps.new }
+    {
+        let _past = self.past.height();
+        let _coming = self.coming.height();
+        let sum = self.past.sum();
+        if to <= sum.latest {
+            return walks::low_end(Side { tree: &self.past }, to, quantity, free, steps);
+        }
+        match walks::low_end(
+            Side { tree: &self.coming },
+            to,
+            quantity,
+            sum.past(free),
+            steps,
+        ) {
+            Some(t) => Some(t),
+            None => walks::some_last_rise(Side { tree: &self.past }, quantity, free, steps),
         }
     }
 

@@ -2,7 +2,7 @@
 ghost use Rattle.std.specs.Prelude.{◌≡◌, ◌+◌, ◌-◌, ◌*◌, ◌^◌, ◌<◌, ◌≤◌, length, IfNone};
 ghost use Rattle.planner_min_tree.specs.Chunks.{flat, chunk_at};
 ghost use Rattle.planner_min_tree.specs.Points.{Runs, lowest_before, lowest_from, lowest_in, first_from, value_at};
-ghost use Rattle.planner_min_tree.specs.Points.{first_rise, rise_after};
+ghost use Rattle.planner_min_tree.specs.Points.{first_rise, rise_after, after, low_end, last_rise};
 
 use crate::chunks::Chunk;
 use crate::points::{self, Dip, Point};
@@ -240,6 +240,89 @@ pub fn rise_after<L: Ledger>(
             match rise_after(Side { tree: left }, from, quantity, free, steps) {
                 Some(t) => Some(t),
                 None => some_rise(Side { tree: right }, quantity, past, steps),
+            }
+        }
+    }
+}
+
+/// The time of the last point before which less than so much is free, where so much is behind them. It goes down on one
+/// way.
+#[tactic(auto, using(crate::proofs::TwoSides::last_facts))]
+fn last_rise<L: Ledger>(
+    side: Side<'_>,
+    quantity: u64,
+    free: u64,
+    steps: &mut Steps<L>,
+) -> Option<u64>
+    requires runs { Runs (flat side.tree.now.0) free }
+    requires much { quantity ≤ after (flat side.tree.now.0) free }
+    ensures value { result ≡ last_rise quantity (flat side.entry.tree.now.0) free }
+    ensures work { steps.new ≤ steps.old + side.entry.tree.now.1 + 1 }
+    ensures counted { steps.old ≤ steps.new }
+{
+    match side.tree.shape(steps) {
+        Shape::Empty => None,
+        Shape::Leaf(chunk) => points::last_rise(chunk.look(steps), quantity, free),
+        Shape::Fork(left, right) => {
+            let past = left.sum().past(free);
+            if past - right.sum().need < quantity {
+                last_rise(Side { tree: right }, quantity, past, steps)
+            } else {
+                last_rise(Side { tree: left }, quantity, free, steps)
+            }
+        }
+    }
+}
+
+/// The same, which takes no step where there is none.
+#[tactic(auto, using(crate::proofs::TwoSides::any_facts))]
+pub fn some_last_rise<L: Ledger>(
+    side: Side<'_>,
+    quantity: u64,
+    free: u64,
+    steps: &mut Steps<L>,
+) -> Option<u64>
+    requires runs { Runs (flat side.tree.now.0) free }
+    requires much { quantity ≤ after (flat side.tree.now.0) free }
+    ensures value { result ≡ last_rise quantity (flat side.entry.tree.now.0) free }
+    ensures none { IfNone result (steps.new ≤ steps.old) }
+    ensures work { steps.new ≤ steps.old + side.entry.tree.now.1 + 1 }
+    ensures counted { steps.old ≤ steps.new }
+{
+    let need = side.tree.sum().need;
+    if quantity <= free - need {
+        return None;
+    }
+    last_rise(side, quantity, free, steps)
+}
+
+/// The second at which the last stretch before a moment ends over which less than so much is free.
+#[tactic(auto, using(crate::proofs::TwoSides::low_facts))]
+pub fn low_end<L: Ledger>(
+    side: Side<'_>,
+    to: u64,
+    quantity: u64,
+    free: u64,
+    steps: &mut Steps<L>,
+) -> Option<u64>
+    requires runs { Runs (flat side.tree.now.0) free }
+    requires later { 0 < to }
+    ensures value { result ≡ low_end to quantity (flat side.entry.tree.now.0) free }
+    ensures none { IfNone result (steps.new ≤ steps.old + side.entry.tree.now.1 + 1) }
+    ensures work { steps.new ≤ steps.old + 2 * (side.entry.tree.now.1 + 1) }
+    ensures counted { steps.old ≤ steps.new }
+{
+    match side.tree.shape(steps) {
+        Shape::Empty => points::low_to(to, quantity, free),
+        Shape::Leaf(chunk) => points::low_end(chunk.look(steps), to, quantity, free),
+        Shape::Fork(left, right) => {
+            let sum = left.sum();
+            if to <= sum.latest {
+                return low_end(Side { tree: left }, to, quantity, free, steps);
+            }
+            match low_end(Side { tree: right }, to, quantity, sum.past(free), steps) {
+                Some(t) => Some(t),
+                None => some_last_rise(Side { tree: left }, quantity, free, steps),
             }
         }
     }
