@@ -103,7 +103,7 @@ rise_after from q (p ∷ ps) x = if nat_le p.time from then rise_after from q ps
 abbrev pub low_to : ℕ → ℕ → ℕ → Option ℕ
 low_to t q x = if nat_lt x q then Some t else None
 
--- the second at which the last stretch before a moment ends over which it is less: the moment itself if it lasts so long
+-- the second at which the last stretch before a moment ends over which it is less: that moment if it lasts so long
 abbrev pub low_end : ℕ → ℕ → List Point → ℕ → Option ℕ
 low_end to q [] x = low_to to q x
 low_end to q (p ∷ ps) x = if nat_lt p.time to then option_or (low_end to q ps (past p x)) (low_to p.time q x)

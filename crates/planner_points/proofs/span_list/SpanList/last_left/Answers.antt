@@ -9,7 +9,8 @@ stretches-preserved-then-left_at-quantity c =
     record {
       later = omega (arith, c.stretches.invariant.later, c.stretch_end-end.ensures.later);
       within = c.stretch_end-end.ensures.within;
-      last = last_here c.args.self.now.total c.args.self.now.spans.items c.args.window.from c.args.quantity c.stretches.t
+      last = last_here c.args.self.now.total c.args.self.now.spans.items c.args.window.from c.args.quantity
+          c.stretches.t
           c.stretch_end-end.result c.stretches.invariant.later c.stretch_end-end.ensures.later same
           (let f = c.if-left_at-quantity.true in omega arith);
     }
