@@ -2,7 +2,7 @@
 ghost use Rattle.std.specs.Prelude.{◌≡◌, ℕ, ◌+◌, ◌*◌, ◌<◌, ◌≤◌, List, [], ◌∷◌, ◌++◌, length, slice_get, slice_index_or};
 ghost use Rattle.std.specs.Prelude.{Some, IfOk, MatchOption};
 ghost use Rattle.planner_points.specs.declared.spans.Span.{Span};
-ghost use Rattle.planner_points.specs.Spans.{free_at, HasRoom, IsLeastFree, IsFirstFree};
+ghost use Rattle.planner_points.specs.Spans.{free_at, HasRoom, IsLeastFree, IsFirstFree, IsLastBelow};
 ghost use Rattle.planner_points.specs.Work.{renew_cost};
 ghost use Rattle.book_laws.specs.Grouped.{some_span};
 ghost use Rattle.vertex_planners.specs.Kept.{Gains, Loses, HaveRoom, HaveSpans, AtRow};
@@ -61,6 +61,29 @@ impl<P: Planner + Drop> Item<P> {
             unreachable!()
         };
         planner.min_over(window, steps)
+    }
+
+    /// The last second of the window at which less than so much is free at the place; `None` exactly where at each so
+    /// much is. It takes no memory.
+    pub fn last_below<L: Ledger>(
+        &self,
+        place: usize,
+        window: Window,
+        quantity: u64,
+        steps: &mut Steps<L>,
+    ) -> Option<u64>
+        requires place { place < length self.now }
+        requires window { window.from < window.to }
+        ensures last { (p : P) → slice_get self.now place ≡ Some p → (spans : List Span) → P.stands_for p spans →
+            MatchOption result (HasRoom (P.total_of p) spans window quantity)
+            (IsLastBelow (P.total_of p) spans window quantity) }
+        ensures counted { steps.old ≤ steps.new }
+        ensures work { (p : P) → slice_get self.now place ≡ Some p → steps.new ≤ steps.old + P.look_cost p }
+    {
+        let Some(planner) = self.planners.get(place) else {
+            unreachable!()
+        };
+        planner.last_below(window, quantity, steps)
     }
 
     /// The least second from `from` on at which so much is free at the place; `None` exactly where at each of them less
