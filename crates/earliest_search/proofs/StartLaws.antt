@@ -11,11 +11,13 @@ use Rattle.flux_defs.specs.Graph.{ResourceGraph, Everywhere}
 use Rattle.flux_defs.specs.ValidGraph.{IsValidGraph}
 use Rattle.flux_defs.specs.declared.claims.Window.{Window}
 use Rattle.flux_defs.specs.Needs.{IsProperAsk}
-use Rattle.flux_defs.specs.Jobs.{is_live, IsPoint, IsNextPoint}
+use Rattle.flux_defs.specs.Jobs.{is_live, IsPoint}
 use Rattle.flux_defs.specs.Available.{is_available_at, IsAvailable}
 use Rattle.flux_defs.specs.Asks.{window_of, CountsWithin, scene_of, SomeFit, IsStart, IsEarliest}
 use Rattle.match_laws.proofs.Live.{LivesOn, available_on}
 use Rattle.match_laws.proofs.MoreAvailable.{fits_more}
+use Rattle.flux_defs.specs.Free.{total_at}
+use Rattle.prune_filters.specs.Demands.{needs_demand}
 use Rattle.prune_laws.proofs.Demanded.{fit_total}
 use Rattle.dfu_match.specs.declared.matching.Matched.{Matched}
 use Rattle.dfu_match.specs.declared.matching.Matched.TheVariants.{Fits, Short, NoFit}
@@ -90,29 +92,55 @@ pub no_fit : (vertices : List Vertex) (jobs : List Job) (keeps : ℕ → ℕ →
     (matched : Matched) → IsMatched vertices jobs keeps ask w matched →
     ((claims : List Claim) → matched ≡ Fits claims → ⊥) → SomeFit vertices jobs ask w → ⊥
 no_fit vertices jobs keeps ask w (Fits claims) is never fit = never claims refl
-no_fit vertices jobs keeps ask w (Short demand) is never fit = is.0 fit
-no_fit vertices jobs keeps ask w NoFit is never fit = is.0 fit
+no_fit vertices jobs keeps ask w (Short s) is never fit = is.0 fit
+no_fit vertices jobs keeps ask w (NoFit until) is never fit = is.0 fit
 
--- the ask can't start at a moment that isn't worth a try
+-- a window that counts isn't empty, and one that begins later ends no sooner
+window_opens : (horizon : ℕ) (ask : Ask) (u : ℕ) → CountsWithin horizon ask u → u < (window_of horizon ask u).to
+window_opens horizon ask u c = elim (eqb_tells ask.duration 0) [
+  | inl none ↦ rw none.0 c.0
+  | inr some ↦ (let d : ask.duration ≡ 0 → ⊥ = some.1 in rw some.0 (let a : u < u + ask.duration = omega arith in a))
+]
+
+ends_no_sooner : (horizon : ℕ) (ask : Ask) (t u : ℕ) → t < u →
+    (window_of horizon ask t).to ≤ (window_of horizon ask u).to
+ends_no_sooner horizon ask t u lt = elim (eqb_tells ask.duration 0) [
+  | inl none ↦ rw none.0 (let a : horizon ≤ horizon = omega arith in a)
+  | inr some ↦ rw some.0 (let a : t + ask.duration ≤ u + ask.duration = omega arith in a)
+]
+
+-- the ask can't start at a later moment that isn't worth a try
 module _ (g : ResourceGraph) (names : List (List ℕ)) (valid : IsValidGraph g names) (jobs : List Job) (horizon : ℕ)
-    (ask : Ask) (proper : IsProperAsk g.vertices ask) (keeps : ℕ → ℕ → Type 0) where
-  pub worth_try : (matched : Matched) (w : Window) (u : ℕ) → IsMatched g.vertices jobs keeps ask w matched →
-      IsStart g.vertices jobs horizon ask u → IsWorthTry g.vertices jobs matched u
-  worth_try (Fits claims) w u is s = tt
-  worth_try NoFit w u is s = tt
-  worth_try (Short demand) w u is s =
-      let fit = s.1 in
-      let few = ends_later u s.0 in
-      let all = fit_total g names valid jobs ask.barred (window_of horizon ask u) ask.needs proper.needs demand.kind u
-      (omega arith) few fit.0 fit.1 in
-      omega (arith, all, is.2)
-    where
-      ends_later : (u : ℕ) → CountsWithin horizon ask u → u < (window_of horizon ask u).to
-      ends_later u c = elim (eqb_tells ask.duration 0) [
-        | inl none ↦ rw none.0 c.0
-        | inr some ↦ (let d : ask.duration ≡ 0 → ⊥ = some.1 in rw some.0 (let a : u < u + ask.duration = omega arith in
-            a))
-      ]
+    (ask : Ask) (proper : IsProperAsk g.vertices ask) (keeps : ℕ → ℕ → Type 0) (t u : ℕ) (later : t < u)
+    (start : IsStart g.vertices jobs horizon ask u) where
+  -- what the ask demands in full is there at each moment of its window
+  in_full : (kind m : ℕ) → u ≤ m → m < (window_of horizon ask u).to →
+      needs_demand g.vertices kind ask.needs ≤ total_at g.vertices jobs kind m 0
+  in_full kind m lo hi = fit_total g names valid jobs ask.barred (window_of horizon ask u) ask.needs proper.needs kind m
+      lo hi start.1.0 start.1.1
+
+  pub worth_try : (matched : Matched) → IsMatched g.vertices jobs keeps ask (window_of horizon ask t) matched →
+      IsWorthTry g.vertices jobs matched u
+  worth_try (Fits claims) is = tt
+  worth_try (Short s) is =
+      let opens = window_opens horizon ask u start.0 in
+      let longer = ends_no_sooner horizon ask t u later in
+      let here = in_full s.demand.kind u (omega arith) opens in
+      let ends = is.2 in
+      let few = is.1.1 in
+      let same = is.3 in (
+        elim (cases_lt s.moment u) [
+          | inl past ↦ past
+          | inr reached ↦ absurd (let there = in_full s.demand.kind s.moment reached (omega (arith, ends, longer)) in
+              omega (arith, there, few, same))
+        ],
+        omega (arith, here, same),
+      )
+  worth_try (NoFit until) is = elim (cases_lt until u) [
+    | inl past ↦ past
+    | inr reached ↦ absurd (is.2 (omega (arith, later, reached)) (window_of horizon ask u)
+        (reached, ends_no_sooner horizon ask t u later, window_opens horizon ask u start.0) start.1)
+  ]
 
 module _ (vertices : List Vertex) (jobs : List Job) (horizon : ℕ) (ask : Ask) (moment t : ℕ) (before : NoStartBefore
     vertices jobs horizon ask moment t) where

@@ -14,11 +14,12 @@ use Rattle.dfu_match.specs.declared.matching.Matched.TheVariants.{Fits, Short, N
 abbrev pub IsNowOrPoint : List Job → ℕ → ℕ → Type 0
 IsNowOrPoint jobs now t = (t ≡ now) ⊎ ((now < t) × IsPoint jobs t)
 
--- u is worth a try after a match that came to this: the root's total that was too small isn't too small at u
+-- u is worth a try after a match that came to this: it is past the moment at which the root's total was too small, and
+-- that isn't too small at u; or it is past the moment until which none fit
 abbrev pub IsWorthTry : List Vertex → List Job → Matched → ℕ → Type 0
 IsWorthTry vertices jobs (Fits claims) u = Unit {0}
-IsWorthTry vertices jobs (Short demand) u = IsAmple vertices jobs demand.kind demand.amount u
-IsWorthTry vertices jobs NoFit u = Unit {0}
+IsWorthTry vertices jobs (Short s) u = (s.moment < u) × IsAmple vertices jobs s.demand.kind s.demand.amount u
+IsWorthTry vertices jobs (NoFit until) u = until < u
 
 -- the least start or end of a job that is later than a moment and worth a try
 pub record IsNextTry (vertices : List Vertex) (jobs : List Job) (matched : Matched) (after t : ℕ) : Type 0 where

@@ -21,23 +21,27 @@ pub struct Found {
     pub claims: List<Claim>,
 }
 
-/// The next moment to try after one: where a total at the root was too small there, the next start or end of a job at
-/// which it isn't, and else the next one. `None` exactly where there is none.
+/// The next moment to try after one: where a total at the root was too small at a moment of its window, the next start
+/// or end of a job after that one at which it isn't; where none fit until a moment, the next one after that. `None`
+/// exactly where there is none.
 fn next_try<F: TotalsView, L: Ledger>(
     view: &F,
     after: u64,
     matched: &Matched,
     steps: &mut Steps<L>,
 ) -> Option<u64>
-    requires { IsKeptShort (F.keeps view.now) matched.now }
+    requires { IsKeptShort (F.keeps view.now) after matched.now }
     ensures later { IfSome result (λ t. after < t) }
     ensures next { (jobs : List Job) → F.stands_for view.now jobs →
         IsNextTryOrNone (F.graph view.now) jobs matched.now after result }
     ensures work { steps.new ≤ steps.old + F.cost view.now }
 {
     match matched {
-        Matched::Short(demand) => view.next_ample(after, demand.kind, demand.amount, steps),
-        Matched::NoFit => view.next_point(after, steps),
+        Matched::Short(shortage) => {
+            let demand = shortage.demand;
+            view.next_ample(shortage.moment, demand.kind, demand.amount, steps)
+        }
+        Matched::NoFit(until) => view.next_point(*until, steps),
         Matched::Fits(_) => view.next_point(after, steps),
     }
 }

@@ -1,4 +1,4 @@
-use Rattle.std.proofs.Common.{◌+◌, ◌*◌, List, length, arith, inl, inr, refl, subst, sym, ◌∙◌, true≢false}
+use Rattle.std.proofs.Common.{◌+◌, ◌*◌, List, arith, inl, inr, refl, subst, sym, ◌∙◌, true≢false}
 use Rattle.flux_defs.specs.declared.vertices.Vertex.{Vertex}
 use Rattle.flux_defs.specs.Asks.{window_of, IsLowestFirst}
 use Rattle.flux_laws.proofs.Determined.{lowest_fits}
@@ -41,7 +41,7 @@ returns-in-None g c =
           (no_fit vs jobs keeps ask (window_of c.args.horizon ask t) c.in_ok-matched.matched is
           (λ claims e. c.in_default.not-Fits claims e))
           (λ u lo point s. none u lo point (worth_try graph.resources graph.names c.is_valid.ensures.valid jobs
-          c.args.horizon ask c.requires.proper keeps c.in_ok-matched.matched (window_of c.args.horizon ask t) u is s));
+          c.args.horizon ask c.requires.proper keeps t u lo s c.in_ok-matched.matched is));
       work = λ jobs stands tried looks has opens.
           let cost = g.F.FreeView.cost c.args.view.now in
           let counts = c.counts.ensures.0 c.starts-test.true in
@@ -81,8 +81,7 @@ starts-preserved g c =
           (no_fit vs jobs keeps ask (window_of c.args.horizon ask t) c.in_ok-matched.matched is
           (λ claims e. c.in_default.not-Fits claims e)) c.in-Some.next
           (λ u lo hi point s. next.least u lo hi point (worth_try graph.resources graph.names c.is_valid.ensures.valid
-          jobs c.args.horizon ask c.requires.proper keeps c.in_ok-matched.matched (window_of c.args.horizon ask t) u is
-          s));
+          jobs c.args.horizon ask c.requires.proper keeps t u lo s c.in_ok-matched.matched is));
       point = λ jobs stands.
           let next = c.in-Some.ensures.next jobs stands in
           inr (omega (arith, le, lt), next.point);
