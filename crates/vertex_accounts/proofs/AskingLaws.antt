@@ -9,7 +9,7 @@ use Rattle.flux_defs.specs.Digits.{dig}
 use Rattle.flux_defs.specs.Graph.{parent_of, chain}
 use Rattle.flux_defs.specs.Jobs.{some_live_claim, SomeMoment, IsPoint, IsNextPoint}
 use Rattle.planner_points.specs.declared.spans.Span.{Span}
-use Rattle.planner_points.specs.Spans.{free_at, IsLeastFree, IsFirstFree, IsEnd, IsNextEnd}
+use Rattle.planner_points.specs.Spans.{free_at, HasRoom, IsLeastFree, IsLastBelow, IsFirstFree, IsEnd, IsNextEnd}
 use Rattle.book_laws.specs.Amounts.{is_hold, holds_along, capacity}
 use Rattle.book_laws.specs.Grouped.{grouped, times_of}
 use Rattle.book_laws.proofs.GroupedLaws.{ends_points, least_tells, points_ends}
@@ -118,6 +118,11 @@ abbrev pub FirstOrNone : ℕ → List Span → ℕ → ℕ → Option ℕ → Ty
 FirstOrNone total spans from quantity found =
     MatchOption found ((t : ℕ) → from ≤ t → free_at total spans t < quantity) (IsFirstFree total spans from quantity)
 
+-- the last second of a window at which less is left
+abbrev pub BelowOrNone : ℕ → List Span → Window → ℕ → Option ℕ → Type 0
+BelowOrNone total spans w quantity found =
+    MatchOption found (HasRoom total spans w quantity) (IsLastBelow total spans w quantity)
+
 -- the steps of a look at one planner of a vertex, whose item was looked up first
 pub look_work : (items vertices looks old mid new : ℕ) →
     items ≡ vertices → mid ≤ old + (2 * dig (items + 1) + 1) → new ≤ mid + looks → new ≤ old + look_most vertices looks
@@ -156,15 +161,15 @@ pub none_of : (o : Option ℕ) → ((x : ℕ) → o ≡ Some x → ⊥) → o �
 none_of None h = refl
 none_of (Some x) h = absurd (h x refl)
 
--- of the units of a type
-pub units_least : (vertices : List Vertex) (jobs : List Job) (w : Window) (kind v n : ℕ) (q : Quantity) →
-    IsUnitsOf kind q → IsLeastFree (total_in vertices q v) (grouped (amount_in vertices q v) jobs) w n →
-    IsLeastFree (capacity vertices kind v) (grouped (part_count vertices kind v) jobs) w n
-units_least vertices jobs w kind v n Holds is least = absurd is
-units_least vertices jobs w kind v n Claims is least = absurd is
-units_least vertices jobs w kind v n Takes is least = absurd is
-units_least vertices jobs w kind v n (Units capacities) is least =
-    subst (λ (k : ℕ). IsLeastFree (capacity vertices k v) (grouped (part_count vertices k v) jobs) w n) is least
+-- what is so of the units of a type
+pub units_as : (P : ℕ → List Span → Type 0) (vertices : List Vertex) (jobs : List Job) (kind v : ℕ) (q : Quantity) →
+    IsUnitsOf kind q → P (total_in vertices q v) (grouped (amount_in vertices q v) jobs) →
+    P (capacity vertices kind v) (grouped (part_count vertices kind v) jobs)
+units_as P vertices jobs kind v Holds is p = absurd is
+units_as P vertices jobs kind v Claims is p = absurd is
+units_as P vertices jobs kind v Takes is p = absurd is
+units_as P vertices jobs kind v (Units capacities) is p =
+    subst (λ (k : ℕ). P (capacity vertices k v) (grouped (part_count vertices k v) jobs)) is p
 
 -- the planner at a place of a vertex's item is that of the vertex among those of the place
 pub planner_there : {P : Type 0} (places place : ℕ) (items : List (List P)) →
@@ -207,3 +212,16 @@ module _ {P : Type 0} (vertices : List Vertex)
       subst (λ (t : ℕ). FirstOrNone t (grouped (amount_in vertices q v) jobs) from quantity found)
       ((kept place q of).totals v p among)
       (first p at (grouped (amount_in vertices q v) jobs) ((kept place q of).spans v p among))
+
+  -- the last second of the planner at a place of a vertex's item at which less is left
+  pub below_here : (total_of : P → ℕ) (stands_for : P → List Span → Type 0) (jobs : List Job) (w : Window)
+      (quantity : ℕ) (found : Option ℕ) → AreAllKept total_of stands_for vertices jobs counted items →
+      ((p : P) → slice_get item place ≡ Some p →
+      (spans : List Span) → stands_for p spans → BelowOrNone (total_of p) spans w quantity found) →
+      BelowOrNone (total_in vertices q v) (grouped (amount_in vertices q v) jobs) w quantity found
+  below_here total_of stands_for jobs w quantity found kept last =
+      let (p, at, among) = planner_there
+      (length counted.quantities) place items is.places (within_list counted.quantities place q of) v item there in
+      subst (λ (t : ℕ). BelowOrNone t (grouped (amount_in vertices q v) jobs) w quantity found)
+      ((kept place q of).totals v p among)
+      (last p at (grouped (amount_in vertices q v) jobs) ((kept place q of).spans v p among))

@@ -1,123 +1,175 @@
--- When the least over a window is below an amount, and when the least total of a type is.
-use Rattle.std.proofs.Common.{◌≡◌, ℕ, zero, suc, ◌+◌, ◌-◌, ◌<◌, ◌≤◌, ◌↔◌, Bool, true, false, not, is_some, List, Option}
-use Rattle.std.proofs.Common.{Some, None, MatchOption, unwrap_or, inl, inr, refl, sym, subst, arith, IsTrue, true≢false}
-use Rattle.std.proofs.lemmas.Bool.{cases_lt}
+-- Moments at which a vertex is held or closed, and at which its total of a type is too little.
+use Rattle.std.proofs.Common.{◌≡◌, ℕ, ◌+◌, ◌-◌, ◌<◌, ◌≤◌, ◌↔◌, Bool, is_some, List, length, Option, Some, None, MatchOption, inl, inr}
+use Rattle.std.proofs.Common.{refl, sym, ◌∙◌, subst, arith, IsTrue, true≢false}
+use Rattle.flux_defs.specs.declared.vertices.Vertex.{Vertex}
 use Rattle.flux_defs.specs.declared.claims.Job.{Job}
 use Rattle.flux_defs.specs.declared.claims.Window.{Window}
-use Rattle.flux_defs.specs.Graph.{ResourceGraph}
+use Rattle.flux_defs.specs.Graph.{ResourceGraph, chain, parent_of}
 use Rattle.flux_defs.specs.ValidGraph.{StandsInPreorder}
+use Rattle.flux_defs.specs.Jobs.{some_live_claim, SomeMoment}
 use Rattle.flux_defs.specs.Closed.{no_bars, is_closed}
-use Rattle.flux_defs.specs.Free.{total_at, IsLeastIn, IsTooLittle}
-use Rattle.planner_points.specs.Spans.{IsLeastFree}
-use Rattle.book_laws.specs.Amounts.{capacity, part_within}
+use Rattle.flux_defs.specs.Free.{total_at, IsTotalOver, IsTooLittle, IsTooLittleAt}
+use Rattle.graph_laws.proofs.Preorder.{parents_first}
+use Rattle.planner_points.specs.declared.spans.Span.{Span}
+use Rattle.planner_points.specs.Spans.{free_at, HasRoom, IsLeastFree}
+use Rattle.book_laws.specs.Amounts.{is_hold, holds_along, capacity, part_within}
 use Rattle.book_laws.specs.Grouped.{grouped}
 use Rattle.book_laws.specs.TotalLaws.{AreFair}
+use Rattle.book_laws.proofs.Closing.{held_closed}
 use Rattle.book_laws.proofs.GroupedLaws.{used_grouped}
 use Rattle.book_laws.proofs.Sums.{bool_of, live_most}
 use Rattle.book_laws.proofs.Totals.{total_open, total_closed}
-use Rattle.vertex_accounts.specs.Quantities.{part_count}
-use Rattle.vertex_accounts.proofs.OwnLaws.{part_less}
+use Rattle.book_laws.proofs.Views.{NeverClosed, left_in_total}
+use Rattle.vertex_accounts.specs.declared.quantities.Quantity.TheVariants.{Holds}
+use Rattle.vertex_accounts.specs.Quantities.{amount_in, total_in, part_count, most_claims}
+use Rattle.vertex_accounts.specs.Moments.{IsMomentOrNone}
+use Rattle.vertex_accounts.proofs.AskingLaws.{BelowOrNone, held_is, held_here, held_above}
+use Rattle.vertex_accounts.proofs.OwnLaws.{counts_all, part_less}
 
-module _ (number_at : ℕ → ℕ) (from : ℕ) where
-  -- a number is least up to a moment, and the one at the moment isn't less
-  least_with : (more n : ℕ) → IsLeastIn (record { from = from; to = from + suc more }) number_at n →
-      n ≤ number_at (from + suc more) → IsLeastIn (record { from = from; to = from + suc (suc more) }) number_at n
-  least_with more n is enough = record {
-    each = λ m lo hi. elim (cases_lt m (from + suc more)) [
-      | inl before ↦ is.each m lo before
-      | inr after ↦ (
-          let same : from + suc more ≡ m = omega (arith, after, hi) in
-          subst (λ (k : ℕ). n ≤ number_at k) same enough)
-    ];
-    reached = (is.reached.0, is.reached.1, (let lt = is.reached.2 in omega (arith, lt)), is.reached.3);
-  }
+-- the window of one moment
+abbrev second : ℕ → Window
+second m = record { from = m; to = m + 1 }
 
-  -- or it is less than that
-  least_last : (more n : ℕ) → IsLeastIn (record { from = from; to = from + suc more }) number_at n →
-      number_at (from + suc more) < n →
-      IsLeastIn (record { from = from; to = from + suc (suc more) }) number_at (number_at (from + suc more))
-  least_last more n is less = record {
-    each = λ m lo hi. elim (cases_lt m (from + suc more)) [
-      | inl before ↦ (let le = is.each m lo before in omega (arith, le, less))
-      | inr after ↦ (
-          let same : from + suc more ≡ m = omega (arith, after, hi) in
-          subst (λ (k : ℕ). number_at (from + suc more) ≤ number_at k) same (omega arith))
-    ];
-    reached = (from + suc more, omega arith, omega arith, refl);
-  }
+there : (P : ℕ → Type 0) (m : ℕ) → P m → SomeMoment (second m) P
+there P m p = (m, omega arith, omega arith, p)
 
-  -- so there is a least number over a window that isn't empty
-  least_to : (more : ℕ) → (n : ℕ) × IsLeastIn (record { from = from; to = from + suc more }) number_at n
-  least_to zero = (
-    number_at from,
-    record {
-      each = λ m lo hi. (
-          let same : from ≡ m = omega (arith, lo, hi) in
-          subst (λ (k : ℕ). number_at from ≤ number_at k) same (omega arith));
-      reached = (from, omega arith, omega arith, refl);
-    },
+here : (P : ℕ → Type 0) (m : ℕ) → SomeMoment (second m) P → P m
+here P m (k, lo, hi, p) = let e : k ≡ m = omega (arith, lo, hi) in subst P e p
+
+least_there : (total : ℕ) (spans : List Span) (m : ℕ) → IsLeastFree total spans (second m) (free_at total spans m)
+least_there total spans m = record {
+  each = λ k lo hi.
+      let e : m ≡ k = omega (arith, lo, hi) in
+      subst (λ (j : ℕ). free_at total spans m ≤ free_at total spans j) e (omega arith);
+  reached = (m, omega arith, omega arith, refl);
+}
+
+abbrev held_at : List Job → ℕ → ℕ → Type 0
+held_at jobs v m = IsTrue (some_live_claim jobs m (is_hold v))
+
+-- where the planner of holds has less than all last, the vertex is held
+pub held_moment : (vertices : List Vertex) (jobs : List Job) (w : Window) (v : ℕ) (found : Option ℕ) →
+    BelowOrNone (total_in vertices Holds v) (grouped (amount_in vertices Holds v) jobs) w most_claims found →
+    IsMomentOrNone w (held_at jobs v) found
+held_moment vertices jobs w v None room = λ (m, lo, hi, h).
+    let spans = grouped (amount_in vertices Holds v) jobs in
+    let total = total_in vertices Holds v in
+    let held = held_is vertices jobs (second m) v (free_at total spans m) (least_there total spans m) in
+    let lt = held.1 (there (held_at jobs v) m h) in
+    let le = room m lo hi in
+    omega (arith, lt, le)
+held_moment vertices jobs w v (Some t) below =
+    let spans = grouped (amount_in vertices Holds v) jobs in
+    let total = total_in vertices Holds v in
+    let held = held_is vertices jobs (second t) v (free_at total spans t) (least_there total spans t) in
+    (below.later, below.sooner, here (held_at jobs v) t (held.0 below.less))
+
+abbrev pub along_at : List Job → List Vertex → ℕ → Option ℕ → ℕ → Type 0
+along_at jobs vertices most from m = IsTrue (some_live_claim jobs m (holds_along (chain vertices most from)))
+
+module _ (jobs : List Job) (w : Window) (vertices : List Vertex) (most v : ℕ) (from : Option ℕ)
+    (some : most ≡ 0 → ⊥) (is : from ≡ Some v) where
+  -- held itself is held along the chain
+  pub here_along : (m : ℕ) → (w.from ≤ m) × (m < w.to) × held_at jobs v m →
+      (w.from ≤ m) × (m < w.to) × along_at jobs vertices most from m
+  here_along m (lo, hi, h) = (
+    lo,
+    hi,
+    here (along_at jobs vertices most from) m
+        (held_here jobs (second m) vertices most v from some is (there (held_at jobs v) m h)),
   )
-  least_to (suc more) =
-      let (n, is) = least_to more in
-      elim (cases_lt (number_at (from + suc more)) n) [
-        | inl less ↦ (number_at (from + suc more), least_last more n is less)
-        | inr enough ↦ (n, least_with more n is enough)
+
+  -- where it never is itself, what is above tells
+  pub above_along : (above found : Option ℕ) → above ≡ parent_of vertices v → (SomeMoment w (held_at jobs v) → ⊥) →
+      IsMomentOrNone w (along_at jobs vertices (most - 1) above) found →
+      IsMomentOrNone w (along_at jobs vertices most from) found
+  above_along above None up never none = λ h.
+      none ((held_above jobs w vertices most v from above some is up never).1 h)
+  above_along above (Some m) up never (lo, hi, h) = (
+    lo,
+    hi,
+    here (along_at jobs vertices most from) m
+        ((held_above jobs (second m) vertices most v from above some is up
+        (λ s. never (m, lo, hi, here (held_at jobs v) m s))).0
+        (there (along_at jobs vertices (most - 1) above) m h)),
+  )
+
+-- closed is held along the chain
+pub closed_moment_is : (vertices : List Vertex) (jobs : List Job) (w : Window) (v : ℕ) (found : Option ℕ) →
+    IsMomentOrNone w (along_at jobs vertices (length vertices) (Some v)) found →
+    IsMomentOrNone w (λ m. IsTrue (is_closed (no_bars vertices jobs) m v)) found
+closed_moment_is vertices jobs w v None none = λ h. none ((held_closed vertices jobs w v).1 h)
+closed_moment_is vertices jobs w v (Some m) (lo, hi, h) = (
+  lo,
+  hi,
+  here (λ k. IsTrue (is_closed (no_bars vertices jobs) k v)) m ((held_closed vertices jobs (second m) v).0
+      (there (along_at jobs vertices (length vertices) (Some v)) m h)),
+)
+
+-- whether there is such a moment
+pub some_moment : (w : Window) (P : ℕ → Type 0) (found : Option ℕ) (b : Bool) → b ≡ is_some found →
+    IsMomentOrNone w P found → (IsTrue b ↔ SomeMoment w P)
+some_moment w P None b e none = (λ t. absurd (true≢false (sym t ∙ e)), λ s. absurd (none s))
+some_moment w P (Some m) b e (lo, hi, p) = (λ t. (m, lo, hi, p), λ s. e)
+
+-- none is told under a premise too
+pub none_if : (A : Type 0) (w : Window) (P : ℕ → Type 0) (found : Option ℕ) → IsMomentOrNone w P found →
+    MatchOption found (A → SomeMoment w P → ⊥) (λ m. (w.from ≤ m) × (m < w.to) × P m)
+none_if A w P None none = λ a. none
+none_if A w P (Some m) there_ = there_
+
+module _ (g : ResourceGraph) (o : StandsInPreorder g) (jobs : List Job) (fair : AreFair g.vertices jobs)
+    (kind v : ℕ) where
+  -- what jobs leave of a vertex's capacity at a moment
+  abbrev left : ℕ → ℕ
+  left m = free_at (capacity g.vertices kind v) (grouped (part_count g.vertices kind v) jobs) m
+
+  -- where that is less than an amount its total is too little, whether it is closed or not
+  pub less_left : (m amount : ℕ) → left m < amount → IsTooLittleAt g.vertices jobs v kind amount m
+  less_left m amount lt =
+      let used = used_grouped (part_count g.vertices kind v) jobs m in
+      let most =
+      live_most (part_count g.vertices kind v) (part_within g.vertices kind v) jobs m (part_less g.vertices kind v) in
+      elim (bool_of (is_closed (no_bars g.vertices jobs) m v)) [
+        | inl closed ↦ (let none = total_closed g o kind v jobs m closed in omega (arith, none, lt))
+        | inr open_ ↦ (
+            let all = total_open g o kind v jobs m fair.within fair.pools open_ in
+            omega (arith, all, used, most, lt))
       ]
 
-module _ (w : Window) (number_at : ℕ → ℕ) where
-  -- the least is below the amount
-  abbrev pub IsLess : ℕ → Type 0
-  IsLess amount = (n : ℕ) × IsLeastIn w number_at n × (n < amount)
+  -- a closed vertex has too little of some amount
+  pub closed_little : (m amount : ℕ) → 0 < amount → IsTrue (is_closed (no_bars g.vertices jobs) m v) →
+      IsTooLittleAt g.vertices jobs v kind amount m
+  closed_little m amount some closed = let none = total_closed g o kind v jobs m closed in omega (arith, none, some)
 
-  -- as it is where a number of the window is
-  less_there : (m amount : ℕ) → w.from ≤ m → m < w.to → number_at m < amount → IsLess amount
-  less_there m amount lo hi lt =
-      let (n, is) = least_to number_at w.from (w.to - suc w.from) in
-      let ends : w.from + suc (w.to - suc w.from) ≡ w.to = omega (arith, lo, hi) in
-      let all : IsLeastIn w number_at n =
-      subst (λ (to : ℕ). IsLeastIn (record { from = w.from; to = to }) number_at n) ends is in
-      (n, all, (let le = all.each m lo hi in omega (arith, le, lt)))
+  -- where jobs leave nothing at some moment its least total is 0
+  pub nothing_left : (w : Window) →
+      IsLeastFree (capacity g.vertices kind v) (grouped (part_count g.vertices kind v) jobs) w 0 →
+      IsTotalOver g.vertices jobs w kind v 0
+  nothing_left w least =
+      let (m, lo, hi, e) = least.reached in
+      let few : total_at g.vertices jobs kind m v < 1 = less_left m 1 (omega (arith, e)) in
+      record { each = λ k a b. omega arith; reached = (m, lo, hi, omega (arith, few)) }
 
-  -- and as it isn't where the least is enough
-  never_less : (n amount : ℕ) → IsLeastIn w number_at n → amount ≤ n → IsLess amount → ⊥
-  never_less n amount is enough (k, less, lt) =
-      let (m, lo, hi, e) = less.reached in
-      let le = is.each m lo hi in
-      omega (arith, enough, lt, le, e)
+  -- where it is never closed and jobs leave enough, its total is enough
+  pub enough_left : v < length g.vertices → (w : Window) (amount : ℕ) → NeverClosed g.vertices jobs w v →
+      HasRoom (capacity g.vertices kind v) (grouped (part_count g.vertices kind v) jobs) w amount →
+      IsTooLittle g.vertices jobs w v kind amount → ⊥
+  enough_left inside w amount never room (m, lo, hi, lt) =
+      let vertices = g.vertices in
+      let open' : NeverClosed vertices jobs (second m) v =
+      λ s. never (m, lo, hi, here (λ k. IsTrue (is_closed (no_bars vertices jobs) k v)) m s) in
+      let total = left_in_total g o jobs (second m) kind v (left m) fair open'
+      (counts_all vertices (parents_first g o) v inside jobs (second m) kind (capacity vertices kind v) (left m) open'
+      (least_there (capacity vertices kind v) (grouped (part_count vertices kind v) jobs) m)) in
+      let same = here (λ k. total_at vertices jobs kind k v ≡ left m) m total.reached in
+      let le = room m lo hi in
+      omega (arith, lt, same, le)
 
-  -- what is found is the least, where so much is enough; where it isn't, the least is below it
-  abbrev pub EnoughOrNone : ℕ → Option ℕ → Type 0
-  EnoughOrNone amount found = MatchOption found (IsLess amount) (λ n. (amount ≤ n) × IsLeastIn w number_at n)
-
-  -- where 1 isn't enough the least is 0
-  pub least_or_nothing : (found : Option ℕ) → EnoughOrNone 1 found → IsLeastIn w number_at (unwrap_or found 0)
-  least_or_nothing None (n, is, lt) = subst (IsLeastIn w number_at) (omega (arith, lt)) is
-  least_or_nothing (Some n) h = h.1
-
-  -- nothing is found exactly where the least is below
-  pub none_below : (amount : ℕ) (found : Option ℕ) (none : Bool) → is_some found ≡ not none →
-      EnoughOrNone amount found → (IsTrue none ↔ IsLess amount)
-  none_below amount None true e less = (λ t. less, λ h. refl)
-  none_below amount None false e less = absurd (true≢false (sym e))
-  none_below amount (Some n) true e h = absurd (true≢false e)
-  none_below amount (Some n) false e h =
-      (λ t. absurd (true≢false (sym t)), λ less. absurd (never_less n amount h.1 h.0 less))
-
--- where jobs leave less than an amount of a vertex's capacity its total is too little, whether it is closed or not
-pub less_left : (g : ResourceGraph) → StandsInPreorder g → (jobs : List Job) → AreFair g.vertices jobs →
-    (w : Window) (kind v n amount : ℕ) → n < amount →
-    IsLeastFree (capacity g.vertices kind v) (grouped (part_count g.vertices kind v) jobs) w n →
-    IsTooLittle g.vertices jobs w v kind amount
-less_left g o jobs fair w kind v n amount lt least =
-    let vertices = g.vertices in
-    let (m, lo, hi, left) = least.reached in
-    let used = used_grouped (part_count vertices kind v) jobs m in
-    let most =
-    live_most (part_count vertices kind v) (part_within vertices kind v) jobs m (part_less vertices kind v) in
-    let less : total_at vertices jobs kind m v < amount = elim (bool_of (is_closed (no_bars vertices jobs) m v)) [
-      | inl closed ↦ (let none = total_closed g o kind v jobs m closed in omega (arith, none, lt))
-      | inr open_ ↦ (
-          let all = total_open g o kind v jobs m fair.within fair.pools open_ in
-          omega (arith, all, used, left, most, lt))
-    ] in
-    less_there w (λ k. total_at vertices jobs kind k v) m amount lo hi less
+  -- where jobs leave enough it is too little exactly where the vertex is closed
+  pub closed_or_enough : v < length g.vertices → (w : Window) (amount : ℕ) → 0 < amount →
+      HasRoom (capacity g.vertices kind v) (grouped (part_count g.vertices kind v) jobs) w amount →
+      (found : Option ℕ) → IsMomentOrNone w (λ m. IsTrue (is_closed (no_bars g.vertices jobs) m v)) found →
+      IsMomentOrNone w (IsTooLittleAt g.vertices jobs v kind amount) found
+  closed_or_enough inside w amount some room None never = enough_left inside w amount never room
+  closed_or_enough inside w amount some room (Some m) (lo, hi, closed) = (lo, hi, closed_little m amount some closed)

@@ -5,10 +5,10 @@ ghost use Rattle.flux_defs.specs.declared.vertices.Vertex.{Vertex};
 ghost use Rattle.flux_defs.specs.declared.claims.Job.{Job};
 ghost use Rattle.flux_defs.specs.Digits.{dig};
 ghost use Rattle.flux_defs.specs.Graph.{chain, is_pool};
-ghost use Rattle.flux_defs.specs.Jobs.{some_live_claim, SomeMoment, IsPoint, IsNextPoint};
-ghost use Rattle.flux_defs.specs.Closed.{IsClosedOver, IsTouchedOver};
-ghost use Rattle.flux_defs.specs.Free.{IsFreeOver, IsTotalOver, IsTooLittle};
-ghost use Rattle.planner_points.specs.Spans.{IsLeastFree};
+ghost use Rattle.flux_defs.specs.Jobs.{some_live_claim, IsPoint, IsNextPoint};
+ghost use Rattle.flux_defs.specs.Closed.{no_bars, is_closed, IsClosedOver, IsTouchedOver};
+ghost use Rattle.flux_defs.specs.Free.{IsFreeOver, IsTotalOver, IsTooLittle, IsTooLittleAt};
+ghost use Rattle.planner_points.specs.Spans.{IsLeastFree, HasRoom, IsLastBelow};
 ghost use Rattle.book_laws.specs.Amounts.{is_hold, holds_along};
 ghost use Rattle.book_laws.specs.Grouped.{grouped};
 ghost use Rattle.vertex_planners.specs.Chains.{ParentsIn};
@@ -18,6 +18,7 @@ ghost use Rattle.vertex_planners.specs.Work.{CostWithin};
 ghost use Rattle.vertex_accounts.specs.declared.quantities.Quantity.{Quantity};
 ghost use Rattle.vertex_accounts.specs.Quantities.{amount_in, total_in};
 ghost use Rattle.vertex_accounts.specs.Costs.{look_most, rest_most, closed_most};
+ghost use Rattle.vertex_accounts.specs.Moments.{IsMomentOrNone};
 
 use crate::books::Accounts;
 use crate::counted::{CLAIMS, HOLDS, TAKES};
@@ -30,7 +31,8 @@ use vertex_planners::{Item, parent_in};
 impl<P: Planner + Drop> Accounts<P> {
     ghost use Rattle.vertex_accounts.specs.Books.{AreAccountsOf, AreAccounts, HasTotals, counted_of};
 
-    /// Whether a job holds one of the first so many vertices on the way up from this one, at some moment of the window.
+    /// A moment of the window at which a job holds one of the first so many vertices on the way up from this one; `None`
+    /// exactly where there is none.
     fn held_up<L: Ledger>(
         &self,
         vertices: &[Vertex],
@@ -38,50 +40,52 @@ impl<P: Planner + Drop> Accounts<P> {
         from: Option<u32>,
         window: Window,
         steps: &mut Steps<L>,
-    ) -> bool
+    ) -> Option<u64>
         requires graph { AreAccountsOf vertices.now self.now }
         requires window { window.from < window.to }
         requires parents { ParentsIn vertices.now }
         requires inside { IfSome from (λ v. v < length vertices.now) }
         ensures answer { (jobs : List Job) → AreAccounts P.total_of P.stands_for vertices.now jobs self.now →
-            (IsTrue result ↔ SomeMoment window
-            (λ m. IsTrue (some_live_claim jobs m (holds_along (chain vertices.now most from))))) }
+            IsMomentOrNone window
+            (λ m. IsTrue (some_live_claim jobs m (holds_along (chain vertices.now most from)))) result }
         ensures counted { steps.old ≤ steps.new }
         ensures work { (most_looks : ℕ) → CostWithin P.look_cost most_looks (items_of self.now.planners) →
             steps.new ≤ steps.old + length (chain vertices.now most from) * look_most (length vertices.now) most_looks }
     {
         let Some(vertex) = from else {
-            return false;
+            return None;
         };
         if most == 0 {
-            return false;
+            return None;
         }
-        if self.held_over(vertices, vertex, window, steps) {
-            return true;
+        match self.held_over(vertices, vertex, window, steps) {
+            Some(moment) => Some(moment),
+            None => {
+                let above = parent_in(vertices, vertex);
+                self.held_up(vertices, most - 1, above, window, steps)
+            }
         }
-        let above = parent_in(vertices, vertex);
-        self.held_up(vertices, most - 1, above, window, steps)
     }
 
-    /// Whether a job holds the vertex itself at some moment of the window.
+    /// The last moment of the window at which a job holds the vertex itself; `None` exactly where there is none.
     fn held_over<L: Ledger>(
         &self,
         vertices: &[Vertex],
         vertex: u32,
         window: Window,
         steps: &mut Steps<L>,
-    ) -> bool
+    ) -> Option<u64>
         requires graph { AreAccountsOf vertices.now self.now }
         requires window { window.from < window.to }
         requires inside { vertex < length vertices.now }
         ensures answer { (jobs : List Job) → AreAccounts P.total_of P.stands_for vertices.now jobs self.now →
-            (IsTrue result ↔ SomeMoment window (λ m. IsTrue (some_live_claim jobs m (is_hold vertex)))) }
+            IsMomentOrNone window (λ m. IsTrue (some_live_claim jobs m (is_hold vertex))) result }
         ensures counted { steps.old ≤ steps.new }
         ensures work { (most_looks : ℕ) → CostWithin P.look_cost most_looks (items_of self.now.planners) →
             steps.new ≤ steps.old + look_most (length vertices.now) most_looks }
     {
         let item = self.planners.at(vertex, steps);
-        self.least_in(item, vertex, HOLDS, window, steps) < u64::MAX
+        self.below_in(item, vertex, HOLDS, window, u64::MAX, steps)
     }
 
     /// The least that jobs leave over the window of a quantity at the vertex, whose item this is.
@@ -107,6 +111,71 @@ impl<P: Planner + Drop> Accounts<P> {
         item.least(place, window, steps)
     }
 
+    /// The last moment of the window at which jobs leave less than the amount of a quantity at the vertex, whose item
+    /// this is; `None` exactly where there is none.
+    fn below_in<L: Ledger>(
+        &self,
+        item: &Item<P>,
+        vertex: u32,
+        place: usize,
+        window: Window,
+        amount: u64,
+        steps: &mut Steps<L>,
+    ) -> Option<u64>
+        requires item { slice_get (items_of self.now.planners) vertex ≡ Some item.now }
+        requires place { place < length item.now }
+        requires window { window.from < window.to }
+        ensures last { (vertices : List Vertex) (jobs : List Job) (q : Quantity) →
+            AreAccounts P.total_of P.stands_for vertices jobs self.now →
+            slice_get (counted_of self.now).quantities place ≡ Some q →
+            MatchOption result
+            (HasRoom (total_in vertices q vertex) (grouped (amount_in vertices q vertex) jobs) window amount)
+            (IsLastBelow (total_in vertices q vertex) (grouped (amount_in vertices q vertex) jobs) window amount) }
+        ensures counted { steps.old ≤ steps.new }
+        ensures work { (most_looks : ℕ) →
+            CostWithin P.look_cost most_looks (items_of self.now.planners) → steps.new ≤ steps.old + most_looks }
+    {
+        item.last_below(place, window, amount, steps)
+    }
+
+    /// A moment of the window at which a job holds the vertex, whose item this is, or one above it; `None` exactly where
+    /// there is none.
+    fn closed_moment<L: Ledger>(
+        &self,
+        graph: &Graph,
+        item: &Item<P>,
+        vertex: u32,
+        window: Window,
+        steps: &mut Steps<L>,
+    ) -> Option<u64>
+        requires graph { AreAccountsOf graph.now.resources.vertices self.now }
+        requires item { slice_get (items_of self.now.planners) vertex ≡ Some item.now }
+        requires window { window.from < window.to }
+        requires inside { vertex < length graph.now.resources.vertices }
+        ensures answer { (jobs : List Job) →
+            AreAccounts P.total_of P.stands_for graph.now.resources.vertices jobs self.now →
+            IsMomentOrNone window
+            (λ m. IsTrue (is_closed (no_bars graph.now.resources.vertices jobs) m vertex)) result }
+        ensures counted { steps.old ≤ steps.new }
+        ensures work { (most_looks : ℕ) → CostWithin P.look_cost most_looks (items_of self.now.planners) →
+            steps.new ≤ steps.old + rest_most (length graph.now.resources.vertices) most_looks }
+    {
+        match self.below_in(item, vertex, HOLDS, window, u64::MAX, steps) {
+            Some(moment) => Some(moment),
+            None => {
+                let vertices = graph.vertices().items();
+                let above = parent_in(vertices, vertex);
+                self.held_up(
+                    vertices,
+                    vertices.len().saturating_sub(1),
+                    above,
+                    window,
+                    steps,
+                )
+            }
+        }
+    }
+
     /// Whether a job holds the vertex, whose item this is, or one above it at some moment of the window.
     fn closed_at<L: Ledger>(
         &self,
@@ -127,18 +196,8 @@ impl<P: Planner + Drop> Accounts<P> {
         ensures work { (most_looks : ℕ) → CostWithin P.look_cost most_looks (items_of self.now.planners) →
             steps.new ≤ steps.old + rest_most (length graph.now.resources.vertices) most_looks }
     {
-        if self.least_in(item, vertex, HOLDS, window, steps) < u64::MAX {
-            return true;
-        }
-        let vertices = graph.vertices().items();
-        let above = parent_in(vertices, vertex);
-        self.held_up(
-            vertices,
-            vertices.len().saturating_sub(1),
-            above,
-            window,
-            steps,
-        )
+        self.closed_moment(graph, item, vertex, window, steps)
+            .is_some()
     }
 
     /// Whether a job holds the vertex or one above it at some moment of the window.
@@ -242,12 +301,12 @@ impl<P: Planner + Drop> Accounts<P> {
             steps.tick();
             return None;
         };
-        let found = self.total_where_enough(graph, vertex, place, 1, window, steps);
-        Some(found.unwrap_or(0))
+        Some(self.least_total(graph, vertex, place, window, steps))
     }
 
-    /// Whether totals of the type are kept and the least of them at the vertex, over a moment of the window, is below
-    /// the amount. Where jobs leave less of it there, it doesn't look whether the vertex is closed.
+    /// A moment of the window at which the total of the type at the vertex is below the amount; `None` exactly where
+    /// there is none, or totals of the type are not kept. Where jobs leave less of it there at some moment, it doesn't
+    /// look whether the vertex is closed.
     pub fn total_below<L: Ledger>(
         &self,
         graph: &Graph,
@@ -256,30 +315,30 @@ impl<P: Planner + Drop> Accounts<P> {
         amount: u64,
         window: Window,
         steps: &mut Steps<L>,
-    ) -> bool
+    ) -> Option<u64>
         requires graph { AreAccountsOf graph.now.resources.vertices self.now }
         requires window { window.from < window.to }
         requires inside { vertex < length graph.now.resources.vertices }
         ensures answer { (jobs : List Job) →
             AreAccounts P.total_of P.stands_for graph.now.resources.vertices jobs self.now →
-            (IsTrue result ↔
-            (HasTotals self.now kind × IsTooLittle graph.now.resources.vertices jobs window vertex kind amount)) }
-        ensures kept { IsTrue result → HasTotals self.now kind }
+            MatchOption result
+            (HasTotals self.now kind → IsTooLittle graph.now.resources.vertices jobs window vertex kind amount → ⊥)
+            (λ m. (window.from ≤ m) × (m < window.to)
+            × IsTooLittleAt graph.now.resources.vertices jobs vertex kind amount m) }
+        ensures kept { IfSome result (λ _. HasTotals self.now kind) }
         ensures some_work { steps.old < steps.new }
         ensures work { (most_looks : ℕ) → CostWithin P.look_cost most_looks (items_of self.now.planners) →
             steps.new ≤ steps.old + (closed_most (length graph.now.resources.vertices) most_looks + most_looks) }
     {
         let Some(place) = self.counted().place_of(kind) else {
             steps.tick();
-            return false;
+            return None;
         };
-        self.total_where_enough(graph, vertex, place, amount, window, steps)
-            .is_none()
+        self.below_at(graph, vertex, place, amount, window, steps)
     }
 
-    /// The least total at the vertex, over a moment of the window, of the type with this place; `None` exactly where it
-    /// is below the amount.
-    fn total_where_enough<L: Ledger>(
+    /// The same of the type with this place.
+    fn below_at<L: Ledger>(
         &self,
         graph: &Graph,
         vertex: u32,
@@ -295,9 +354,39 @@ impl<P: Planner + Drop> Accounts<P> {
         ensures answer { (kind : ℕ) (jobs : List Job) →
             slice_get (counted_of self.now).places kind ≡ Some (Some place) →
             AreAccounts P.total_of P.stands_for graph.now.resources.vertices jobs self.now →
-            MatchOption result
-            (IsTooLittle graph.now.resources.vertices jobs window vertex kind amount)
-            (λ n. (amount ≤ n) × IsTotalOver graph.now.resources.vertices jobs window kind vertex n) }
+            IsMomentOrNone window (IsTooLittleAt graph.now.resources.vertices jobs vertex kind amount) result }
+        ensures some_work { steps.old < steps.new }
+        ensures work { (most_looks : ℕ) → CostWithin P.look_cost most_looks (items_of self.now.planners) →
+            steps.new ≤ steps.old + (closed_most (length graph.now.resources.vertices) most_looks + most_looks) }
+    {
+        graph.is_valid();
+        let item = self.planners.at(vertex, steps);
+        if let Some(moment) = self.below_in(item, vertex, place, window, amount, steps) {
+            return Some(moment);
+        }
+        if amount == 0 {
+            return None;
+        }
+        self.closed_moment(graph, item, vertex, window, steps)
+    }
+
+    /// The least total at the vertex, over a moment of the window, of the type with this place.
+    fn least_total<L: Ledger>(
+        &self,
+        graph: &Graph,
+        vertex: u32,
+        place: usize,
+        window: Window,
+        steps: &mut Steps<L>,
+    ) -> u64
+        requires graph { AreAccountsOf graph.now.resources.vertices self.now }
+        requires place { place < length (counted_of self.now).quantities }
+        requires window { window.from < window.to }
+        requires inside { vertex < length graph.now.resources.vertices }
+        ensures answer { (kind : ℕ) (jobs : List Job) →
+            slice_get (counted_of self.now).places kind ≡ Some (Some place) →
+            AreAccounts P.total_of P.stands_for graph.now.resources.vertices jobs self.now →
+            IsTotalOver graph.now.resources.vertices jobs window kind vertex result }
         ensures some_work { steps.old < steps.new }
         ensures work { (most_looks : ℕ) → CostWithin P.look_cost most_looks (items_of self.now.planners) →
             steps.new ≤ steps.old + (closed_most (length graph.now.resources.vertices) most_looks + most_looks) }
@@ -305,16 +394,13 @@ impl<P: Planner + Drop> Accounts<P> {
         graph.is_valid();
         let item = self.planners.at(vertex, steps);
         let least = self.least_in(item, vertex, place, window, steps);
-        if least < amount {
-            return None;
+        if least == 0 {
+            return 0;
         }
-        if !self.closed_at(graph, item, vertex, window, steps) {
-            return Some(least);
+        if self.closed_at(graph, item, vertex, window, steps) {
+            return 0;
         }
-        if amount > 0 {
-            return None;
-        }
-        Some(0)
+        least
     }
 
     /// The least start or end of a job that is later than the moment; `None` exactly where there is none.

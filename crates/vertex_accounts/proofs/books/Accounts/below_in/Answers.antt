@@ -1,0 +1,20 @@
+use Rattle.std.proofs.Common.{arith}
+use Rattle.vertex_planners.specs.Lists.{items_of}
+use Rattle.vertex_planners.proofs.PlaceLaws.{item_at}
+use Rattle.vertex_accounts.specs.Books.{counted_of}
+use Rattle.vertex_accounts.proofs.AskingLaws.{below_here}
+use Rattle.vertex_accounts.proofs.books.Accounts.below_in.Goals as goal
+
+pub returns-clause-last : goal.returns-clause-last
+returns-clause-last g c = λ vertices jobs q is of.
+    below_here vertices (counted_of c.args.self.now)
+    (items_of c.args.self.now.planners) is.graph c.args.vertex c.args.item.now c.requires.item c.args.place q of
+    g.P.Planner.total_of g.P.Planner.stands_for jobs c.args.window c.args.amount c.last_below.result is.kept
+    c.last_below.ensures.last
+
+pub returns-clause-work : goal.returns-clause-work
+returns-clause-work g c = λ n looks.
+    let (p, at) = item_at c.args.item.now c.args.place c.requires.place in
+    let few = looks c.args.vertex c.args.place c.args.item.now p c.requires.item at in
+    let work = c.last_below.ensures.work p at in
+    omega (arith, few, work)
