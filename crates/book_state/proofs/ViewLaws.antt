@@ -1,11 +1,14 @@
 -- From the accounts of a book to the book.
 use Rattle.std.proofs.Common.{◌≡◌, ℕ, ◌+◌, ◌*◌, ◌<◌, ◌≤◌, List, [], ◌∷◌, ◌++◌, length, Option, Some, None, IfSome}
+use Rattle.std.proofs.Common.{MatchOption}
 use Rattle.std.proofs.Common.{slice_get, refl, sym, ap, subst, arith}
 use Rattle.std.specs.Option.{IsSomeAnd}
 use Rattle.std.specs.FinMap.{len}
 use Rattle.flux_defs.specs.declared.vertices.Vertex.{Vertex}
 use Rattle.flux_defs.specs.declared.claims.Job.{Job}
+use Rattle.flux_defs.specs.declared.claims.Window.{Window}
 use Rattle.flux_defs.specs.Digits.{dig}
+use Rattle.flux_defs.specs.Free.{IsTooLittle, IsTooLittleAt}
 use Rattle.resource_graph.specs.NamedGraph.{NamedGraph, IsWhole}
 use Rattle.prune_filters.specs.Filters.{IsKept}
 use Rattle.prune_filters.specs.Amples.{IsNextAmpleOrNone}
@@ -113,6 +116,26 @@ kind_kept a book ea jobs is v kind keeps =
     let (low, lower, rule) = there (slice_get kinds kind) (λ low. IsKept rules high low) some in
     subst (λ (b : Accounts Plan). HasTotals b kind) (sym ea)
     (is.kinds kind low lower (rule.0, rule.1, rule.2, rule.3, rule.4.0))
+
+-- what the accounts tell of a total that is too little, where they keep those of its type
+module _ (w : Window) (vertices : List Vertex) (jobs : List Job) (v kind amount : ℕ) (Has : Type 0) where
+  abbrev pub LittleOrNone : Option ℕ → Type 0
+  LittleOrNone found = MatchOption found (Has → IsTooLittle vertices jobs w v kind amount → ⊥)
+      (λ m. (w.from ≤ m) × (m < w.to) × IsTooLittleAt vertices jobs v kind amount m)
+
+  pub little_told : (Keeps : Type 0) → (Keeps → Has) → (found : Option ℕ) → LittleOrNone found →
+      MatchOption found (Keeps → IsTooLittle vertices jobs w v kind amount → ⊥)
+      (IsTooLittleAt vertices jobs v kind amount)
+  little_told Keeps has None none = λ keeps. none (has keeps)
+  little_told Keeps has (Some m) some = some.2
+
+  pub little_within : (found : Option ℕ) → LittleOrNone found → IfSome found (λ m. (w.from ≤ m) × (m < w.to))
+  little_within None none = tt
+  little_within (Some m) some = (some.0, some.1)
+
+pub if_some : (found : Option ℕ) (A : Type 0) → A → IfSome found (λ _. A)
+if_some None A a = tt
+if_some (Some m) A a = a
 
 -- the next point
 module _ (a : Accounts Plan) (book : Kept) (ea : a ≡ accounts_of book) where

@@ -64,10 +64,10 @@ impl FreeView for BookState {
         amount: u64,
         window: Window,
         steps: &mut Steps<L>,
-    ) -> bool {
+    ) -> Option<u64> {
         if !self.keeps_total(vertex, kind) {
             steps.tick();
-            return false;
+            return None;
         }
         let graph = self.graph();
         let accounts = self.accounts();

@@ -273,10 +273,37 @@ fn wrongly_below<L: Ledger>(
             None => false,
             Some(total) => total < amount,
         };
-        let told = book.total_below(vertex, kind, amount, window, steps);
-        count = count.wrapping_add((told != below) as u64);
+        let wrong = wrong_below(book, vertex, kind, amount, below, window, steps);
+        count = count.wrapping_add(wrong as u64);
     }
     count
+}
+
+/// Whether the book is wrong about the total being below the amount: it tells a moment where it isn't, or none where it
+/// is, or one at which it isn't.
+fn wrong_below<L: Ledger>(
+    book: &BookState,
+    vertex: u32,
+    kind: u32,
+    amount: u64,
+    below: bool,
+    window: Window,
+    steps: &mut Steps<L>,
+) -> bool
+    requires vertex { vertex < length (vertices_of book.now) }
+    requires window { window.from < window.to }
+{
+    let Some(moment) = book.total_below(vertex, kind, amount, window, steps) else {
+        return below;
+    };
+    let second = Window {
+        from: moment,
+        to: moment + 1,
+    };
+    match book.total_over(vertex, kind, second, steps) {
+        None => true,
+        Some(total) => !below || total >= amount,
+    }
 }
 
 /// How many answers differ in a script of 300 turns, in each of which a job goes in, where it may, or out; and how many

@@ -1,10 +1,10 @@
-use Rattle.std.proofs.Common.{◌+◌, ◌*◌, ◌↔◌, IsTrue, arith}
+use Rattle.std.proofs.Common.{◌+◌, ◌*◌, arith}
 use Rattle.std.specs.FinMap.{len}
-use Rattle.flux_defs.specs.Free.{IsTooLittle}
 use Rattle.flux_defs.proofs.DigitLaws.{some_dig}
 use Rattle.vertex_accounts.specs.Books.{HasTotals}
-use Rattle.book_state.specs.Books.{accounts_of, rows_of}
-use Rattle.book_state.proofs.ViewLaws.{graph_at, answer_at, inside_at, work_at, kind_kept}
+use Rattle.book_state.specs.Books.{accounts_of, rows_of, vertices_of, IsTotalKept}
+use Rattle.book_state.proofs.ViewLaws.{graph_at, answer_at, inside_at, work_at, kind_kept, LittleOrNone}
+use Rattle.book_state.proofs.ViewLaws.{if_some, little_told, little_within}
 use Rattle.book_state.proofs.view.BookStateFreeView.total_below.Goals as goal
 
 pub returns-then-not-keeps_total-clause-work : goal.returns-then-not-keeps_total-clause-work
@@ -24,18 +24,29 @@ total_below-requires-clause-inside g c = inside_at c.graph-graph.result.now c.ac
 pub returns-clause-answer : goal.returns-clause-answer
 returns-clause-answer g c = λ jobs is.
     let accounts = c.accounts-accounts.result.now in
-    let told = answer_at
-    c.graph-graph.result.now accounts c.args.self.now c.graph-graph.ensures.value c.accounts-accounts.ensures.value
-    (λ vs js. IsTrue c.total_below.result ↔ (HasTotals accounts c.args.kind × IsTooLittle
-    vs js c.args.window c.args.vertex c.args.kind c.args.amount)) c.total_below.ensures.answer jobs is in
-    let keeps = c.keeps_total.ensures.0 c.if-not-keeps_total.false in (
-      λ t. (keeps, (told.0 t).1),
-      λ h. told.1 (
-        kind_kept
-            accounts c.args.self.now c.accounts-accounts.ensures.value jobs is c.args.vertex c.args.kind keeps,
-        h.1,
-      ),
-    )
+    let keeps = c.keeps_total.ensures.0 c.if-not-keeps_total.false in
+    little_told c.args.window (vertices_of c.args.self.now) jobs c.args.vertex c.args.kind c.args.amount
+    (HasTotals accounts c.args.kind) (IsTotalKept c.args.self.now c.args.vertex c.args.kind)
+    (λ k. kind_kept accounts c.args.self.now c.accounts-accounts.ensures.value jobs is c.args.vertex c.args.kind k)
+    c.total_below.result
+    (answer_at c.graph-graph.result.now accounts c.args.self.now c.graph-graph.ensures.value
+    c.accounts-accounts.ensures.value (λ vs js. LittleOrNone c.args.window vs js c.args.vertex c.args.kind c.args.amount
+    (HasTotals accounts c.args.kind) c.total_below.result) c.total_below.ensures.answer jobs is)
+
+pub returns-clause-within : goal.returns-clause-within
+returns-clause-within g c =
+    let accounts = c.accounts-accounts.result.now in
+    let book = c.accounts-accounts.ensures.book in
+    little_within c.args.window (vertices_of c.args.self.now) book.0 c.args.vertex c.args.kind c.args.amount
+    (HasTotals accounts c.args.kind) c.total_below.result
+    (answer_at c.graph-graph.result.now accounts c.args.self.now c.graph-graph.ensures.value
+    c.accounts-accounts.ensures.value (λ vs js. LittleOrNone c.args.window vs js c.args.vertex c.args.kind c.args.amount
+    (HasTotals accounts c.args.kind) c.total_below.result) c.total_below.ensures.answer book.0 book.1)
+
+pub returns-clause-kept : goal.returns-clause-kept
+returns-clause-kept g c =
+    if_some c.total_below.result (IsTotalKept c.args.self.now c.args.vertex c.args.kind)
+    (c.keeps_total.ensures.0 c.if-not-keeps_total.false)
 
 pub returns-clause-work : goal.returns-clause-work
 returns-clause-work g c =
