@@ -1,5 +1,6 @@
 -- What a moment at which a vertex is short says of windows that have it.
-use Rattle.std.proofs.Common.{◌≡◌, ◌≢◌, ℕ, zero, suc, ◌+◌, ◌-◌, ◌<◌, ◌≤◌, List, [], Option, Some, None, MatchOption, slice_get, refl, sym, subst, arith}
+use Rattle.std.proofs.Common.{◌≡◌, ◌≢◌, ℕ, zero, suc, ◌+◌, ◌-◌, ◌<◌, ◌≤◌, List, [], Option, Some, None}
+use Rattle.std.proofs.Common.{MatchOption, slice_get, refl, sym, subst, arith}
 use Rattle.std.specs.Prelude.{IfSome}
 use Rattle.std.specs.Option.{option_map_or}
 use Rattle.flux_defs.specs.declared.vertices.Vertex.{Vertex}
@@ -52,7 +53,8 @@ pub few_copies : (g : ResourceGraph) (names : List (List ℕ)) → IsValidGraph 
     IsTooLittleAt g.vertices jobs v kind (capped (demand g.vertices kind more need)) m →
     ServesAtMost g.vertices (open_to g.vertices jobs barred w) need v n
 few_copies g names valid jobs barred w need fine kind v n more m le lo hi few scope q lt can =
-    let there = piece_total g names valid jobs barred w kind m lo hi scope need fine v q can.0 (omega (arith, lt)) can.1 in
+    let there =
+    piece_total g names valid jobs barred w kind m lo hi scope need fine v q can.0 (omega (arith, lt)) can.1 in
     let all : demand g.vertices kind q need ≤ total_at g.vertices jobs kind m v = there in
     let less : demand g.vertices kind more need ≤ demand g.vertices kind q need =
     demand_more g.vertices kind more q need (omega (arith, le, lt)) in
@@ -111,8 +113,8 @@ lacks_past can down total at lacking None after is most lacks =
 lacks_past can down total at lacking (Some n) after is most lacks =
     subst (Lacks can total (at + 1)) (sym is) (lacks_next can down total at lacking n most lacks)
 
-pub at_most_in : (vertices : List Vertex) (ok : Claim → Type 0) (need : Need) (v : ℕ) (most : Option ℕ) (scope : Scope) →
-    IfSome most (ServesAtMost vertices ok need v) →
+pub at_most_in : (vertices : List Vertex) (ok : Claim → Type 0) (need : Need) (v : ℕ) (most : Option ℕ)
+    (scope : Scope) → IfSome most (ServesAtMost vertices ok need v) →
     IfSome most (λ n. (q : ℕ) → n < q → CanServe vertices ok scope need v q → ⊥)
 at_most_in vertices ok need v None scope h = tt
 at_most_in vertices ok need v (Some n) scope h = h scope

@@ -1,7 +1,7 @@
 -- How many steps a search takes: of a walk over the vertices of a need, and of the needs of a list.
-use Rattle.std.proofs.Common.{◌≡◌, ◌≢◌, ℕ, zero, suc, ◌+◌, ◌-◌, ◌*◌, ◌<◌, ◌≤◌, Bool, List, [], ◌∷◌, append-nil, inl, inr}
-use Rattle.std.proofs.Common.{Option, Some, None, length, length-append, take, drop, get_or, slice_get, refl, sym, ap}
-use Rattle.std.proofs.Common.{subst, arith}
+use Rattle.std.proofs.Common.{◌≡◌, ◌≢◌, ℕ, zero, suc, ◌+◌, ◌-◌, ◌*◌, ◌<◌, ◌≤◌, Bool, List, [], ◌∷◌, append-nil, inl}
+use Rattle.std.proofs.Common.{inr, Option, Some, None, length, length-append, take, drop, get_or, slice_get, refl, sym}
+use Rattle.std.proofs.Common.{ap, subst, arith}
 use Rattle.std.specs.Prelude.{Contains, IfSome, IfNone, MatchOption}
 use Rattle.std.specs.List.{AllByRecursion}
 use Rattle.std.proofs.Math.Nat.{mul-le-mul, mul-le-mul_right, mul-le-mul_left}

@@ -27,7 +27,8 @@ use std::sync::ledger::Ledger;
 use text_forms::push;
 
 /// Writes the lowest-first claims of the needs scaled by `k` in the scope. `false` exactly where no claims fit; what
-/// was written by then is of no use, and none fit over windows that reach over what is left of this one from `until` on.
+/// was written by then is of no use, and none fit over windows that reach over what is left of this one from `until`
+/// on.
 #[cycle(writing)]
 pub(crate) fn write_needs<F: FreeView, L: Ledger>(
     s: &Search<F>,

@@ -254,7 +254,8 @@ module _ (can : ℕ → ℕ → Type 0) (down : IsDownward can) where
   reached_end most at done never r = record {
     within = r.within;
     can_be = λ some. reached_fills most at done r;
-    full = λ lt f. none_fill at ((done + 1) - done) never (omega arith) (r.left (done + 1) (omega arith) (omega arith) f);
+    full = λ lt f. none_fill at ((done + 1) - done) never (omega arith)
+        (r.left (done + 1) (omega arith) (omega arith) f);
   }
 
   -- where no more than n can be served by vertex `at`, the vertices behind it can fill what that leaves

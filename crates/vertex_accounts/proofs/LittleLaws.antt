@@ -1,5 +1,6 @@
 -- Moments at which a vertex is held or closed, and at which its total of a type is too little.
-use Rattle.std.proofs.Common.{◌≡◌, ℕ, ◌+◌, ◌-◌, ◌<◌, ◌≤◌, ◌↔◌, Bool, is_some, List, length, Option, Some, None, MatchOption, inl, inr}
+use Rattle.std.proofs.Common.{◌≡◌, ℕ, ◌+◌, ◌-◌, ◌<◌, ◌≤◌, ◌↔◌, Bool, is_some, List, length, Option, Some}
+use Rattle.std.proofs.Common.{None, MatchOption, inl, inr}
 use Rattle.std.proofs.Common.{refl, sym, ◌∙◌, subst, arith, IsTrue, true≢false}
 use Rattle.flux_defs.specs.declared.vertices.Vertex.{Vertex}
 use Rattle.flux_defs.specs.declared.claims.Job.{Job}

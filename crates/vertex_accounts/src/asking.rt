@@ -31,8 +31,8 @@ use vertex_planners::{Item, parent_in};
 impl<P: Planner + Drop> Accounts<P> {
     ghost use Rattle.vertex_accounts.specs.Books.{AreAccountsOf, AreAccounts, HasTotals, counted_of};
 
-    /// A moment of the window at which a job holds one of the first so many vertices on the way up from this one; `None`
-    /// exactly where there is none.
+    /// A moment of the window at which a job holds one of the first so many vertices on the way up from this one;
+    /// `None` exactly where there is none.
     fn held_up<L: Ledger>(
         &self,
         vertices: &[Vertex],
@@ -138,8 +138,8 @@ impl<P: Planner + Drop> Accounts<P> {
         item.last_below(place, window, amount, steps)
     }
 
-    /// A moment of the window at which a job holds the vertex, whose item this is, or one above it; `None` exactly where
-    /// there is none.
+    /// A moment of the window at which a job holds the vertex, whose item this is, or one above it; `None` exactly
+    /// where there is none.
     fn closed_moment<L: Ledger>(
         &self,
         graph: &Graph,

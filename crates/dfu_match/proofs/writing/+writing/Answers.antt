@@ -365,7 +365,8 @@ write_group-loop-missing-preserved g t c =
           c.past-next.result of_kind next.0 past))
           (lacks_past _ (serves_less vs ok (takes_less _ _) scope need) total v c.loop-missing.lacking
           c.most_served-most.result c.lacking_after-lacking.result c.lacking_after-lacking.ensures
-          (at_most_in vs ok need v c.most_served-most.result scope (c.most_served-most.ensures.most jobs stands w reach))
+          (at_most_in vs ok need v c.most_served-most.result scope
+          (c.most_served-most.ensures.most jobs stands w reach))
           (lacks_over _ total c.loop-missing.at v c.loop-missing.lacking
           (none_skipped vs ok scope need c.loop-missing.at v
           (rw c.in-Some-next_open_until.is at (c.next_open_until.ensures.skipped jobs stands w mid)))
@@ -376,7 +377,8 @@ write_group-loop-missing-preserved g t c =
           let cost = g.F.FreeView.cost s.view.now in
           let before = c.loop-missing.invariant.walked jobs stands place times here clear look in
           let alone = rw c.in-Some-next_open_until.is at (c.next_open_until.ensures.clear jobs stands before.clear) in
-          let walk = rw c.in-Some-next_open_until.is at (c.next_open_until.ensures.work jobs stands place here before.clear) in
+          let walk = rw c.in-Some-next_open_until.is at
+          (c.next_open_until.ensures.work jobs stands place here before.clear) in
           let few = tables.place_few all place need here in
           let bound = (times - 1) * ((length (all_of need) + 1) * cost) in
           steps.walked_next graph.resources graph.names c.is_valid.ensures.valid jobs s.window keeps all need place
@@ -387,7 +389,8 @@ write_group-loop-missing-preserved g t c =
           (steps.bound_costs times (length (all_of need)) (length all) cost (steps.looks_some times need look) few)
           before next.1 next.2 alone past walk
           (steps.takes_after _ (times * ((length all + 2) * cost)) c.next_open_until.new.steps c.offer.new.steps
-          c.most_served-most.new.steps (2 * cost) bound (place + 1) (place + length (all_of need)) (v + 1) c.past-next.result
+          c.most_served-most.new.steps (2 * cost) bound (place + 1) (place + length (all_of need)) (v + 1)
+          c.past-next.result
           (c.most_served-most.ensures.work times look)
           (c.offer.ensures.work jobs stands place c.past-next.result times here alone past look));
     }
@@ -670,8 +673,10 @@ pub write_group-returns-in_default-clause-work : goal.write_group-returns-in_def
 write_group-returns-in_default-clause-work g t c = λ jobs stands place from to times here clear span look.
     takes_none _ _ c.args.steps.now place (place + length (all_of c.args.need.now)) from to
 
-pub write_group-returns-in_default-next_open_until-clause-work : goal.write_group-returns-in_default-next_open_until-clause-work
-write_group-returns-in_default-next_open_until-clause-work g t c = λ jobs stands place from to times here clear span look.
+pub write_group-returns-in_default-next_open_until-clause-work :
+    goal.write_group-returns-in_default-next_open_until-clause-work
+write_group-returns-in_default-next_open_until-clause-work g t c =
+    λ jobs stands place from to times here clear span look.
     let s = c.args.s.now in
     let graph = s.graph.now in
     let need = c.args.need.now in
@@ -720,7 +725,8 @@ write_group-returns-in_err-served-clause-work g t c = λ jobs stands place from 
     let next = rw c.in-Some-next_open_until.is at c.next_open_until.ensures.of_kind in
     let before = c.loop-missing.invariant.walked jobs stands place times here clear look in
     let alone = rw c.in-Some-next_open_until.is at (c.next_open_until.ensures.clear jobs stands before.clear) in
-    let walk = rw c.in-Some-next_open_until.is at (c.next_open_until.ensures.work jobs stands place here before.clear) in
+    let walk = rw c.in-Some-next_open_until.is at
+    (c.next_open_until.ensures.work jobs stands place here before.clear) in
     let enough = steps.look_costs (length (all_of need)) (length all) cost (tables.place_few all place need here) in
     let more = steps.times_costs times ((length all + 2) * cost) (steps.looks_some times need look) in
     rw (same.0, same.1) (steps.walked_end graph.resources graph.names c.is_valid.ensures.valid jobs s.window keeps all
