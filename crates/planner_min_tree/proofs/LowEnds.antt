@@ -1,6 +1,7 @@
 -- The last moment of a window at which less than so much is free, by the points.
 use Rattle.std.proofs.Common.{◌≡◌, ℕ, suc, ◌+◌, ◌-◌, ◌<◌, ◌≤◌, List, [], ◌∷◌, sym, ◌∙◌, arith, inl, inr, Some}
-use Rattle.std.proofs.Common.{None}
+use Rattle.std.proofs.Common.{None, Option, refl}
+use Rattle.std.specs.Prelude.{IfSome}
 use Rattle.std.proofs.lemmas.Bool.{cases_lt}
 use Rattle.flux_defs.specs.declared.claims.Window.{Window}
 use Rattle.planner_points.specs.declared.spans.Span.{Span}
@@ -121,3 +122,11 @@ module _ (total : ℕ) (points : List Point) (spans : List Span) (marks : Marks 
       less = let f = marks.free (end - 1) in let l = there.less (end - 1) (omega arith) in omega arith;
       last = λ u a b. (let f = marks.free u in let l = there.much u (omega arith) b in omega arith);
     }
+
+  -- no such stretch ends behind the window's start
+  pub room_before : IfSome (low_end w.to q points total) (λ end. end ≤ w.from) → HasRoom total spans w q
+  room_before h = go (low_end w.to q points total) refl h
+    where
+      go : (o : Option ℕ) → low_end w.to q points total ≡ o → IfSome o (λ end. end ≤ w.from) → HasRoom total spans w q
+      go None e h = room_always e
+      go (Some end) e h = room_after end e h

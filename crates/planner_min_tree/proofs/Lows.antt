@@ -1,7 +1,7 @@
 -- Where a number is less than so much for the last time, over two lists of points, one after the other.
-use Rattle.std.proofs.Common.{◌≡◌, ℕ, suc, ◌-◌, ◌<◌, ◌≤◌, List, [], ◌∷◌, ◌++◌, Some, None, refl, sym, ◌∙◌, ap, arith}
-use Rattle.std.proofs.Common.{◌⊎◌, inl, inr}
-use Rattle.std.specs.Prelude.{Option}
+use Rattle.std.proofs.Common.{◌≡◌, ℕ, suc, ◌-◌, ◌<◌, ◌≤◌, List, [], ◌∷◌, ◌++◌, Some, None, refl, sym, ◌∙◌, ap}
+use Rattle.std.proofs.Common.{◌⊎◌, inl, inr, subst, arith}
+use Rattle.std.specs.Prelude.{Option, IfSome, IfNone}
 use Rattle.std.specs.Option.{option_or}
 use Rattle.std.proofs.lemmas.Bool.{cases_lt}
 use Rattle.planner_min_tree.specs.declared.points.Point.{Point}
@@ -127,3 +127,45 @@ rise_left q xs ys x r high = rise_both q xs ys x
 pub after_append : (xs ys : List Point) (x : ℕ) → after (xs ++ ys) x ≡ after ys (after xs x)
 after_append [] ys x = refl
 after_append (p ∷ xs) ys x = after_append xs ys (past p x)
+
+-- the last point before which it is less is no later than the latest
+rise_within : (q : ℕ) (xs : List Point) (x t : ℕ) → last_rise q xs x ≡ Some t → t ≤ latest_of xs
+rise_within q [] x t e = absurd (cc)
+rise_within q (p ∷ xs) x t e = elim (or_one (last_rise q xs (past p x)) (low_to p.time q x) t e) [
+  | inl f ↦ (let le = rise_within q xs (past p x) t f in omega (arith, le))
+  | inr f ↦ (let is = low_less p.time q x t f.1 in omega (arith, is.1))
+]
+
+-- behind points that are past by a moment, a stretch that ends later is one of the points to come
+pub end_past : (from to q : ℕ) (xs ys : List Point) (x : ℕ) → latest_of xs ≤ from → from < to →
+    (found : Option ℕ) → IfSome found (λ t. (from < t) × (low_end to q ys (after xs x) ≡ Some t)) →
+    IfNone found (IfSome (low_end to q ys (after xs x)) (λ t. t ≤ from)) →
+    IfSome found (λ t. (from < t) × (low_end to q (xs ++ ys) x ≡ Some t))
+    × IfNone found (IfSome (low_end to q (xs ++ ys) x) (λ t. t ≤ from))
+end_past from to q xs ys x le lt (Some t) some none =
+    ((some.0, end_first to q xs ys x t (omega (arith, le, lt)) some.1), tt)
+end_past from to q xs ys x le lt None some none = (
+  tt,
+  subst (λ o. IfSome o (λ t. t ≤ from)) (sym (end_right to q xs ys x (omega (arith, le, lt))))
+      (both (low_end to q ys (after xs x)) (last_rise q xs x) none
+      (λ t e. (let within = rise_within q xs x t e in omega (arith, within, le)))),
+)
+  where
+    both : (o p : Option ℕ) → IfSome o (λ t. t ≤ from) → ((t : ℕ) → p ≡ Some t → t ≤ from) →
+        IfSome (option_or o p) (λ t. t ≤ from)
+    both None None h k = tt
+    both None (Some t) h k = k t refl
+    both (Some t) p h k = h
+
+-- there is none where it is always so much
+end_none : (to q : ℕ) (ps : List Point) (x : ℕ) → q ≤ lowest ps x → low_end to q ps x ≡ None
+end_none to q [] x h = low_not to q x (omega arith)
+end_none to q (p ∷ ps) x h = elim (cases_lt p.time to) [
+  | inl lt ↦ if_le {a = suc p.time} {b = to} _ _ lt
+      ∙ (ap (λ o. option_or o (low_to p.time q x)) (end_none to q ps (past p x) (omega arith))
+      ∙ low_not p.time q x (omega arith))
+  | inr ge ↦ if_gt {a = suc p.time} {b = to} _ _ (omega arith) ∙ low_not to q x (omega arith)
+]
+
+pub end_not : (to q : ℕ) (ps : List Point) (x : ℕ) → Runs ps x → q ≤ x - need_of ps → low_end to q ps x ≡ None
+end_not to q ps x r high = end_none to q ps x (let l = runs_lowest ps x r in omega arith)

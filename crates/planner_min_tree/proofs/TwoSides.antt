@@ -1,5 +1,6 @@
 -- What two lists of chunks, one after the other, say: what a walk over a tree of chunks rests on.
 use Rattle.std.proofs.Common.{◌≡◌, ℕ, suc, ◌+◌, ◌-◌, ◌^◌, ◌<◌, ◌≤◌, min, List, [], ◌∷◌, ◌++◌, length, Some, None, refl}
+use Rattle.std.specs.Prelude.{Option, IfSome, IfNone}
 use Rattle.std.proofs.Common.{sym, ◌∙◌, ap, subst, arith, append_assoc, inl, inr}
 use Rattle.std.proofs.lemmas.Bool.{cases_lt}
 use Rattle.planner_min_tree.specs.declared.points.Point.{Point}
@@ -206,6 +207,25 @@ module _ (xs ys : Chunks) where
         pub end_much : q ≤ after (flat xs) x
         end_much = let a = after_is in let m = lows.end_much to q (flat ys) _ none in omega arith
 
+    -- where the first list is past by a moment, what ends later is of the second; and nothing does where that is never low
+    module _ (from to q : ℕ) (over : latest_of (flat xs) ≤ from) (opens : from < to) where
+      pub end_past : (found : Option ℕ) → IfSome found (λ t. (from < t)
+          × (low_end to q (flat ys) (x - need_of (flat xs) + rest_of (flat xs)) ≡ Some t)) →
+          IfNone found (IfSome (low_end to q (flat ys) (x - need_of (flat xs) + rest_of (flat xs))) (λ t. t ≤ from)) →
+          IfSome found (λ t. (from < t) × (low_end to q (flat (xs ++ ys)) x ≡ Some t))
+          × IfNone found (IfSome (low_end to q (flat (xs ++ ys)) x) (λ t. t ≤ from))
+      end_past found some none = subst (λ ps. IfSome found (λ t. (from < t) × (low_end to q ps x ≡ Some t))
+          × IfNone found (IfSome (low_end to q ps x) (λ t. t ≤ from))) both
+          (lows.end_past from to q (flat xs) (flat ys) x over opens found
+          (subst (λ n. IfSome found (λ t. (from < t) × (low_end to q (flat ys) n ≡ Some t))) (sym after_is) some)
+          (subst (λ n. IfNone found (IfSome (low_end to q (flat ys) n) (λ t. t ≤ from))) (sym after_is) none))
+
+      pub end_never : q ≤ x - need_of (flat xs) + rest_of (flat xs) - need_of (flat ys) →
+          IfSome (low_end to q (flat (xs ++ ys)) x) (λ t. t ≤ from)
+      end_never high =
+          let none = lows.end_not to q (flat ys) (x - need_of (flat xs) + rest_of (flat xs)) runs_right high in
+          (end_past None tt (subst (λ o. IfSome o (λ t. t ≤ from)) (sym none) tt)).1
+
     -- where the second list comes lower than so much, and where it doesn't
     pub last_right : (q : ℕ) → x - need_of (flat xs) + rest_of (flat xs) - need_of (flat ys) < q →
         q ≤ after (flat (xs ++ ys)) x →
@@ -272,6 +292,8 @@ pub ruleset low_facts = (
   need_left,
   fits_left,
 )
+
+pub ruleset past_facts = (runs_left, runs_right, need_left, fits_left, need_right)
 
 pub ruleset last_facts = (
   last_right,

@@ -235,13 +235,13 @@ impl Planner for MinTree {
         ensures work { steps.new ≤ steps.old + 4 * dig (length self.now.points + 2) }
         ensures counted { steps.old ≤ steps.new }
     {
-        let Some(end) = self.points.low_end(window.to, quantity, self.total, steps) else {
-            return None;
-        };
-        if end <= window.from {
-            return None;
+        match self
+            .points
+            .low_after(window.from, window.to, quantity, self.total, steps)
+        {
+            None => None,
+            Some(end) => Some(end - 1),
         }
-        Some(end - 1)
     }
 
     fn first_at_least<L: Ledger>(

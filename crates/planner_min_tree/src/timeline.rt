@@ -1,6 +1,6 @@
 //! The points of a planner, of which those that are past stand apart.
 ghost use Rattle.std.specs.Prelude.{◌≡◌, ◌↔◌, IsTrue, false, ◌+◌, ◌*◌, ◌<◌, ◌≤◌, List, [], ◌++◌, length, Some};
-ghost use Rattle.std.specs.Prelude.{slice_get, IfOk, IfSome};
+ghost use Rattle.std.specs.Prelude.{slice_get, IfOk, IfSome, IfNone};
 ghost use Rattle.flux_defs.specs.Digits.{dig};
 ghost use Rattle.balanced_tree.specs.Edits.{made};
 ghost use Rattle.planner_min_tree.specs.declared.points.Point.{Point};
@@ -44,6 +44,17 @@ impl Share for Timeline {
         let past = self.past.share()?;
         let coming = self.coming.share()?;
         Ok(Timeline { past, coming })
+    }
+}
+
+/// The second, where it is later than another.
+fn later_than(end: Option<u64>, from: u64) -> Option<u64>
+    ensures some { IfSome result (λ t. (from < t) × (end ≡ Some t)) }
+    ensures none { IfNone result (IfSome end (λ t. t ≤ from)) }
+{
+    match end {
+        None => None,
+        Some(t) => { if t > from { Some(t) } else { None } }
     }
 }
 
@@ -304,6 +315,40 @@ impl Timeline {
         }
     }
 
+    /// The second at which the last stretch before `to` ends over which less than so much is free, where it ends after
+    /// `from`. What is past by then isn't looked at, nor what is to come where so much is free throughout it.
+    #[tactic(auto, using(crate::proofs::TwoSides::past_facts))]
+    pub fn low_after<L: Ledger>(
+        &self,
+        from: u64,
+        to: u64,
+        quantity: u64,
+        free: u64,
+        steps: &mut Steps<L>,
+    ) -> Option<u64>
+        requires runs { Runs self.now free }
+        requires window { from < to }
+        ensures some { IfSome result (λ end. (from < end) × (low_end to quantity self.now free ≡ Some end)) }
+        ensures none { IfNone result (IfSome (low_end to quantity self.now free) (λ end. end ≤ from)) }
+        ensures work { steps.new ≤ steps.old + 4 * dig (length self.now + 2) }
+        ensures counted { steps.old ≤ steps.new }
+    {
+        let _past = self.past.height();
+        let _coming = self.coming.height();
+        let sum = self.past.sum();
+        if from < sum.latest {
+            return later_than(self.low_end(to, quantity, free, steps), from);
+        }
+        let past = sum.past(free);
+        if quantity <= past - self.coming.sum().need {
+            return None;
+        }
+        later_than(
+            walks::low_end(Side { tree: &self.coming }, to, quantity, past, steps),
+            from,
+        )
+    }
+
     /// The points after two changes. Those before stay.
     pub fn twice_changed<L: Ledger>(
         &self,
@@ -323,7 +368,7 @@ impl Timeline {
     }
 
     /// The same points, of which the first chunk of those to come is past, where no point of it is later than the
-    /// moment; `None` where one is, or none is to come.
+    /// moment; `None` where one is, or no other chunk is to come.
     #[tactic(auto, using(crate::proofs::Timelines::settle_facts))]
     pub fn settled<L: Ledger>(
         &self,
@@ -336,7 +381,7 @@ impl Timeline {
     {
         let _past = self.past.height();
         let _coming = self.coming.height();
-        if self.coming.len() == 0 {
+        if self.coming.len() < 2 {
             return Ok(None);
         }
         let chunk = self.coming.get(0, steps);

@@ -1,24 +1,16 @@
-use Rattle.std.proofs.Common.{sym, ◌∙◌}
-use Rattle.planner_min_tree.proofs.LowEnds.{room_always, room_after, last_there}
+use Rattle.planner_min_tree.proofs.LowEnds.{room_before, last_there}
 use Rattle.planner_min_tree.proofs.planner.MinTreePlanner.last_below.Goals as goal
 
-pub returns-in_default-clause-last : goal.returns-in_default-clause-last
-returns-in_default-clause-last g c = λ spans now.
+pub returns-in-None-clause-last : goal.returns-in-None-clause-last
+returns-in-None-clause-last g c = λ spans now.
     let marks = rw (← c.self.view_is) at now in
     rw (← c.self.view_is)
-    (room_always c.self.inside.total c.self.inside.points spans marks c.args.window c.args.quantity
-    (sym c.low_end.ensures.value ∙ c.in_default.is))
+    (room_before c.self.inside.total c.self.inside.points spans marks c.args.window c.args.quantity c.in-None.ensures.none)
 
-pub returns-then-end-window-clause-last : goal.returns-then-end-window-clause-last
-returns-then-end-window-clause-last g c = λ spans now.
+pub returns-in-Some-clause-last : goal.returns-in-Some-clause-last
+returns-in-Some-clause-last g c = λ spans now.
     let marks = rw (← c.self.view_is) at now in
-    rw (← c.self.view_is)
-    (room_after c.self.inside.total c.self.inside.points spans marks c.args.window c.args.quantity c.in-Some.end
-    (sym c.low_end.ensures.value ∙ c.in-Some.is) c.if-end-window.true)
-
-pub returns-clause-last : goal.returns-clause-last
-returns-clause-last g c = λ spans now.
-    let marks = rw (← c.self.view_is) at now in
+    let some = c.in-Some.ensures.some in
     rw (← c.self.view_is)
     (last_there c.self.inside.total c.self.inside.points spans marks c.args.window c.args.quantity c.in-Some.end
-    (sym c.low_end.ensures.value ∙ c.in-Some.is) c.if-end-window.false)
+    some.1 some.0)
