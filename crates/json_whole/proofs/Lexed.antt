@@ -52,7 +52,7 @@ operator_lexed x ls h =
 
 -- ---- run bytes
 
-word_passes : (r ys : List ℕ) → IsRun r → lex in_word (r ++ ys) ≡ lex in_word ys
+pub word_passes : (r ys : List ℕ) → IsRun r → lex in_word (r ++ ys) ≡ lex in_word ys
 unfolding lex
 word_passes [] ys h = refl
 word_passes (x ∷ r) ys h = rw (run_class x (run_head x r h)) (word_passes r ys (run_rest x r h))
@@ -67,7 +67,7 @@ clear_passes [] ys h = refl
 clear_passes (x ∷ r) ys h = rw (run_class x (run_head x r h)) (clear_passes r ys (run_rest x r h))
 
 -- a byte that ends a word is none that doesn't
-ends_not : (y c : ℕ) → (is_operator y || is_space y) ≡ true → (is_operator c || is_space c) ≡ false → (y == c) ≡ false
+pub ends_not : (y c : ℕ) → (is_operator y || is_space y) ≡ true → (is_operator c || is_space c) ≡ false → (y == c) ≡ false
 ends_not y c ends not_ends =
     ne_eqb y c (λ same. let no : true ≡ false = sym ends ∙ ap (λ x. is_operator x || is_space x) same ∙ not_ends in cc)
 
@@ -160,7 +160,7 @@ not_zero x e = grind arith
 not_digit : (x : ℕ) → begins_run x ≡ false → is_ascii_digit x ≡ false
 not_digit x e = grind arith
 
-no_number : (x : ℕ) (ys : List ℕ) → begins_run x ≡ false → after_number (x ∷ ys) ≡ None
+pub no_number : (x : ℕ) (ys : List ℕ) → begins_run x ≡ false → after_number (x ∷ ys) ≡ None
 unfolding after_number
 no_number x ys e = rw (not_minus x e, not_zero x e, not_digit x e) refl
 

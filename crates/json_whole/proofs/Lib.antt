@@ -7,3 +7,5 @@ pub mod Trees
 pub mod Looks
 pub mod Exact
 pub mod Lexed
+mod Growing
+mod Standing

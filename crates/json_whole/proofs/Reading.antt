@@ -13,6 +13,8 @@ use Rattle.json_whole.specs.Whole.{json_in, value_in, value_of}
 use Rattle.json_whole.proofs.Tokens.{IsWholeText, whole_text}
 use Rattle.json_whole.proofs.Trees.{of_json-whole, data_of-no_float}
 use Rattle.json_whole.proofs.Lexed.{plain_lexed}
+use Rattle.json_whole.specs.Stays.{Stays}
+use Rattle.json_whole.proofs.Standing.{stands}
 
 -- the value is the data of the tree
 value_in-tree : (text : List ℕ) (j : Json) →
@@ -55,3 +57,11 @@ module _ (bytes text : List ℕ) (plain : text ≡ plain_of bytes) where
 pub read-no_float : {A E : Type 0} (read : Result (Value A) E) → IfOk read (λ v. has_float (view v) ≡ false)
 read-no_float (Ok v) = data_of-no_float (value_view v)
 read-no_float (Err e) = tt
+
+-- the value of bytes that are their own plain form
+pub read_standing : {A : Type 0} (bytes : List ℕ) (v : Value A) →
+    IsUtf8 bytes → json_in bytes ≡ Some (value_view v) → Stays (value_view v) → value_of bytes ≡ Some (view v)
+unfolding value_of
+read_standing bytes v utf8 found stay =
+    let same : plain_of bytes ≡ bytes = stands bytes (value_view v) found stay in
+    rw same (value_in-tree bytes (value_view v) utf8 (rw same at (plain_whole bytes)) found)

@@ -83,7 +83,7 @@ passed_one true x xs e rest = rw (e, one-add) rest
 passed_one false x xs e rest = rw (e, not_begun x e) refl
 
 -- the bytes of a run behind its first are passed over
-run_passed : (xs : List ℕ) → plain_from in_run xs ≡ plain_of (drop (run_len xs) xs)
+pub run_passed : (xs : List ℕ) → plain_from in_run xs ≡ plain_of (drop (run_len xs) xs)
 run_passed [] = plain_end in_run ∙ sym (plain_end outside)
 run_passed (x ∷ xs) = passed_one (is_run_byte x) x xs refl (run_passed xs)
 
@@ -91,13 +91,13 @@ pub no_run : written [] ≡ []
 unfolding after_number written
 no_run = refl
 
-begun_is_run : (x : ℕ) → begins_run x ≡ true → is_run_byte x ≡ true
+pub begun_is_run : (x : ℕ) → begins_run x ≡ true → is_run_byte x ≡ true
 begun_is_run x e = grind arith
 
 pub begun_not_quote : (x : ℕ) → begins_run x ≡ true → (x == 34) ≡ false
 begun_not_quote x e = grind arith
 
-begun_here : (x : ℕ) (xs : List ℕ) →
+pub begun_here : (x : ℕ) (xs : List ℕ) →
     begins_run x ≡ true → plain_of (x ∷ xs) ≡ written (first_run (x ∷ xs)) ++ plain_from in_run xs
 unfolding plain_from
 begun_here x xs e = rw (begun_not_quote x e, e) refl

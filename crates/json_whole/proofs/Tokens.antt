@@ -113,12 +113,12 @@ punctuated (colon ∷ ls) h after_key = punctuated ls h fresh
 
 -- ---- what a JSON value gives
 
-kept : {A B : Type 0} (P : A → Type 0) (Q : B → Type 0) (f : A → Option B) (o : Option A) →
+pub kept : {A B : Type 0} (P : A → Type 0) (Q : B → Type 0) (f : A → Option B) (o : Option A) →
     IfSome o P → ((a : A) → P a → IfSome (f a) Q) → IfSome (option_and_then f o) Q
 kept P Q f None h g = tt
 kept P Q f (Some a) h g = g a h
 
-mapped : {A B : Type 0} (P : A → Type 0) (Q : B → Type 0) (f : A → B) (o : Option A) →
+pub mapped : {A B : Type 0} (P : A → Type 0) (Q : B → Type 0) (f : A → B) (o : Option A) →
     IfSome o P → ((a : A) → P a → Q (f a)) → IfSome (option_map f o) Q
 mapped P Q f None h g = tt
 mapped P Q f (Some a) h g = g a h

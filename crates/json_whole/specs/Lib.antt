@@ -4,3 +4,4 @@ pub mod Values
 pub mod Whole
 pub mod Field
 pub mod Forms
+pub mod Stays

@@ -4,6 +4,7 @@
 
 mod fields;
 mod looking;
+mod parsing;
 mod plain_form;
 mod runs;
 mod values;
@@ -13,4 +14,4 @@ pub use looking::{
     Object, as_array, as_bool, as_number, as_object, as_str, get, in_order, is_null,
 };
 pub use plain_form::plain;
-pub use values::{PlainText, ValueFault, read_value};
+pub use values::{PlainText, Room, ValueFault, read_bytes, read_value};

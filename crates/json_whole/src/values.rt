@@ -6,6 +6,7 @@ ghost use Rattle.json_whole.specs.Plain.{plain_of};
 ghost use Rattle.json_whole.specs.Values.{view};
 ghost use Rattle.json_whole.specs.Whole.{json_in, value_of};
 
+use crate::parsing::{TreeFault, Unfinished, read_one};
 use crate::plain_form::plain_if_other;
 use flux_defs::Text;
 use json::{Error, Reader, Scratch, Value};
@@ -101,4 +102,84 @@ pub fn read_value<'a>(
         return Err(ValueFault::NotJson);
     };
     read_tree(alloc, plain, scratch)
+}
+
+/// What a value borrows beside its text: room for texts with escapes, and the plain form where that is another text.
+#[derive(Drop)]
+pub struct Room<'b> {
+    scratch: Scratch,
+    other: Option<(PlainText<'b>, Scratch)>,
+}
+
+impl<'b> Room<'b> {
+    /// A room that nothing stands in. It takes no memory.
+    pub fn new(alloc: Global) -> Room<'b>
+        ensures { result.other ≡ None }
+    {
+        Room {
+            scratch: Scratch::new(alloc),
+            other: None,
+        }
+    }
+}
+
+/// The value of a text that is its own plain form.
+fn read_as_it_stands<'a>(
+    alloc: Global,
+    bytes: &'a [u8],
+    scratch: &'a mut Scratch,
+) -> Result<Value<'a>, TreeFault>
+    ensures { IfOk result (λ v. value_of bytes.now ≡ Some (view v)) }
+{
+    let Ok(text) = std::str::from_utf8(bytes) else {
+        return Err(TreeFault::Other);
+    };
+    let Ok(mut reader) = Reader::new(text, scratch) else {
+        return Err(TreeFault::Memory);
+    };
+    let mut unfinished = Unfinished {
+        items: Vec::new(alloc),
+        members: Vec::new(alloc),
+    };
+    let value = read_one(&mut reader, MOST_NESTED, &mut unfinished)?;
+    match reader.next() {
+        None => Ok(value),
+        Some(_) => Err(TreeFault::Other),
+    }
+}
+
+/// The value of the plain form of bytes, which is made first.
+fn read_other<'a, 'b: 'a>(
+    alloc: Global,
+    bytes: &'b [u8],
+    other: &'a mut Option<(PlainText<'b>, Scratch)>,
+) -> Result<Value<'a>, ValueFault>
+    ensures value { IfOk result (λ v. value_of bytes.now ≡ Some (view v)) }
+    ensures whole { IfOk result (λ v. has_float (view v) ≡ false) }
+    ensures not_json { IsErrOf result ValueFault.NotJson → value_of bytes.now ≡ None }
+{
+    let Ok(text) = PlainText::of(alloc, bytes) else {
+        return Err(ValueFault::Memory);
+    };
+    let (text, scratch) = other.insert((text, Scratch::new(alloc)));
+    read_value(alloc, text, scratch)
+}
+
+/// The value of the plain form of bytes, as `read_value` says. A text that is its own plain form is read as it stands,
+/// without a look for numbers beforehand; any other is read once more, by its plain form.
+pub fn read_bytes<'a, 'b: 'a>(
+    alloc: Global,
+    bytes: &'b [u8],
+    room: &'a mut Room<'b>,
+) -> Result<Value<'a>, ValueFault>
+    ensures value { IfOk result (λ v. value_of bytes.now ≡ Some (view v)) }
+    ensures whole { IfOk result (λ v. has_float (view v) ≡ false) }
+    ensures not_json { IsErrOf result ValueFault.NotJson → value_of bytes.now ≡ None }
+{
+    let Room { scratch, other } = room;
+    match read_as_it_stands(alloc, bytes, scratch) {
+        Ok(value) => Ok(value),
+        Err(TreeFault::Memory) => Err(ValueFault::Memory),
+        Err(TreeFault::Other) => read_other(alloc, bytes, other),
+    }
 }
