@@ -1,14 +1,15 @@
 -- Digits and number bytes.
 use Rattle.std.proofs.Common.{◌≡◌, ◌<◌, ℕ, ◌+◌, ◌^◌, List, [], ◌∷◌, length, take, Bool, true, false, cond, ◌==◌, nat_le}
+use Rattle.std.specs.Prelude.{nat_lt}
 use Rattle.std.proofs.Common.{refl, sym, one-add, ◌∙◌, arith, rules, IsUtf8, ne_eqb}
 use Rattle.std.specs.Char.{is_ascii_digit}
 use Rattle.std.specs.List.{All, list_all}
 use Rattle.std.proofs.lemmas.List.Sums.{AllPass-from_list_all}
 use Rattle.std.specs.Str.Parse.{digits_value}
-use Rattle.std.proofs.lemmas.Bool.{lt-leb}
+use Rattle.std.proofs.lemmas.Bool.{lt-leb, lt-ltb}
 use Rattle.std.proofs.lemmas.Str.{IsUtf8-from_ascii}
 use Rattle.std.proofs.lemmas.Str.Ascii.{IsAscii-from_all}
-use Rattle.std.proofs.lemmas.Str.Parse.{IsNumeralModel, numerals_by_value}
+use Rattle.std.proofs.lemmas.Str.Parse.{IsNumeralModel, numerals_by_value, digits_value_short}
 use Rattle.json_whole.specs.Run.{first_run, is_run_byte, run_len}
 
 -- `parse` reads what passes this test
@@ -23,6 +24,13 @@ refused_digits (c ∷ cs) most fits refused =
     let large : ¬ (digits_value 10 (c ∷ cs) < 2 ^ 64) = λ fit. refused (omega arith, fit) in
     let past : most < digits_value 10 (c ∷ cs) = omega (arith, large) in
     ne_eqb (length (c ∷ cs)) 0 (λ e. omega arith) ∙ sym (lt-leb _ _ past)
+
+-- fewer than twenty digits write a number below 10 ^ 19
+pub few_digits : (ds : List ℕ) → list_all is_ascii_digit ds ≡ true → length ds < 20 →
+    nat_lt (digits_value 10 ds) (2 ^ 64) ≡ true
+few_digits ds digits few =
+    let below : digits_value 10 ds < 10 ^ 19 = digits_value_short digits_by_test ds 19 digits (omega (arith, few)) in
+    lt-ltb _ _ (omega (arith, below))
 
 ascii_byte : (x : ℕ) → is_run_byte x ≡ true → x < 128
 ascii_byte x e = search rules

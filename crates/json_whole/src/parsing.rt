@@ -33,7 +33,8 @@ fn stays(number: &str) -> bool
     run.len() == number.len() && form_of(run) == Form::Same
 }
 
-fn add<T: Drop>(list: &mut Vec<T>, item: T) -> Result<(), TreeFault>
+/// Adds to a list.
+pub fn add<T: Drop>(list: &mut Vec<T>, item: T) -> Result<(), TreeFault>
     ensures { OnOk result (list.new.items ≡ list.old.items ++ item ∷ []) }
 {
     match list.push(item) {

@@ -83,10 +83,12 @@ fn is_number(run: &[u8]) -> bool
     }
 }
 
+/// Fewer than twenty digits write a number of 64 bits.
+#[tactic(auto, using(crate::proofs::Numerals::few_digits))]
 fn is_whole(run: &[u8]) -> bool
     ensures { result ≡ is_whole run.now }
 {
-    are_digits(run) && fits(run, u64::MAX)
+    are_digits(run) && (run.len() < 20 || fits(run, u64::MAX))
 }
 
 fn is_negative(run: &[u8]) -> bool

@@ -1,12 +1,12 @@
 //! A JSON text as a value.
-ghost use Rattle.std.specs.Prelude.{◌≡◌, false, Some, None, IfOk, IsErrOf, unwrap_or};
+ghost use Rattle.std.specs.Prelude.{◌≡◌, [], false, Some, None, IfOk, IsErrOf, unwrap_or};
 ghost use Rattle.serde_json.specs.Written.{has_float};
 ghost use Rattle.json.specs.Value.{value_view};
 ghost use Rattle.json_whole.specs.Plain.{plain_of};
 ghost use Rattle.json_whole.specs.Values.{view};
 ghost use Rattle.json_whole.specs.Whole.{json_in, value_of};
 
-use crate::parsing::{TreeFault, Unfinished, read_one};
+use crate::parsing::{TreeFault, Unfinished, add, read_one};
 use crate::plain_form::plain_if_other;
 use flux_defs::Text;
 use json::{Error, Reader, Scratch, Value};
@@ -105,20 +105,21 @@ pub fn read_value<'a>(
 }
 
 /// What a value borrows beside its text: room for texts with escapes, and the plain form where that is another text.
+/// What was read by way of it stays until it is dropped.
 #[derive(Drop)]
 pub struct Room<'b> {
     scratch: Scratch,
-    other: Option<(PlainText<'b>, Scratch)>,
+    others: Vec<(PlainText<'b>, Scratch)>,
 }
 
 impl<'b> Room<'b> {
-    /// A room that nothing stands in. It takes no memory.
+    /// A room in which nothing stands. It takes no memory.
     pub fn new(alloc: Global) -> Room<'b>
-        ensures { result.other ≡ None }
+        ensures { result.others.items ≡ [] }
     {
         Room {
             scratch: Scratch::new(alloc),
-            other: None,
+            others: Vec::new(alloc),
         }
     }
 }
@@ -149,10 +150,12 @@ fn read_as_it_stands<'a>(
 }
 
 /// The value of the plain form of bytes, which is made first.
+#[cold]
+#[inline(never)]
 fn read_other<'a, 'b: 'a>(
     alloc: Global,
     bytes: &'b [u8],
-    other: &'a mut Option<(PlainText<'b>, Scratch)>,
+    others: &'a mut Vec<(PlainText<'b>, Scratch)>,
 ) -> Result<Value<'a>, ValueFault>
     ensures value { IfOk result (λ v. value_of bytes.now ≡ Some (view v)) }
     ensures whole { IfOk result (λ v. has_float (view v) ≡ false) }
@@ -161,7 +164,11 @@ fn read_other<'a, 'b: 'a>(
     let Ok(text) = PlainText::of(alloc, bytes) else {
         return Err(ValueFault::Memory);
     };
-    let (text, scratch) = other.insert((text, Scratch::new(alloc)));
+    let at = others.len();
+    if add(others, (text, Scratch::new(alloc))).is_err() {
+        return Err(ValueFault::Memory);
+    }
+    let (text, scratch) = &mut others[at];
     read_value(alloc, text, scratch)
 }
 
@@ -176,10 +183,10 @@ pub fn read_bytes<'a, 'b: 'a>(
     ensures whole { IfOk result (λ v. has_float (view v) ≡ false) }
     ensures not_json { IsErrOf result ValueFault.NotJson → value_of bytes.now ≡ None }
 {
-    let Room { scratch, other } = room;
+    let Room { scratch, others } = room;
     match read_as_it_stands(alloc, bytes, scratch) {
         Ok(value) => Ok(value),
         Err(TreeFault::Memory) => Err(ValueFault::Memory),
-        Err(TreeFault::Other) => read_other(alloc, bytes, other),
+        Err(TreeFault::Other) => read_other(alloc, bytes, others),
     }
 }
