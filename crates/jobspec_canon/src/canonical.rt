@@ -11,8 +11,8 @@ use jobspec_v1::SpecFault;
 use jobspec_v1::faults::field_at;
 use jobspec_v1::jobspecs::{ask_by, check_task_list, read_resources, read_version};
 use jobspec_v1::requests::Requested;
-use json::{Scratch, Value};
-use json_whole::{FieldFault, PlainText, ValueFault, as_object, read_value};
+use json::Value;
+use json_whole::{FieldFault, Room, ValueFault, as_object, read_bytes};
 use resource_graph::Graph;
 use std::alloc::Global;
 
@@ -43,9 +43,8 @@ pub fn read_canon(alloc: Global, graph: &Graph, bytes: &[u8]) -> Result<Ask, Spe
     ensures accepts { IfErr result
         (λ fault. (v1 : Ask) → v1_of graph.now bytes.now ≡ Ok v1 → fault ≡ SpecFault.Memory) }
 {
-    let text = PlainText::of(alloc, bytes)?;
-    let mut scratch = Scratch::new(alloc);
-    match read_value(alloc, &text, &mut scratch) {
+    let mut room = Room::new(alloc);
+    match read_bytes(alloc, bytes, &mut room) {
         Ok(value) => canon_in(alloc, graph, &value),
         Err(ValueFault::NotJson) => Err(SpecFault::NotJson),
         Err(ValueFault::Memory) => Err(SpecFault::Memory),

@@ -18,9 +18,9 @@ use crate::forms::is_v1;
 use crate::requests::{Requested, read_requests};
 use crate::tasks::{check_tasks, task_list};
 use flux_defs::{Ask, GREATEST_NUMBER, List, Text};
-use json::{Scratch, Value};
+use json::Value;
 use json_fields::some_field;
-use json_whole::{FieldFault, PlainText, ValueFault, as_object, need_u64, read_value};
+use json_whole::{FieldFault, Room, ValueFault, as_object, need_u64, read_bytes};
 use need_shape::{RawNeed, ShapeFault, shape};
 use node_constraints::{ConstraintFault, barred};
 use resource_graph::Graph;
@@ -178,9 +178,8 @@ pub fn read_v1(alloc: Global, graph: &Graph, bytes: &[u8]) -> Result<Ask, SpecFa
     ensures proper { IfOk result (IsProperAsk graph.now.resources.vertices) }
     ensures told { IfErr result (IsFirstFault (v1_of graph.now bytes.now)) }
 {
-    let text = PlainText::of(alloc, bytes)?;
-    let mut scratch = Scratch::new(alloc);
-    match read_value(alloc, &text, &mut scratch) {
+    let mut room = Room::new(alloc);
+    match read_bytes(alloc, bytes, &mut room) {
         Ok(value) => v1_in(alloc, graph, &value),
         Err(ValueFault::NotJson) => Err(SpecFault::NotJson),
         Err(ValueFault::Memory) => Err(SpecFault::Memory),
