@@ -25,9 +25,9 @@ use crate::nodes::{NodeFields, NodesFault, nodes_of};
 use crate::raw_lists::{kind_table, table_texts, vertices_of};
 use flux_defs::MOST_VERTICES;
 use graph_build::{GraphFault, build};
-use json::{Scratch, Value};
+use json::Value;
 use json_fields::{at_field, list_field, object_field, object_value};
-use json_whole::{PlainText, ValueFault, read_value};
+use json_whole::{Room, ValueFault, read_bytes};
 use resource_graph::Graph;
 use std::alloc::{AllocError, Global};
 
@@ -170,9 +170,8 @@ pub fn read_graph(alloc: Global, bytes: &[u8]) -> Result<Graph, ReadFault>
         IsGraphText bytes.now graph → (result ≡ Ok graph) ⊎ (result ≡ Err ReadFault.Memory) }
     ensures fault { IfErr result (IsFirstFault bytes.now) }
 {
-    let text = PlainText::of(alloc, bytes)?;
-    let mut scratch = Scratch::new(alloc);
-    match read_value(alloc, &text, &mut scratch) {
+    let mut room = Room::new(alloc);
+    match read_bytes(alloc, bytes, &mut room) {
         Ok(value) => graph_of(alloc, &value),
         Err(ValueFault::NotJson) => Err(ReadFault::NotJson),
         Err(ValueFault::Memory) => Err(ReadFault::Memory),

@@ -22,6 +22,6 @@ pub returns-in-Ok-clause-only : goal.returns-in-Ok-clause-only
 returns-in-Ok-clause-only c =
     let bytes = c.args.bytes.now in
     let d = view c.in-Ok.value in
-    let is : IsValueOf bytes d = rw c.in_ok-text.ensures at c.in-Ok.ensures.value in
+    let is : IsValueOf bytes d = c.in-Ok.ensures.value in
     one_answer bytes c.graph_of.result (graph_told bytes d is c.graph_of.result c.graph_of.ensures.graph)
     (fault_told bytes d is c.graph_of.result c.graph_of.ensures.fault)
