@@ -1,6 +1,6 @@
 -- Digits and number bytes.
 use Rattle.std.proofs.Common.{◌≡◌, ◌<◌, ℕ, ◌+◌, ◌^◌, List, [], ◌∷◌, length, take, Bool, true, false, cond, ◌==◌, nat_le}
-use Rattle.std.specs.Prelude.{nat_lt}
+use Rattle.std.specs.Prelude.{nat_lt, not}
 use Rattle.std.proofs.Common.{refl, sym, one-add, ◌∙◌, arith, rules, IsUtf8, ne_eqb}
 use Rattle.std.specs.Char.{is_ascii_digit}
 use Rattle.std.specs.List.{All, list_all}
@@ -10,7 +10,7 @@ use Rattle.std.proofs.lemmas.Bool.{lt-leb, lt-ltb}
 use Rattle.std.proofs.lemmas.Str.{IsUtf8-from_ascii}
 use Rattle.std.proofs.lemmas.Str.Ascii.{IsAscii-from_all}
 use Rattle.std.proofs.lemmas.Str.Parse.{IsNumeralModel, numerals_by_value, digits_value_short}
-use Rattle.json_whole.specs.Run.{first_run, is_run_byte, run_len}
+use Rattle.json_whole.specs.Run.{first_run, is_run_byte, run_len, is_number, is_whole, written}
 
 -- `parse` reads what passes this test
 pub digits_by_test : IsNumeralModel (λ ds. list_all is_ascii_digit ds ≡ true) (digits_value 10)
@@ -31,6 +31,16 @@ pub few_digits : (ds : List ℕ) → list_all is_ascii_digit ds ≡ true → len
 few_digits ds digits few =
     let below : digits_value 10 ds < 10 ^ 19 = digits_value_short digits_by_test ds 19 digits (omega (arith, few)) in
     lt-ltb _ _ (omega (arith, below))
+
+stays_by : (n : Bool) (w : Bool) (r other : List ℕ) → w ≡ true → cond (not n) r (cond w r other) ≡ r
+stays_by false w r other e = refl
+stays_by true true r other e = refl
+stays_by true false r other e = absurd (cc)
+
+-- the plain form keeps a whole number
+pub whole_stays : (r : List ℕ) → is_whole r ≡ true → written r ≡ r
+unfolding written
+whole_stays r whole = stays_by (is_number r) (is_whole r) r _ whole
 
 ascii_byte : (x : ℕ) → is_run_byte x ≡ true → x < 128
 ascii_byte x e = search rules

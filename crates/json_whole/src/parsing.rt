@@ -5,7 +5,7 @@ ghost use Rattle.json.specs.Value.{value_view, items_view, members_view};
 ghost use Rattle.json_whole.specs.Run.{written};
 ghost use Rattle.json_whole.specs.Stays.{Stays, ItemsStay, MembersStay};
 
-use crate::runs::{Form, first_run, form_of};
+use crate::runs::{Form, first_run, form_of, is_whole};
 use json::{Reader, Token, Value};
 
 /// Why no tree was read.
@@ -25,10 +25,14 @@ pub struct Unfinished<'a> {
     pub members: Vec<(&'a str, Value<'a>)>,
 }
 
-/// Whether the plain form writes a number as it stands.
+/// Whether the plain form writes a number as it stands. Most numbers are whole.
+#[tactic(auto, using(crate::proofs::Numerals::whole_stays))]
 fn stays(number: &str) -> bool
     ensures { IsTrue result → written number.now ≡ number.now }
 {
+    if is_whole(number.as_bytes()) {
+        return true;
+    }
     let run = first_run(number.as_bytes());
     run.len() == number.len() && form_of(run) == Form::Same
 }
@@ -57,6 +61,7 @@ fn take_from<T: Drop>(list: &mut Vec<T>, from: usize) -> Result<Vec<T>, TreeFaul
 
 /// The next value of the reader. Arrays and objects may nest `depth` deep.
 #[cycle(tree)]
+#[inline(always)]
 pub fn read_one<'a>(
     reader: &mut Reader<'a>,
     depth: usize,
@@ -97,6 +102,7 @@ pub fn read_one<'a>(
 }
 
 #[cycle(tree)]
+#[inline(never)]
 fn read_items<'a>(
     reader: &mut Reader<'a>,
     depth: usize,
@@ -118,6 +124,7 @@ fn read_items<'a>(
 }
 
 #[cycle(tree)]
+#[inline(never)]
 fn read_members<'a>(
     reader: &mut Reader<'a>,
     depth: usize,

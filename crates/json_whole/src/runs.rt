@@ -83,9 +83,9 @@ fn is_number(run: &[u8]) -> bool
     }
 }
 
-/// Fewer than twenty digits write a number of 64 bits.
+/// Whether a run is the digits of a number of 64 bits, as fewer than twenty digits are.
 #[tactic(auto, using(crate::proofs::Numerals::few_digits))]
-fn is_whole(run: &[u8]) -> bool
+pub fn is_whole(run: &[u8]) -> bool
     ensures { result ≡ is_whole run.now }
 {
     are_digits(run) && (run.len() < 20 || fits(run, u64::MAX))
