@@ -18,9 +18,9 @@ use crate::hosts::{hosts_in, rank_count};
 use crate::ranks::{ranges_in, repeated_rank, rows_in};
 use crate::sets_read::{RRow, RSet};
 use flux_defs::List;
-use json::{Scratch, Value};
+use json::Value;
 use json_fields::Misfit;
-use json_whole::{PlainText, ValueFault, read_value};
+use json_whole::{Room, ValueFault, read_bytes};
 use std::alloc::Global;
 
 /// The start and the end of an `execution`.
@@ -115,11 +115,8 @@ fn read(alloc: Global, bytes: &[u8]) -> Result<RSet, RFault>
     ensures set { IfOk result (IsRText bytes.now) }
     ensures fault { IfErr result (IsFirstFault bytes.now) }
 {
-    let Ok(text) = PlainText::of(alloc, bytes) else {
-        return Err(RFault::Memory);
-    };
-    let mut scratch = Scratch::new(alloc);
-    match read_value(alloc, &text, &mut scratch) {
+    let mut room = Room::new(alloc);
+    match read_bytes(alloc, bytes, &mut room) {
         Ok(value) => match set_of(alloc, &value) {
             Ok(set) => Ok(set),
             Err(ReadError::Misread(misread)) => Err(fault_of(alloc, misread)),
