@@ -67,7 +67,8 @@ clear_passes [] ys h = refl
 clear_passes (x ∷ r) ys h = rw (run_class x (run_head x r h)) (clear_passes r ys (run_rest x r h))
 
 -- a byte that ends a word is none that doesn't
-pub ends_not : (y c : ℕ) → (is_operator y || is_space y) ≡ true → (is_operator c || is_space c) ≡ false → (y == c) ≡ false
+pub ends_not : (y c : ℕ) → (is_operator y || is_space y) ≡ true → (is_operator c || is_space c) ≡ false →
+    (y == c) ≡ false
 ends_not y c ends not_ends =
     ne_eqb y c (λ same. let no : true ≡ false = sym ends ∙ ap (λ x. is_operator x || is_space x) same ∙ not_ends in cc)
 

@@ -1,5 +1,6 @@
 //! The tree of a text that is its own plain form. Each list and object has room for what it holds and no more.
-ghost use Rattle.std.specs.Prelude.{◌≡◌, ◌<◌, ◌≤◌, ◌++◌, [], ◌∷◌, length, take, drop, vec_len, Some, IfOk, OnOk, IsTrue};
+ghost use Rattle.std.specs.Prelude.{◌≡◌, ◌<◌, ◌≤◌, ◌++◌, [], ◌∷◌, length, take, drop, vec_len, Some};
+ghost use Rattle.std.specs.Prelude.{IfOk, OnOk, IsTrue};
 ghost use Rattle.json.specs.Json.{items, members, value};
 ghost use Rattle.json.specs.Value.{value_view, items_view, members_view};
 ghost use Rattle.json_whole.specs.Run.{written};
