@@ -207,7 +207,7 @@ module _ (xs ys : Chunks) where
         pub end_much : q ≤ after (flat xs) x
         end_much = let a = after_is in let m = lows.end_much to q (flat ys) _ none in omega arith
 
-    -- where the first list is past by a moment, what ends later is of the second; and nothing does where that is never low
+    -- where the first list is past by a moment, what ends later is of the second; nothing does where that is never low
     module _ (from to q : ℕ) (over : latest_of (flat xs) ≤ from) (opens : from < to) where
       pub end_past : (found : Option ℕ) → IfSome found (λ t. (from < t)
           × (low_end to q (flat ys) (x - need_of (flat xs) + rest_of (flat xs)) ≡ Some t)) →

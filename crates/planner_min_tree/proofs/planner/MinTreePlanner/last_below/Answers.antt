@@ -5,7 +5,8 @@ pub returns-in-None-clause-last : goal.returns-in-None-clause-last
 returns-in-None-clause-last g c = λ spans now.
     let marks = rw (← c.self.view_is) at now in
     rw (← c.self.view_is)
-    (room_before c.self.inside.total c.self.inside.points spans marks c.args.window c.args.quantity c.in-None.ensures.none)
+    (room_before c.self.inside.total c.self.inside.points spans marks c.args.window c.args.quantity
+    c.in-None.ensures.none)
 
 pub returns-in-Some-clause-last : goal.returns-in-Some-clause-last
 returns-in-Some-clause-last g c = λ spans now.
