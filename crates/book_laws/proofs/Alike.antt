@@ -1,15 +1,16 @@
 -- Two lists of jobs whose claims amount to the same make the same claims available.
-use Rattle.std.proofs.Common.{◌≡◌, ℕ, zero, suc, ◌+◌, ◌-◌, ◌<◌, ◌≤◌, nat_le, Bool, true, false, not, ◌&&◌, ◌||◌, cond}
-use Rattle.std.proofs.Common.{List, [], ◌∷◌, length, Option, Some, None, slice_get, ◌⊎◌, inl, inr, refl, sym, ◌∙◌, ap}
-use Rattle.std.proofs.Common.{subst, arith, IsTrue, true≢false}
-use Rattle.std.specs.List.{list_any, sum_by, AllByRecursion}
-use Rattle.std.proofs.lemmas.Bool.{or_cases}
+use Rattle.std.proofs.Common.{◌≡◌, ℕ, zero, suc, ◌-◌, ◌<◌, nat_le, Bool, false, not, ◌&&◌, ◌||◌, cond}
+use Rattle.std.proofs.Common.{List, [], ◌∷◌, length, Option, Some, None, inl, inr, refl, sym, ◌∙◌, ap}
+use Rattle.std.proofs.Common.{arith, IsTrue}
+use Rattle.std.specs.List.{AllByRecursion}
+use Rattle.std.proofs.lemmas.Bool.{or_cases, or_left, or_right}
+use Rattle.std.proofs.Math.Bool.{or-false}
 use Rattle.flux_defs.specs.declared.vertices.Vertex.{Vertex}
 use Rattle.flux_defs.specs.declared.claims.Claim.{Claim}
 use Rattle.flux_defs.specs.declared.claims.Claim.TheVariants.{Take, Hold, Pass}
 use Rattle.flux_defs.specs.declared.claims.Job.{Job}
 use Rattle.flux_defs.specs.declared.claims.Window.{Window}
-use Rattle.flux_defs.specs.Graph.{ResourceGraph, parent_of, chain, is_pool, size_of}
+use Rattle.flux_defs.specs.Graph.{parent_of, chain, is_pool, size_of}
 use Rattle.flux_defs.specs.Jobs.{vertex_of, some_live_claim, holds_over, is_on_or_below, take_of}
 use Rattle.flux_defs.specs.Closed.{no_bars, is_closed, is_touched}
 use Rattle.flux_defs.specs.Free.{free_at, taken_at}
@@ -72,12 +73,8 @@ module _ (vertices : List Vertex) (first : ParentsFirst vertices) where
               (some_too (is_hold v) a b m (alike.holds v m inside.0) here)
           | inr later ↦ live_along (holds_along vs)
               (holds_along (v ∷ vs))
-              (λ c t. later_true (is_hold v c) (holds_along vs c) t) b m (along vs m inside.1 later)
+              (λ c t. or_right (is_hold v c) (holds_along vs c) t) b m (along vs m inside.1 later)
         ]
-      where
-        later_true : (x y : Bool) → IsTrue y → IsTrue (x || y)
-        later_true true y t = refl
-        later_true false y t = t
 
     pub closed_too : (v m : ℕ) →
         v < length vertices → IsTrue (is_closed (no_bars vertices a) m v) → IsTrue (is_closed (no_bars vertices b) m v)
@@ -90,15 +87,8 @@ module _ (vertices : List Vertex) (first : ParentsFirst vertices) where
 
     pub touched_too : (v m : ℕ) → v < length vertices →
         IsTrue (is_touched (no_bars vertices a) m v) → IsTrue (is_touched (no_bars vertices b) m v)
-    touched_too v m lt h = or_left_ _ (some_too (is_on_or_below vertices v) a b m (alike.claims v m lt) (or_none _ h))
-      where
-        or_none : (x : Bool) → IsTrue (x || false) → IsTrue x
-        or_none true t = refl
-        or_none false t = t
-
-        or_left_ : (x : Bool) → IsTrue x → IsTrue (x || false)
-        or_left_ true t = refl
-        or_left_ false t = t
+    touched_too v m lt h =
+        or_left _ false (some_too (is_on_or_below vertices v) a b m (alike.claims v m lt) (sym (or-false _) ∙ h))
 
   module _ (a b : List Job) (alike : AmountAlike vertices a b) where
     closed_same : (v m : ℕ) →

@@ -1,13 +1,14 @@
 -- Sums over the claims of live jobs.
-use Rattle.std.proofs.Common.{◌≡◌, ℕ, zero, suc, ◌+◌, ◌<◌, ◌≤◌, Bool, true, false, ◌&&◌, ◌||◌, cond, List, [], ◌∷◌}
-use Rattle.std.proofs.Common.{◌++◌, ◌⊎◌, inl, inr, refl, sym, ◌∙◌, ap, subst, arith, IsTrue, true≢false}
+use Rattle.std.proofs.Common.{◌≡◌, ℕ, zero, ◌+◌, ◌≤◌, Bool, true, false, ◌&&◌, ◌||◌, cond, List, [], ◌∷◌}
+use Rattle.std.proofs.Common.{◌++◌, ◌⊎◌, inl, inr, refl, sym, ◌∙◌, ap, arith, IsTrue, true≢false}
 use Rattle.std.specs.List.{list_any, sum_by}
-use Rattle.std.proofs.lemmas.Bool.{and_parts, and_from, or_cases, or_left, or_right}
+use Rattle.std.proofs.lemmas.Bool.{and_parts, and_from, or_cases, or_left, or_right, or_parts}
 use Rattle.std.proofs.lemmas.List.Sums.{sum_by-cons, sum_by-append, sum_by_push}
 use Rattle.flux_defs.specs.declared.claims.Claim.{Claim}
 use Rattle.flux_defs.specs.declared.claims.Job.{Job}
 use Rattle.flux_defs.specs.Jobs.{is_live, some_live_claim}
 use Rattle.book_laws.specs.Amounts.{live_sum}
+use Rattle.list_laws.proofs.Lists.{any_either}
 
 pub bool_of : (b : Bool) → (b ≡ true) ⊎ (b ≡ false)
 bool_of true = inl refl
@@ -65,16 +66,16 @@ sum_most f g (x ∷ xs) h =
     let e = h x in
     omega arith
 
-both_of : (b : Bool) (q r : ℕ) → cond b q 0 + cond b r 0 ≡ cond b (q + r) 0
-both_of true q r = refl
-both_of false q r = omega arith
+pub cond_add : (b : Bool) (q r : ℕ) → cond b q 0 + cond b r 0 ≡ cond b (q + r) 0
+cond_add true q r = refl
+cond_add false q r = omega arith
 
 pub live_add : (f g : Claim → ℕ) (jobs : List Job) (m : ℕ) →
     live_sum (λ c. f c + g c) jobs m ≡ live_sum f jobs m + live_sum g jobs m
 live_add f g jobs m =
     sum_same (job_sum (λ c. f c + g c) m) (λ job. job_sum f m job + job_sum g m job) jobs
     (λ job. ap (λ n. cond (is_live m job) n 0) (sum_add f g job.claims)
-    ∙ sym (both_of (is_live m job) (sum_by f job.claims) (sum_by g job.claims)))
+    ∙ sym (cond_add (is_live m job) (sum_by f job.claims) (sum_by g job.claims)))
     ∙ sum_add (job_sum f m) (job_sum g m) jobs
 
 pub live_none : (jobs : List Job) (m : ℕ) → live_sum (λ c. 0) jobs m ≡ 0
@@ -109,11 +110,7 @@ live_swap g (x ∷ xs) jobs m =
 -- a test fails at each item of a list where it passes at none
 not_any : {X : Type 0} (test : X → Bool) (x : X) (xs : List X) →
     list_any test (x ∷ xs) ≡ false → (test x ≡ false) × (list_any test xs ≡ false)
-not_any test x xs h = parts (test x) (list_any test xs) h
-  where
-    parts : (a b : Bool) → (a || b) ≡ false → (a ≡ false) × (b ≡ false)
-    parts true b h = absurd (true≢false h)
-    parts false b h = (refl, h)
+not_any test x xs h = or_parts (test x) (list_any test xs) h
 
 pub sum_unless : {X : Type 0} (test : X → Bool) (f g : X → ℕ) →
     ((x : X) → test x ≡ false → f x ≡ g x) → (xs : List X) → list_any test xs ≡ false → sum_by f xs ≡ sum_by g xs
@@ -177,20 +174,6 @@ live_along s t h jobs m some =
     any_along (λ job. is_live m job && list_any s job.claims) (λ job. is_live m job && list_any t job.claims)
     (λ job both. (let b = and_parts (is_live m job) (list_any s job.claims) both in
     and_from _ _ b.0 (any_along s t h job.claims b.1))) jobs some
-
-any_either : {X : Type 0} (s a b : X → Bool) → ((x : X) → IsTrue (s x) → IsTrue (a x) ⊎ IsTrue (b x)) →
-    (xs : List X) → IsTrue (list_any s xs) → IsTrue (list_any a xs) ⊎ IsTrue (list_any b xs)
-any_either s a b h [] some = absurd (true≢false (sym some))
-any_either s a b h (x ∷ xs) some = elim (or_cases (s x) (list_any s xs) some) [
-  | inl now ↦ elim (h x now) [
-    | inl p ↦ inl (or_left (a x) (list_any a xs) p)
-    | inr q ↦ inr (or_left (b x) (list_any b xs) q)
-  ]
-  | inr later ↦ elim (any_either s a b h xs later) [
-    | inl p ↦ inl (or_right (a x) (list_any a xs) p)
-    | inr q ↦ inr (or_right (b x) (list_any b xs) q)
-  ]
-]
 
 -- a live claim that passes a test passes one of two others
 pub live_either : (s a b : Claim → Bool) → ((c : Claim) → IsTrue (s c) → IsTrue (a c) ⊎ IsTrue (b c)) →

@@ -1,28 +1,27 @@
 -- The total of a kind at a vertex: its capacity there less what live jobs have of it at the vertex and below it.
 use Rattle.std.proofs.Common.{◌≡◌, ◌≢◌, ℕ, zero, suc, ◌+◌, ◌-◌, ◌<◌, ◌≤◌, ◌==◌, Bool, true, false, ◌&&◌, cond, List, []}
-use Rattle.std.proofs.Common.{◌∷◌, length, Option, Some, None, slice_get, ◌⊎◌, inl, inr, refl, sym, ◌∙◌, ap, subst}
+use Rattle.std.proofs.Common.{◌∷◌, length, Some, None, slice_get, inl, inr, refl, sym, ◌∙◌, ap}
 use Rattle.std.proofs.Common.{arith, IsTrue, true≢false}
-use Rattle.std.specs.List.{AllByRecursion, list_any, sum_by, enumerate_from}
+use Rattle.std.specs.List.{AllByRecursion, sum_by, enumerate_from}
 use Rattle.std.specs.Option.{option_map_or}
-use Rattle.std.proofs.lemmas.Bool.{and_parts, and_from}
 use Rattle.std.proofs.lemmas.Bool.Decides.{eqb_tells}
 use Rattle.std.proofs.lemmas.List.Sums.{sum_by-cons}
+use Rattle.std.proofs.lemmas.Option.{slice_get_within}
 use Rattle.flux_defs.specs.declared.vertices.Vertex.{Vertex}
 use Rattle.flux_defs.specs.declared.claims.Claim.{Claim}
 use Rattle.flux_defs.specs.declared.claims.Claim.TheVariants.{Take, Hold, Pass}
 use Rattle.flux_defs.specs.declared.claims.Job.{Job}
 use Rattle.flux_defs.specs.Graph.{ResourceGraph, is_at_or_below, is_pool, size_of}
 use Rattle.flux_defs.specs.ValidGraph.{StandsInPreorder}
-use Rattle.flux_defs.specs.Jobs.{vertex_of, some_live_claim, holds_over, is_on_or_below}
+use Rattle.flux_defs.specs.Jobs.{some_live_claim, holds_over}
 use Rattle.flux_defs.specs.Closed.{no_bars, is_closed}
 use Rattle.flux_defs.specs.Free.{free_at, taken_at, total_at}
-use Rattle.list_laws.proofs.Tests.{false_from}
 use Rattle.graph_laws.proofs.Containment.{below_trans, above_is_chain}
 use Rattle.graph_laws.proofs.Preorder.{parents_first}
-use Rattle.book_laws.specs.Amounts.{live_sum, is_of_kind, kind_sum, capacity, part_of, part_within, use_of}
+use Rattle.book_laws.specs.Amounts.{live_sum, kind_sum, capacity, part_within, use_of}
 use Rattle.book_laws.specs.Amounts.{AreWithinSizes, TakesFromPool}
-use Rattle.book_laws.proofs.Sums.{bool_of, cond_none, live_none, live_most, live_along, live_swap, live_unless}
-use Rattle.book_laws.proofs.Sums.{sum_none, sum_same, sum_add, sum_most}
+use Rattle.book_laws.proofs.Sums.{cond_none, live_none, live_most, live_along, live_swap, live_unless, cond_add}
+use Rattle.book_laws.proofs.Sums.{sum_none, sum_add}
 use Rattle.book_laws.proofs.Within.{closed_is, adds_up}
 
 -- sums over the vertices, by place
@@ -108,11 +107,6 @@ module _ (g : ResourceGraph) (o : StandsInPreorder g) (kind v : ℕ) where
   size_here : (u : ℕ) (x : Vertex) → slice_get g.vertices u ≡ Some x → size_of g.vertices u ≡ x.size
   size_here u x e = ap (λ s. option_map_or (λ y. y.size) s 0) e
 
-  inside : (u : ℕ) (x : Vertex) (xs : List Vertex) → slice_get xs u ≡ Some x → u < length xs
-  inside u x [] e = absurd (cc)
-  inside zero x (y ∷ ys) e = omega arith
-  inside (suc u) x (y ∷ ys) e = let r = inside u x ys e in omega arith
-
   -- a take
   take_part : (p q : ℕ) →
       kind_sum g.vertices kind v (λ u. use_of g.vertices u (Take p q)) ≡ part_within g.vertices kind v (Take p q)
@@ -135,7 +129,7 @@ module _ (g : ResourceGraph) (o : StandsInPreorder g) (kind v : ℕ) where
       (λ u x. cond ((x.kind == kind) && is_at_or_below g.vertices u h) (size_of g.vertices u) 0)
       (λ u x e. by_tests
       (x.kind == kind) (is_at_or_below g.vertices u v) (is_at_or_below g.vertices u h) (size_of g.vertices u)
-      (λ t. below_trans g.vertices (parents_first g o) u h v (inside u x g.vertices e) t below))
+      (λ t. below_trans g.vertices (parents_first g o) u h v (slice_get_within g.vertices u x e) t below))
     where
       by_tests : (a b c : Bool) (n : ℕ) → (IsTrue c → IsTrue b) → cond (a && b) (cond c n 0) 0 ≡ cond (a && c) n 0
       by_tests true true c n h = refl
@@ -150,7 +144,7 @@ module _ (g : ResourceGraph) (o : StandsInPreorder g) (kind v : ℕ) where
       all_same g.vertices (λ u x. cond (counts u x) (use_of g.vertices u (Hold h)) 0) (λ u x. 0)
       (λ u x e. by_tests
       (x.kind == kind) (is_at_or_below g.vertices u v) (is_at_or_below g.vertices u h) (size_of g.vertices u)
-      (λ a b. elim (above_is_chain g.vertices (parents_first g o) u v h (inside u x g.vertices e) a b) [
+      (λ a b. elim (above_is_chain g.vertices (parents_first g o) u v h (slice_get_within g.vertices u x e) a b) [
         | inl up ↦ true≢false (sym up ∙ over)
         | inr down ↦ true≢false (sym down ∙ apart)
       ]))
@@ -207,10 +201,6 @@ module _ (g : ResourceGraph) (o : StandsInPreorder g) (kind v : ℕ) where
         ∙ live_swap (λ (p : ℕ × Vertex) c. cond (counts p.0 p.1) (use_of g.vertices p.0 c) 0)
         (enumerate_from 0 g.vertices) jobs m
 
-    cond_add : (b : Bool) (x y : ℕ) → cond b x 0 + cond b y 0 ≡ cond b (x + y) 0
-    cond_add true x y = refl
-    cond_add false x y = omega arith
-
     -- free and used add up to the capacity
     sums_up : total_at g.vertices jobs kind m v + kind_sum g.vertices kind v
         (λ u. live_sum (use_of g.vertices u) jobs m) ≡ capacity g.vertices kind v
@@ -252,7 +242,7 @@ module _ (g : ResourceGraph) (o : StandsInPreorder g) (kind v : ℕ) where
   total_closed jobs m closed =
       all_same g.vertices (λ u x. cond (counts u x) (free_at (no_bars g.vertices jobs) m u) 0) (λ u x. 0)
       (λ u x e. by_tests (x.kind == kind) (is_at_or_below g.vertices u v)
-      (free_at (no_bars g.vertices jobs) m u) (λ below. none_free u (inside u x g.vertices e) below))
+      (free_at (no_bars g.vertices jobs) m u) (λ below. none_free u (slice_get_within g.vertices u x e) below))
       ∙ sum_none (enumerate_from 0 g.vertices)
     where
       held_too : (u : ℕ) → u < length g.vertices → IsTrue (is_at_or_below g.vertices u v) →

@@ -1,20 +1,19 @@
 -- What the least of a vertex's planners over a window says of the vertex.
-use Rattle.std.proofs.Common.{◌≡◌, ℕ, zero, suc, ◌+◌, ◌-◌, ◌<◌, ◌≤◌, Bool, true, false, ◌||◌, cond, List, [], ◌∷◌, ◌++◌}
-use Rattle.std.proofs.Common.{length, Option, Some, None, slice_get, ◌⊎◌, ◌↔◌, inl, inr, refl, sym, ◌∙◌, ap, subst}
-use Rattle.std.proofs.Common.{arith, IsTrue, true≢false}
-use Rattle.std.specs.List.{list_any, sum_by, AllByRecursion}
+use Rattle.std.proofs.Common.{◌≡◌, ℕ, ◌+◌, ◌-◌, ◌<◌, ◌≤◌, true, false, cond, List, [], ◌∷◌, ◌++◌}
+use Rattle.std.proofs.Common.{◌↔◌, inl, inr, sym, ◌∙◌, ap}
+use Rattle.std.proofs.Common.{arith, IsTrue}
+use Rattle.std.specs.List.{sum_by}
 use Rattle.std.proofs.lemmas.Bool.Decides.{nat_tests}
+use Rattle.std.proofs.Math.Bool.{or-false}
 use Rattle.flux_defs.specs.declared.vertices.Vertex.{Vertex}
 use Rattle.flux_defs.specs.declared.claims.Claim.{Claim}
-use Rattle.flux_defs.specs.declared.claims.Claim.TheVariants.{Take, Hold, Pass}
 use Rattle.flux_defs.specs.declared.claims.Job.{Job}
 use Rattle.flux_defs.specs.declared.claims.Window.{Window}
 use Rattle.flux_defs.specs.Graph.{ResourceGraph, is_pool, size_of}
 use Rattle.flux_defs.specs.ValidGraph.{StandsInPreorder}
-use Rattle.flux_defs.specs.Jobs.{is_live, some_live_claim, SomeMoment, EachMoment, is_on_or_below, take_of}
+use Rattle.flux_defs.specs.Jobs.{is_live, some_live_claim, SomeMoment, is_on_or_below, take_of}
 use Rattle.flux_defs.specs.Closed.{no_bars, is_closed, is_touched}
 use Rattle.flux_defs.specs.Free.{free_at, taken_at, total_at, IsLeastIn, IsFreeOver, IsTotalOver}
-use Rattle.planner_points.specs.declared.spans.Span.{Span}
 use Rattle.planner_points.specs.Spans.{used_at, HasRoom, IsLeastFree}
 use Rattle.book_laws.specs.Amounts.{live_sum, is_hold, hold_of, claim_within, capacity, part_within}
 use Rattle.book_laws.specs.Grouped.{time_of, grouped}
@@ -59,13 +58,9 @@ touched_tells vertices jobs w v total n some least =
     let t = least_tells
     (is_on_or_below vertices v) jobs w total n some (least_left (claim_within vertices v) jobs w total n least) in (
       λ lt. (let (m, lo, hi, h) = t.0 lt in
-          (m, lo, hi, or_none (some_live_claim jobs m (is_on_or_below vertices v)) ∙ h)),
-      λ (m, lo, hi, h). t.1 (m, lo, hi, sym (or_none (some_live_claim jobs m (is_on_or_below vertices v))) ∙ h),
+          (m, lo, hi, or-false (some_live_claim jobs m (is_on_or_below vertices v)) ∙ h)),
+      λ (m, lo, hi, h). t.1 (m, lo, hi, sym (or-false (some_live_claim jobs m (is_on_or_below vertices v))) ∙ h),
     )
-  where
-    or_none : (b : Bool) → (b || false) ≡ b
-    or_none true = refl
-    or_none false = refl
 
 module _ (vertices : List Vertex) (jobs : List Job) (w : Window) (v : ℕ) where
   -- what is free of a vertex

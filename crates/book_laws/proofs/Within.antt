@@ -1,38 +1,31 @@
 -- Where no vertex is oversubscribed, what is free of each vertex and what live jobs use of it add up to its units, and
 -- so do the totals of a kind.
-use Rattle.std.proofs.Common.{◌≡◌, ◌≢◌, ℕ, zero, suc, ◌+◌, ◌-◌, ◌<◌, ◌≤◌, ◌==◌, Bool, true, false, not, ◌&&◌, ◌||◌}
-use Rattle.std.proofs.Common.{cond, List, [], ◌∷◌, length, Option, Some, None, slice_get, ◌⊎◌, inl, inr, refl, sym, ◌∙◌}
-use Rattle.std.proofs.Common.{ap, subst, arith, IsTrue, true≢false}
-use Rattle.std.specs.List.{AllByRecursion, list_any, sum_by, enumerate_from}
+use Rattle.std.proofs.Common.{◌≡◌, ◌≢◌, ℕ, zero, suc, ◌+◌, ◌-◌, ◌≤◌, ◌==◌, Bool, true, false, not, ◌&&◌, ◌||◌}
+use Rattle.std.proofs.Common.{cond, List, [], ◌∷◌, Some, slice_get, inl, inr, refl, sym, ◌∙◌}
+use Rattle.std.proofs.Common.{ap, arith, IsTrue, true≢false}
+use Rattle.std.specs.List.{AllByRecursion, sum_by}
 use Rattle.std.specs.Option.{option_map_or}
-use Rattle.std.proofs.lemmas.Bool.{and_parts, and_from, or_left}
+use Rattle.std.proofs.lemmas.Bool.{and_from, or_left}
 use Rattle.std.proofs.lemmas.Bool.Decides.{eqb_tells}
 use Rattle.std.proofs.lemmas.List.Sums.{sum_by-cons}
+use Rattle.std.proofs.Math.Bool.{or-false}
 use Rattle.flux_defs.specs.declared.vertices.Vertex.{Vertex}
 use Rattle.flux_defs.specs.declared.claims.Claim.{Claim}
 use Rattle.flux_defs.specs.declared.claims.Claim.TheVariants.{Take, Hold, Pass}
 use Rattle.flux_defs.specs.declared.claims.Job.{Job}
-use Rattle.flux_defs.specs.Graph.{ResourceGraph, is_at_or_below, is_pool, is_pool_kind, size_of}
-use Rattle.flux_defs.specs.ValidGraph.{StandsInPreorder}
-use Rattle.flux_defs.specs.Jobs.{vertex_of, is_live, some_live_claim, holds_over, is_on_or_below, take_of}
+use Rattle.flux_defs.specs.Graph.{is_pool, is_pool_kind, size_of}
+use Rattle.flux_defs.specs.Jobs.{is_live, some_live_claim, holds_over, take_of}
 use Rattle.flux_defs.specs.Closed.{no_bars, is_closed}
-use Rattle.flux_defs.specs.Free.{free_at, taken_at, total_at}
-use Rattle.list_laws.proofs.Tests.{false_from}
-use Rattle.graph_laws.proofs.Containment.{below_trans, above_is_chain}
-use Rattle.graph_laws.proofs.Preorder.{parents_first}
-use Rattle.book_laws.specs.Amounts.{live_sum, is_of_kind, kind_sum, capacity, part_of, part_within, use_of}
+use Rattle.flux_defs.specs.Free.{free_at, taken_at}
+use Rattle.book_laws.specs.Amounts.{live_sum, use_of}
 use Rattle.book_laws.specs.Amounts.{AreWithinSizes, TakesFromPool}
-use Rattle.book_laws.proofs.Sums.{bool_of, cond_none, job_sum, live_cons, live_none, live_most, live_swap, live_unless}
-use Rattle.book_laws.proofs.Sums.{live_where, sum_none, sum_same, sum_add, sum_most}
+use Rattle.book_laws.proofs.Sums.{cond_none, job_sum, live_cons, live_unless}
+use Rattle.book_laws.proofs.Sums.{live_where}
 
 -- a live job's hold closes a vertex, and nothing else does where nothing is barred
 pub closed_is : (vertices : List Vertex) (jobs : List Job) (m v : ℕ) →
     is_closed (no_bars vertices jobs) m v ≡ some_live_claim jobs m (holds_over vertices v)
-closed_is vertices jobs m v = or_none (some_live_claim jobs m (holds_over vertices v))
-  where
-    or_none : (b : Bool) → (b || false) ≡ b
-    or_none true = refl
-    or_none false = refl
+closed_is vertices jobs m v = or-false (some_live_claim jobs m (holds_over vertices v))
 
 -- one vertex
 module _ (vertices : List Vertex) (v : ℕ) where

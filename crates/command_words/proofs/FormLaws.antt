@@ -6,9 +6,10 @@ use Rattle.std.proofs.Common.{bytes_eq, inl, inr, refl, sym, ap, ◌∙◌}
 use Rattle.std.proofs.lemmas.Bool.Decides.{eqb_tells}
 use Rattle.std.proofs.Math.ListN.{drop_of_length-le}
 use Rattle.std.specs.Option.{option_or, option_map_or}
+use Rattle.std.proofs.Math.Bool.{or-false, or-true, or_assoc}
 use Rattle.command_words.specs.Givens as by_words
 use Rattle.command_words.specs.Givens.{Word, Given, graph, horizon, filters, jobspec, is_empty, begins_with_minus}
-use Rattle.command_words.specs.Givens.{dashes, rest_behind, behind_name, as_option, option_of, anything, value_for}
+use Rattle.command_words.specs.Givens.{dashes, rest_behind, behind_name, option_of, anything, value_for}
 use Rattle.command_words.specs.Givens.{only_names, and_given, from_option, from_word, given_from, has, are_new}
 use Rattle.command_words.specs.Givens.{if_complete, given_by}
 use Rattle.command_words.specs.Taken.{is_seen, marked, has_value, named_option, given_to, after_option, after_full}
@@ -86,41 +87,29 @@ same_option word =
 abbrev Shows : Seen → List Given → Type 0
 Shows seen givens = (name : Name) → is_seen seen name ≡ has (text_of name) givens
 
-or_true : (b : Bool) → (b || true) ≡ true
-or_true true = refl
-or_true false = refl
-
-or_false : (b : Bool) → (b || false) ≡ b
-or_false true = refl
-or_false false = refl
-
-or_or : (a b c : Bool) → ((a || b) || c) ≡ (a || (b || c))
-or_or true b c = refl
-or_or false b c = refl
-
 has_append : (id : Word) (us : List Given) (u : Given) → has id (us ++ u ∷ []) ≡ (has id us || bytes_eq u.0 id)
-has_append id [] u = or_false (bytes_eq u.0 id)
+has_append id [] u = or-false (bytes_eq u.0 id)
 has_append id (v ∷ us) u = ap (λ t. bytes_eq v.0 id || t) (has_append id us u) ∙ sym
-    (or_or (bytes_eq v.0 id) (has id us) (bytes_eq u.0 id))
+    (or_assoc (bytes_eq v.0 id) (has id us) (bytes_eq u.0 id))
 
 marked_at : (seen : Seen) (m n : Name) → is_seen (marked seen m) n
     ≡ (is_seen seen n || bytes_eq (text_of m) (text_of n))
-marked_at seen Graph Graph = sym (or_true seen.graph)
-marked_at seen Graph Horizon = sym (or_false seen.horizon)
-marked_at seen Graph Filters = sym (or_false seen.filters)
-marked_at seen Graph Jobspec = sym (or_false seen.jobspec)
-marked_at seen Horizon Graph = sym (or_false seen.graph)
-marked_at seen Horizon Horizon = sym (or_true seen.horizon)
-marked_at seen Horizon Filters = sym (or_false seen.filters)
-marked_at seen Horizon Jobspec = sym (or_false seen.jobspec)
-marked_at seen Filters Graph = sym (or_false seen.graph)
-marked_at seen Filters Horizon = sym (or_false seen.horizon)
-marked_at seen Filters Filters = sym (or_true seen.filters)
-marked_at seen Filters Jobspec = sym (or_false seen.jobspec)
-marked_at seen Jobspec Graph = sym (or_false seen.graph)
-marked_at seen Jobspec Horizon = sym (or_false seen.horizon)
-marked_at seen Jobspec Filters = sym (or_false seen.filters)
-marked_at seen Jobspec Jobspec = sym (or_true seen.jobspec)
+marked_at seen Graph Graph = sym (or-true seen.graph)
+marked_at seen Graph Horizon = sym (or-false seen.horizon)
+marked_at seen Graph Filters = sym (or-false seen.filters)
+marked_at seen Graph Jobspec = sym (or-false seen.jobspec)
+marked_at seen Horizon Graph = sym (or-false seen.graph)
+marked_at seen Horizon Horizon = sym (or-true seen.horizon)
+marked_at seen Horizon Filters = sym (or-false seen.filters)
+marked_at seen Horizon Jobspec = sym (or-false seen.jobspec)
+marked_at seen Filters Graph = sym (or-false seen.graph)
+marked_at seen Filters Horizon = sym (or-false seen.horizon)
+marked_at seen Filters Filters = sym (or-true seen.filters)
+marked_at seen Filters Jobspec = sym (or-false seen.jobspec)
+marked_at seen Jobspec Graph = sym (or-false seen.graph)
+marked_at seen Jobspec Horizon = sym (or-false seen.horizon)
+marked_at seen Jobspec Filters = sym (or-false seen.filters)
+marked_at seen Jobspec Jobspec = sym (or-true seen.jobspec)
 
 marked_shows : (seen : Seen) (us : List Given) (m : Name) (v : Word) → Shows seen us → Shows (marked seen m)
     (us ++ (text_of m, v) ∷ [])
@@ -143,7 +132,7 @@ completes_given us u None = by (has u.0 us)
     by false = refl
 completes_given us u (Some vs) =
     by (has u.0 us) ∙ ap (λ g. if has u.0 us then false else are_new (us ++ u ∷ []) vs && g)
-    (sym (or_or (has graph us) (bytes_eq u.0 graph) (has graph vs)) ∙ ap (λ t. t || has graph vs)
+    (sym (or_assoc (has graph us) (bytes_eq u.0 graph) (has graph vs)) ∙ ap (λ t. t || has graph vs)
     (sym (has_append graph us u)))
   where
     by : (b : Bool) → ((not b && are_new (us ++ u ∷ []) vs) && (has graph us || (bytes_eq u.0 graph || has graph vs)))
@@ -209,9 +198,9 @@ after_first word words tells Any seen us shows = by (bytes_eq word dashes) (begi
 tells_end : (next : Next) (seen : Seen) (us : List Given) → Shows seen us → is_whole
     (record { next = next; seen = seen }) ≡ completes us (given_from (next_of next) [])
 unfolding given_from
-tells_end Any seen us shows = shows Graph ∙ sym (or_false (has graph us))
+tells_end Any seen us shows = shows Graph ∙ sym (or-false (has graph us))
 tells_end (Value name) seen us shows = refl
-tells_end Names seen us shows = shows Graph ∙ sym (or_false (has graph us))
+tells_end Names seen us shows = shows Graph ∙ sym (or-false (has graph us))
 
 pub tells_rest : (words : List Word) → Tells words
 unfolding given_from

@@ -3,6 +3,7 @@ use Rattle.std.proofs.Common.{◌≡◌, ◌⊎◌, ℕ, ◌==◌, [], ◌∷◌
 use Rattle.std.proofs.Common.{None, bytes_eq, inl, inr, refl, sym, ap, ◌∙◌}
 use Rattle.std.proofs.lemmas.Bool.Decides.{eqb_tells}
 use Rattle.std.specs.Option.{option_or}
+use Rattle.std.proofs.lemmas.Option.{same_Some}
 use Rattle.clap.specs.Lexer.{long_of}
 use Rattle.command_words.specs.Givens.{Word, horizon, filters, jobspec, dashes, rest_behind, behind_name, as_option}
 use Rattle.command_words.specs.Givens.{option_of}
@@ -27,9 +28,6 @@ rest_is (a ∷ text) (b ∷ word) rest h =
     let head = both.0 in
     let tail = rest_is text word rest both.1 in cc
 
-pair_is : (a b : Word × Option Word) → Some a ≡ Some b → a ≡ b
-pair_is a b same = cc
-
 -- `=` and a value
 abbrev valued_if : Word → Word → Bool → Option (Word × Option Word)
 valued_if n v test = if test then Some (n, Some v) else None
@@ -42,7 +40,7 @@ module _ (n : Word) (alone : long_of ((dashes ++ n) ++ []) ≡ Some (n, None))
   of_rest word name v None is h = absurd (cc)
   of_rest word name v (Some []) is h =
       let whole = rest_is (dashes ++ n) word [] is in
-      let pair : (n, None) ≡ (name, v) = pair_is (n, None) (name, v) h in
+      let pair : (n, None) ≡ (name, v) = same_Some (n, None) (name, v) h in
       let names : name ≡ n = sym (ap (λ (q : Word × Option Word). q.0) pair) in
       let values : v ≡ None = sym (ap (λ (q : Word × Option Word). q.1) pair) in
       (names, ap long_of whole ∙ (alone ∙ ap (λ o. Some (n, o)) (sym values)))
@@ -61,7 +59,7 @@ module _ (n : Word) (alone : long_of ((dashes ++ n) ++ []) ≡ Some (n, None))
       by_test false e = absurd (cc)
 
       by_names : (t : Bool) → valued_if n bs t ≡ Some (name, v) → (name ≡ n) × (v ≡ Some bs)
-      by_names true e = let pair = pair_is (n, Some bs) (name, v) e in
+      by_names true e = let pair = same_Some (n, Some bs) (name, v) e in
           (sym (ap (λ (q : Word × Option Word). q.0) pair), sym (ap (λ (q : Word × Option Word). q.1) pair))
       by_names false e = absurd (cc)
 

@@ -1,6 +1,7 @@
 -- What clap's walk holds once options and the graph file have their values.
 use Rattle.std.proofs.Common.{◌≡◌, List, [], ◌∷◌, ◌++◌, map, Bool, true, false, ◌||◌, if◌then◌else◌, Some, None}
 use Rattle.std.proofs.Common.{bytes_eq, refl, sym, ap, ◌∙◌, true≢false, append-nil}
+use Rattle.std.proofs.lemmas.Bool.{or_parts}
 use Rattle.clap.specs.Walk.{Rule, Row, action_of, reading_by, most_values, at_row, with_values, used, more_values}
 use Rattle.clap.specs.Walk.{has_row}
 use Rattle.clap.specs.Facts.{unwrap_or_range}
@@ -38,15 +39,11 @@ module _ (how : Reading) where
   at_new_by id change missing u us true e h rest = absurd (true≢false h)
   at_new_by id change missing u us false e h rest = ap (λ l. row u ∷ l) rest
 
-  or_right : (a b : Bool) → (a || b) ≡ false → b ≡ false
-  or_right true b h = absurd (true≢false h)
-  or_right false b h = h
-
   pub at_new : (id : Word) (change : Row → List Row) (missing : List Row) (us : List Given) → has id us ≡ false →
       at_row id change missing (rows us) ≡ rows us ++ missing
   at_new id change missing [] h = refl
   at_new id change missing (u ∷ us) h = at_new_by id change missing u us (bytes_eq u.0 id) refl h
-      (at_new id change missing us (or_right (bytes_eq u.0 id) (has id us) h))
+      (at_new id change missing us (or_parts (bytes_eq u.0 id) (has id us) h).1)
 
   pub has_row_rows : (id : Word) (us : List Given) → has_row id (rows us) ≡ has id us
   has_row_rows id [] = refl

@@ -1,7 +1,8 @@
 -- clap's walk, a word at a time.
-use Rattle.std.proofs.Common.{◌≡◌, ◌⊎◌, ℕ, List, [], ◌∷◌, ◌++◌, Bool, true, false, ◌&&◌, ◌||◌, if◌then◌else◌, Option}
+use Rattle.std.proofs.Common.{◌≡◌, ◌⊎◌, ℕ, List, [], ◌∷◌, ◌++◌, Bool, true, false, ◌||◌, if◌then◌else◌, Option}
 use Rattle.std.proofs.Common.{Some, None, codes, bytes_eq, refl, sym, ap, ap₂, ◌∙◌, subst, ⊎_elim, arith, true≢false}
 use Rattle.std.proofs.lemmas.Slice.Eq.{bytes_eq-Decides}
+use Rattle.std.proofs.Math.Bool.{or-false, or-true, and-false}
 use Rattle.clap.specs.Lexer.{long_of, short_of}
 use Rattle.clap.specs.Walk.{Rule, Row, Held, Walk, Waiting, idle, option, most_values, takes_values, takes_several}
 use Rattle.clap.specs.Walk.{is_multiple, arg_by_id, arg_by_long, arg_by_index, settled, settled_rows, walked}
@@ -60,18 +61,6 @@ pub record Serves (how : Reading) (S : Shape) : Type 0 where
   pub graph_by_index : arg_by_index S.rules 1 ≡ Some graph_rule
   pub once : S.args_override_self ≡ false
 
-or_true : (b : Bool) → (b || true) ≡ true
-or_true true = refl
-or_true false = refl
-
-or_false : (b : Bool) → (b || false) ≡ b
-or_false true = refl
-or_false false = refl
-
-and_false : (b : Bool) → (b && false) ≡ false
-and_false true = refl
-and_false false = refl
-
 pub most : {how : Reading} {a : Rule} {name : Word} → Single how a name → most_values a ≡ 1
 most s = ap (λ r. r.end_inclusive) s.range
 
@@ -129,7 +118,7 @@ module _ (how : Reading) (S : Shape) (k : Serves how S) where
   Goes W w W' = (turn_passes S [] W w ≡ true) × (walked S.rules [] W w ≡ W')
 
   has_append : (id : Word) (us : List Given) (u : Given) → has id (us ++ u ∷ []) ≡ (has id us || bytes_eq u.0 id)
-  has_append id [] u = or_false (bytes_eq u.0 id)
+  has_append id [] u = or-false (bytes_eq u.0 id)
   has_append id (v ∷ us) u = grind (arith, has_append id us u)
 
   rows_settle : (done : List Given) (p : Pend) → PendOk done p → settled_rows S.rules (pending_of p)
@@ -137,7 +126,7 @@ module _ (how : Reading) (S : Shape) (k : Serves how S) where
   rows_settle done p ok = ap (λ (h : Held). h.rows) (settles done p ok)
 
   at_two : (us : List Given) (w : Word) → position_of (us ++ (graph, w) ∷ []) ≡ 2
-  at_two us w = rw (has_append graph us (graph, w)) (rw or_true refl)
+  at_two us w = rw (has_append graph us (graph, w)) (rw or-true refl)
 
   abbrev walk_at : List Row → Option (Word × List Word) → Waiting → ℕ → Bool → Walk
   walk_at l pending waiting n trailing = record {
@@ -156,8 +145,8 @@ module _ (how : Reading) (S : Shape) (k : Serves how S) where
   operand done p w ok new dash long short =
       let first : position_of (all done p) ≡ 1 = rw new refl in
       let a = k.graph_single in (
-        rw (dash, long, short, first, k.graph_by_index, k.once, settle_ok done p ok) (or_true _),
-        rw (dash, long, short, first, k.graph_by_index, not_several a, a.set, a.no_last, a.id, and_false)
+        rw (dash, long, short, first, k.graph_by_index, k.once, settle_ok done p ok) (or-true _),
+        rw (dash, long, short, first, k.graph_by_index, not_several a, a.set, a.no_last, a.id, and-false)
             (ap₂ (λ l n. walk_at l (Some (graph, w ∷ [])) idle n false) (rows_settle done p ok)
             (sym (at_two (all done p) w))),
       )
@@ -169,8 +158,8 @@ module _ (how : Reading) (S : Shape) (k : Serves how S) where
   trailing done p w ok new =
       let first : position_of (all done p) ≡ 1 = rw new refl in
       let a = k.graph_single in (
-        rw (first, k.graph_by_index, k.once, settle_ok done p ok) (or_true _),
-        rw (first, k.graph_by_index, not_several a, a.set, a.id, and_false)
+        rw (first, k.graph_by_index, k.once, settle_ok done p ok) (or-true _),
+        rw (first, k.graph_by_index, not_several a, a.set, a.id, and-false)
             (ap₂ (λ l n. walk_at l (Some (graph, w ∷ [])) idle n true) (rows_settle done p ok)
             (sym (at_two (all done p) w))),
       )
@@ -187,7 +176,7 @@ module _ (how : Reading) (S : Shape) (k : Serves how S) where
 
   same_place : (us : List Given) (name v : Word) → is_option name ≡ true → position_of
       (us ++ (name, v) ∷ []) ≡ position_of us
-  same_place us name v o = rw (has_append graph us (name, v), not_graph name o) (rw or_false refl)
+  same_place us name v o = rw (has_append graph us (name, v), not_graph name o) (rw or-false refl)
 
   -- `--name=value`
   pub attached : (done : List Given) (p : Pend) (w name v : Word) → PendOk done p → has name (all done p) ≡ false →

@@ -4,10 +4,11 @@ use Rattle.std.proofs.Common.{None, is_some, option_map, option_and_then, find, 
 use Rattle.std.proofs.Common.{ap, ◌∙◌, subst, true≢false, fold}
 use Rattle.std.proofs.lemmas.Slice.Eq.{bytes_eq-Decides}
 use Rattle.std.specs.Option.{option_map_or}
+use Rattle.std.proofs.lemmas.Bool.{and_parts}
 use Rattle.clap.specs.Facts.{explicit_source}
 use Rattle.clap.specs.Walk.{Rule, Row, with_default, walk, finished, reading_by, arg_by_id, arg_by_long, walk_from}
 use Rattle.clap.specs.Walk.{nothing_held, first_of}
-use Rattle.clap.specs.Simple.{App, Shape, HasMatchesOf, built, matches_of, is_simple}
+use Rattle.clap.specs.Simple.{Shape, HasMatchesOf, built, matches_of}
 use Rattle.clap.specs.Matches.{found_of, first_value}
 use Rattle.clap.proofs.WalkLemmas.{first_value-rows}
 use Rattle.clap.specs.declared.parser.matches.ArgMatches.{ArgMatches}
@@ -76,17 +77,13 @@ same false l = refl
 no_defaults : (l : List Row) → fold with_default l shape.rules ≡ l
 no_defaults l = rw same (rw same (rw same (rw same refl)))
 
-split : (a b : Bool) → (a && b) ≡ true → (a ≡ true) × (b ≡ true)
-split true b h = (refl, h)
-split false b h = absurd (true≢false (sym h))
-
 complete : (o : Option (List Given)) (us : List Given) → option_and_then if_complete o ≡ Some us →
     (o ≡ Some us) × (are_new [] us ≡ true) × (has graph us ≡ true)
 complete None us h = absurd (cc)
 complete (Some vs) us h = complete_by (are_new [] vs && has graph vs) refl h where
   complete_by : (b : Bool) → (are_new [] vs && has graph vs) ≡ b → (if b then Some vs else None) ≡ Some us →
       (Some vs ≡ Some us) × (are_new [] us ≡ true) × (has graph us ≡ true)
-  complete_by true e h' = let is : vs ≡ us = cc in let both = split (are_new [] vs) (has graph vs) e in
+  complete_by true e h' = let is : vs ≡ us = cc in let both = and_parts (are_new [] vs) (has graph vs) e in
       (h', subst (λ l. are_new [] l ≡ true) is both.0, subst (λ l. has graph l ≡ true) is both.1)
   complete_by false e h' = absurd (cc)
 

@@ -17,9 +17,10 @@ use Rattle.flux_defs.specs.Jobs.{vertex_of, is_live, some_live_claim, holds_over
 use Rattle.flux_defs.specs.Closed.{Scene, is_withheld, has_withheld, is_closed, is_touched}
 use Rattle.flux_defs.specs.Free.{taken_at}
 use Rattle.flux_defs.specs.Available.{is_available_at, IsAvailable}
-use Rattle.graph_laws.proofs.Containment.{ParentsFirst, above_is_chain, not_from, not_to, up}
-use Rattle.graph_laws.proofs.Containment.{up-None, steps_of, below_trans}
+use Rattle.graph_laws.proofs.Containment.{ParentsFirst, not_to, up, up-None, steps_of, below_trans}
+use Rattle.graph_laws.proofs.Containment.{above_is_chain}
 use Rattle.graph_laws.proofs.Preorder.{has_parent}
+use Rattle.list_laws.proofs.Tests.{not_along}
 
 -- what the ask meets with these jobs
 abbrev pub with_bars : List Vertex → List Job → List ℕ → Scene
@@ -27,9 +28,6 @@ with_bars vertices jobs barred = record { vertices = vertices; jobs = jobs; barr
 
 pub or_along : (a b c d : Bool) → (IsTrue a → IsTrue c) → (IsTrue b → IsTrue d) → IsTrue (a || b) → IsTrue (c || d)
 or_along a b c d f g h = elim (or_cases a b h) [ inl x ↦ or_left c d (f x) | inr y ↦ or_right c d (g y) ]
-
-pub not_along : (a b : Bool) → (IsTrue a → IsTrue b) → IsTrue (not b) → IsTrue (not a)
-not_along a b f h = not_from a (λ x. not_to b h (f x))
 
 -- so much can be had where no more is closed and no more is taken
 pub had_along : (q : ℕ) (a b pool : Bool) (size x y : ℕ) → (IsTrue a → IsTrue b) → x ≤ y →

@@ -12,7 +12,7 @@ use Rattle.flux_defs.specs.Fits.{Pick, Pieces, Piece, FitsRow}
 use Rattle.flux_defs.specs.Lowest.{FillsFrom, CanServe, LowestPiece, LowestRow, Lowest}
 use Rattle.graph_laws.proofs.Containment.{ParentsFirst, below_self, below_trans, below_to}
 use Rattle.flux_laws.proofs.FitLaws.{lowest_row_fits}
-use Rattle.match_laws.proofs.MoreAvailable.{piece_more}
+use Rattle.match_laws.proofs.MoreAvailable.{piece_more, pieces_map}
 
 -- what holds of each element of two lists' holds of each of either
 pub all_split : {X : Type 0} (P : X → Type 0) (xs ys : List X) → AllByRecursion P (xs ++ ys) →
@@ -44,13 +44,6 @@ module _ (free : Claim → Type 0) (can few : ℕ → ℕ → Type 0) (piece oth
         (g.0, g.1, g.2, s.1, r.1),
       )
 
-pieces_along : (piece other : ℕ → ℕ → List Claim → Type 0) →
-    ((v q : ℕ) (claims : List Claim) → piece v q claims → other v q claims) →
-    (ps : List Pick) (claims : List Claim) → Pieces piece ps claims → Pieces other ps claims
-pieces_along piece other f [] claims g = g
-pieces_along piece other f (p ∷ ps) claims g =
-    (g.0, g.1, g.2, f p.0 p.1 g.0 g.3, pieces_along piece other f ps g.1 g.4)
-
 -- what fits below a vertex still does where all that is available at the vertex and below it still is
 module _ (vertices : List Vertex) (first : ParentsFirst vertices) (ok more : Claim → Type 0) (root : ℕ)
     (along : (c : Claim) → vertex_of c < length vertices → IsTrue (is_at_or_below vertices (vertex_of c) root) →
@@ -81,7 +74,7 @@ module _ (vertices : List Vertex) (first : ParentsFirst vertices) (ok more : Cla
     row_within u h k end_of-Need claims f = f
     row_within u h k (more_of-Need need rest) claims f =
         let g = f.3 in
-        let pieces = pieces_along (Piece vertices ok (Beneath u) need) (Piece vertices more (Beneath u) need)
+        let pieces = pieces_map (Piece vertices ok (Beneath u) need) (Piece vertices more (Beneath u) need)
         (piece_within u h need) g.0 f.0 g.4 in
         (f.0, f.1, f.2, (g.0, g.1, g.2, g.3, pieces), row_within u h k rest f.1 f.4)
 

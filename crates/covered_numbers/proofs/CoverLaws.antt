@@ -3,10 +3,10 @@ use Rattle.std.proofs.Common.{◌≡◌, ℕ, zero, suc, ◌+◌, ◌≤◌, ◌
 use Rattle.std.proofs.Common.{◌∷◌, length, max, refl, sym, ap, subst, arith, slice_index_or, Contains, nat_le}
 use Rattle.std.specs.Prelude.{⊤}
 use Rattle.std.specs.List.Sorted.{IsNonDecreasingBy, IsPermutation, IsPartitionPoint, IsPartitionedBy}
-use Rattle.std.proofs.lemmas.Bool.Decides.{nat_tests}
-use Rattle.std.proofs.lemmas.Bool.{and_parts}
+use Rattle.std.proofs.lemmas.Bool.{and_parts, or_cases, or_right, leb-true, le-leb, leb-false}
 use Rattle.std.proofs.lemmas.List.{get_or_default}
 use Rattle.std.proofs.lemmas.List.Sorted.{Contains-permutation, IsPermutation-sym}
+use Rattle.std.specs.Cmp.{both_ways}
 use Rattle.covered_numbers.specs.declared.stretches.Stretch.{Stretch}
 use Rattle.covered_numbers.specs.Covers.{has_number, is_covered, raised}
 
@@ -129,22 +129,13 @@ permuted xs ys number moves (s, at, low, high) = (s, Contains-permutation xs ys 
 
 -- ---- one look
 
-begun : (a b : ℕ) → nat_le a b ≡ true → a ≤ b
-begun a b e = grind (arith, nat_tests)
-
-later : (a b : ℕ) → nat_le a b ≡ false → b < a
-later a b e = grind (arith, nat_tests)
-
-begins : (a b : ℕ) → a ≤ b → nat_le a b ≡ true
-begins a b e = grind (arith, nat_tests)
-
 -- where a stretch begins at the number or before, those before it do
 pub parted : (ss : List Stretch) (number : ℕ) → IsNonDecreasingBy (λ s. s.first) ss
     → IsPartitionedBy (λ s. nat_le s.first number) ss
 parted ss number up i j d le within e =
     let low = up i j d le within in
-    let first = begun (slice_index_or ss j d).first number e in
-    begins (slice_index_or ss i d).first number (omega arith)
+    let first = leb-true (slice_index_or ss j d).first number e in
+    le-leb (slice_index_or ss i d).first number (omega arith)
 
 -- the first k stretches are those that begin at the number or before
 abbrev pub BeginBy : List Stretch → ℕ → ℕ → Type 0
@@ -152,7 +143,7 @@ BeginBy ss number k = IsPartitionPoint (λ s. nat_le s.first number ≡ true) (�
 
 pub none_begun : (ss : List Stretch) (number : ℕ) → BeginBy ss number 0 → IsCovered ss number → ⊥
 none_begun ss number point (s, (k, within, at), low, high) =
-    let past = later (slice_index_or ss k s).first number (point.1 k s (omega arith) within) in
+    let past = leb-false (slice_index_or ss k s).first number (point.1 k s (omega arith) within) in
     let same : (slice_index_or ss k s).first ≡ s.first = ap (λ (x : Stretch). x.first) at in omega arith
 
 -- of these the last one reaches farthest
@@ -168,40 +159,31 @@ last_begun ss number k d up within point (s, (i, inside, at), low, high) = by (n
         (get_or_default ss k s d within) in
         omega arith
     by (inr behind) =
-        let past = later (slice_index_or ss i s).first number (point.1 i s (omega arith) inside) in
+        let past = leb-false (slice_index_or ss i s).first number (point.1 i s (omega arith) inside) in
         let same : (slice_index_or ss i s).first ≡ s.first = ap (λ (x : Stretch). x.first) at in absurd (omega arith)
 
 pub last_has : (ss : List Stretch) (number k : ℕ) (d : Stretch) → k < length ss → BeginBy ss number (k + 1)
     → number ≤ (slice_index_or ss k d).last → IsCovered ss number
 last_has ss number k d within point high =
-    let low = begun (slice_index_or ss k d).first number (point.0 k d (omega arith) (omega arith)) in
+    let low = leb-true (slice_index_or ss k d).first number (point.0 k d (omega arith) (omega arith)) in
     (slice_index_or ss k d, (k, within, get_or_default ss k (slice_index_or ss k d) d within), low, high)
 
 -- ---- said as a test
 
-same_test : (a b : Bool) → (a ≡ true → b ≡ true) → (b ≡ true → a ≡ true) → a ≡ b
-same_test true b on back = sym (on refl)
-same_test false true on back = back refl
-same_test false false on back = refl
-
-either : (a b : Bool) → a || b ≡ true → (a ≡ true) ⊎ (b ≡ true)
-either true b e = inl refl
-either false b e = inr e
-
 test_tells : (ss : List Stretch) (number : ℕ) → is_covered ss number ≡ true → IsCovered ss number
 test_tells [] number e = absurd cc
-test_tells (s ∷ ss) number e = elim (either (has_number number s) (is_covered ss number) e) [
+test_tells (s ∷ ss) number e = elim (or_cases (has_number number s) (is_covered ss number) e) [
   | inl own ↦ (let both = and_parts (nat_le s.first number) (nat_le number s.last) own in
-      here s ss number (begun s.first number both.0) (begun number s.last both.1))
+      here s ss number (leb-true s.first number both.0) (leb-true number s.last both.1))
   | inr more ↦ behind s ss number (test_tells ss number more)
 ]
 
 test_passes : (ss : List Stretch) (number : ℕ) → IsCovered ss number → is_covered ss number ≡ true
 test_passes [] number (t, (k, within, at), low, high) = absurd (omega arith)
 test_passes (s ∷ ss) number c = elim (split s ss number c) [
-  | inl own ↦ by_own (nat_le s.first number) (nat_le number s.last) (begins s.first number own.0)
-      (begins number s.last own.1)
-  | inr more ↦ by_more (has_number number s) (is_covered ss number) (test_passes ss number more)
+  | inl own ↦ by_own (nat_le s.first number) (nat_le number s.last) (le-leb s.first number own.0)
+      (le-leb number s.last own.1)
+  | inr more ↦ or_right (has_number number s) (is_covered ss number) (test_passes ss number more)
 ]
   where
     by_own : (a b : Bool) → a ≡ true → b ≡ true → (a && b) || is_covered ss number ≡ true
@@ -209,27 +191,23 @@ test_passes (s ∷ ss) number c = elim (split s ss number c) [
     by_own true false ea eb = absurd cc
     by_own false b ea eb = absurd cc
 
-    by_more : (a b : Bool) → b ≡ true → a || b ≡ true
-    by_more true b e = refl
-    by_more false b e = e
-
 -- so one look tells
 pub no_look : (ss : List Stretch) (number : ℕ) → BeginBy ss number 0 → false ≡ is_covered ss number
-no_look ss number point = same_test false (is_covered ss number) (λ e. absurd cc)
+no_look ss number point = both_ways false (is_covered ss number) (λ e. absurd cc)
     (λ e. absurd (none_begun ss number point (test_tells ss number e)))
 
 pub one_look : (ss : List Stretch) (number k : ℕ) (d : Stretch) → IsNonDecreasingBy (λ s. s.last) ss → k < length ss
     → BeginBy ss number (k + 1) → nat_le number (slice_index_or ss k d).last ≡ is_covered ss number
-one_look ss number k d up within point = same_test (nat_le number (slice_index_or ss k d).last) (is_covered ss number)
-    (λ e. test_passes ss number (last_has ss number k d within point (begun number (slice_index_or ss k d).last e)))
-    (λ e. begins number (slice_index_or ss k d).last (last_begun ss number k d up within point
+one_look ss number k d up within point = both_ways (nat_le number (slice_index_or ss k d).last) (is_covered ss number)
+    (λ e. test_passes ss number (last_has ss number k d within point (leb-true number (slice_index_or ss k d).last e)))
+    (λ e. le-leb number (slice_index_or ss k d).last (last_begun ss number k d up within point
     (test_tells ss number e)))
 
 -- ---- the whole
 
 pub same_numbers : (xs ys : List Stretch) (number : ℕ) → IsPermutation xs ys → IsNonDecreasingBy (λ s. s.first) ys
     → is_covered (raised 0 ys) number ≡ is_covered xs number
-same_numbers xs ys number moves up = same_test (is_covered (raised 0 ys) number) (is_covered xs number)
+same_numbers xs ys number moves up = both_ways (is_covered (raised 0 ys) number) (is_covered xs number)
     (λ e. test_passes xs number (permuted ys xs number (IsPermutation-sym xs ys moves)
     (longer_same ys number (rises (λ (s : Stretch). s.first) ys up) (test_tells (raised 0 ys) number e))))
     (λ e. test_passes (raised 0 ys) number (longer_have 0 ys number

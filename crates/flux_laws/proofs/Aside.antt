@@ -1,10 +1,8 @@
 -- Claims under disjoint vertices are aside of each other.
 use Rattle.std.proofs.Common.{◌≡◌, ◌≢◌, ℕ, zero, suc, ◌<◌, List, [], ◌∷◌, Some, slice_get, inl, inr, ap, subst, arith}
-use Rattle.std.proofs.Common.{IsTrue, Contains}
+use Rattle.std.proofs.Common.{IsTrue}
 use mathlib.Core.Path.{transport⁻¹}
 use Rattle.std.proofs.lemmas.Bool.{cases_lt}
-use Rattle.std.specs.List.{AllByRecursion}
-use Rattle.std.proofs.lemmas.List.Elements.{All-from_recursion}
 use Rattle.flux_defs.specs.declared.vertices.Vertex.{Vertex}
 use Rattle.flux_defs.specs.declared.claims.Claim.{Claim}
 use Rattle.flux_defs.specs.declared.requests.Need.{Need}
@@ -22,11 +20,7 @@ use Rattle.flux_laws.proofs.Groups as groups
 use Rattle.flux_laws.proofs.Groups.{NoneNested}
 use Rattle.flux_laws.proofs.Valid.{none_nested}
 use Rattle.flux_laws.proofs.Rows.{fits_list, valid_to_row}
-use Rattle.list_laws.proofs.Lists.{all_at}
-
--- what holds of each member holds of one
-pub of_member : {X : Type 0} (P : X → Type 0) (xs : List X) (x : X) → AllByRecursion P xs → Contains xs x → P x
-of_member P xs x all (k, lt, is) = subst P is (All-from_recursion P xs all k x lt)
+use Rattle.list_laws.proofs.Lists.{all_at, all_contained}
 
 module _ (vertices : List Vertex) (first : ParentsFirst vertices) (unnested : NoneNested vertices) where
   aside : (a b : ℕ) (c d : Claim) → groups.AreDisjoint vertices first unnested a b →
@@ -49,9 +43,9 @@ module _ (vertices : List Vertex) (first : ParentsFirst vertices) (unnested : No
       (groups.piece_apart vertices first unnested ok scope a va) ga.0 cs ga.1 ga.4 in
       let rb = groups.pieces_apart vertices first unnested ok scope b
       (groups.piece_apart vertices first unnested ok scope b vb) gb.0 ds gb.1 gb.4 in
-      let x = of_member (groups.RootedIn vertices first unnested scope
+      let x = all_contained (groups.RootedIn vertices first unnested scope
       (groups.IsOfPicks vertices first unnested ok a ga.0)) cs c ra.1 hc in
-      let y = of_member (groups.RootedIn vertices first unnested scope
+      let y = all_contained (groups.RootedIn vertices first unnested scope
       (groups.IsOfPicks vertices first unnested ok b gb.0)) ds d rb.1 hd in
       aside x.0 y.0 c d (apart x.0 y.0 x.1.0.0 y.1.0.0) x.2 y.2
 
@@ -62,9 +56,9 @@ module _ (vertices : List Vertex) (first : ParentsFirst vertices) (unnested : No
   picks_aside need valid ok scope v u q r cs ds ne pc pd c d hc hd =
       let vc = groups.piece_vertex vertices first unnested ok scope need v q cs pc in
       let vd = groups.piece_vertex vertices first unnested ok scope need u r ds pd in
-      let x = of_member (groups.Under vertices first unnested v) cs c
+      let x = all_contained (groups.Under vertices first unnested v) cs c
       (groups.piece_apart vertices first unnested ok scope need valid v q cs pc).1 hc in
-      let y = of_member (groups.Under vertices first unnested u) ds d
+      let y = all_contained (groups.Under vertices first unnested u) ds d
       (groups.piece_apart vertices first unnested ok scope need valid u r ds pd).1 hd in
       aside v u c d (groups.picks_disjoint vertices first unnested need v u ne vc.0 vd.0) x y
 

@@ -7,7 +7,7 @@ use Rattle.std.specs.Borrow.{Bor}
 use Rattle.std.proofs.lemmas.Bool.{cases_lt, cases_eq, and_from, ne_eqb, not_from_false}
 use Rattle.std.proofs.lemmas.List.{length_push, length-map}
 use Rattle.std.proofs.lemmas.List.Folds.{list_any_at}
-use Rattle.std.proofs.lemmas.Option.{slice_get-get_or, slice_get_within, same_Some, get_or_from_slice_get}
+use Rattle.std.proofs.lemmas.Option.{slice_get-get_or, slice_get_within, same_Some, get_or_from_slice_get, none-some}
 use Rattle.std.specs.declared.cmp.Ordering.{Ordering}
 use Rattle.std.specs.declared.cmp.Ordering.TheVariants.{Equal}
 use Rattle.flux_defs.specs.declared.vertices.Vertex.{Vertex}
@@ -53,9 +53,6 @@ key_at {K} Is most keys v has lt some = go (get_or keys v None)
     go : (o : Option K) → slice_get keys v ≡ Some o → (k : K) × (slice_get keys v ≡ Some (Some k)) × Is v (Some k)
     go None e = absurd (some (has.each v None e))
     go (Some k) e = (k, e, has.each v (Some k) e)
-
-pub none_some : (n : ℕ) → None ≡ Some n → ⊥
-none_some n e = cc
 
 -- what the table of houses has at a vertex
 pub house_at : (g : ResourceGraph) (most : ℕ) (houses : List (Option ℕ)) (v n : ℕ) → HasHouses g most houses →
@@ -329,9 +326,9 @@ module _ (kinds : List (List ℕ)) (raw : List RawVertex) where
         go None e = absurd (true≢false (sym (subst IsSome e bad.3)))
         go (Some p) e =
             let at_v = key_at (IsSiblingKey raw) (length raw) keys v has (parent_in v p e)
-            (λ none. none_some p (sym none ∙ e)) in
+            (λ none. none-some p (sym none ∙ e)) in
             let at_u = key_at (IsSiblingKey raw) (length raw) keys bad.0 has (parent_in bad.0 p (bad.4 ∙ e))
-            (λ none. none_some p (sym none ∙ (bad.4 ∙ e))) in (
+            (λ none. none-some p (sym none ∙ (bad.4 ∙ e))) in (
               bad.0,
               at_u.0,
               at_v.0,
@@ -339,11 +336,8 @@ module _ (kinds : List (List ℕ)) (raw : List RawVertex) where
               at_u.1,
               at_v.1,
               from_same at_u.0 at_v.0 (same_Some _ _ (sym at_u.2.0 ∙ (bad.4 ∙ at_v.2.0)))
-                  (same_text _ _ (sym at_u.2.1 ∙ (bad.2 ∙ at_v.2.1))),
+                  (same_Some _ _ (sym at_u.2.1 ∙ (bad.2 ∙ at_v.2.1))),
             )
-          where
-            same_text : (a b : List ℕ) → Some a ≡ Some b → a ≡ b
-            same_text a b f = cc
 
     pub finds_sibling : (found : Option ℕ) → IsFirstOf (IsRepeated cmp keys) found → IsFirstOf IsNamedAsSibling found
     finds_sibling found first = finds_same (IsRepeated cmp keys) IsNamedAsSibling found sibling_named sibling_repeated
@@ -370,11 +364,8 @@ module _ (kinds : List (List ℕ)) (raw : List RawVertex) where
           bad.1,
           at_u.1,
           at_v.1,
-          from_same at_u.0 at_v.0 (same_text _ _ (sym at_u.2.1 ∙ (bad.2 ∙ at_v.2.1))),
+          from_same at_u.0 at_v.0 (same_Some _ _ (sym at_u.2.1 ∙ (bad.2 ∙ at_v.2.1))),
         )
-      where
-        same_text : (a b : List ℕ) → Some a ≡ Some b → a ≡ b
-        same_text a b f = cc
 
     pub finds_node : (found : Option ℕ) → IsFirstOf (IsRepeated cmp keys) found → IsFirstOf IsNamedAsNode found
     finds_node found first = finds_same (IsRepeated cmp keys) IsNamedAsNode found node_named node_repeated first

@@ -2,27 +2,21 @@
 use Rattle.std.proofs.Common.{◌≡◌, ℕ, zero, suc, ◌+◌, ◌-◌, ◌<◌, ◌≤◌, nat_eq, Bool, true, false, List, [], ◌∷◌, ◌++◌}
 use Rattle.std.proofs.Common.{length, get_or, reverse, Option, Some, None, inl, inr, refl, sym, ◌∙◌, ap, subst, arith}
 use Rattle.std.proofs.Common.{IsTrue, true≢false}
-use Rattle.std.specs.Prelude.{slice_get, cond}
-use Rattle.std.specs.declared.cmp.Ordering.TheVariants.{Less, Equal, Greater}
+use Rattle.std.specs.Prelude.{slice_get}
 use Rattle.std.specs.Ordering.{nat_cmp, is_lt, ordering_then}
 use Rattle.std.specs.Cmp.Lexicographic.{slice_cmp}
 use Rattle.std.specs.List.{list_any}
-use Rattle.std.proofs.lemmas.Bool.{cases_lt, cases_order, lt-ltb, le-ltb, eq-eqb, or_right, or_left}
+use Rattle.std.proofs.lemmas.Bool.{cases_lt, cases_order, or_right, or_left}
 use Rattle.std.proofs.lemmas.List.{reverse-append, reverse-reverse, append_assoc, length_push, get_or_push}
 use Rattle.std.proofs.lemmas.List.Folds.{list_any-append}
+use Rattle.graph_build.proofs.OrderLaws.{itself_number}
 use Rattle.flux_defs.specs.declared.vertices.Vertex.{Vertex}
 use Rattle.flux_defs.specs.Graph.{parent_of, chain, is_at_or_below}
 use Rattle.graph_laws.proofs.Containment.{at_or_below-opens, equal_from}
 use Rattle.resource_graph.specs.Chains.{chain_of}
 use Rattle.graph_build.specs.Orders.{IsRooted, IsOrderOf, IsPreorderOf}
-use Rattle.resource_graph.proofs.ChainLaws.{chains_agree, chain_short}
-
-pub cmp_less : (x y : ℕ) → x < y → nat_cmp x y ≡ Less
-cmp_less x y lt = ap (λ b. cond b Less (cond (nat_eq x y) Equal Greater)) (lt-ltb x y lt)
-
-pub cmp_same : (x : ℕ) → nat_cmp x x ≡ Equal
-cmp_same x = ap (λ b. cond b Less (cond (nat_eq x x) Equal Greater)) (le-ltb x x (omega arith))
-    ∙ ap (λ b. cond b Equal Greater) (eq-eqb x x refl)
+use Rattle.resource_graph.proofs.ChainLaws.{chains_agree, chain_short, chain-None}
+use Rattle.list_laws.proofs.Tests.{below_is_less}
 
 -- xs stands before ys
 abbrev pub stands_before : List ℕ → List ℕ → Bool
@@ -31,14 +25,14 @@ stands_before xs ys = is_lt (slice_cmp nat_cmp xs ys)
 -- a list stands before what it begins
 pub before_longer : (xs : List ℕ) (y : ℕ) (ys : List ℕ) → stands_before xs (xs ++ y ∷ ys) ≡ true
 before_longer [] y ys = refl
-before_longer (x ∷ xs) y ys = ap (λ o. is_lt (ordering_then o (slice_cmp nat_cmp xs (xs ++ y ∷ ys)))) (cmp_same x)
+before_longer (x ∷ xs) y ys = ap (λ o. is_lt (ordering_then o (slice_cmp nat_cmp xs (xs ++ y ∷ ys)))) (itself_number x)
     ∙ before_longer xs y ys
 
 -- after one beginning the lesser number stands first
 pub before_by_last : (p : List ℕ) (a b : ℕ) → a < b → stands_before (p ++ a ∷ []) (p ++ b ∷ []) ≡ true
-before_by_last [] a b lt = ap (λ o. is_lt (ordering_then o (slice_cmp nat_cmp [] []))) (cmp_less a b lt)
+before_by_last [] a b lt = ap (λ o. is_lt (ordering_then o (slice_cmp nat_cmp [] []))) (below_is_less a b lt)
 before_by_last (x ∷ p) a b lt = ap (λ o. is_lt (ordering_then o (slice_cmp nat_cmp (p ++ a ∷ []) (p ++ b ∷ []))))
-    (cmp_same x) ∙ before_by_last p a b lt
+    (itself_number x) ∙ before_by_last p a b lt
 
 -- what stands between a list and one that is longer by one number begins with it
 pub begins_between : (p b : List ℕ) (w : ℕ) → stands_before b p ≡ false → stands_before (p ++ w ∷ []) b ≡ false →
@@ -50,17 +44,17 @@ begins_between (x ∷ p) (y ∷ b) w low high =
       | inl same ↦ (
           let at_low : stands_before b p ≡ false = sym
           (ap (λ o. is_lt (ordering_then o (slice_cmp nat_cmp b p)))
-          (ap (λ z. nat_cmp z x) (sym same) ∙ cmp_same x)) ∙ low in
+          (ap (λ z. nat_cmp z x) (sym same) ∙ itself_number x)) ∙ low in
           let at_high : stands_before (p ++ w ∷ []) b ≡ false =
           sym (ap (λ o. is_lt (ordering_then o (slice_cmp nat_cmp (p ++ w ∷ []) b)))
-          (ap (λ z. nat_cmp x z) (sym same) ∙ cmp_same x)) ∙ high in
+          (ap (λ z. nat_cmp x z) (sym same) ∙ itself_number x)) ∙ high in
           let rest = begins_between p b w at_low at_high in
           (rest.0, ap (λ z. z ∷ b) (sym same) ∙ ap (λ l. x ∷ l) rest.1))
       | inr differ ↦ elim differ [
         | inl less ↦ absurd (true≢false (sym (ap (λ o. is_lt (ordering_then o (slice_cmp nat_cmp (p ++ w ∷ []) b)))
-            (cmp_less x y less)) ∙ high))
+            (below_is_less x y less)) ∙ high))
         | inr more ↦ absurd (true≢false (sym (ap (λ o. is_lt (ordering_then o (slice_cmp nat_cmp b p)))
-            (cmp_less y x more)) ∙ low))
+            (below_is_less y x more)) ∙ low))
       ]
     ]
 
@@ -88,10 +82,6 @@ module _ (vertices : List Vertex) (rooted : IsRooted vertices) where
           ap (λ m. chain vertices m (Some v)) e ∙ (ap (λ l. v ∷ l) same
           ∙ ap (λ m. v ∷ chain vertices m (parent_of vertices v)) (sym e))
 
-  none_chain : (n : ℕ) → chain vertices n None ≡ []
-  none_chain zero = refl
-  none_chain (suc n) = refl
-
   pub path_below : (v p : ℕ) → v < length vertices → parent_of vertices v ≡ Some p → path_to v ≡ path_to p ++ v ∷ []
   path_below v p lt e =
       let found : chain_of vertices v ≡ v ∷ chain_of vertices p = chain_step v lt
@@ -101,7 +91,8 @@ module _ (vertices : List Vertex) (rooted : IsRooted vertices) where
   pub path_root : (v : ℕ) → v < length vertices → parent_of vertices v ≡ None → path_to v ≡ v ∷ []
   path_root v lt e =
       let found : chain_of vertices v ≡ v ∷ [] = chain_step v lt
-      ∙ (ap (λ o. v ∷ chain vertices (length vertices) o) e ∙ ap (λ l. v ∷ l) (none_chain (length vertices))) in
+      ∙ (ap (λ o. v ∷ chain vertices (length vertices) o) e
+      ∙ ap (λ l. v ∷ l) (chain-None vertices (length vertices))) in
       ap reverse found
 
   -- each path ends in its vertex

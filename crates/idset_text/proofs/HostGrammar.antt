@@ -7,7 +7,7 @@ use Rattle.std.specs.Fmt.{decimal}
 use Rattle.std.specs.List.{list_all, join_with_byte, position, AllZip}
 use Rattle.std.specs.Option.{option_and_then, option_map}
 use Rattle.std.proofs.lemmas.Bool.{and_parts, and_from, or_cases, not-true, leb-true, le-leb, eqb-true, eq-eqb}
-use Rattle.std.proofs.lemmas.Option.{cond_some, option_and_then_some}
+use Rattle.std.proofs.lemmas.Option.{cond_some, option_and_then_some, same_Some}
 use Rattle.std.proofs.lemmas.List.{length-append, length-drop, get_or-drop, take-append-drop, drop_more, drop_all}
 use Rattle.std.proofs.lemmas.List.{append-nil}
 use Rattle.std.proofs.lemmas.List.Elements.{All-nil, All-cons, All-contains}
@@ -154,19 +154,13 @@ piece_was_read prefix piece numbers e =
 pieces_were_read : (prefix : List ℕ) (parts : List (List ℕ)) (hosts : List Hosts) →
     hosts_of_pieces prefix parts ≡ Some hosts → AllZip (IsPiece prefix) parts hosts
 pieces_were_read prefix [] hosts e = let P : List Hosts → Type 0 = λ hs. AllZip (IsPiece prefix) [] hs in
-    subst P (some_same [] hosts e) tt
-  where
-    some_same : (a b : List Hosts) → Some a ≡ Some b → a ≡ b
-    some_same a b f = cc
+    subst P (same_Some [] hosts e) tt
 pieces_were_read prefix (part ∷ parts) hosts e =
     option_and_then_some (λ numbers. option_map (λ others. Many prefix numbers.lo numbers.hi numbers.width ∷ others)
     (hosts_of_pieces prefix parts)) (numbers_of (length prefix) part) hosts e
     (λ numbers here rest. by_others numbers (piece_was_read prefix part numbers here)
     (hosts_of_pieces prefix parts) (λ others f. pieces_were_read prefix parts others f) refl rest)
   where
-    some_same : (a b : List Hosts) → Some a ≡ Some b → a ≡ b
-    some_same a b f = cc
-
     by_others : (numbers : Numbers) → WasPiece prefix part numbers → (o : Option (List Hosts)) →
         ((others : List Hosts) → hosts_of_pieces prefix parts ≡ Some others → AllZip (IsPiece prefix) parts others) →
         hosts_of_pieces prefix parts ≡ o
@@ -175,7 +169,7 @@ pieces_were_read prefix (part ∷ parts) hosts e =
     by_others numbers was None later read f = absurd cc
     by_others numbers was (Some others) later read f =
         let P : List Hosts → Type 0 = λ hs. AllZip (IsPiece prefix) (part ∷ parts) hs in
-        subst P (some_same (Many prefix numbers.lo numbers.hi numbers.width ∷ others) hosts f)
+        subst P (same_Some (Many prefix numbers.lo numbers.hi numbers.width ∷ others) hosts f)
         ((refl, was.first, was.last, was.lists), later others read)
 
 ends_of-lists : (prefix piece first last : List ℕ) (lo hi width : ℕ) →
@@ -445,14 +439,11 @@ list_was_read prefix list hosts e = by_test (eqb (length prefix) 0 || is_host_na
 item_was_read : (item : List ℕ) (hosts : List Hosts) → hosts_of_item item ≡ Some hosts → IsHostItem item hosts
 item_was_read item hosts e = by_test (is_host_name item) refl e
   where
-    some_same : (a b : List Hosts) → Some a ≡ Some b → a ≡ b
-    some_same a b f = cc
-
     by_test : (b : Bool) → is_host_name item ≡ b →
         cond b (Some (One item ∷ [])) (option_and_then
         (λ place. hosts_of_list (take place item) (take (length item - 1 - (place + 1)) (drop (place + 1) item)))
         (list_place item)) ≡ Some hosts → IsHostItem item hosts
-    by_test true is f = inl (is, sym (some_same (One item ∷ []) hosts f))
+    by_test true is f = inl (is, sym (same_Some (One item ∷ []) hosts f))
     by_test false is f =
         option_and_then_some (λ place. hosts_of_list
         (take place item) (take (length item - 1 - (place + 1)) (drop (place + 1) item))) (list_place item) hosts f

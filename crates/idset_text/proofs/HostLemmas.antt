@@ -6,7 +6,7 @@ use Rattle.std.specs.Prelude.{Contains, map}
 use Rattle.std.specs.Fmt.{decimal}
 use Rattle.std.specs.Char.{is_ascii_digit}
 use Rattle.std.proofs.lemmas.Bool.{cases_lt, or_cases, and_parts, and_from, leb-true, le-leb, lt-ltb, ltb-true}
-use Rattle.std.proofs.lemmas.Bool.{eqb-true, eq-eqb, not-true}
+use Rattle.std.proofs.lemmas.Bool.{eqb-true, eq-eqb, not-true, or_right}
 use Rattle.std.proofs.lemmas.List.{length-append, length-replicate}
 use Rattle.std.proofs.lemmas.List.Elements.{Contains-append_left, Contains-append_right, Contains-append_cases}
 use Rattle.std.proofs.lemmas.Fmt.{decimal_nonempty, digits_value-decimal}
@@ -98,16 +98,12 @@ padded_has_width : (width n : ℕ) → n < 4294967296 → has_width width (padde
 padded_has_width width n small =
     elim (cases_lt width (length (decimal n))) [
       | inl short ↦ ap (has_width width) (padded-filled width n (omega arith))
-          ∙ or_second (eqb (length (decimal n)) width) _
+          ∙ or_right (eqb (length (decimal n)) width) _
           (and_from _ _ (lt-ltb _ _ short) (ap not (has_leading_zero-decimal n (omega arith))))
       | inr long ↦
           ap (λ (t : Bool). t || (ltb width (length (padded width n)) && not (has_leading_zero (padded width n))))
           (eq-eqb (length (padded width n)) width (omega (arith, length-padded width n)))
     ]
-  where
-    or_second : (a b : Bool) → b ≡ true → (a || b) ≡ true
-    or_second true b e = refl
-    or_second false b e = e
 
 -- digits that have the width are the padded number
 width_is_padded : (width n : ℕ) (digits : List ℕ) →

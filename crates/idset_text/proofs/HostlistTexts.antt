@@ -8,7 +8,7 @@ use Rattle.std.specs.List.{list_all, position}
 use Rattle.std.specs.Option.{option_and_then}
 use Rattle.std.specs.Char.{is_ascii_digit}
 use Rattle.std.proofs.lemmas.Bool.{and_parts, and_from, and_right, or_cases, cases_Bool, not-true, both_ways, leb-true}
-use Rattle.std.proofs.lemmas.Bool.{le-leb, lt-ltb, ltb-true, eqb-true, eq-eqb, ne_eqb}
+use Rattle.std.proofs.lemmas.Bool.{le-leb, lt-ltb, ltb-true, eqb-true, eq-eqb, ne_eqb, or_right}
 use Rattle.std.proofs.lemmas.Slice.Eq.{bytes_eq-Decides}
 use Rattle.std.proofs.lemmas.List.{length-append, take-append-drop, take_at, get_or_at, get_or_push, append-nil}
 use Rattle.std.proofs.lemmas.List.{map-append}
@@ -17,6 +17,7 @@ use Rattle.std.proofs.lemmas.List.Sums.{AllPass-from_list_all}
 use Rattle.std.proofs.lemmas.List.Folds.{list_all-append, list_all_at}
 use Rattle.std.proofs.lemmas.Str.Parse.{digits_value_short}
 use Rattle.std.proofs.lemmas.Fmt.{length-decimal-le}
+use Rattle.std.proofs.lemmas.Option.{same_Some}
 use Rattle.flux_defs.specs.declared.limits.TheConstants.{MOST_NAME_BYTES}
 use Rattle.idset_text.specs.declared.hostlists.Hosts.{Hosts}
 use Rattle.idset_text.specs.declared.hostlists.Hosts.TheVariants.{One, Many}
@@ -105,15 +106,11 @@ list_place-listed prefix list p =
     (λ k lt. ne_eqb (get_or prefix k 0) 91 (λ e. both_ways (is_name_byte (get_or prefix k 0))
     (ap is_name_byte e) (AllPass-from_list_all is_name_byte prefix p k 0 lt))) refl
 
-or_second : (a b : Bool) → b ≡ true → (a || b) ≡ true
-or_second true b e = refl
-or_second false b e = e
-
 -- a prefix of a name is one, or nothing
 pub prefix_is_fine : (prefix : List ℕ) → list_all is_name_byte prefix ≡ true → length prefix ≤ MOST_NAME_BYTES →
     (eqb (length prefix) 0 || is_host_name prefix) ≡ true
 prefix_is_fine [] p short = refl
-prefix_is_fine (byte ∷ prefix) p short = or_second (eqb (length (byte ∷ prefix)) 0) (is_host_name (byte ∷ prefix))
+prefix_is_fine (byte ∷ prefix) p short = or_right (eqb (length (byte ∷ prefix)) 0) (is_host_name (byte ∷ prefix))
     (and_from _ _ (and_from _ _ (lt-ltb 0 (length (byte ∷ prefix)) (omega arith))
     (le-leb (length (byte ∷ prefix)) MOST_NAME_BYTES short)) p)
 
@@ -320,7 +317,7 @@ run_goes_on : (first last next : List ℕ) (seen : List (List ℕ)) →
     RunOf first last seen → continues first last next ≡ true → RunOf first next (seen ++ next ∷ [])
 run_goes_on first last next seen run e =
     let parts = continues_parts first last next e in
-    let same : parts.0 ≡ run.hi = some_same parts.0 run.hi (sym parts.1 ∙ run.last_number) in
+    let same : parts.0 ≡ run.hi = same_Some parts.0 run.hi (sym parts.1 ∙ run.last_number) in
     let number : host_number (digits_of next) ≡ Some (run.hi + 1) =
     parts.2.number ∙ ap (λ (k : ℕ). Some (k + 1)) same in
     let prefix : prefix_of next ≡ prefix_of first = sym parts.2.prefix ∙ run.prefix in
@@ -347,9 +344,6 @@ run_goes_on first last next seen run e =
           ∙ sym (names_from-add (prefix_of first) width (run.hi + 1 - run.lo) run.lo)
           ∙ ap (λ (k : ℕ). names_from (prefix_of first) width k run.lo) (sym count);
     }
-  where
-    some_same : (a b : ℕ) → Some a ≡ Some b → a ≡ b
-    some_same a b f = cc
 
 -- a run so far: many names, or its first alone
 abbrev IsRun : Bool → List ℕ → List ℕ → List (List ℕ) → Type 0

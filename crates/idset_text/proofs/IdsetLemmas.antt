@@ -1,9 +1,9 @@
 -- The ids of ranges, and the runs of ids.
 use Rattle.std.proofs.Common.{◌≡◌, ℕ, zero, suc, ◌+◌, ◌-◌, ◌<◌, ◌≤◌, ◌⊎◌, Bool, true, false, ◌||◌, cond, eqb, List, []}
-use Rattle.std.proofs.Common.{◌∷◌, ◌++◌, refl, sym, ap, ◌∙◌, inl, inr, append_assoc, arith}
+use Rattle.std.proofs.Common.{◌∷◌, ◌++◌, sym, ap, ◌∙◌, inl, inr, append_assoc, arith}
 use Rattle.std.specs.Prelude.{Contains}
 use Rattle.std.specs.List.{list_any}
-use Rattle.std.proofs.lemmas.Bool.{cases_eq, or_cases, and_parts, and_from, leb-true, le-leb, eq-eqb, ne_eqb}
+use Rattle.std.proofs.lemmas.Bool.{cases_eq, or_cases, and_parts, and_from, leb-true, le-leb, eq-eqb, ne_eqb, or_right}
 use Rattle.std.proofs.lemmas.List.Elements.{Contains-append_left, Contains-append_right, Contains-append_cases}
 use Rattle.idset_text.specs.declared.idsets.Range.{Range}
 use Rattle.idset_text.specs.Idsets.{is_within, ids_from, ids_between, ids_of, with_run, run_of, runs_of, range_text}
@@ -60,13 +60,9 @@ within_when_has (range ∷ ranges) id has =
           let high : id ≤ range.hi = omega (arith, bounds.0, bounds.1) in
           ap (λ (t : Bool). t || list_any (λ range. is_within range id) ranges)
           (and_from _ _ (le-leb _ _ low) (le-leb _ _ high))
-      | inr later ↦ or_later
+      | inr later ↦ or_right
           (is_within range id) (list_any (λ range. is_within range id) ranges) (within_when_has ranges id later)
     ]
-  where
-    or_later : (a b : Bool) → b ≡ true → (a || b) ≡ true
-    or_later true b e = refl
-    or_later false b e = e
 
 -- ---- runs
 

@@ -9,7 +9,7 @@ use Rattle.std.specs.List.Sorted.{IsStrictlyIncreasing}
 use Rattle.std.specs.Option.{option_and_then}
 use Rattle.std.proofs.lemmas.Bool.{and_parts, and_from, and_left, leb-true, le-leb, lt-ltb, ltb-true, eqb-true, eq-eqb}
 use Rattle.std.proofs.lemmas.Bool.{ne_eqb}
-use Rattle.std.proofs.lemmas.Option.{cond_some, option_and_then_some}
+use Rattle.std.proofs.lemmas.Option.{cond_some, option_and_then_some, same_Some}
 use Rattle.std.proofs.lemmas.List.{length-append, length-take, get_or_append_left, get_or_push, take_at}
 use Rattle.std.proofs.lemmas.List.{take-append-drop, drop_more, drop_all, append-nil}
 use Rattle.std.proofs.lemmas.List.Elements.{All-tail, All-head}
@@ -152,14 +152,11 @@ item_was_written bytes range e =
       elim (ends_make_up bytes) [
         | inl whole ↦
             let same : id_of (ends_of bytes).0 ≡ id_of (ends_of bytes).1 = ap id_of (whole.0 ∙ sym whole.1) in
-            inl (sym whole.0 ∙ first.0, some_same range.lo range.hi (sym ids.0 ∙ same ∙ ids.1))
+            inl (sym whole.0 ∙ first.0, same_Some range.lo range.hi (sym ids.0 ∙ same ∙ ids.1))
         | inr parts ↦ inr (parts ∙ ap (λ (x : List ℕ). x ++ 45 ∷ (ends_of bytes).1) first.0
             ∙ ap (λ (x : List ℕ). decimal range.lo ++ 45 ∷ x) last.0)
       ],
     )
-  where
-    some_same : (a b : ℕ) → Some a ≡ Some b → a ≡ b
-    some_same a b f = cc
 
 pub range_from-item : (least : ℕ) (item : List ℕ) (range : Range) →
     least ≤ range.lo → IsItem item range → range_from least item ≡ Some range

@@ -5,7 +5,7 @@ use Rattle.std.proofs.Common.{inr, append_assoc, arith}
 use Rattle.std.specs.List.{list_all, join_with_byte, position, position_or_len}
 use Rattle.std.specs.Char.{is_ascii_digit}
 use Rattle.std.proofs.lemmas.Bool.{and_parts, not-true, lt-ltb, le-ltb, ne_eqb, eqb-true}
-use Rattle.std.proofs.lemmas.List.{append-nil, drop_more, take_all, take_at, length-drop, length-append}
+use Rattle.std.proofs.lemmas.List.{append-nil, drop_more, take_at, length-append, take_rest}
 use Rattle.std.proofs.lemmas.List.{take-append-drop, get_or_append_left, get_or_at}
 use Rattle.std.proofs.lemmas.List.Quantifiers.{position-Some}
 use Rattle.std.proofs.lemmas.List.Sums.{position_or_len_is}
@@ -34,10 +34,6 @@ with_front-nil inside (byte ∷ bytes) = kept ((eqb byte 44) && not inside) (pie
     kept true parts = refl
     kept false parts = front_kept byte parts
 
--- a slice up to the text's end is what is left
-rest_is : (text : List ℕ) (n : ℕ) → take (length text - n) (drop n text) ≡ drop n text
-rest_is text n = take_all _ _ (omega (arith, length-drop n text))
-
 -- behind an item and its comma stand the other pieces
 pub rest_whole : (text : List ℕ) (n : ℕ) →
     n < length text → get_or text n 0 ≡ 44 → pieces false text ≡ take n text ∷ pieces_after (drop n text) →
@@ -46,7 +42,7 @@ rest_whole text n lt comma e =
     let parted : drop n text ≡ 44 ∷ drop (n + 1) text =
     drop_more text n 0 lt ∙ ap (λ (b : ℕ). b ∷ drop (n + 1) text) comma in
     e ∙ ap (λ (rest : List ℕ). take n text ∷ pieces_after rest) parted
-    ∙ ap (λ (rest : List ℕ). take n text ∷ pieces false rest) (sym (rest_is text (n + 1)))
+    ∙ ap (λ (rest : List ℕ). take n text ∷ pieces false rest) (sym (take_rest text (n + 1)))
 
 -- a text is its item, the comma and what is left
 pub split_at_comma : (text : List ℕ) (n : ℕ) →
@@ -55,7 +51,7 @@ split_at_comma text n lt comma =
     let parted : drop n text ≡ 44 ∷ drop (n + 1) text =
     drop_more text n 0 lt ∙ ap (λ (b : ℕ). b ∷ drop (n + 1) text) comma in
     sym (take-append-drop n text) ∙ ap (λ (rest : List ℕ). take n text ++ rest) parted
-    ∙ ap (λ (rest : List ℕ). take n text ++ 44 ∷ rest) (sym (rest_is text (n + 1)))
+    ∙ ap (λ (rest : List ℕ). take n text ++ 44 ∷ rest) (sym (take_rest text (n + 1)))
 
 -- ---- pieces that were joined
 

@@ -1,12 +1,13 @@
 -- Rows by their keys: which of sixteen parts has a key, and what a change of that part makes of all.
 use Rattle.std.proofs.Common.{◌≡◌, ◌≢◌, ℕ, zero, suc, ◌+◌, ◌*◌, ◌/◌, ◌%◌, ◌^◌, ◌<◌, ◌≤◌, List, [], ◌∷◌, ◌++◌, length}
 use Rattle.std.proofs.Common.{map, replicate, cond, Some, None, refl, ap, sym, ◌∙◌, ◌⊎◌, inl, inr, arith, slice_get}
-use Rattle.std.proofs.Common.{slice_set, subst}
+use Rattle.std.proofs.Common.{slice_set, subst, add-one}
 use Rattle.std.proofs.Math.Nat.{pow-suc}
 use Rattle.std.proofs.lemmas.Bool.{cases_lt}
 use Rattle.std.specs.Ordering.{nat_cmp}
 use Rattle.std.specs.Cmp.{nat_cmp_total, eq_by_cmp_equiv}
 use Rattle.std.specs.FinMap.{find}
+use Rattle.std.proofs.lemmas.Option.{slice_get_within}
 use Rattle.node_store.specs.Lending.{with_part}
 use Rattle.node_store.proofs.PartLaws.{parts_with}
 use Rattle.job_table.specs.declared.tables.Row.{Row}
@@ -16,6 +17,7 @@ use Rattle.job_table.specs.declared.parts.Body.TheVariants.{Entry, Fork}
 use Rattle.job_table.specs.Parts.{parts_in, with_digit, entries_from, entries_of, height_of, AreBelow, IsPart, AreParts}
 use Rattle.job_table.specs.Parts.{IsBranch, Sets}
 use Rattle.job_table.proofs.RowLaws.{unequal}
+use Rattle.list_laws.proofs.Lists.{get_some, get_set, get_beside, set_length, set_back}
 
 pub same_or_not : (a b : ℕ) → (a ≡ b) ⊎ (a ≢ b)
 same_or_not a b = elim (cases_lt a b) [
@@ -92,44 +94,11 @@ in_part key digit zero (p ∷ ps) part m g =
     (none_from key digit (suc digit) ps (omega arith) (omega arith))
     ∙ with_same key digit p.0 ∙ ap (λ (u : List (ℕ × Row) × ℕ). find nat_cmp key u.0) same
 in_part key digit (suc place) (p ∷ ps) part m g =
-    let here : suc place < length (p ∷ ps) = inside (p ∷ ps) (suc place) part g in
+    let here : suc place < length (p ∷ ps) = slice_get_within (p ∷ ps) (suc place) part g in
     let e : 16 * key + (digit + suc place) ≡ 16 * key + (suc digit + place) = omega arith in
     in_right (16 * key + (digit + suc place)) (map (with_digit digit) p.0) (entries_from (suc digit) ps)
     (with_other key (digit + suc place) digit p.0 (omega arith) (omega arith) (λ f. absurd (omega arith)))
     ∙ ap (λ k. find nat_cmp k (entries_from (suc digit) ps)) e ∙ in_part key (suc digit) place ps part (omega arith) g
-  where
-    inside : {X : Type 0} (xs : List X) (at : ℕ) (x : X) → slice_get xs at ≡ Some x → at < length xs
-    inside [] at x g = absurd (cc)
-    inside (y ∷ ys) zero x g = omega arith
-    inside (y ∷ ys) (suc at) x g = omega (arith, inside ys at x g)
-
-get_some : {X : Type 0} (xs : List X) (at : ℕ) → at < length xs → (x : X) × (slice_get xs at ≡ Some x)
-get_some [] at l = absurd (omega arith)
-get_some (x ∷ xs) zero l = (x, refl)
-get_some (x ∷ xs) (suc at) l = get_some xs at (omega arith)
-
-get_set : {X : Type 0} (xs : List X) (at : ℕ) (x : X) → at < length xs → slice_get (slice_set xs at x) at ≡ Some x
-get_set [] at x l = absurd (omega arith)
-get_set (y ∷ ys) zero x l = refl
-get_set (y ∷ ys) (suc at) x l = get_set ys at x (omega arith)
-
-get_beside : {X : Type 0} (xs : List X) (at other : ℕ) (x : X) → other ≢ at →
-    slice_get (slice_set xs at x) other ≡ slice_get xs other
-get_beside [] at other x ne = refl
-get_beside (y ∷ ys) zero zero x ne = absurd (ne refl)
-get_beside (y ∷ ys) zero (suc other) x ne = refl
-get_beside (y ∷ ys) (suc at) zero x ne = refl
-get_beside (y ∷ ys) (suc at) (suc other) x ne = get_beside ys at other x (λ e. ne (omega arith))
-
-set_length : {X : Type 0} (xs : List X) (at : ℕ) (x : X) → length (slice_set xs at x) ≡ length xs
-set_length [] at x = refl
-set_length (y ∷ ys) zero x = refl
-set_length (y ∷ ys) (suc at) x = ap suc (set_length ys at x)
-
-set_back : {X : Type 0} (xs : List X) (at : ℕ) (x : X) → slice_get xs at ≡ Some x → slice_set xs at x ≡ xs
-set_back [] at x g = refl
-set_back (y ∷ ys) zero x g = (let e : x ≡ y = cc in ap (λ u. u ∷ ys) e)
-set_back (y ∷ ys) (suc at) x g = ap (λ u. y ∷ u) (set_back ys at x g)
 
 -- a key in sixteen parts is the rest of it in the part of its last digit
 pub in_parts : (key : ℕ) (parts : List (List (ℕ × Row) × ℕ)) (part : List (ℕ × Row) × ℕ) → length parts ≡ 16 →
@@ -201,11 +170,8 @@ below_parts digits digit (part ∷ parts) m a =
     (below_parts digits (suc digit) parts (omega arith) a.1)
 
 pub digit_more : (digits : ℕ) → 16 ^ (digits + 1) ≡ 16 * 16 ^ digits
-digit_more digits = ap (λ u. 16 ^ u) (one_more digits) ∙ pow-suc 16 digits ∙ times (16 ^ digits)
+digit_more digits = ap (λ u. 16 ^ u) (add-one digits) ∙ pow-suc 16 digits ∙ times (16 ^ digits)
   where
-    one_more : (n : ℕ) → n + 1 ≡ suc n
-    one_more n = omega arith
-
     times : (n : ℕ) → n * 16 ≡ 16 * n
     times n = omega arith
 

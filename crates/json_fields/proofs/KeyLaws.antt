@@ -5,6 +5,7 @@ use Rattle.std.specs.List.{list_all}
 use Rattle.std.specs.Ordering.{nat_cmp, match_ordering}
 use Rattle.std.specs.Cmp.Lexicographic.{slice_cmp}
 use Rattle.std.proofs.lemmas.Map.Lookups.{exact_bytes}
+use Rattle.std.proofs.Math.Bool.{and-true}
 use Rattle.json.specs.declared.value.Value.{Value}
 use Rattle.json.specs.Value.{members_view}
 use Rattle.serde_json.specs.Data.{Data, Members, no_members, member, put}
@@ -12,10 +13,6 @@ use Rattle.json_whole.specs.Values.{view, members_data, object_view}
 use Rattle.json_fields.specs.Values.{keys_of}
 
 -- ---- tests in another order
-
-and_true : (a : Bool) → (a && true) ≡ a
-and_true true = refl
-and_true false = refl
 
 and_same : (a b c : Bool) → a ≡ b → (b && c) ≡ (a && (b && c))
 and_same true b c same = refl
@@ -66,4 +63,4 @@ module _ (rule : List ℕ → Bool) where
   -- all keys of an object keep the rule exactly where those of its members do, as they came
   pub keys_as_came : {A : Type 0} (ms : List (Bor (List ℕ) × Value A)) →
       list_all (λ m. rule m.0.now) ms ≡ list_all rule (keys_of (object_view ms))
-  keys_as_came ms = sym (keys_behind ms no_members ∙ and_true (each_keeps ms))
+  keys_as_came ms = sym (keys_behind ms no_members ∙ and-true (each_keeps ms))

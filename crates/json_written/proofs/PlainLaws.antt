@@ -6,6 +6,7 @@ use Rattle.std.specs.declared.cmp.Ordering.{Ordering}
 use Rattle.std.specs.declared.cmp.Ordering.TheVariants.{Less, Equal, Greater}
 use Rattle.json_whole.proofs.Words.{and_left, and_right}
 use Rattle.std.specs.Cmp.Lexicographic.{slice_cmp, nat_list_cmp_total}
+use Rattle.std.proofs.lemmas.Bool.{and_from}
 use Rattle.json.specs.Json as json
 use Rattle.json.specs.Tree as tree
 use Rattle.json.specs.Lex.{tokens}
@@ -124,9 +125,6 @@ abbrev all_below : Members → Members → Bool
 all_below fs no_members = true
 all_below fs (member k d ms) = are_below fs k && all_below fs ms
 
-and_both : (a b : Bool) → a ≡ true → b ≡ true → (a && b) ≡ true
-and_both a b p q = rw (p, q) refl
-
 -- a key that is less puts the other one behind it
 put_after : (o : Ordering) (a b c : Members) → is_lt (ordering_reverse o) ≡ true → match_ordering o a b c ≡ c
 put_after Less a b c h = absurd (cc)
@@ -146,15 +144,15 @@ put_last (member l e fs) k d h =
 -- one more of the first members
 below_last : (fs : Members) (k : List ℕ) (d : Data) (l : List ℕ) → are_below fs l ≡ true →
     is_lt (slice_cmp nat_cmp k l) ≡ true → are_below (behind fs (member k d no_members)) l ≡ true
-below_last no_members k d l h p = and_both (is_lt (slice_cmp nat_cmp k l)) true p refl
-below_last (member m e fs) k d l h p = and_both (is_lt (slice_cmp nat_cmp m l)) _
+below_last no_members k d l h p = and_from (is_lt (slice_cmp nat_cmp k l)) true p refl
+below_last (member m e fs) k d l h p = and_from (is_lt (slice_cmp nat_cmp m l)) _
     (and_left _ _ h) (below_last fs k d l (and_right (is_lt (slice_cmp nat_cmp m l)) _ h) p)
 
 all_below_more : (fs : Members) (k : List ℕ) (d : Data) (ms : Members) →
     all_below fs ms ≡ true → is_below k ms ≡ true → all_below (behind fs (member k d no_members)) ms ≡ true
 all_below_more fs k d no_members h p = refl
 all_below_more fs k d (member l e ms) h p =
-    and_both (are_below (behind fs (member k d no_members)) l) _ (below_last fs k d l (and_left _ _ h) (and_left _ _ p))
+    and_from (are_below (behind fs (member k d no_members)) l) _ (below_last fs k d l (and_left _ _ h) (and_left _ _ p))
     (all_below_more fs k d ms (and_right (are_below fs l) _ h) (and_right (is_lt (slice_cmp nat_cmp k l)) _ p))
 
 none_below : (ms : Members) → all_below no_members ms ≡ true

@@ -1,5 +1,8 @@
 -- Laws of tests.
-use Rattle.std.proofs.Common.{◌≡◌, Bool, true, false, refl, sym, IsTrue}
+use Rattle.std.proofs.Common.{◌≡◌, ℕ, ◌<◌, Bool, true, false, not, refl, sym, arith, IsTrue, true≢false}
+use Rattle.std.proofs.lemmas.Bool.Decides.{nat_tests}
+use Rattle.std.specs.Ordering.{nat_cmp}
+use Rattle.std.specs.declared.cmp.Ordering.TheVariants.{Less}
 
 -- a test that isn't passed is false
 pub false_from : (b : Bool) → (IsTrue b → ⊥) → b ≡ false
@@ -11,3 +14,16 @@ pub same_tests : (a b : Bool) → (IsTrue a → IsTrue b) → (IsTrue b → IsTr
 same_tests true b f g = sym (f refl)
 same_tests false true f g = g refl
 same_tests false false f g = refl
+
+-- what makes a test pass fails where the test fails
+pub not_along : (a b : Bool) → (IsTrue a → IsTrue b) → IsTrue (not b) → IsTrue (not a)
+not_along false b f h = refl
+not_along true true f h = absurd (true≢false (sym h))
+not_along true false f h = absurd (true≢false (sym (f refl)))
+
+-- a lesser number compares as less, and only such a one
+pub below_is_less : (x y : ℕ) → x < y → nat_cmp x y ≡ Less
+below_is_less x y lt = grind (arith, nat_tests)
+
+pub less_is_below : (x y : ℕ) → nat_cmp x y ≡ Less → x < y
+less_is_below x y less = grind (arith, nat_tests)

@@ -1,2 +1,2 @@
-//! Laws of lists and tests that several proofs rest on.
+//! Laws of lists, options and tests that several proofs rest on.
 #![tactic(auto)]

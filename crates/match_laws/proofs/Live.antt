@@ -13,7 +13,7 @@ use Rattle.flux_defs.specs.Jobs.{is_live, some_live_claim, take_of, holds_over, 
 use Rattle.flux_defs.specs.Closed.{Scene, is_withheld, has_withheld, is_closed, is_touched}
 use Rattle.flux_defs.specs.Free.{taken_at, free_at}
 use Rattle.flux_defs.specs.Available.{is_available_at}
-use Rattle.graph_laws.proofs.Containment.{not_from, not_to}
+use Rattle.list_laws.proofs.Tests.{not_along}
 
 -- each job that is live at m is live at n
 abbrev pub LivesOn : List Job → ℕ → ℕ → Type 0
@@ -53,9 +53,6 @@ claim_on (job ∷ jobs) m n test lives h =
 or_mono : (a b c : Bool) → (IsTrue a → IsTrue b) → IsTrue (a || c) → IsTrue (b || c)
 or_mono a b c f h = elim (or_cases a c h) [ inl x ↦ or_left _ _ (f x) | inr y ↦ or_right b _ y ]
 
-not_mono : (a b : Bool) → (IsTrue a → IsTrue b) → IsTrue (not b) → IsTrue (not a)
-not_mono a b f h = not_from a (λ x. not_to b h (f x))
-
 free_mono : (a b pool : Bool) (size x y : ℕ) → (IsTrue a → IsTrue b) → x ≤ y →
     (if b then 0 else (if pool then (size - y) else 1)) ≤ (if a then 0 else (if pool then (size - x) else 1))
 free_mono a true pool size x y f le = omega arith
@@ -83,6 +80,6 @@ module _ (s : Scene) (m n : ℕ) (lives : LivesOn s.jobs m n) where
   available_on (Take v q) h = le_mono q (free_at s n v) (free_at s m v) (free_on v) h
   available_on (Hold v) h =
       let b = and_parts (not (is_closed s n v)) (not (is_touched s n v)) h in
-      and_from _ _ (not_mono (is_closed s m v) (is_closed s n v) (closed_on v) b.0)
-      (not_mono (is_touched s m v) (is_touched s n v) (touched_on v) b.1)
-  available_on (Pass v) h = not_mono (is_closed s m v) (is_closed s n v) (closed_on v) h
+      and_from _ _ (not_along (is_closed s m v) (is_closed s n v) (closed_on v) b.0)
+      (not_along (is_touched s m v) (is_touched s n v) (touched_on v) b.1)
+  available_on (Pass v) h = not_along (is_closed s m v) (is_closed s n v) (closed_on v) h

@@ -8,7 +8,7 @@ use Rattle.flux_defs.specs.Graph.{Scope, Beneath}
 use Rattle.flux_defs.specs.Needs.{amount_of}
 use Rattle.flux_defs.specs.Fits.{Pick, Pieces, Group, Piece, FitsRow, Fits}
 
-pieces_map : (piece other : ℕ → ℕ → List Claim → Type 0) →
+pub pieces_map : (piece other : ℕ → ℕ → List Claim → Type 0) →
     ((v q : ℕ) (claims : List Claim) → piece v q claims → other v q claims) →
     (ps : List Pick) (claims : List Claim) → Pieces piece ps claims → Pieces other ps claims
 pieces_map piece other f [] claims g = g

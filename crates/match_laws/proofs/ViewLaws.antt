@@ -5,6 +5,7 @@ use Rattle.std.specs.Prelude.{if◌then◌else◌, ◌||◌}
 use Rattle.std.specs.List.{list_any}
 use Rattle.std.proofs.lemmas.Bool.{and_parts, and_from, or_left, or_right}
 use Rattle.std.proofs.lemmas.Bool.Decides.{nat_tests}
+use Rattle.std.proofs.Math.Bool.{or-false}
 use Rattle.flux_defs.specs.declared.vertices.Vertex.{Vertex}
 use Rattle.flux_defs.specs.declared.claims.Claim.TheVariants.{Take, Hold, Pass}
 use Rattle.flux_defs.specs.declared.claims.Job.{Job}
@@ -87,10 +88,6 @@ module _ (scene : Scene) (w : Window) (v : ℕ) where
       at_least : {x : ℕ} → IsTrue (nat_le q x) → x ≡ n → q ≤ n
       at_least h e = grind (arith, nat_tests)
 
-or_no : (a : Bool) → IsTrue (a || false) → IsTrue a
-or_no true h = refl
-or_no false h = h
-
 or_swap : (a b : Bool) → b ≡ false → IsTrue (a || b) → IsTrue (a || false)
 or_swap true b f h = refl
 or_swap false b f h = absurd (true≢false (sym h ∙ f))
@@ -129,7 +126,8 @@ module _ (vertices : List Vertex) (jobs : List Job) (barred : List ℕ) (w : Win
   pub closed_unbarred : (a b : Bool) → b ≡ false → b ≡ list_any (is_at_or_below vertices v) barred →
       (IsTrue a ↔ IsClosedOver vertices jobs w v) → (IsTrue a ↔ IsClosedIn scene w v)
   closed_unbarred a b f e h = (
-    λ t. let s = h.0 t in (s.0, s.1, s.2, or_left _ _ (or_no (some_live_claim jobs s.0 (holds_over vertices v)) s.3)),
+    λ t. let s = h.0 t in
+        (s.0, s.1, s.2, or_left _ _ (sym (or-false (some_live_claim jobs s.0 (holds_over vertices v))) ∙ s.3)),
     λ s. h.1 (
       s.0,
       s.1,
@@ -143,7 +141,7 @@ module _ (vertices : List Vertex) (jobs : List Job) (barred : List ℕ) (w : Win
       (IsTrue a ↔ IsTouchedOver vertices jobs w v) → (IsTrue a ↔ IsTouchedIn scene w v)
   touched_unbarred a b f e h = (
     λ t. let s = h.0 t in
-        (s.0, s.1, s.2, or_left _ _ (or_no (some_live_claim jobs s.0 (is_on_or_below vertices v)) s.3)),
+        (s.0, s.1, s.2, or_left _ _ (sym (or-false (some_live_claim jobs s.0 (is_on_or_below vertices v))) ∙ s.3)),
     λ s. h.1 (
       s.0,
       s.1,

@@ -5,13 +5,13 @@ use Rattle.std.proofs.lemmas.List.{append-nil}
 use Rattle.std.proofs.lemmas.Option.{slice_get_within}
 use mathlib.Core.List.{IsPrefix, map-append}
 use base.Growing.{prefix_refl, prefix_trans}
-use Rattle.list_laws.proofs.Lists.{prefix_length}
+use Rattle.list_laws.proofs.Lists.{prefix_length, take_next}
 use Rattle.flux_defs.specs.declared.journal.Entry.{Entry}
 use Rattle.flux_defs.specs.declared.journal.Line.{Line}
 use Rattle.flux_defs.specs.Placed.{line_of_any, line_at, IsPlaced}
 use Rattle.match_workers.specs.declared.sessions.Session.{Session}
 use Rattle.match_workers.specs.Served.{taken_from, RiseWithin, some_line, Gains, IsServed}
-use Rattle.match_workers.proofs.Lines.{left_of, left_at, left_next, left_back, take_next}
+use Rattle.match_workers.proofs.Lines.{left_of, left_at, left_next, left_back}
 
 -- what stands in a beginning stands in the whole, at the same place
 prefix_same : {A : Type 0} (xs ys : List A) (k : ℕ) → IsPrefix xs ys → k < length xs → slice_get ys k ≡ slice_get xs k

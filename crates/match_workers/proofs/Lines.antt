@@ -36,15 +36,6 @@ left_back i [] l y at = absurd cc
 left_back zero (x ∷ ls) l y at = let same : x ≡ l = cc in ap (λ z. z ∷ ls) (sym same)
 left_back (suc i) (x ∷ ls) l y at = ap (λ zs. taken_from x ∷ zs) (left_back i ls l y at)
 
--- the line that was taken out is the next of those before it
-pub take_next : {A : Type 0} (xs : List A) (i : ℕ) (x : A) →
-    slice_get xs i ≡ Some x → take (i + 1) xs ≡ take i xs ++ x ∷ []
-take_next [] i x at = absurd cc
-take_next (y ∷ xs) zero x at = let same : y ≡ x = cc in ap (λ z. z ∷ []) same
-take_next (y ∷ xs) (suc i) x at =
-    let next : suc i + 1 ≡ suc (i + 1) = omega arith in
-    ap (λ n. take n (y ∷ xs)) next ∙ ap (λ zs. y ∷ zs) (take_next xs i x at)
-
 pub all_there : {A : Type 0} (P : A → Type 0) (xs : List A) (i : ℕ) (x : A) → All P xs → slice_get xs i ≡ Some x → P x
 all_there P xs i x all at =
     subst P (get_or_from_slice_get xs i x x at) (All-get_or P xs i x (slice_get_within xs i x at) all)

@@ -1,20 +1,11 @@
 -- Lists that grow by one place with the relation at it.
-use Rattle.std.proofs.Common.{◌≡◌, ℕ, zero, suc, ◌+◌, ◌<◌, ◌≤◌, List, [], ◌∷◌, ◌++◌, length, refl, sym, ◌∙◌, ap, subst}
-use Rattle.std.proofs.Common.{arith, Some, slice_get, take, ◌⊎◌, inl, inr}
+use Rattle.std.proofs.Common.{◌≡◌, ℕ, zero, suc, ◌+◌, ◌≤◌, List, [], ◌∷◌, ◌++◌, length, sym, ◌∙◌, ap, subst}
+use Rattle.std.proofs.Common.{arith, Some, slice_get, take, inl, inr}
 use Rattle.std.specs.Prelude.{sum_by}
-use Rattle.std.proofs.lemmas.List.Sums.{sum_by-cons}
+use Rattle.std.proofs.lemmas.List.Sums.{sum_by-cons, sum_by-take-le}
+use Rattle.std.proofs.lemmas.Option.{slice_get_within}
 use Rattle.multi_planner.specs.Places.{AtEach, AtEachThree}
-
--- an item of a list with one more is an item of the list, or that one
-last_or : {X : Type 0} (xs : List X) (z y : X) (place : ℕ) → slice_get (xs ++ z ∷ []) place ≡ Some y →
-    (slice_get xs place ≡ Some y) ⊎ ((place ≡ length xs) × (z ≡ y))
-last_or [] z y zero e = inr (refl, cc)
-last_or [] z y (suc place) e = absurd (cc)
-last_or (x ∷ xs) z y zero e = inl e
-last_or (x ∷ xs) z y (suc place) e = elim (last_or xs z y place e) [
-  | inl there ↦ inl there
-  | inr last ↦ inr (ap suc last.0, last.1)
-]
+use Rattle.list_laws.proofs.Lists.{get_some, last_or}
 
 pub each_none : {X Y : Type 0} (R : X → Y → Type 0) (xs : List X) → AtEach R xs []
 each_none R xs place x y e f = absurd (cc)
@@ -60,13 +51,6 @@ sum_more : {X : Type 0} (f : X → ℕ) (xs : List X) (place : ℕ) (x : X) → 
 sum_more f xs place x e =
     let n : place + 1 ≡ suc place = omega arith in ap (λ n. sum_by f (take n xs)) n ∙ sum_suc f xs place x e
 
-sum_rest : {X : Type 0} (f : X → ℕ) (xs : List X) (place : ℕ) → sum_by f (take place xs) ≤ sum_by f xs
-sum_rest f [] zero = omega arith
-sum_rest f [] (suc place) = omega arith
-sum_rest f (x ∷ xs) zero = omega arith
-sum_rest f (x ∷ xs) (suc place) =
-    omega (arith, sum_by-cons f x xs, sum_by-cons f x (take place xs), sum_rest f xs place)
-
 -- what is done at one item after another takes no more than the sum
 module _ {X : Type 0}
     (f : X → ℕ) (xs : List X) (start before after place : ℕ) (x : X) (at : slice_get xs place ≡ Some x)
@@ -75,17 +59,7 @@ module _ {X : Type 0}
   work_next = omega (arith, sum_more f xs place x at, so_far, one)
 
   pub work_stopped : after ≤ start + sum_by f xs
-  work_stopped = let next = work_next in omega (arith, sum_rest f xs (place + 1), next)
-
-get_some : {X : Type 0} (xs : List X) (place : ℕ) → place < length xs → (x : X) × (slice_get xs place ≡ Some x)
-get_some [] place l = absurd (omega arith)
-get_some (x ∷ xs) zero l = (x, refl)
-get_some (x ∷ xs) (suc place) l = get_some xs place (omega arith)
-
-get_in : {X : Type 0} (xs : List X) (place : ℕ) (x : X) → slice_get xs place ≡ Some x → place < length xs
-get_in [] place x e = absurd (cc)
-get_in (y ∷ xs) zero x e = omega arith
-get_in (y ∷ xs) (suc place) x e = omega (arith, get_in xs place x e)
+  work_stopped = let next = work_next in omega (arith, sum_by-take-le f xs (place + 1), next)
 
 -- what leads from the old items at each place to the new ones
 pub through : {T P A : Type 0} (R : P → Type 0) (S : P → A → Type 0) (totals : List T) (olds news : List P)
@@ -93,7 +67,7 @@ pub through : {T P A : Type 0} (R : P → Type 0) (S : P → A → Type 0) (tota
     AtEach (λ total old. R old) totals olds →
     AtEachThree (λ old amount new. R old → S new amount) olds amounts news → AtEach S news amounts
 through R S totals olds news amounts a b each three place new amount e f =
-    let inside = get_in news place new e in
+    let inside = slice_get_within news place new e in
     let old = get_some olds place (omega arith) in
     let total = get_some totals place (omega arith) in
     three place old.0 amount new old.1 f e (each place total.0 old.0 total.1 old.1)

@@ -10,6 +10,7 @@ use Rattle.std.proofs.lemmas.List.Sums.{position_or_len_is}
 use Rattle.std.proofs.lemmas.Map.Views.{Contains-from_any}
 use Rattle.std.proofs.lemmas.Slice.Eq.{bytes_eq-Decides}
 use Rattle.std.specs.Option.{IsSomeAnd}
+use Rattle.std.proofs.lemmas.Bool.{false_from_ne_true}
 use Rattle.flux_defs.specs.declared.vertices.Vertex.{Vertex}
 use Rattle.flux_defs.specs.Graph.{ResourceGraph, HasKind, IsNode}
 use Rattle.flux_defs.specs.ValidGraph.{IsValidGraph}
@@ -85,12 +86,8 @@ index_stays texts more k text apart at =
     (λ j less. rw (get_or_append_left texts later.0 text j (omega (arith, less, within))) (differs j less within))
     (λ _. rw (get_or_append_left texts later.0 text k within, same) ((bytes_eq-Decides text text).1 refl))
   where
-    not_true : (b : Bool) → (b ≡ true → ⊥) → b ≡ false
-    not_true true never = absurd (never refl)
-    not_true false never = refl
-
     differs : (j : ℕ) → j < k → k < length texts → bytes_eq text (get_or texts j text) ≡ false
-    differs j less within = not_true (bytes_eq text (get_or texts j text)) (λ equal.
+    differs j less within = false_from_ne_true (bytes_eq text (get_or texts j text)) (λ equal.
         let same : text ≡ get_or texts j text = (bytes_eq-Decides text (get_or texts j text)).0 equal in
         let there : slice_get texts j ≡ Some text =
         slice_get_read texts (length texts) j text refl (omega (arith, less, within)) same in

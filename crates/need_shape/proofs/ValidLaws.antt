@@ -4,7 +4,7 @@ use Rattle.std.proofs.Common.{None, unwrap_or, if◌then◌else◌, IsTrue, IsFa
 use Rattle.std.proofs.Common.{◌∙◌, subst}
 use Rattle.std.specs.List.{AllByRecursion}
 use Rattle.std.specs.Option.{IsSomeAnd, option_or}
-use Rattle.std.proofs.lemmas.Bool.{eq-eqb}
+use Rattle.std.proofs.lemmas.Bool.{eq-eqb, both_ways}
 use Rattle.std.proofs.Math.Nat.{mul-pos}
 use Rattle.flux_defs.specs.declared.vertices.Vertex.{Vertex}
 use Rattle.flux_defs.specs.declared.requests.Need.{Need, Vert, Vert', Pool, Spread'}
@@ -26,14 +26,7 @@ use Rattle.need_shape.specs.Faults.{kind_in, name_in, pair_fault, row_fault, pai
 use Rattle.need_shape.specs.Faults.{type_fault, pool_fault, is_pool_type, fault_of, members_fault, members_fault_in}
 use Rattle.need_shape.specs.Faults.{list_fault}
 use Rattle.resource_graph.proofs.NestLaws.{contains_is}
-
-no_first : (a b : Option ShapeFault) → option_or a b ≡ None → a ≡ None
-no_first None b none = refl
-no_first (Some f) b none = none
-
-no_second : (a b : Option ShapeFault) → option_or a b ≡ None → b ≡ None
-no_second None b none = none
-no_second (Some f) b none = absurd (let some : Some f ≡ None = none in cc)
+use Rattle.list_laws.proofs.Options.{neither}
 
 some_fault : (f : ShapeFault) → Some f ≡ None → ⊥
 some_fault f none = let some : Some f ≡ None = none in cc
@@ -81,31 +74,28 @@ module _ (vertices : List Vertex) (names : List (List ℕ)) where
   clear a b false false true none = absurd (some_fault _ none)
   clear a b false false false none = (refl, refl, refl)
 
-  not_both : (b : Bool) → b ≡ true → b ≡ false → ⊥
-  not_both b is isnt = true≢false (sym is ∙ isnt)
-
   module _ (nodes : (v : ℕ) → IsNode vertices v → HasKind vertices (number_of types (codes "node")) v) where
     apart : (a b : Need) → pair_fault types a b ≡ None → AreApartKinds vertices a b
     apart a b none =
         let c = clear a b (kind_in types a == kind_in types b) (contains_kind vertices
         (kind_in types a) (kind_in types b)) (contains_kind vertices (kind_in types b) (kind_in types a)) none in
         record {
-          spreads = λ h g. not_both (kind_in types a == kind_in types b) (eq-eqb _ _ (both_spreads a b h g)) c.0;
-          kinds = λ k h g. not_both
-              (kind_in types a == kind_in types b) (eq-eqb _ _ (its_kind nodes a k h ∙ sym (its_kind nodes b k g))) c.0;
-          nests = λ (v, u, h, g, below). not_both (contains_kind vertices (kind_in types a) (kind_in types b))
+          spreads = λ h g. both_ways (kind_in types a == kind_in types b) c.0 (eq-eqb _ _ (both_spreads a b h g));
+          kinds = λ k h g. both_ways (kind_in types a == kind_in types b) c.0
+              (eq-eqb _ _ (its_kind nodes a k h ∙ sym (its_kind nodes b k g)));
+          nests = λ (v, u, h, g, below). both_ways (contains_kind vertices (kind_in types a) (kind_in types b)) c.1
               ((contains_is vertices (kind_in types a) (kind_in types b)).1
-              (v, u, of_kind nodes a v h, of_kind nodes b u g, below)) c.1;
-          nested = λ (u, v, g, h, below). not_both (contains_kind vertices (kind_in types b) (kind_in types a))
+              (v, u, of_kind nodes a v h, of_kind nodes b u g, below));
+          nested = λ (u, v, g, h, below). both_ways (contains_kind vertices (kind_in types b) (kind_in types a)) c.2
               ((contains_is vertices (kind_in types b) (kind_in types a)).1
-              (u, v, of_kind nodes b u g, of_kind nodes a v h, below)) c.2;
+              (u, v, of_kind nodes b u g, of_kind nodes a v h, below));
         }
 
     row_apart : (a : Need) (rest : List Need) →
         row_fault types a rest ≡ None → AllByRecursion (AreApartKinds vertices a) rest
     row_apart a [] none = tt
     row_apart a (b ∷ rest) none =
-        (apart a b (no_first _ _ none), row_apart a rest (no_second (pair_fault types a b) _ none))
+        (apart a b (neither _ _ none).0, row_apart a rest (neither (pair_fault types a b) _ none).1)
 
     -- needs that are each valid, with no fault in a pair
     pub pairs_valid : (needs : List Need) →
@@ -113,8 +103,8 @@ module _ (vertices : List Vertex) (names : List (List ℕ)) where
     pairs_valid [] each none = tt
     pairs_valid (a ∷ rest) each none = (
       each.0,
-      row_apart a rest (no_first _ _ none),
-      pairs_valid rest each.1 (no_second (row_fault types a rest) _ none),
+      row_apart a rest (neither _ _ none).0,
+      pairs_valid rest each.1 (neither (row_fault types a rest) _ none).1,
     )
 
     amount_past : (k a : ℕ) → 1 ≤ k → 1 ≤ a → 1 ≤ k * a
@@ -137,10 +127,10 @@ module _ (vertices : List Vertex) (names : List (List ℕ)) where
         AllByRecursion HasNoSpread needs →
         (needs ≢ []) → AllByRecursion (IsValidNeed vertices) (slot_needs multiplied count needs)
     slot_valid true count members needs least none each bare some =
-        all_times count needs least (each (no_first _ _ none))
+        all_times count needs least (each (neither _ _ none).0)
     slot_valid false count members [] least none each bare some = absurd (some refl)
     slot_valid false count members (need ∷ rest) least none each bare some =
-        let valid = pairs_valid (need ∷ rest) (each (no_first _ _ none)) (no_second members _ none) in (
+        let valid = pairs_valid (need ∷ rest) (each (neither _ _ none).0) (neither members _ none).1 in (
           (
             least,
             some_to_row need rest,
@@ -158,8 +148,8 @@ module _ (vertices : List Vertex) (names : List (List ℕ)) where
         IsValidNeed vertices (type_need types within kind count exclusive needs)
     type_valid within kind count exclusive some members needs least none each =
         let list : option_or members (pairs_fault types needs) ≡ None =
-        no_second (if is_pool_type types kind then pool_fault kind exclusive some else None) _ none in
-        let valid = pairs_valid needs (each (no_first members _ list)) (no_second members _ list) in
+        (neither (if is_pool_type types kind then pool_fault kind exclusive some else None) _ none).1 in
+        let valid = pairs_valid needs (each (neither members _ list).0) (neither members _ list).1 in
         by (is_pool_type types kind) refl valid
       where
         by : (b : Bool) → is_pool_type types kind ≡ b → AreValidNeeds vertices needs →
@@ -270,20 +260,20 @@ module _ (vertices : List Vertex) (names : List (List ℕ)) where
       valid_row within end_of-RawNeed requests none = tt
       valid_row within (more_of-RawNeed raw rest) requests none =
           all_append (IsValidNeed vertices) (needs_of types within raw)
-          (needs_row types within rest) (valid_of within raw requests.0 (no_first _ _ none))
-          (valid_row within rest requests.1 (no_second (fault_of types within raw) _ none))
+          (needs_row types within rest) (valid_of within raw requests.0 (neither _ _ none).0)
+          (valid_row within rest requests.1 (neither (fault_of types within raw) _ none).1)
 
     valid_members : (within : Within) (request : List RawNeed) → AreRequests within.slot request → members_fault_in
         types within request ≡ None → AllByRecursion (IsValidNeed vertices) (needs_in types within request)
     valid_members within [] requests none = tt
     valid_members within (raw ∷ rest) requests none =
         all_append (IsValidNeed vertices) (needs_of types within raw)
-        (needs_in types within rest) (valid_of within raw requests.0 (no_first _ _ none))
-        (valid_members within rest requests.1 (no_second (fault_of types within raw) _ none))
+        (needs_in types within rest) (valid_of within raw requests.0 (neither _ _ none).0)
+        (valid_members within rest requests.1 (neither (fault_of types within raw) _ none).1)
 
     -- what a list of request vertices with no fault becomes is valid
     pub valid_list : (within : Within) (request : List RawNeed) → AreRequests within.slot request →
         list_fault types within request ≡ None → AreValidNeeds vertices (needs_in types within request)
     valid_list within request requests none =
-        pairs_valid (needs_in types within request) (valid_members within request requests (no_first _ _ none))
-        (no_second (members_fault_in types within request) _ none)
+        pairs_valid (needs_in types within request) (valid_members within request requests (neither _ _ none).0)
+        (neither (members_fault_in types within request) _ none).1

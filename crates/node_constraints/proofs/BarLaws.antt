@@ -1,5 +1,5 @@
 -- The nodes that a constraint bars are nodes, in rising order.
-use Rattle.std.proofs.Common.{◌≡◌, refl, sym, ◌∙◌, ap, ℕ, zero, suc, ◌+◌, ◌≤◌, Bool, true, false, not, ◌&&◌, cond, List}
+use Rattle.std.proofs.Common.{◌≡◌, refl, sym, ◌∙◌, ap, ℕ, zero, suc, ◌+◌, ◌≤◌, Bool, true, false, not, cond, List}
 use Rattle.std.proofs.Common.{[], ◌∷◌, ◌++◌, Option, Some, None, arith, add-zero, add-one, zero-add, append-nil}
 use Rattle.std.specs.Prelude.{is_some, option_and_then, slice_get}
 use Rattle.std.specs.List.{filter, range_with_len, AllByRecursion}
@@ -7,6 +7,7 @@ use Rattle.flux_defs.specs.declared.vertices.Vertex.{Vertex}
 use Rattle.flux_defs.specs.Graph.{IsNode}
 use Rattle.flux_defs.specs.Needs.{AreRisingFrom}
 use Rattle.std.specs.Option.{IsSomeAnd}
+use Rattle.std.specs.Cmp.{first_so}
 use Rattle.serde_json.specs.Data.{Data}
 use Rattle.resource_graph.specs.NamedGraph.{NamedGraph}
 use Rattle.node_constraints.specs.Truth.{facts_of, is_true}
@@ -43,13 +44,9 @@ is_node vertices v ranked = go (slice_get vertices v) ranked
     go None is = absurd (cc)
     go (Some x) is = is
 
-both : (a b : Bool) → (a && b) ≡ true → a ≡ true
-both true b is = refl
-both false b is = is
-
 pub is_barred_node : (g : NamedGraph) (d : Data) (v : ℕ) → is_barred g d v ≡ true → IsNode g.resources.vertices v
 is_barred_node g d v is =
-    is_node g.resources.vertices v (both (is_some (facts_of g v).rank) (not (is_true (facts_of g v) d)) is)
+    is_node g.resources.vertices v (first_so (is_some (facts_of g v).rank) (not (is_true (facts_of g v) d)) is)
 
 -- ---- one vertex more
 

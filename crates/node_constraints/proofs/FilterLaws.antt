@@ -2,11 +2,11 @@
 use Rattle.std.proofs.Common.{◌≡◌, ◌≢◌, refl, sym, ◌∙◌, ap, ℕ, zero, suc, ◌+◌, Bool, true, false, not, ◌&&◌, ◌||◌, List}
 use Rattle.std.proofs.Common.{[], ◌∷◌, ◌++◌, cond, drop, Some, append_assoc}
 use Rattle.std.specs.Prelude.{slice_get}
-use Rattle.std.proofs.lemmas.List.{drop_more}
-use Rattle.std.proofs.lemmas.Option.{slice_get-get_or, slice_get_within, same_Some}
 use Rattle.std.specs.List.{filter}
 use Rattle.std.proofs.lemmas.List.Elements.{filter_agree}
+use Rattle.std.proofs.Math.Bool.{not-not}
 use Rattle.node_constraints.specs.Narrowing.{AreOthers}
+use Rattle.list_laws.proofs.Lists.{drop_here}
 
 pub filter_all : {X : Type 0} (xs : List X) → filter (λ _. true) xs ≡ xs
 filter_all [] = refl
@@ -54,10 +54,6 @@ fails_first p x left xs same other = go (p x) same
 
 -- ---- what stands at a place
 
-pub at_drop : (xs : List ℕ) (k x : ℕ) → slice_get xs k ≡ Some x → drop k xs ≡ x ∷ drop (k + 1) xs
-at_drop xs k x here = let lt = slice_get_within xs k x here in
-    drop_more xs k x lt ∙ ap (λ y. y ∷ drop (k + 1) xs) (same_Some _ _ (sym (slice_get-get_or xs k x lt) ∙ here))
-
 pub drop_at : (xs ys : List ℕ) (k x : ℕ) → drop k xs ≡ x ∷ ys → slice_get xs k ≡ Some x
 drop_at [] ys zero x same = absurd (cc)
 drop_at [] ys (suc k) x same = absurd (cc)
@@ -72,7 +68,7 @@ pub passed_over : (p : ℕ → Bool) (xs some others : List ℕ) (at next x : �
     (drop (next + 1) some ≡ filter p (drop (at + 1) xs)) × (others ++ filter (λ v. not (p v)) (drop (at + 1) xs) ≡ all)
 passed_over p xs some others at next x all here is before =
     let same : x ∷ drop (next + 1) some ≡ filter p (x ∷ drop (at + 1) xs) =
-    sym (at_drop some next x is) ∙ (before.0 ∙ ap (filter p) here) in
+    sym (drop_here some next x is) ∙ (before.0 ∙ ap (filter p) here) in
     let step = passes_first p x (drop (next + 1) some) (drop (at + 1) xs) same in (
       step.0,
       ap (λ ys. others ++ ys) (sym step.1)
@@ -94,10 +90,6 @@ kept_one p xs some others at next x all here apart before =
 
 -- ---- what something is false for
 
-pub not_not : (b : Bool) → not (not b) ≡ b
-not_not true = refl
-not_not false = refl
-
 pub not_either : (a b : Bool) → (not a && not b) ≡ not (a || b)
 not_either true b = refl
 not_either false b = refl
@@ -106,4 +98,4 @@ not_either false b = refl
 pub others_of_others : (nodes others new : List ℕ) (p : ℕ → Bool) →
     others ≡ filter (λ v. not (p v)) nodes → AreOthers nodes others new → new ≡ filter p nodes
 others_of_others nodes others new p are taken =
-    taken (λ v. not (p v)) are ∙ filter_agree (λ v. not (not (p v))) p (λ v. not_not (p v)) nodes
+    taken (λ v. not (p v)) are ∙ filter_agree (λ v. not (not (p v))) p (λ v. not-not (p v)) nodes

@@ -4,10 +4,12 @@ use Rattle.std.proofs.Common.{◌||◌, Bool, true, false, not, cond, nat_lt, na
 use Rattle.std.proofs.Common.{drop, Option, Some, None, is_some, arith, Contains, ltb-true, lt-ltb, leb-true, le-leb}
 use Rattle.std.specs.List.{list_any, list_all, flat_map}
 use Rattle.std.specs.Str.{bytes_eq}
-use Rattle.std.proofs.Math.Seq.{take-length}
-use Rattle.std.proofs.lemmas.Bool.{and_parts}
+use Rattle.std.proofs.lemmas.Bool.{and_parts, or_cases, or_right, or_left, and_from}
 use Rattle.std.proofs.lemmas.List.Folds.{list_any-append}
 use Rattle.std.proofs.lemmas.Slice.Eq.{bytes_eq-Decides}
+use Rattle.std.proofs.Math.Bool.{or-false, or_assoc}
+use Rattle.std.specs.Cmp.{both_ways}
+use Rattle.text_table.proofs.Texts.{is_there}
 use Rattle.covered_numbers.specs.declared.stretches.Stretch.{Stretch}
 use Rattle.covered_numbers.specs.Covers.{has_number, is_covered}
 use Rattle.idset_text.specs.declared.hostlists.Hosts.{Hosts}
@@ -22,22 +24,6 @@ use Rattle.node_constraints.specs.Listed.{own_name, own_prefix, names_in, prefix
 use Rattle.node_constraints.specs.Listed.{is_small, are_small, IsNumbered}
 use Rattle.node_constraints.proofs.TextLaws.{any_there, there_any}
 
-either : (a b : Bool) → a || b ≡ true → (a ≡ true) ⊎ (b ≡ true)
-either true b e = inl refl
-either false b e = inr e
-
-first_of : (a b : Bool) → a ≡ true → a || b ≡ true
-first_of true b e = refl
-first_of false b e = absurd cc
-
-second_of : (a b : Bool) → b ≡ true → a || b ≡ true
-second_of true b e = refl
-second_of false b e = e
-
-both_of : (a b : Bool) → a ≡ true → b ≡ true → a && b ≡ true
-both_of true b ea eb = eb
-both_of false b ea eb = absurd cc
-
 -- ---- hosts of lists
 
 abbrev IsIn : List Hosts → Hosts → Type 0
@@ -51,7 +37,7 @@ IsInSome (hs ∷ lists) host = IsIn hs host ⊎ IsInSome lists host
 module _ (test : Hosts → Bool) where
   one_in : (hs : List Hosts) → list_any test hs ≡ true → (h : Hosts) × IsIn hs h × (test h ≡ true)
   one_in [] e = absurd cc
-  one_in (h ∷ hs) e = elim (either (test h) (list_any test hs) e) [
+  one_in (h ∷ hs) e = elim (or_cases (test h) (list_any test hs) e) [
     | inl here ↦ (h, inl refl, here)
     | inr more ↦ (let r = one_in hs more in (r.0, inr r.1, r.2))
   ]
@@ -59,22 +45,22 @@ module _ (test : Hosts → Bool) where
   one_in_some : (lists : List (List Hosts)) → list_any (list_any test) lists ≡ true → (h : Hosts) × IsInSome lists h
       × (test h ≡ true)
   one_in_some [] e = absurd cc
-  one_in_some (hs ∷ lists) e = elim (either (list_any test hs) (list_any (list_any test) lists) e) [
+  one_in_some (hs ∷ lists) e = elim (or_cases (list_any test hs) (list_any (list_any test) lists) e) [
     | inl here ↦ (let r = one_in hs here in (r.0, inl r.1, r.2))
     | inr more ↦ (let r = one_in_some lists more in (r.0, inr r.1, r.2))
   ]
 
   in_one : (hs : List Hosts) (h : Hosts) → IsIn hs h → test h ≡ true → list_any test hs ≡ true
   in_one [] h at e = elim at [ ]
-  in_one (x ∷ xs) h (inl same) e = first_of (test x) (list_any test xs) (ap test same ∙ e)
-  in_one (x ∷ xs) h (inr more) e = second_of (test x) (list_any test xs) (in_one xs h more e)
+  in_one (x ∷ xs) h (inl same) e = or_left (test x) (list_any test xs) (ap test same ∙ e)
+  in_one (x ∷ xs) h (inr more) e = or_right (test x) (list_any test xs) (in_one xs h more e)
 
   in_some : (lists : List (List Hosts)) (h : Hosts) → IsInSome lists h → test h ≡ true
       → list_any (list_any test) lists ≡ true
   in_some [] h at e = elim at [ ]
-  in_some (hs ∷ lists) h (inl here) e = first_of (list_any test hs) (list_any (list_any test) lists)
+  in_some (hs ∷ lists) h (inl here) e = or_left (list_any test hs) (list_any (list_any test) lists)
       (in_one hs h here e)
-  in_some (hs ∷ lists) h (inr more) e = second_of (list_any test hs) (list_any (list_any test) lists)
+  in_some (hs ∷ lists) h (inr more) e = or_right (list_any test hs) (list_any (list_any test) lists)
       (in_some lists h more e)
 
   all_one : (hs : List Hosts) (h : Hosts) → list_all test hs ≡ true → IsIn hs h → test h ≡ true
@@ -108,19 +94,11 @@ any_in_lists p f lists = any_flat p (flat_map f) lists ∙ any_agree (λ hs. lis
 
 has_text : (x : List ℕ) (texts more : List (List ℕ)) → list_any (bytes_eq x) (with_texts texts more)
     ≡ list_any (bytes_eq x) texts || list_any (bytes_eq x) more
-has_text x texts [] = sym (or_false (list_any (bytes_eq x) texts))
-  where
-    or_false : (b : Bool) → b || false ≡ b
-    or_false true = refl
-    or_false false = refl
+has_text x texts [] = sym (or-false (list_any (bytes_eq x) texts))
 has_text x texts (y ∷ more) = has_text x (with_text texts y) more ∙ by (list_any (bytes_eq y) texts) refl
   where
     rest : Bool
     rest = list_any (bytes_eq x) more
-
-    grouped : (a b c : Bool) → (a || b) || c ≡ a || (b || c)
-    grouped true b c = refl
-    grouped false b c = refl
 
     absorbed : (a b c : Bool) → (b ≡ true → a ≡ true) → a || c ≡ a || (b || c)
     absorbed true b c h = refl
@@ -128,20 +106,16 @@ has_text x texts (y ∷ more) = has_text x (with_text texts y) more ∙ by (list
     absorbed false false c h = refl
 
     alone : list_any (bytes_eq x) (y ∷ []) ≡ bytes_eq x y
-    alone = or_last (bytes_eq x y)
-      where
-        or_last : (b : Bool) → b || false ≡ b
-        or_last true = refl
-        or_last false = refl
+    alone = or-false (bytes_eq x y)
 
     by : (b : Bool) → list_any (bytes_eq y) texts ≡ b
         → list_any (bytes_eq x) (cond b texts (texts ++ y ∷ [])) || rest
         ≡ list_any (bytes_eq x) texts || (bytes_eq x y || rest)
-    by true there = absorbed (list_any (bytes_eq x) texts) (bytes_eq x y) rest
-        (λ e. ap (λ z. list_any (bytes_eq z) texts) ((bytes_eq-Decides x y).0 e) ∙ there)
-    by false there = ap (λ b. b || rest) (list_any-append (bytes_eq x) texts (y ∷ [])
+    by true is_there = absorbed (list_any (bytes_eq x) texts) (bytes_eq x y) rest
+        (λ e. ap (λ z. list_any (bytes_eq z) texts) ((bytes_eq-Decides x y).0 e) ∙ is_there)
+    by false is_there = ap (λ b. b || rest) (list_any-append (bytes_eq x) texts (y ∷ [])
         ∙ ap (λ b. list_any (bytes_eq x) texts || b) alone)
-        ∙ grouped (list_any (bytes_eq x) texts) (bytes_eq x y) rest
+        ∙ or_assoc (list_any (bytes_eq x) texts) (bytes_eq x y) rest
 
 index_within : (q : List ℕ) (texts : List (List ℕ)) → list_any (bytes_eq q) texts ≡ true
     → index_of texts q < length texts
@@ -215,7 +189,7 @@ stretch_has : (prefixes : List (List ℕ)) (h : Hosts) (at width number : ℕ) �
 stretch_has prefixes (One name) at width number small w n e = absurd cc
 stretch_has prefixes (Many prefix lo hi wide) at width number small w n e =
     let both = and_parts (nat_lt hi 4294967296) (nat_lt wide 4294967296) small in
-    elim (either (has_number (code at width number) (record {
+    elim (or_cases (has_number (code at width number) (record {
       first = code (index_of prefixes prefix) wide lo;
       last =
           code (index_of prefixes prefix) wide hi;
@@ -232,13 +206,13 @@ stretch_has prefixes (Many prefix lo hi wide) at width number small w n e =
 has_stretch : (prefixes : List (List ℕ)) (prefix : List ℕ) (lo hi width number : ℕ) → lo ≤ number → number ≤ hi
     → is_covered (own_stretch prefixes (Many prefix lo hi width)) (code (index_of prefixes prefix) width number) ≡ true
 has_stretch prefixes prefix lo hi width number low high =
-    first_of (has_number (code (index_of prefixes prefix) width number)
+    or_left (has_number (code (index_of prefixes prefix) width number)
     (record {
       first = code (index_of prefixes prefix) width lo;
       last = code (index_of prefixes prefix) width
           hi;
     })) false
-    (both_of (nat_le (code (index_of prefixes prefix) width lo) (code (index_of prefixes prefix) width number))
+    (and_from (nat_le (code (index_of prefixes prefix) width lo) (code (index_of prefixes prefix) width number))
     (nat_le (code (index_of prefixes prefix) width number) (code (index_of prefixes prefix) width hi))
     (le-leb _ _ (omega (arith, low))) (le-leb _ _ (omega (arith, high))))
 
@@ -268,7 +242,7 @@ known lists prefix lo hi width at =
     index_within prefix (with_texts [] (prefixes_in lists)) (has_text prefix [] (prefixes_in lists)
     ∙ (any_in_lists (bytes_eq prefix) own_prefix lists
     ∙ in_some (λ h. list_any (bytes_eq prefix) (own_prefix h)) lists (Many prefix lo hi width) at
-    (first_of (bytes_eq prefix prefix) false ((bytes_eq-Decides prefix prefix).1 refl))))
+    (or_left (bytes_eq prefix prefix) false ((bytes_eq-Decides prefix prefix).1 refl))))
 
 -- where the index has a name, some list has it
 pub one_listed : (name : List ℕ) (lists : List (List Hosts)) → list_any (bytes_eq name)
@@ -303,8 +277,8 @@ number_listed name lists covered small told r =
     let same : r.prefix ≡ own = same_index prefixes r.prefix own (index.0 ∙ sym has.4) index.1 in
     let one : IsOneOf lo hi n.width r.digits = one_when_passed lo hi n.width r.digits
     (ap (is_one_of lo hi (has_width n.width r.digits)) n.is-number
-    ∙ both_of (nat_le lo n.number && nat_le n.number hi) (has_width n.width r.digits)
-    (both_of (nat_le lo n.number) (nat_le n.number hi) (le-leb lo n.number has.5) (le-leb n.number hi has.6))
+    ∙ and_from (nat_le lo n.number && nat_le n.number hi) (has_width n.width r.digits)
+    (and_from (nat_le lo n.number) (nat_le n.number hi) (le-leb lo n.number has.5) (le-leb n.number hi has.6))
     n.is-wide) in
     let parts : name ≡ own ++ r.digits = r.parts ∙ ap (λ p. p ++ r.digits) same in
     listed_by_host name lists ∙ in_some (Names name) lists some.0 some.1
@@ -364,23 +338,13 @@ listed_told name lists covered small told e =
 
 -- ---- the answer
 
-there : (q : List ℕ) (texts : List (List ℕ)) → index_of texts q < length texts → list_any (bytes_eq q) texts ≡ true
-there q [] within = absurd (omega arith)
-there q (x ∷ xs) within = by (bytes_eq q x) within (there q xs)
-  where
-    by : (b : Bool) → cond (not b) (1 + index_of xs q) 0 < suc (length xs)
-        → (index_of xs q < length xs → list_any (bytes_eq q) xs ≡ true)
-        → b || list_any (bytes_eq q) xs ≡ true
-    by true less more = refl
-    by false less more = more (omega (arith, less))
-
 has_number_there : (texts : List (List ℕ)) (q : List ℕ) → is_some (table.number_of texts q) ≡ true
     → list_any (bytes_eq q) texts ≡ true
 has_number_there texts q = by (table.number_of texts q) refl
   where
     by : (o : Option ℕ) → table.number_of texts q ≡ o → is_some o ≡ true → list_any (bytes_eq q) texts ≡ true
     by None is e = absurd cc
-    by (Some n) is e = there q texts (index_is_number texts q n is).1
+    by (Some n) is e = is_there q texts (index_is_number texts q n is).1
 
 there_has_number : (texts : List (List ℕ)) (q : List ℕ) → list_any (bytes_eq q) texts ≡ true
     → is_some (table.number_of texts q) ≡ true
@@ -403,16 +367,10 @@ module _ (lists : List (List Hosts)) (names prefixes : List (List ℕ)) (covered
   named_answer e = sym (one_listed name lists
       (subst (λ (ns : List (List ℕ)). list_any (bytes_eq name) ns ≡ true) index.named (has_number_there names name e)))
 
-  same_answer : (r b : Bool) → (r ≡ true → b ≡ true) → (b ≡ true → r ≡ true) → r ≡ b
-  same_answer true true on back = refl
-  same_answer true false on back = sym (on refl)
-  same_answer false true on back = back refl
-  same_answer false false on back = refl
-
   pub numbered_answer : (r : Bool) → is_some (table.number_of names name) ≡ false
       → (r ≡ true → IsNumbered prefixes covered name)
       → (IsNumbered prefixes covered name → r ≡ true) → r ≡ list_any (λ hosts. is_among (names_of hosts) name) lists
-  numbered_answer r none says tells = same_answer r (list_any (λ hosts. is_among (names_of hosts) name) lists)
+  numbered_answer r none says tells = both_ways r (list_any (λ hosts. is_among (names_of hosts) name) lists)
       (λ e. number_listed name lists covered index.small told_as
       (subst (λ (ps : List (List ℕ)). IsNumbered ps covered name) index.prefixed (says e)))
       (λ e. elim (listed_told name lists covered index.small told_as e) [
@@ -438,15 +396,3 @@ parted_at prefix digits name k e at = (ap (take k) e ∙ front prefix k at, ap (
     back [] (suc k) e = absurd (omega (arith, e))
     back (x ∷ p) zero e = absurd (omega (arith, e))
     back (x ∷ p) (suc k) e = back p k (omega (arith, e))
-
-pub rest_of : (name : List ℕ) (k : ℕ) → take (length name - k) (drop k name) ≡ drop k name
-rest_of [] zero = refl
-rest_of [] (suc k) = none (0 - suc k)
-  where
-    none : (n : ℕ) → take {A = ℕ} n [] ≡ []
-    none zero = refl
-    none (suc n) = refl
-rest_of (x ∷ xs) zero = ap (λ n. take n (x ∷ xs)) (let e : length (x ∷ xs) - 0 ≡ length (x ∷ xs) = omega arith in e)
-    ∙ take-length (x ∷ xs)
-rest_of (x ∷ xs) (suc k) = ap (λ n. take n (drop k xs)) (let e : length (x ∷ xs) - suc k
-    ≡ length xs - k = omega arith in e) ∙ rest_of xs k

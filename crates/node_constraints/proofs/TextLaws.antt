@@ -4,6 +4,8 @@ use Rattle.std.proofs.Common.{List, [], ◌∷◌, ◌++◌, length, Option, Som
 use Rattle.std.specs.Prelude.{is_some, option_map, option_and_then, IsTrue, slice_index_or}
 use Rattle.std.specs.List.{list_any, Contains}
 use Rattle.std.specs.Option.{option_map_or}
+use Rattle.std.proofs.Math.Bool.{or-true}
+use Rattle.std.specs.Cmp.{both_ways}
 use Rattle.serde_json.specs.Data.{Data, Items, no_items, item}
 use Rattle.serde_json.specs.Find.{as_str}
 use Rattle.idset_text.specs.declared.hostlists.Hosts.{Hosts}
@@ -34,21 +36,11 @@ module _ {X : Type 0}
   there_any [] k within at = absurd (omega (arith, within))
   there_any (y ∷ ys) zero within at = ap (λ z. test z || list_any test ys) at ∙ ap (λ b. b || list_any test ys) complete
   there_any (y ∷ ys) (suc k) within at =
-      ap (λ b. test y || b) (there_any ys k (omega (arith, within)) at) ∙ either (test y)
-    where
-      either : (b : Bool) → (b || true) ≡ true
-      either true = refl
-      either false = refl
-
-  same_truth : (r b : Bool) → (r ≡ true → b ≡ true) → (b ≡ true → r ≡ true) → r ≡ b
-  same_truth true true up down = refl
-  same_truth true false up down = sym (up refl)
-  same_truth false true up down = down refl
-  same_truth false false up down = refl
+      ap (λ b. test y || b) (there_any ys k (omega (arith, within)) at) ∙ or-true (test y)
 
   -- an answer that says whether x is in a list is that of the test for x
   pub is_any : (r : Bool) (xs : List X) → (IsTrue r ↔ Contains xs x) → r ≡ list_any test xs
-  is_any r xs says = same_truth r
+  is_any r xs says = both_ways r
       (list_any test xs) (λ yes. let at = says.0 yes in there_any xs at.0 at.1 at.2) (λ any. says.1 (any_there xs any))
 
 -- ---- what the texts are read as

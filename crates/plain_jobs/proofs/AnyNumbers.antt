@@ -1,8 +1,9 @@
 -- Containment of any two numbers: past the graph nothing is below another.
-use Rattle.std.proofs.Common.{◌≡◌, ◌≢◌, ℕ, zero, suc, ◌≤◌, Bool, true, false, not, ◌&&◌, List, length, Some, None}
+use Rattle.std.proofs.Common.{◌≡◌, ◌≢◌, ℕ, zero, suc, ◌≤◌, true, false, not, ◌&&◌, List, length, Some, None}
 use Rattle.std.proofs.Common.{option_and_then, ◌⊎◌, inl, inr, refl, sym, ◌∙◌, ap, arith, IsTrue}
 use Rattle.std.proofs.lemmas.Bool.{cases_lt}
 use Rattle.std.proofs.lemmas.Option.{slice_get_past}
+use Rattle.std.proofs.Math.Bool.{and-true}
 use Rattle.flux_defs.specs.declared.vertices.Vertex.{Vertex}
 use Rattle.flux_defs.specs.Graph.{ResourceGraph, parent_of, is_at_or_below, is_below}
 use Rattle.flux_defs.specs.ValidGraph.{StandsInPreorder}
@@ -39,8 +40,4 @@ past_below g o v u ne past = false_from (is_at_or_below g.vertices v u) (refuted
 -- of two different vertices, being below is being at or below
 pub differ_below : (vertices : List Vertex) (v u : ℕ) → v ≢ u → is_below vertices v u ≡ is_at_or_below vertices v u
 differ_below vertices v u ne =
-    ap (λ b. is_at_or_below vertices v u && not b) (unequal_from v u ne) ∙ and_true (is_at_or_below vertices v u)
-  where
-    and_true : (b : Bool) → (b && true) ≡ b
-    and_true true = refl
-    and_true false = refl
+    ap (λ b. is_at_or_below vertices v u && not b) (unequal_from v u ne) ∙ and-true (is_at_or_below vertices v u)

@@ -1,8 +1,9 @@
 -- What is free of a vertex over a window.
-use Rattle.std.proofs.Common.{◌≡◌, ℕ, ◌-◌, ◌^◌, ◌<◌, ◌≤◌, min, if◌then◌else◌, Bool, true, false, List, ◌↔◌, refl, sym}
+use Rattle.std.proofs.Common.{◌≡◌, ℕ, ◌-◌, ◌<◌, ◌≤◌, min, if◌then◌else◌, Bool, true, false, List, ◌↔◌, sym}
 use Rattle.std.proofs.Common.{◌∙◌, ap, arith, IsTrue, true≢false, Some, slice_get, length, get_or}
 use Rattle.std.specs.Option.{option_map_or}
 use Rattle.std.proofs.lemmas.Option.{slice_get-get_or}
+use Rattle.std.proofs.lemmas.Bool.{false_from_ne_true}
 use Rattle.flux_defs.specs.declared.limits.TheConstants.{GREATEST_NUMBER}
 use Rattle.flux_defs.specs.declared.vertices.Vertex.{Vertex}
 use Rattle.flux_defs.specs.declared.claims.Job.{Job}
@@ -34,11 +35,7 @@ module _ (vertices : List Vertex) (jobs : List Job) (w : Window) (v : ℕ) where
 
   is_open : (b : Bool) → b ≡ false →
       (IsTrue b ↔ IsClosedOver vertices jobs w v) → (m : ℕ) → w.from ≤ m → m < w.to → is_closed scene m v ≡ false
-  is_open b e h m lo hi = none (is_closed scene m v) (λ t. true≢false (sym (h.1 (m, lo, hi, t)) ∙ e))
-    where
-      none : (b : Bool) → (IsTrue b → ⊥) → b ≡ false
-      none true f = absurd (f refl)
-      none false f = refl
+  is_open b e h m lo hi = false_from_ne_true (is_closed scene m v) (λ t. true≢false (sym (h.1 (m, lo, hi, t)) ∙ e))
 
   pub free_of_pool : (b : Bool) (n size r : ℕ) → b ≡ false → (IsTrue b ↔ IsClosedOver vertices jobs w v) →
       is_pool vertices v ≡ true → size_of vertices v ≡ size → size ≤ 18446744073709551615 →

@@ -4,7 +4,7 @@ use Rattle.std.proofs.Common.{◌⊎◌, inl, inr, refl, sym, ◌∙◌, ap, sub
 use Rattle.std.proofs.Common.{MatchOption, take, length, get_or}
 use Rattle.std.proofs.lemmas.List.{take_more}
 use Rattle.std.proofs.lemmas.Bool.{cases_lt}
-use Rattle.std.proofs.lemmas.Bool.Decides.{nat_tests}
+use Rattle.std.proofs.lemmas.Bool.Decides.{leb_tells}
 use Rattle.flux_defs.specs.declared.claims.Job.{Job}
 use Rattle.flux_defs.specs.Jobs.{IsPoint, IsNextPoint}
 use Rattle.plain_jobs.specs.Spans.{lesser_of}
@@ -14,15 +14,6 @@ abbrev pub IsBest : List Job → ℕ → Option ℕ → Type 0
 IsBest jobs after best =
     IfSome best (λ p. after < p) × MatchOption best ((p : ℕ) → after < p → IsPoint jobs p → ⊥) (IsNextPoint jobs after)
 
-le_tells : (a b : ℕ) → ((nat_le a b ≡ true) × (a ≤ b)) ⊎ ((nat_le a b ≡ false) × (b < a))
-le_tells a b = elim (cases_lt b a) [ inl lt ↦ inr (no' a b lt, lt) | inr ge ↦ inl (yes' a b ge, ge) ]
-  where
-    no' : (a b : ℕ) → b < a → nat_le a b ≡ false
-    no' a b lt = grind (arith, nat_tests)
-
-    yes' : (a b : ℕ) → a ≤ b → nat_le a b ≡ true
-    yes' a b le = grind (arith, nat_tests)
-
 -- the least later number of a kind
 abbrev IsLeast : (ℕ → Type 0) → ℕ → Option ℕ → Type 0
 IsLeast P after None = (p : ℕ) → after < p → P p → ⊥
@@ -31,7 +22,7 @@ IsLeast P after (Some b) = (after < b) × P b × ((q : ℕ) → after < q → P 
 least_more : (P R : ℕ → Type 0) (after p : ℕ) (best : Option ℕ) →
     ((q : ℕ) → R q → P q ⊎ (q ≡ p)) → ((q : ℕ) → P q → R q) → R p → IsLeast P after best →
     IsLeast R after (lesser_of best after p)
-least_more P R after p None from to here h = go (nat_le p after) (le_tells p after)
+least_more P R after p None from to here h = go (nat_le p after) (leb_tells p after)
   where
     go : (b : Bool) → ((b ≡ true) × (p ≤ after)) ⊎ ((b ≡ false) × (after < p)) →
         IsLeast R after (if b then None else Some p)
@@ -43,7 +34,7 @@ least_more P R after p None from to here h = go (nat_le p after) (le_tells p aft
       | inl y ↦ absurd (true≢false (sym y.0))
       | inr n ↦ (n.1, here, λ q lt r. elim (from q r) [ inl x ↦ absurd (h q lt x) | inr e ↦ omega arith ])
     ]
-least_more P R after p (Some b) from to here h = go (nat_le p after) (le_tells p after)
+least_more P R after p (Some b) from to here h = go (nat_le p after) (leb_tells p after)
   where
     go : (c : Bool) → ((c ≡ true) × (p ≤ after)) ⊎ ((c ≡ false) × (after < p)) →
         IsLeast R after (if c then Some b else Some (min b p))

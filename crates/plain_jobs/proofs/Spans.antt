@@ -1,11 +1,12 @@
 -- Moments of a window, the jobs that are live at them, and how much these take.
-use Rattle.std.proofs.Common.{◌≡◌, ℕ, zero, suc, ◌+◌, ◌<◌, ◌≤◌, min, nat_le, nat_lt, Bool, true, false, ◌&&◌, ◌||◌}
+use Rattle.std.proofs.Common.{◌≡◌, ℕ, suc, ◌+◌, ◌<◌, ◌≤◌, min, nat_le, nat_lt, Bool, true, false, ◌&&◌, ◌||◌}
 use Rattle.std.proofs.Common.{List, [], ◌∷◌, ◌⊎◌, ◌↔◌, inl, inr, refl, sym, ◌∙◌, ap, subst, arith, IsTrue, true≢false}
 use Rattle.std.proofs.Common.{slice_get, Some, length, get_or}
-use Rattle.std.proofs.lemmas.Option.{slice_get-get_or}
+use Rattle.std.proofs.lemmas.Option.{slice_get-get_or, slice_get_within}
 use Rattle.std.specs.List.{AllByRecursion, list_any}
 use Rattle.std.proofs.lemmas.Bool.{cases_lt, and_parts, and_from, or_cases, or_left, or_right}
 use Rattle.std.proofs.lemmas.Bool.Decides.{nat_tests, eqb_tells}
+use Rattle.std.proofs.Math.Bool.{or-false}
 use Rattle.flux_defs.specs.declared.vertices.Vertex.{Vertex}
 use Rattle.flux_defs.specs.declared.claims.Claim.{Claim}
 use Rattle.flux_defs.specs.declared.claims.Job.{Job}
@@ -51,15 +52,11 @@ module _ (w : Window) (opens : w.from < w.to) (test : Claim → Bool) where
         | inr later ↦ or_right (overlaps w job && list_any test job.claims) _ (overlap_of jobs m lo hi later)
       ]
 
-  or_no : (a : Bool) → IsTrue (a || false) → IsTrue a
-  or_no true h = refl
-  or_no false h = h
-
   pub some_overlap_tells : (jobs : List Job) →
       (IsTrue (some_overlap jobs w test) ↔ SomeMoment w (λ m. IsTrue (some_live_claim jobs m test || false)))
   some_overlap_tells jobs = (
     λ h. let r = moment_of jobs h in (r.0, r.1, r.2, or_left _ false r.3),
-    λ s. overlap_of jobs s.0 s.1 s.2 (or_no (some_live_claim jobs s.0 test) s.3),
+    λ s. overlap_of jobs s.0 s.1 s.2 (sym (or-false (some_live_claim jobs s.0 test)) ∙ s.3),
   )
 
 -- a moment from which on no job starts up to m: from, or the start of a job
@@ -188,11 +185,6 @@ pub most_ends : (jobs : List Job) (w : Window) (v cap index n : ℕ) →
     length jobs ≤ index → Most jobs w v cap index n → IsMostTaken jobs w v cap n
 most_ends jobs w v cap index n over m = record {
   each = most_taken jobs w v cap n m.begin
-      (λ i job at. m.starts i job (let lt : i < length jobs = inside jobs i job at in omega arith) at);
+      (λ i job at. m.starts i job (let lt : i < length jobs = slice_get_within jobs i job at in omega arith) at);
   reached = m.reached;
 }
-  where
-    inside : (jobs : List Job) (i : ℕ) (job : Job) → slice_get jobs i ≡ Some job → i < length jobs
-    inside [] i job e = absurd (cc)
-    inside (j ∷ js) zero job e = omega arith
-    inside (j ∷ js) (suc i) job e = let r = inside js i job e in omega arith

@@ -5,7 +5,8 @@ use Rattle.std.specs.Option.{IsSomeAnd, option_map_or}
 use Rattle.std.proofs.lemmas.Bool.{cases_lt, cases_eq}
 use Rattle.std.proofs.lemmas.List.{get_or-set_same, get_or-set_other, length-set}
 use Rattle.std.proofs.lemmas.Nat.{mul-add-lt, same_from_place}
-use Rattle.std.proofs.lemmas.Option.{slice_get-get_or, slice_get_past}
+use Rattle.std.proofs.lemmas.Option.{slice_get-get_or}
+use Rattle.resource_graph.proofs.Values.{fact_within}
 use Rattle.flux_defs.specs.declared.vertices.Vertex.{Vertex}
 use Rattle.flux_defs.specs.Graph.{parent_of, is_at_or_below, is_below, HasKind}
 use Rattle.graph_laws.proofs.Containment.{ParentsFirst, below_le, below_from, below_to, below_parent, below_trans}
@@ -27,12 +28,7 @@ kind_is vertices kind v lt has = sym (let h = subst
     (λ (o : Option Vertex). IsSomeAnd o (λ x. x.kind ≡ kind)) (slice_get-get_or vertices v no_vertex lt) has in h)
 
 pub has_kind_in : (vertices : List Vertex) (kind v : ℕ) → HasKind vertices kind v → v < length vertices
-has_kind_in vertices kind v has =
-    elim (cases_lt v (length vertices)) [
-      | inl within ↦ within
-      | inr past ↦
-          absurd (subst (λ (o : Option Vertex). IsSomeAnd o (λ x. x.kind ≡ kind)) (slice_get_past vertices v past) has)
-    ]
+has_kind_in vertices kind v has = fact_within vertices v (λ x. x.kind ≡ kind) has
 
 -- the pairs of kinds of v and what is above it are marked, as far as the climb has come
 pub record Marks (vertices : List Vertex) (kinds v : ℕ) (above : Option ℕ) (old new : List Bool) : Type 0 where

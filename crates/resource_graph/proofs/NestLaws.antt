@@ -1,17 +1,19 @@
 -- Which kinds contain which: the test over all pairs of vertices agrees with what a graph answers.
-use Rattle.std.proofs.Common.{◌≡◌, ℕ, zero, suc, ◌+◌, ◌<◌, ◌==◌, Bool, true, false, ◌&&◌, ◌||◌, List, length, Option}
+use Rattle.std.proofs.Common.{◌≡◌, ℕ, zero, suc, ◌+◌, ◌<◌, ◌==◌, Bool, true, false, ◌||◌, List, length, Option}
 use Rattle.std.proofs.Common.{Some, None, slice_get, IsTrue, ◌↔◌, true≢false, refl, sym, zero-add, arith}
 use Rattle.std.specs.List.{list_any, range_with_len}
 use Rattle.std.specs.Option.{IsSomeAnd, option_map_or}
 use Rattle.std.proofs.lemmas.List.Folds.{list_any_at}
 use Rattle.std.proofs.lemmas.List.FromFn.{length-range_with_len, get_or-range_with_len}
-use Rattle.std.proofs.lemmas.Bool.{eqb-true, eq-eqb}
+use Rattle.std.proofs.lemmas.Bool.{eqb-true, eq-eqb, and_from}
+use Rattle.std.specs.Cmp.{first_so, second_so}
+use Rattle.resource_graph.proofs.MarkLaws.{has_kind_in}
 use Rattle.flux_defs.specs.declared.vertices.Vertex.{Vertex}
 use Rattle.flux_defs.specs.Graph.{HasKind, Contains}
 use Rattle.list_laws.proofs.Tests.{same_tests}
 use Rattle.resource_graph.specs.Preorder.{KnowsKinds}
 use Rattle.resource_graph.specs.Tables.{has_kind, contains_kind}
-use Rattle.resource_graph.proofs.Values.{value_of, fact_within}
+use Rattle.resource_graph.proofs.Values.{value_of}
 
 -- an index that passes a test of all indices, and the converse
 any_index : (test : ℕ → Bool) (count v : ℕ) →
@@ -31,18 +33,6 @@ some_index test low (suc count) h = by (test low) refl h (some_index test (low +
     by true is h later = (low, is)
     by false is h later = later h
 
-both : (a b : Bool) → IsTrue a → IsTrue b → IsTrue (a && b)
-both true b h k = k
-both false b h k = h
-
-first : (a b : Bool) → IsTrue (a && b) → IsTrue a
-first true b h = refl
-first false b h = h
-
-second : (a b : Bool) → IsTrue (a && b) → IsTrue b
-second true b h = h
-second false b h = absurd (true≢false (sym h))
-
 of_kind : (vertices : List Vertex) (kind v : ℕ) → IsTrue (has_kind vertices kind v) → HasKind vertices kind v
 of_kind vertices kind v h = by (slice_get vertices v) h
   where
@@ -57,27 +47,24 @@ is_of_kind vertices kind v h = by (slice_get vertices v) h
     by None h = absurd h
     by (Some x) h = eq-eqb x.kind kind h
 
-in_range : (vertices : List Vertex) (kind v : ℕ) → HasKind vertices kind v → v < length vertices
-in_range vertices kind v h = fact_within vertices v (λ x. x.kind ≡ kind) h
-
 pub contains_is : (vertices : List Vertex) (upper lower : ℕ) →
     IsTrue (contains_kind vertices upper lower) ↔ Contains vertices (HasKind vertices upper) (HasKind vertices lower)
 contains_is vertices upper lower = (
   (λ h.
       let u = some_index _ 0 (length vertices) h in
       let v = some_index _ 0 (length vertices) u.1 in
-      let rest = second (has_kind vertices upper u.0) _ v.1 in (
+      let rest = second_so (has_kind vertices upper u.0) _ v.1 in (
         u.0,
         v.0,
-        of_kind vertices upper u.0 (first (has_kind vertices upper u.0) _ v.1),
+        of_kind vertices upper u.0 (first_so (has_kind vertices upper u.0) _ v.1),
         of_kind vertices lower v.0
-            (first (has_kind vertices lower v.0) _ rest),
-        second (has_kind vertices lower v.0) _ rest,
+            (first_so (has_kind vertices lower v.0) _ rest),
+        second_so (has_kind vertices lower v.0) _ rest,
       )),
   (λ (u, v, up, low, below).
       any_index _ (length vertices) u
-      (in_range vertices upper u up) (any_index _ (length vertices) v (in_range vertices lower v low)
-      (both _ _ (is_of_kind vertices upper u up) (both _ _ (is_of_kind vertices lower v low) below)))),
+      (has_kind_in vertices upper u up) (any_index _ (length vertices) v (has_kind_in vertices lower v low)
+      (and_from _ _ (is_of_kind vertices upper u up) (and_from _ _ (is_of_kind vertices lower v low) below)))),
 )
 
 -- what a graph answers is this test

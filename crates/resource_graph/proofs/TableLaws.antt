@@ -12,6 +12,8 @@ use Rattle.std.proofs.lemmas.List.{get_or_push}
 use Rattle.std.proofs.lemmas.List.Folds.{list_any_more}
 use Rattle.std.proofs.lemmas.Option.{slice_get_within, slice_get-get_or, get_or_from_slice_get, slice_get_read}
 use Rattle.std.proofs.lemmas.Option.{slice_get_past}
+use Rattle.std.proofs.Math.Bool.{or-false}
+use Rattle.resource_graph.proofs.MarkLaws.{has_kind_in}
 use Rattle.flux_defs.specs.declared.vertices.Vertex.{Vertex}
 use Rattle.flux_defs.specs.Graph.{parent_of, is_at_or_below, HasKind, IsNode}
 use Rattle.graph_laws.proofs.Containment.{ParentsFirst, below_from, below_self, below_parent, below_trans, parent_below}
@@ -117,18 +119,10 @@ lists_all vertices kinds most lists to all = record {
   as_many = to.as_many;
   each = λ k list e. let l = to.each k list e in record {
     only = l.only;
-    all = λ v has. l.all v (let within : v < length vertices = kind_within vertices k v has in omega arith) has;
+    all = λ v has. l.all v (let within : v < length vertices = has_kind_in vertices k v has in omega arith) has;
     rising = λ k within. l.rising k (k + 1) (omega arith) within;
   };
 }
-  where
-    kind_within : (vertices : List Vertex) (kind v : ℕ) → HasKind vertices kind v → v < length vertices
-    kind_within vertices kind v has =
-        elim (cases_lt v (length vertices)) [
-          | inl within ↦ within
-          | inr past ↦ absurd
-              (subst (λ (o : Option Vertex). IsSomeAnd o (λ x. x.kind ≡ kind)) (slice_get_past vertices v past) has)
-        ]
 
 pub lists_none : (vertices : List Vertex) (kinds : ℕ) (lists : List (Vec ℕ Global)) →
     AreEmpty lists kinds → HasListsTo vertices kinds 0 lists
@@ -302,12 +296,8 @@ pools_more vertices most pools kind lt is within pool to k =
           let test : p x ≡ false =
           and_left (x.kind == k) (not (x.size == 1)) (ne_eqb x.kind k (λ e. differ (sym e ∙ sym is))) in
           get_or-set_other pools kind k true false differ ∙ (to k ∙ sym (list_any_more p vertices most no_vertex lt
-          ∙ (ap (λ b. list_any p (take most vertices) || b) test ∙ or_false (list_any p (take most vertices))))))
+          ∙ (ap (λ b. list_any p (take most vertices) || b) test ∙ or-false (list_any p (take most vertices))))))
     ]
-  where
-    or_false : (b : Bool) → (b || false) ≡ b
-    or_false true = refl
-    or_false false = refl
 
 pub pools_same : (vertices : List Vertex) (most : ℕ) (pools : List Bool) → most < length vertices →
     (get_or vertices most no_vertex).size ≡ 1 → PoolsTo vertices most pools → PoolsTo vertices (most + 1) pools
@@ -317,8 +307,4 @@ pools_same vertices most pools lt whole to k =
     let test : p x ≡ false =
     and_right (x.kind == k) (not (x.size == 1)) (not_from_true (x.size == 1) (eq-eqb x.size 1 whole)) in
     to k ∙ sym (list_any_more p vertices most no_vertex lt
-    ∙ (ap (λ b. list_any p (take most vertices) || b) test ∙ or_false (list_any p (take most vertices))))
-  where
-    or_false : (b : Bool) → (b || false) ≡ b
-    or_false true = refl
-    or_false false = refl
+    ∙ (ap (λ b. list_any p (take most vertices) || b) test ∙ or-false (list_any p (take most vertices))))

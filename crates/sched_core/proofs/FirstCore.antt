@@ -1,5 +1,5 @@
 -- What is kept before the first entry, and what every core keeps.
-use Rattle.std.proofs.Common.{◌≡◌, ℕ, List, [], length, refl, sym, ◌∙◌, ap, subst, arith, Contains}
+use Rattle.std.proofs.Common.{◌≡◌, List, [], length, refl, sym, ◌∙◌, ap, subst, arith}
 use Rattle.std.specs.FinMap.{get, len, empty, get-empty, len-empty}
 use Rattle.std.specs.Ordering.{nat_cmp}
 use Rattle.std.proofs.lemmas.List.{take_all}
@@ -16,16 +16,14 @@ use Rattle.sched_core.specs.declared.held.Site.{Site}
 use Rattle.sched_core.specs.declared.held.Kept.{Kept}
 use Rattle.sched_core.specs.Courses.{left_by, graph_at, vertices_at, journal_in, setting_in, IsBookOf, IsCore}
 use Rattle.sched_core.proofs.JobLaws.{Told}
-
-nothing : (a : ℕ) → Contains [] a → ⊥
-nothing a h = let lt = h.1 in absurd (omega arith)
+use Rattle.list_laws.proofs.Lists.{contains_none}
 
 book_none : (book : BookState) → moment_of book ≡ 0 → rows_of book ≡ empty → StandsFor book [] → IsBookOf [] book
 book_none book moment rows jobs = record {
   jobs = jobs;
   moment = moment;
   table = λ id. subst (Told [] first_state id) (sym (ap (λ r. get r id) rows ∙ get-empty nat_cmp id))
-      (record { unused = nothing id; none = refl });
+      (record { unused = contains_none id; none = refl });
   few = (let none = ap len rows ∙ len-empty nat_cmp Row in omega (arith, none));
 }
 

@@ -1,12 +1,9 @@
 -- The book of a journal with one entry more.
-use Rattle.std.proofs.Common.{◌≡◌, ℕ, List, [], ◌∷◌, ◌++◌, length, length-append, slice_get, Option, Some, None, inl}
+use Rattle.std.proofs.Common.{◌≡◌, ℕ, List, [], ◌∷◌, ◌++◌, length, length-append, Option, Some, None, inl}
 use Rattle.std.proofs.Common.{inr, refl, sym, ◌∙◌, ap, subst, arith, Contains, ◌+◌, ◌≤◌}
 use Rattle.std.specs.FinMap.{get, insert, len}
 use Rattle.std.proofs.lemmas.Bool.Decides.{eqb_tells}
-use Rattle.std.proofs.lemmas.Option.{slice_get_read, slice_get_within, get_or_from_slice_get}
-use Rattle.std.proofs.lemmas.List.{get_or_push}
 use Rattle.std.proofs.lemmas.List.Elements.{Contains-push, Contains-append_left, Contains-push_cases}
-use Rattle.std.proofs.Math.ListN.{get_or-append}
 use Rattle.flux_defs.specs.declared.claims.Job.{Job}
 use Rattle.flux_defs.specs.declared.journal.Command.{Command}
 use Rattle.flux_defs.specs.declared.journal.Command.TheVariants as command
@@ -26,6 +23,7 @@ use Rattle.book_state.proofs.BookLaws.{more_rows, same_rows}
 use Rattle.sched_core.specs.Courses.{left_by, IsRowOf, IsBookAt, IsBookOf}
 use Rattle.sched_core.specs.Answered.{ChangesNothing}
 use Rattle.sched_core.proofs.JobLaws.{Told, row_found, row_none, with_other, with_new, gone, stays}
+use Rattle.list_laws.proofs.Lists.{get_last, get_old}
 
 -- the state after one entry more
 state_snoc : (s : State) (journal : List Entry) (e : Entry) →
@@ -42,16 +40,6 @@ pub legal_snoc : (g : Setting) (s : State) (journal : List Entry) (e : Entry) �
     IsLegalFrom g s journal → Replies g (state_after s journal) e.command e.reply → IsLegalFrom g s (journal ++ e ∷ [])
 legal_snoc g s [] e legal reply = (reply, tt)
 legal_snoc g s (x ∷ xs) e legal reply = (legal.0, legal_snoc g (after s x.command x.reply) xs e legal.1 reply)
-
-get_old : (xs : List Entry) (e x : Entry) (k : ℕ) → slice_get xs k ≡ Some x → slice_get (xs ++ e ∷ []) k ≡ Some x
-get_old xs e x k is =
-    let lt = slice_get_within xs k x is in
-    slice_get_read (xs ++ e ∷ []) (length (xs ++ e ∷ [])) k x refl (omega (arith, length-append xs (e ∷ [])))
-    (sym (get_or-append xs (e ∷ []) x k lt ∙ get_or_from_slice_get xs k x x is))
-
-get_last : (xs : List Entry) (e : Entry) → slice_get (xs ++ e ∷ []) (length xs) ≡ Some e
-get_last xs e = slice_get_read (xs ++ e ∷ []) (length (xs ++ e ∷ []))
-    (length xs) e refl (omega (arith, length-append xs (e ∷ []))) (sym (get_or_push xs e e (length xs) refl))
 
 module _ (journal : List Entry) (e : Entry) (s t : State)
     (id : ℕ) (up : Contains s.used id → Contains t.used id) (down : Contains t.used id → Contains s.used id)

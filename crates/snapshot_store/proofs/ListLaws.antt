@@ -5,7 +5,8 @@ use Rattle.std.proofs.lemmas.Nat.{pow-add}
 use Rattle.std.proofs.lemmas.Bool.{cases_lt}
 use Rattle.flux_defs.specs.Digits.{dig}
 use Rattle.flux_defs.proofs.DigitLaws.{below_dig, some_dig}
-use Rattle.snapshot_store.proofs.PlaceLaws.{width_fits, set_length}
+use Rattle.snapshot_store.proofs.PlaceLaws.{width_fits}
+use Rattle.list_laws.proofs.Lists.{set_length}
 
 four_more : (h : ℕ) → 2 ^ (4 * (h + 1)) ≡ 16 * 2 ^ (4 * h)
 four_more h =

@@ -1,5 +1,5 @@
 -- A page after a change of one of its parts.
-use Rattle.std.proofs.Common.{◌≡◌, ℕ, zero, suc, ◌+◌, ◌*◌, ◌^◌, ◌<◌, List, [], ◌∷◌, ◌++◌, refl, ap, sym, ◌∙◌, arith}
+use Rattle.std.proofs.Common.{◌≡◌, ℕ, ◌+◌, ◌*◌, ◌^◌, ◌<◌, List, [], ◌∷◌, ◌++◌, ap, sym, ◌∙◌, arith}
 use Rattle.std.proofs.Common.{Some, slice_get, slice_set, subst}
 use Rattle.std.proofs.lemmas.Nat.{pow-add}
 use Rattle.node_store.specs.Lending.{with_part}
@@ -9,15 +9,11 @@ use Rattle.snapshot_store.specs.Places.{HasItem, HasRoom}
 use Rattle.snapshot_store.specs.declared.parts.Body.{Body}
 use Rattle.snapshot_store.specs.declared.parts.Body.TheVariants.{Fork}
 use Rattle.snapshot_store.specs.declared.parts.Page.{Page}
+use Rattle.list_laws.proofs.Lists.{set_back}
 
 -- the page with another part at a place
 abbrev pub changed : {E : Type 0} → Page E → ℕ → List E × ℕ → Page E
 changed page place part = record { below = page.below; parts = with_part page.parts place part }
-
-set_back : {X : Type 0} (xs : List X) (at : ℕ) (x : X) → slice_get xs at ≡ Some x → slice_set xs at x ≡ xs
-set_back [] at x g = refl
-set_back (y ∷ ys) zero x g = (let e : x ≡ y = cc in ap (λ u. u ∷ ys) e)
-set_back (y ∷ ys) (suc at) x g = ap (λ u. y ∷ u) (set_back ys at x g)
 
 pub pairs : {A B : Type 0} (a a' : A) (b b' : B) → a ≡ a' → b ≡ b' → Path (A × B) (a, b) (a', b')
 pairs {A} {B} a a' b b' e f = ap (λ (u : A). let v : A × B = (u, b) in v) e

@@ -8,6 +8,7 @@ use Rattle.std.proofs.lemmas.Bool.{cases_lt}
 use Rattle.snapshot_store.specs.Parts.{parts_in, items_in, IsPart, ArePacked, IsPage}
 use Rattle.snapshot_store.specs.Places.{HasItem, HasRoom}
 use Rattle.snapshot_store.specs.declared.parts.Page.{Page}
+use Rattle.list_laws.proofs.Lists.{set_length}
 
 pub width_fits : (b : ℕ) → b < 16 → 1 * 2 ^ (4 * b) % 18446744073709551616 ≡ 2 ^ (4 * b)
 width_fits b l =
@@ -39,11 +40,6 @@ set_right : {E : Type 0} (xs ys : List E) (i k : ℕ) (e : E) → k ≡ length x
 set_right [] ys i k e h = (let q : k ≡ i = omega arith in ap (λ u. slice_set ys u e) q)
 set_right (x ∷ xs) ys i zero e h = absurd (omega arith)
 set_right (x ∷ xs) ys i (suc k) e h = ap (λ l. x ∷ l) (set_right xs ys i k e (omega arith))
-
-pub set_length : {E : Type 0} (xs : List E) (at : ℕ) (e : E) → length (slice_set xs at e) ≡ length xs
-set_length [] at e = refl
-set_length (x ∷ xs) zero e = refl
-set_length (x ∷ xs) (suc at) e = ap suc (set_length xs at e)
 
 -- a part before an item is full
 full : {E : Type 0} (h w : ℕ) (part : List E × ℕ) (ys : List E) → w ≡ 2 ^ (4 * h) → IsPart h part →

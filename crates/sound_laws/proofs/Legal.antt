@@ -36,7 +36,7 @@ accepted_keeps g names valid jobs ask needs job low sound =
     (fits_had g.vertices ok 1 Everywhere ask.needs needs job.claims fit)
     (separate_fits g names valid ok 1 Everywhere ask.needs needs job.claims fit)
 
-same_window : (a b c d : ℕ) → a ≡ c →
+pub same_window : (a b c d : ℕ) → a ≡ c →
     b ≡ d → (let x : Window = record { from = a; to = b } in let y : Window = record { from = c; to = d } in x ≡ y)
 same_window a b c d e f = cc
 

@@ -18,9 +18,8 @@ use Rattle.flux_defs.specs.Free.{taken_at}
 use Rattle.flux_defs.specs.Available.{IsAvailable}
 use Rattle.flux_defs.specs.Sound.{AreSeparate, AreAllSeparate, KeepApart, AllKeepApart, IsSound}
 use Rattle.graph_laws.proofs.Containment.{not_to, unequal_from, equal_from}
-use Rattle.flux_laws.proofs.Aside.{of_member}
 use Rattle.sound_laws.proofs.Members.{each_member, any_member}
-use Rattle.list_laws.proofs.Lists.{all_append, all_filter}
+use Rattle.list_laws.proofs.Lists.{all_append, all_filter, all_contained}
 use Rattle.sound_laws.proofs.Had.{IsHad}
 
 module _ (vertices : List Vertex) where
@@ -151,7 +150,7 @@ module _ (vertices : List Vertex) (jobs : List Job) (barred : List ℕ) (job : J
     keeps_apart : (other : Job) → Contains jobs other → KeepApart vertices other job
     keeps_apart other member m live_other live c d hc hd =
         let s = in_span m live in
-        let h = of_member (IsHad vertices (IsAvailable scene span)) job.claims d had hd in
+        let h = all_contained (IsHad vertices (IsAvailable scene span)) job.claims d had hd in
         record {
           first = λ over. not_held m d h s.0 s.1
               (live_member m (holds_over vertices (vertex_of d)) other c member live_other hc over);

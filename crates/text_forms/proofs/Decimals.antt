@@ -5,7 +5,7 @@ use Rattle.std.specs.Prelude.{decimal}
 use Rattle.std.specs.Bool.{Decides}
 use Rattle.std.specs.Str.{bytes_eq}
 use Rattle.std.specs.Str.Parse.{ParsesUnsigned, digits_value}
-use Rattle.std.proofs.lemmas.Bool.{ltb-true, lt-ltb}
+use Rattle.std.proofs.lemmas.Bool.{ltb-true, lt-ltb, and_parts}
 use Rattle.std.proofs.lemmas.Fmt.{parse-decimal, decimal_is_IsNumeral}
 use Rattle.std.proofs.lemmas.Slice.Eq.{bytes_eq-Decides}
 use Rattle.text_forms.specs.Numbers.{is_number, number_in}
@@ -26,10 +26,6 @@ tested : (xs ys : List ℕ) (b : Bool) → Decides b (xs ≡ ys) → b ≡ true 
 tested xs ys true tells e = tells.0 refl
 tested xs ys false tells e = absurd (true≢false (sym e))
 
-both_true : (a b : Bool) → (a && b) ≡ true → (a ≡ true) × (b ≡ true)
-both_true true b e = (refl, e)
-both_true false b e = absurd (true≢false (sym e))
-
 -- the number that a text is written for
 pub is_of : (word : List ℕ) (n : ℕ) → n < 2 ^ 64 → word ≡ decimal n → number_in word ≡ Some n
 is_of word n small is =
@@ -44,7 +40,7 @@ is_of word n small is =
 none_by : (word : List ℕ) (b : Bool) → is_number word ≡ b →
     ((n : ℕ) → n < 2 ^ 64 → word ≡ decimal n → ⊥) → (if b then Some (digits_value 10 word) else None) ≡ None
 none_by word true e never =
-    let both = both_true (bytes_eq (decimal (digits_value 10 word)) word) (nat_lt (digits_value 10 word) (2 ^ 64)) e in
+    let both = and_parts (bytes_eq (decimal (digits_value 10 word)) word) (nat_lt (digits_value 10 word) (2 ^ 64)) e in
     absurd (never (digits_value 10 word) (ltb-true (digits_value 10 word) (2 ^ 64) both.1)
     (sym (tested (decimal (digits_value 10 word)) word (bytes_eq (decimal (digits_value 10 word)) word)
     (bytes_eq-Decides (decimal (digits_value 10 word)) word) both.0)))

@@ -52,7 +52,8 @@ any_by : (b : Bool) (n len : ℕ) (any : Bool) → cond (not b) (1 + n) 0 < suc 
 any_by true n len any lt later = refl
 any_by false n len any lt later = later (omega (arith, lt))
 
-is_there : (q : List ℕ) (texts : List (List ℕ)) → index_of texts q < length texts → list_any (bytes_eq q) texts ≡ true
+pub is_there : (q : List ℕ) (texts : List (List ℕ)) → index_of texts q < length texts →
+    list_any (bytes_eq q) texts ≡ true
 is_there q [] lt = absurd (omega (arith, lt))
 is_there q (x ∷ xs) lt = any_by (bytes_eq q x) (index_of xs q) (length xs) (list_any (bytes_eq q) xs) lt (is_there q xs)
 

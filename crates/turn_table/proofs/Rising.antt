@@ -12,6 +12,7 @@ use mathlib.Core.Logic.{dite}
 use native.Mathlib.Decide.{ℕ_discrete}
 use Rattle.turn_table.specs.Positions.{times, RisesBelow, put_in, merged}
 use Rattle.turn_table.proofs.Positions.{times_hit, times_miss, times_merged, times_within}
+use Rattle.list_laws.proofs.Tests.{below_is_less, less_is_below}
 
 -- the numbers rise, none is below a, and all are below b
 abbrev RisesIn : ℕ → List ℕ → ℕ → Type 0
@@ -20,16 +21,10 @@ RisesIn a (x ∷ xs) b = (a ≤ x) × RisesIn (x + 1) xs b
 
 -- ---- the same by recursion and in std's words
 
-cmp_less : (x y : ℕ) → x < y → nat_cmp x y ≡ Less
-cmp_less x y l = grind (arith, nat_tests)
-
-less_cmp : (x y : ℕ) → nat_cmp x y ≡ Less → x < y
-less_cmp x y l = grind (arith, nat_tests)
-
 all_after : (x a b : ℕ) (xs : List ℕ) → x < a → RisesIn a xs b → AllByRecursion (λ y. nat_cmp x y ≡ Less) xs
 all_after x a b [] l r = tt
 all_after x a b (y ∷ ys) l r =
-    let low = r.0 in (cmp_less x y (omega arith), all_after x (y + 1) b ys (omega arith) r.1)
+    let low = r.0 in (below_is_less x y (omega arith), all_after x (y + 1) b ys (omega arith) r.1)
 
 sorted : (a b : ℕ) (xs : List ℕ) → RisesIn a xs b → IsStrictlySortedBy nat_cmp xs
 unfolding IsStrictlySortedBy
@@ -53,7 +48,7 @@ rises_from_sorted a b (x ∷ xs) l low s high =
   where
     after : (ys : List ℕ) → AllByRecursion (λ y. nat_cmp x y ≡ Less) ys → AllByRecursion (λ y. x + 1 ≤ y) ys
     after [] all = tt
-    after (y ∷ ys) all = let h = less_cmp x y all.0 in (omega arith, after ys all.1)
+    after (y ∷ ys) all = let h = less_is_below x y all.0 in (omega arith, after ys all.1)
 
 none_low : (xs : List ℕ) → AllByRecursion (λ y. 0 ≤ y) xs
 none_low [] = tt

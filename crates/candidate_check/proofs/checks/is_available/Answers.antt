@@ -1,5 +1,5 @@
-use Rattle.std.proofs.Common.{◌≡◌, ◌≤◌, ◌↔◌, ℕ, Bool, true, false, IsTrue, subst, sym, nat_le, arith}
-use Rattle.std.proofs.lemmas.Bool.Decides.{nat_tests}
+use Rattle.std.proofs.Common.{◌≡◌, ◌↔◌, Bool, true, false, IsTrue, subst, sym, nat_le}
+use Rattle.std.proofs.lemmas.Bool.{leb-true, le-leb}
 use Rattle.flux_defs.specs.declared.claims.Claim.{Claim}
 use Rattle.flux_defs.specs.declared.claims.Window.{Window}
 use Rattle.flux_defs.specs.Closed.{Scene, no_bars}
@@ -12,12 +12,6 @@ of_equal : (scene : Scene) (w : Window) (b : Bool) (claim same : Claim) → clai
     (IsTrue b ↔ IsAvailable scene w same) → (IsTrue b ↔ IsAvailable scene w claim)
 of_equal scene w b claim same e h = subst (λ (c : Claim). IsTrue b ↔ IsAvailable scene w c) (sym e) h
 
-at_most : (a b : ℕ) → IsTrue (nat_le a b) → a ≤ b
-at_most a b t = grind (arith, nat_tests)
-
-at_most_told : (a b : ℕ) → a ≤ b → IsTrue (nat_le a b)
-at_most_told a b le = grind (arith, nat_tests)
-
 pub returns-in-Take-clause-answer : goal.returns-in-Take-clause-answer
 returns-in-Take-clause-answer g c = λ jobs stands.
     let scene = no_bars (g.F.FreeView.graph c.args.view.now) jobs in
@@ -25,8 +19,8 @@ returns-in-Take-clause-answer g c = λ jobs stands.
     let told = available_take scene c.args.window take.vertex take.quantity c.free_over.result
     (c.free_over.ensures.answer jobs stands) in
     of_equal scene c.args.window (nat_le take.quantity c.free_over.result) c.args.claim _ take.is (
-      λ t. told.0 (at_most take.quantity c.free_over.result t),
-      λ a. at_most_told take.quantity c.free_over.result (told.1 a),
+      λ t. told.0 (leb-true take.quantity c.free_over.result t),
+      λ a. le-leb take.quantity c.free_over.result (told.1 a),
     )
 
 pub returns-in-Pass-clause-answer : goal.returns-in-Pass-clause-answer

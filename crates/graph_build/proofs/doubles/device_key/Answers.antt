@@ -1,10 +1,11 @@
 use Rattle.std.proofs.Common.{◌≡◌, refl, Some, sym, ap, ◌∙◌, subst, length}
 use Rattle.std.specs.Prelude.{is_some}
+use Rattle.std.proofs.lemmas.Option.{none-some}
 use Rattle.graph_build.specs.Checks.{graph_in}
 use Rattle.graph_build.specs.Keys.{IsDeviceKey}
 use Rattle.graph_build.proofs.AboveLaws.{unhoused_at}
 use Rattle.graph_build.proofs.OwnLaws.{fact_here, fact_read}
-use Rattle.graph_build.proofs.KeyLaws.{house_at, none_some}
+use Rattle.graph_build.proofs.KeyLaws.{house_at}
 use Rattle.graph_build.proofs.doubles.device_key.Goals as goal
 
 pub returns-in_err-houses : goal.returns-in_err-houses
@@ -18,7 +19,7 @@ pub returns-in_err-vertices : goal.returns-in_err-vertices
 returns-in_err-vertices c =
     subst (IsDeviceKey (graph_in c.args.kinds.now c.args.vertices.now) c.args.v)
     (sym c.from_residual-in_err-vertices.ensures)
-    (λ n id device node below has. none_some id
+    (λ n id device node below has. none-some id
     (sym c.in_err-vertices.was ∙ fact_read c.args.vertices.now c.args.v (λ x. x.id ≡ Some id) c.requires.within
     has))
 
