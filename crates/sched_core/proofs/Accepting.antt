@@ -6,6 +6,7 @@ use Rattle.std.specs.List.{AllByRecursion}
 use Rattle.std.specs.FinMap.{get}
 use Rattle.std.proofs.lemmas.Bool.{and_parts, and_from, cases_lt}
 use Rattle.std.proofs.lemmas.Bool.Decides.{nat_tests, eqb_tells}
+use Rattle.sound_laws.proofs.Legal.{same_window}
 use Rattle.flux_defs.specs.declared.vertices.Vertex.{Vertex}
 use Rattle.flux_defs.specs.declared.claims.Claim.{Claim}
 use Rattle.flux_defs.specs.declared.claims.Claim.TheVariants.{Take, Hold, Pass}
@@ -37,6 +38,7 @@ use Rattle.book_laws.specs.Amounts.{TakesFromPool}
 use Rattle.book_state.proofs.BookLaws.{stood}
 use Rattle.sched_core.specs.Courses.{IsBookAt}
 use Rattle.sched_core.specs.Answered.{MayFollow, HasRoom}
+use Rattle.sched_core.proofs.Decided.{JobReplies, NowGiven, StartGiven}
 use Rattle.sched_core.proofs.JobLaws.{fresh_row}
 use Rattle.sched_core.proofs.OnVertices.{fits_on}
 use Rattle.list_laws.proofs.Lists.{all_along}
@@ -87,10 +89,6 @@ spans horizon ask start counts = elim (eqb_tells ask.duration 0) [
   where
     positive : (d s : ℕ) → (d ≡ 0 → ⊥) → s < s + d
     positive d s ne = elim (cases_lt 0 d) [ inl lt ↦ omega arith | inr ge ↦ absurd (ne (omega arith)) ]
-
-same_window : (a b c d : ℕ) → a ≡ c → b ≡ d →
-    (let x : Window = record { from = a; to = b } in let y : Window = record { from = c; to = d } in x ≡ y)
-same_window a b c d e f = cc
 
 module _ (g : Setting) (names : List (List ℕ)) (valid : IsValidGraph g.graph names) (journal : List Entry) (s : State)
     (book : BookState) (at : IsBookAt journal s book)
@@ -158,26 +156,33 @@ module _ (g : Setting) (names : List (List ℕ)) (valid : IsValidGraph g.graph n
   informed id None r h = refused (command.Info id) r reply.Absent h (tt, tt)
   informed id (Some job) r h = refused (command.Info id) r (info_at s.moment job) h (tt, tt)
 
+  -- of an ask for a job, where it is owed of what is given after the look for a start
+  job_owed : (c : Command) (id : ℕ) (ask : Ask) (Given : Reply → Type 0) (r : Reply) →
+      ((Contains s.used id → ⊥) → CountsWithin g.horizon ask s.moment → Given r → Owed c r) →
+      JobReplies g s id ask Given r → Owed c r
+  job_owed c id ask Given r owes (inl x) = refused c r reply.Exists x.1 (tt, tt)
+  job_owed c id ask Given r owes (inr (_, inl x)) = refused c r reply.Unsatisfiable x.1 (tt, tt)
+  job_owed c id ask Given r owes (inr (_, inr (_, inl x))) = refused c r reply.TooLong x.1 (tt, tt)
+  job_owed c id ask Given r owes (inr (fresh, inr (_, inr (counts, given)))) = owes fresh counts given
+
+  now_owed : (id : ℕ) (ask : Ask) (r : Reply) → IsProperAsk g.graph.vertices ask → (Contains s.used id → ⊥) →
+      CountsWithin g.horizon ask s.moment → NowGiven g s id ask r → Owed (command.Allocate id ask) r
+  now_owed id ask r proper fresh counts (inl x) = refused (command.Allocate id ask) r reply.Busy x.1 (tt, tt)
+  now_owed id ask r proper fresh counts (inr x) =
+      accepted_or_full (command.Allocate id ask) id s.moment ask r proper counts fresh x.1
+
+  start_owed : (id : ℕ) (ask : Ask) (r : Reply) → IsProperAsk g.graph.vertices ask → (Contains s.used id → ⊥) →
+      CountsWithin g.horizon ask s.moment → StartGiven g s id ask r → Owed (command.Reserve id ask) r
+  start_owed id ask r proper fresh counts (inl x) = refused (command.Reserve id ask) r reply.NoStart x.1 (tt, tt)
+  start_owed id ask r proper fresh counts (inr x) =
+      accepted_or_full (command.Reserve id ask) id x.1.0 ask r proper x.1.1.starts.0 fresh x.1.2
+
   pub owed : (c : Command) (r : Reply) → IsProper g.graph.vertices c → Replies g s c r → MayFollow book s c r
       × HasRoom g.claim_limit s.claim_count r
-  owed (command.Allocate id ask) r proper (inl x) = refused (command.Allocate id ask) r reply.Exists x.1 (tt, tt)
-  owed (command.Allocate id ask) r proper (inr (_, inl x)) = refused (command.Allocate id ask) r reply.Unsatisfiable
-      x.1 (tt, tt)
-  owed (command.Allocate id ask) r proper (inr (_, inr (_, inl x))) = refused (command.Allocate id ask) r
-      reply.TooLong x.1 (tt, tt)
-  owed (command.Allocate id ask) r proper (inr (_, inr (_, inr (_, inl x)))) = refused (command.Allocate id ask) r
-      reply.Busy x.1 (tt, tt)
-  owed (command.Allocate id ask) r proper (inr (fresh, inr (_, inr (counts, inr x)))) =
-      accepted_or_full (command.Allocate id ask) id s.moment ask r proper counts fresh x.1
-  owed (command.Reserve id ask) r proper (inl x) = refused (command.Reserve id ask) r reply.Exists x.1 (tt, tt)
-  owed (command.Reserve id ask) r proper (inr (_, inl x)) = refused (command.Reserve id ask) r reply.Unsatisfiable x.1
-      (tt, tt)
-  owed (command.Reserve id ask) r proper (inr (_, inr (_, inl x))) = refused (command.Reserve id ask) r reply.TooLong
-      x.1 (tt, tt)
-  owed (command.Reserve id ask) r proper (inr (_, inr (_, inr (_, inl x)))) = refused (command.Reserve id ask) r
-      reply.NoStart x.1 (tt, tt)
-  owed (command.Reserve id ask) r proper (inr (fresh, inr (_, inr (_, inr x)))) =
-      accepted_or_full (command.Reserve id ask) id x.1.0 ask r proper x.1.1.starts.0 fresh x.1.2
+  owed (command.Allocate id ask) r proper h =
+      job_owed (command.Allocate id ask) id ask (NowGiven g s id ask) r (now_owed id ask r proper) h
+  owed (command.Reserve id ask) r proper h =
+      job_owed (command.Reserve id ask) id ask (StartGiven g s id ask) r (start_owed id ask r proper) h
   owed (command.Satisfy ask) r proper (inl x) = refused (command.Satisfy ask) r reply.Unsatisfiable x.1 (tt, tt)
   owed (command.Satisfy ask) r proper (inr x) = refused (command.Satisfy ask) r reply.Satisfiable x.1 (tt, tt)
   owed (command.Cancel id) r proper (inl x) = refused (command.Cancel id) r reply.Absent x.1 (tt, tt)

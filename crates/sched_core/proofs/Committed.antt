@@ -57,6 +57,11 @@ pub finds_command : (g : Setting) (s : State) (id : ℕ) (ask : Ask) (at : Start
 finds_command g s id ask starts.Now v h = h
 finds_command g s id ask starts.Earliest v h = h
 
+pub finds_job : (g : Setting) (s : State) (id : ℕ) (ask : Ask) (at : Starts) (v : Verdict) →
+    Finds g s (command_of at id ask) v → FindsJob g s id ask (FindsAt at g s ask) v
+finds_job g s id ask starts.Now v h = h
+finds_job g s id ask starts.Earliest v h = h
+
 -- what answers a verdict is what it yields, where the id isn't known
 pub answers_yield : (g : Setting) (s : State) (id : ℕ) (ask : Ask) (none : Reply) (v : Verdict) (r : Reply) →
     (v ≡ Known → ⊥) → Answers g s id ask none v r → YieldsJob g s id ask none v r

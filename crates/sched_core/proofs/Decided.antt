@@ -1,12 +1,12 @@
 -- What is found and given at once is the scheduler's reply.
-use Rattle.std.proofs.Common.{◌≡◌, ℕ, ◌+◌, ◌<◌, List, length, inl, inr, refl, sym, subst}
+use Rattle.std.proofs.Common.{◌≡◌, ℕ, ◌+◌, ◌<◌, ◌≤◌, List, length, inl, inr, refl, sym, subst, Contains}
 use Rattle.flux_defs.specs.declared.claims.Claim.{Claim}
 use Rattle.flux_defs.specs.declared.requests.Ask.{Ask}
 use Rattle.flux_defs.specs.declared.journal.Command.TheVariants as command
 use Rattle.flux_defs.specs.declared.journal.Reply.{Reply}
 use Rattle.flux_defs.specs.declared.journal.Reply.TheVariants as reply
-use Rattle.flux_defs.specs.Asks.{window_of, CountsWithin, IsLowestFirst}
-use Rattle.flux_defs.specs.Scheduler.{Setting, State, Where, Replies, AcceptedOrFull, accepted_reply}
+use Rattle.flux_defs.specs.Asks.{window_of, CountsWithin, SomeFit, IsLowestFirst, IsStart, IsEarliest, IsSatisfiable}
+use Rattle.flux_defs.specs.Scheduler.{Setting, State, Where, Unless, Replies, AcceptedOrFull, accepted_reply}
 use Rattle.flux_defs.specs.declared.verdicts.Verdict.{Verdict}
 use Rattle.flux_defs.specs.declared.verdicts.Verdict.TheVariants.{Found}
 use Rattle.flux_defs.specs.Verdicts.{FindsNow, FindsEarliest, FindsJob, YieldsJob, job_of}
@@ -50,46 +50,51 @@ module _ (g : Setting) (s : State) (id : ℕ) (ask : Ask) where
   by : (none : Reply) (v w : Verdict) (r : Reply) → v ≡ w → Answers g s id ask none v r → Answers g s id ask none w r
   by none v w r e h = subst (λ (x : Verdict). Answers g s id ask none x r) e h
 
-  now_decided : (v : Verdict) (r : Reply) → FindsJob g s id ask (FindsNow g s ask) v →
-      Answers g s id ask reply.Busy v r → Replies g s (command.Allocate id ask) r
-  now_decided v r (inl (used, e)) h = inl (used, by reply.Busy v _ r e h)
-  now_decided v r (inr (n, inl (un, e))) h = inr (n, inl (un, by reply.Busy v _ r e h))
-  now_decided v r (inr (n, inr (sat, inl (long, e)))) h = inr (n, inr (sat, inl (long, by reply.Busy v _ r e h)))
-  now_decided v r (inr (n, inr (sat, inr (k, inl (none, e))))) h =
-      inr (n, inr (sat, inr (k, inl (none, by reply.Busy v _ r e h))))
-  now_decided v r (inr (n, inr (sat, inr (k, inr (fit, (claims, low, e)))))) h =
-      inr (n, inr (sat, inr (k, inr (fit, accepts s.moment claims reply.Busy r low (by reply.Busy v _ r e h)))))
+  -- the reply to an ask for a job: a refusal that stands before the look for a start, or what is given after it
+  abbrev pub JobReplies : (Reply → Type 0) → Reply → Type 0
+  JobReplies Given =
+      Where (Contains s.used id) reply.Exists
+      (Unless (IsSatisfiable g.graph.vertices ask) reply.Unsatisfiable
+      (Unless (CountsWithin g.horizon ask s.moment) reply.TooLong Given))
 
-  start_decided : (v : Verdict) (r : Reply) → FindsJob g s id ask (FindsEarliest g s ask) v →
-      Answers g s id ask reply.NoStart v r → Replies g s (command.Reserve id ask) r
-  start_decided v r (inl (used, e)) h = inl (used, by reply.NoStart v _ r e h)
-  start_decided v r (inr (n, inl (un, e))) h = inr (n, inl (un, by reply.NoStart v _ r e h))
-  start_decided v r (inr (n, inr (sat, inl (long, e)))) h = inr (n, inr (sat, inl (long, by reply.NoStart v _ r e h)))
-  start_decided v r (inr (n, inr (sat, inr (k, inl (none, e))))) h =
-      inr (n, inr (sat, inr (k, inl (none, by reply.NoStart v _ r e h))))
-  start_decided v r (inr (n, inr (sat, inr (k, inr (some, (t, early, (claims, low, e))))))) h =
-      inr (
-        n,
-        inr (
-          sat,
-          inr (
-            k,
-            inr (
-              some,
-              (
-                t,
-                early,
-                accepts t claims reply.NoStart r low (by reply.NoStart v _ r e h),
-              ),
-            ),
-          ),
-        ),
-      )
+  -- what is given of a verdict is the reply, where it is by what was found at the starts
+  job_decided : (AtStarts : Verdict → Type 0) (none : Reply) (Given : Reply → Type 0) (v : Verdict) (r : Reply) →
+      (AtStarts v → Given r) → FindsJob g s id ask AtStarts v → Answers g s id ask none v r → JobReplies Given r
+  job_decided AtStarts none Given v r given (inl (used, e)) h = inl (used, by none v _ r e h)
+  job_decided AtStarts none Given v r given (inr (n, inl (un, e))) h = inr (n, inl (un, by none v _ r e h))
+  job_decided AtStarts none Given v r given (inr (n, inr (sat, inl (long, e)))) h =
+      inr (n, inr (sat, inl (long, by none v _ r e h)))
+  job_decided AtStarts none Given v r given (inr (n, inr (sat, inr (k, found)))) h =
+      inr (n, inr (sat, inr (k, given found)))
+
+  -- what is given after a look at the present moment, and after a look for the earliest start
+  abbrev pub NowGiven : Reply → Type 0
+  NowGiven =
+      Unless (SomeFit g.graph.vertices s.jobs ask (window_of g.horizon ask s.moment)) reply.Busy
+      (AcceptedOrFull g s id ask s.moment)
+
+  abbrev pub StartGiven : Reply → Type 0
+  StartGiven =
+      Unless ((t : ℕ) × (s.moment ≤ t) × IsStart g.graph.vertices s.jobs g.horizon ask t) reply.NoStart
+      (λ r. (t : ℕ) × IsEarliest g.graph.vertices s.jobs g.horizon ask s.moment t × AcceptedOrFull g s id ask t r)
+
+  now_given : (v : Verdict) (r : Reply) → Answers g s id ask reply.Busy v r → FindsNow g s ask v → NowGiven r
+  now_given v r h (inl (none, e)) = inl (none, by reply.Busy v _ r e h)
+  now_given v r h (inr (fit, (claims, low, e))) =
+      inr (fit, accepts s.moment claims reply.Busy r low (by reply.Busy v _ r e h))
+
+  start_given : (v : Verdict) (r : Reply) → Answers g s id ask reply.NoStart v r → FindsEarliest g s ask v →
+      StartGiven r
+  start_given v r h (inl (none, e)) = inl (none, by reply.NoStart v _ r e h)
+  start_given v r h (inr (some, (t, early, (claims, low, e)))) =
+      inr (some, (t, early, accepts t claims reply.NoStart r low (by reply.NoStart v _ r e h)))
 
   pub decided : (at : Starts) (v : Verdict) (r : Reply) → FindsJob g s id ask (FindsAt at g s ask) v →
       Answers g s id ask (none_at at) v r → Replies g s (command_of at id ask) r
-  decided starts.Now v r finds h = now_decided v r finds h
-  decided starts.Earliest v r finds h = start_decided v r finds h
+  decided starts.Now v r finds h =
+      job_decided (FindsNow g s ask) reply.Busy NowGiven v r (now_given v r h) finds h
+  decided starts.Earliest v r finds h =
+      job_decided (FindsEarliest g s ask) reply.NoStart StartGiven v r (start_given v r h) finds h
 
   -- a start that was found has a window that counts
   of_same : (v w : Verdict) → v ≡ w → IsOfJob g.horizon ask w → IsOfJob g.horizon ask v

@@ -8,9 +8,10 @@ ghost use Rattle.sched_core.specs.Courses.{left_by, journal_in, vertices_at, set
 ghost use Rattle.sched_core.specs.Answered.{command_of, none_at};
 ghost use Rattle.sched_core.specs.Costs.{AddsAtMost};
 
-use crate::finding::{Starts, find_job, is_satisfiable};
+use crate::finding::{Starts, is_satisfiable};
 use crate::giving::{Reached, give};
 use crate::held::{Kept, Site};
+use crate::searching::job_verdict;
 use crate::settling::{advance, cancel, info};
 use flux_defs::{Ask, Command, Reply, Steps};
 use std::alloc::AllocError;
@@ -57,16 +58,7 @@ fn job_reply<L: Ledger>(
     ensures { IfOk result (Replies (setting_in site.now kept.now) (left_by (journal_in kept.now))
         (command_of starts id ask.now)) }
 {
-    let verdict = find_job(
-        site.alloc,
-        &site.graph,
-        site.horizon,
-        &kept.book,
-        id,
-        ask,
-        starts,
-        steps,
-    )?;
+    let verdict = job_verdict(site, kept, id, ask, starts, steps)?;
     Ok(give(
         reached(site, kept, kept.book.now()),
         id,

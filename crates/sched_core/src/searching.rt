@@ -31,7 +31,7 @@ pub fn is_searched_for(command: &Command) -> bool
 }
 
 /// What is found of an ask for a job.
-fn job_verdict<L: Ledger>(
+pub(crate) fn job_verdict<L: Ledger>(
     site: &Site,
     kept: &Kept,
     id: u64,
