@@ -21,8 +21,8 @@ use Rattle.graph_json.specs.FieldPaths.{FileMisfit}
 use Rattle.graph_json.specs.declared.edges.Role.{Role}
 use Rattle.graph_json.specs.declared.edges.Role.TheVariants.{Counted, Skipped, Refused}
 use Rattle.text_table.specs.Tables.{number_of}
-use Rattle.graph_json.proofs.IdLaws.{take_next}
 use Rattle.graph_json.proofs.Sets.{number_step}
+use Rattle.list_laws.proofs.Lists.{take_next}
 
 -- ---- equal texts
 

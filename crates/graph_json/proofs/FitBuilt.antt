@@ -27,7 +27,7 @@ use Rattle.graph_json.specs.GraphText.{IsGraphText}
 use Rattle.graph_json.specs.FileGraph.{IsFileGraph, AreProperties, HasFileNumbers}
 use Rattle.graph_json.proofs.FittingGraph.{IsFitNode, list_all_append, nodes_fit}
 use Rattle.graph_json.proofs.OrderedData.{map_some, then_some}
-use Rattle.graph_json.proofs.ReadBack.{all_from, all_at}
+use Rattle.list_laws.proofs.Lists.{all_from, all_at}
 
 tests_from : {A : Type 0} (p : A → Bool) (xs : List A) →
     ((k : ℕ) (x : A) → slice_get xs k ≡ Some x → p x ≡ true) → list_all p xs ≡ true
@@ -78,7 +78,7 @@ module _ (nodes : List FileNode) (edges : List FileEdge) (fit : AllByRecursion I
       ((x : FileNode) → IsFitNode x → P (made x)) → (i : ℕ) (r : RawVertex) → slice_get raw i ≡ Some r → P r
   raw_fit P each i r e =
       let x = map_some made (slice_get nodes i) r (sym (slice_get-map made nodes i) ∙ e) in
-      subst P x.2 (each x.0 (all_at IsFitNode nodes fit i x.0 x.1))
+      subst P x.2 (each x.0 (all_at IsFitNode nodes i x.0 fit x.1))
 
   text_fit : {T : Type 0} (field : RawVertex → T) (list : List T) (P : T → Type 0) →
       ((k : ℕ) → slice_get list k ≡ option_and_then (λ i. option_map field (slice_get raw i)) (slice_get built.order k))

@@ -3,7 +3,7 @@ use Rattle.std.proofs.Common.{◌≡◌, refl, sym, ap, subst, ◌∙◌, ℕ, z
 use Rattle.std.proofs.Common.{[], ◌∷◌, ◌++◌, length, Bool, true, false, ◌&&◌, nat_lt, nat_le, Option, Some, None}
 use Rattle.std.proofs.Common.{is_some, Result, Ok, Err, if◌then◌else◌, codes, decimal, IfSome, option_and_then, arith}
 use Rattle.std.specs.List.{AllByRecursion, list_all, fold}
-use Rattle.std.specs.Option.{option_map_or, option_or}
+use Rattle.std.specs.Option.{option_map_or}
 use Rattle.std.specs.Char.{is_ascii_digit}
 use Rattle.std.specs.Ordering.{nat_cmp, match_ordering}
 use Rattle.std.specs.declared.cmp.Ordering.{Ordering}
@@ -44,6 +44,7 @@ use Rattle.graph_json.specs.declared.field_paths.NodeKey.TheVariants.{Rank, Size
 use Rattle.graph_json.proofs.OrderedData.{IsOrdered, AreOrdered, get_ordered, in_order-ordered, ordered-in_order}
 use Rattle.graph_json.proofs.OrderedData.{value_of-ordered}
 use Rattle.json_fields.proofs.Results.{then_ok, both_ok}
+use Rattle.list_laws.proofs.Options.{neither}
 
 -- ---- what an answer that is no fault was made of
 
@@ -208,10 +209,6 @@ names_fold ks (k ∷ more) all rest =
     let p = and_parts (is_name MOST_NAME_BYTES k) (list_all (is_name MOST_NAME_BYTES) more) rest in
     names_fold (insert_key (slice_cmp nat_cmp) ks k) more (names_insert k ks p.0 all) p.1
 
-neither_fault : {A : Type 0} (a b : Option A) → option_or a b ≡ None → (a ≡ None) × (b ≡ None)
-neither_fault None b h = (refl, h)
-neither_fault (Some x) b h = absurd (cc)
-
 no_fault : {A E : Type 0} (r : Result A E) → result_err r ≡ None → (x : A) × (r ≡ Ok x)
 no_fault (Ok x) h = (x, refl)
 no_fault (Err e) h = absurd (let clash : Some e ≡ None = h in cc)
@@ -219,7 +216,7 @@ no_fault (Err e) h = absurd (let clash : Some e ≡ None = h in cc)
 texts_are_names : (at m : ℕ) (ds : Items) → first_misfit at m ds ≡ None → AreNames (texts_in ds)
 texts_are_names at m no_items h = refl
 texts_are_names at m (item d ds) h =
-    let both = neither_fault (result_err (at_field (Property at m) (ruled_value (is_name MOST_NAME_BYTES) d)))
+    let both = neither (result_err (at_field (Property at m) (ruled_value (is_name MOST_NAME_BYTES) d)))
     (first_misfit at (suc m) ds) h in
     let found = no_fault (at_field (Property at m) (ruled_value (is_name MOST_NAME_BYTES) d)) both.0 in
     let text = ruled_value_ok (is_name MOST_NAME_BYTES) d found.0

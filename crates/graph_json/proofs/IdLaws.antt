@@ -3,8 +3,8 @@ use Rattle.std.proofs.Common.{◌≡◌, refl, sym, ap, subst, ◌∙◌, ℕ, �
 use Rattle.std.proofs.Common.{false, true≢false, Some, ◌⊎◌, inl, inr, slice_get, arith}
 use borrow.Author.Count.{below_more, below_none}
 use Rattle.std.proofs.lemmas.Bool.{cases_lt}
-use Rattle.std.proofs.lemmas.List.{take_more, take_all}
-use Rattle.std.proofs.lemmas.Option.{slice_get_within, slice_get_past, get_or_from_slice_get}
+use Rattle.std.proofs.lemmas.List.{take_all}
+use Rattle.std.proofs.lemmas.Option.{slice_get_past}
 use Rattle.std.specs.List.{IsDistinct}
 use Rattle.std.specs.Option.{option_map_or}
 use Rattle.std.specs.Str.{bytes_eq}
@@ -12,13 +12,7 @@ use Rattle.resource_graph.specs.Finds.{IsLeast}
 use Rattle.graph_json.specs.Edges.{is_among}
 use Rattle.graph_json.specs.Ids.{IsRepeated, IsSetOf, IsSetTo}
 use Rattle.graph_json.proofs.Sets.{distinct-more, distinct-nil}
-
--- one more item
-pub take_next : {A : Type 0} (xs : List A) (k : ℕ) (x : A) →
-    slice_get xs k ≡ Some x → take (k + 1) xs ≡ take k xs ++ x ∷ []
-take_next xs k x here =
-    let within = slice_get_within xs k x here in
-    take_more xs k x within ∙ ap (λ y. take k xs ++ y ∷ []) (get_or_from_slice_get xs k x x here)
+use Rattle.list_laws.proofs.Lists.{take_next}
 
 module _ (list : List (List ℕ)) where
   repeats_by : (k : ℕ) (x : List ℕ) → slice_get list k ≡ Some x →

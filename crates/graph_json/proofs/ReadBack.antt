@@ -40,13 +40,12 @@ use Rattle.text_forms.specs.Names.{is_name}
 use Rattle.graph_json.specs.FileGraph.{IsFileGraph, AreProperties, HasFileNumbers}
 use Rattle.graph_json.specs.WrittenGraph.{graph_data, graph_text, HasSmallNumbers}
 use Rattle.graph_json.proofs.EdgeLaws.{same_text, itself, placed, at_field}
-use Rattle.graph_json.proofs.IdLaws.{take_next}
 use Rattle.graph_json.proofs.RawLaws.{distinct_indices, kinds-distinct}
 use Rattle.graph_json.proofs.Sets.{doubled_at}
 use Rattle.graph_json.proofs.WrittenFile.{file_node, file_nodes, file_edge, with_file_edge, file_edges, written_file}
 use Rattle.graph_json.proofs.WrittenFile.{FitsNode, AllFit, file_written}
 use Rattle.graph_json.proofs.WrittenText.{HasParentsBelow, value_of-graph_text}
-use Rattle.list_laws.proofs.Lists.{drop_here}
+use Rattle.list_laws.proofs.Lists.{drop_here, all_from, take_next, all_at}
 
 -- ---- texts without repeats
 
@@ -281,21 +280,10 @@ parent_back xs k x few here small =
 
 -- ---- items by their indices
 
-pub all_from : {A : Type 0} (P : A → Type 0) (xs : List A) →
-    ((k : ℕ) (x : A) → slice_get xs k ≡ Some x → P x) → AllByRecursion P xs
-all_from P [] each = tt
-all_from P (x ∷ xs) each = (each 0 x refl, all_from P xs (λ k. each (suc k)))
-
-pub all_at : {A : Type 0} (P : A → Type 0) (xs : List A) →
-    AllByRecursion P xs → (k : ℕ) (x : A) → slice_get xs k ≡ Some x → P x
-all_at P [] all k x e = absurd (cc)
-all_at P (y ∷ ys) all zero x e = subst P (same_Some y x e) all.0
-all_at P (y ∷ ys) all (suc k) x e = all_at P ys all.1 k x e
-
 all_within : {A : Type 0} (P : A → Type 0) (xs : List A) (k : ℕ) (d : A) →
     AllByRecursion P xs → k < length xs → P (unwrap_or (slice_get xs k) d)
 all_within P xs k d all lt = let here = slice_get-get_or xs k d lt in
-    subst P (ap (λ o. unwrap_or o d) (sym here)) (all_at P xs all k (get_or xs k d) here)
+    subst P (ap (λ o. unwrap_or o d) (sym here)) (all_at P xs k (get_or xs k d) all here)
 
 test_within : {A : Type 0} (p : A → Bool) (xs : List A) (k : ℕ) (d : A) →
     list_all p xs ≡ true → k < length xs → p (unwrap_or (slice_get xs k) d) ≡ true
@@ -551,7 +539,7 @@ module _ (g : NamedGraph) (fits : IsFileGraph g) where
         name = test_within (is_name MOST_NAME_BYTES) g.names k [] fits.names (omega arith);
         unit = test_within is_unit g.units k [] fits.units (omega (arith, fits.whole.units));
         properties = all_within AreProperties g.properties k [] fits.properties (omega (arith, fits.whole.properties));
-        numbers = all_at HasFileNumbers g.resources.vertices fits.numbers k x e;
+        numbers = all_at HasFileNumbers g.resources.vertices k x fits.numbers e;
         size = fits.whole.valid.sizes.most k x e;
       }
 
@@ -567,7 +555,7 @@ module _ (g : NamedGraph) (fits : IsFileGraph g) where
   small_numbers : (k : ℕ) (x : Vertex) → slice_get g.resources.vertices k ≡ Some x → HasSmallNumbers x
   small_numbers k x e =
       let size : x.size ≤ GREATEST_NUMBER = fits.whole.valid.sizes.most k x e in
-      let own = all_at HasFileNumbers g.resources.vertices fits.numbers k x e in
+      let own = all_at HasFileNumbers g.resources.vertices k x fits.numbers e in
       (omega arith, small x.id own.0, small x.rank own.1)
     where
       small : (o : Option ℕ) → IfSome o (λ n. n ≤ GREATEST_ID) → IfSome o (λ n. n < 2 ^ 64)

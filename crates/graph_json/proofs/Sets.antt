@@ -6,7 +6,7 @@ use Rattle.std.proofs.lemmas.Bool.{ne_eqb}
 use Rattle.std.proofs.lemmas.Bool.Decides.{nat_tests}
 use Rattle.std.proofs.lemmas.Map.Keys.{IsDistinct-push}
 use Rattle.std.specs.Cmp.Lexicographic.{nat_list_eq_equiv, slice_cmp}
-use Rattle.std.specs.List.{IsDistinct, AllByRecursion, list_any, position_or_len}
+use Rattle.std.specs.List.{IsDistinct, list_any, position_or_len}
 use Rattle.std.specs.Str.{bytes_eq}
 use Rattle.std.specs.Ordering.{nat_cmp, match_ordering}
 use Rattle.std.specs.declared.cmp.Ordering.{Ordering}
@@ -16,11 +16,7 @@ use Rattle.json.specs.declared.value.Value.{Value}
 use Rattle.json_whole.specs.Values.{entries_view}
 use Rattle.json_fields.specs.Values.{keys_of}
 use Rattle.text_table.specs.Tables.{number_of}
-
-all_at_middle : {X : Type 0} (P : X → Type 0) (xs : List X) (x : X) (rest : List X) →
-    AllByRecursion P (xs ++ x ∷ rest) → P x
-all_at_middle P [] x rest h = h.0
-all_at_middle P (y ∷ xs) x rest h = all_at_middle P xs x rest h.1
+use Rattle.list_laws.proofs.Lists.{all_at_middle}
 
 either : (a b : Bool) → (a || b) ≡ true → (a ≡ true → ⊥) → (b ≡ true → ⊥) → ⊥
 either true b h left right = left refl

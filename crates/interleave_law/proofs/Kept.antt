@@ -1,7 +1,7 @@
 -- A machine that is kept, and the machine of the definitions.
 use Rattle.std.proofs.Common.{◌≡◌, ℕ, zero, suc, ◌+◌, ◌<◌, List, [], ◌∷◌, length, map, slice_get, slice_set, Some, inl}
 use Rattle.std.proofs.Common.{inr, refl, sym, ◌∙◌, ap, subst, arith}
-use Rattle.std.proofs.lemmas.Option.{slice_get-map, slice_get_within, get_or_from_slice_get}
+use Rattle.std.proofs.lemmas.Option.{slice_get-map, slice_get_within, get_or_from_slice_get, same_Some}
 use Rattle.std.specs.Option.{option_map}
 use Rattle.std.proofs.lemmas.List.{map-set, length-set}
 use Rattle.flux_defs.specs.declared.events.Event.{Event}
@@ -16,12 +16,12 @@ use Rattle.flux_defs.specs.Verdicts.{Finds, IsSearchable}
 use Rattle.flux_defs.specs.Scheduler.{Setting, first_state, IsProper}
 use Rattle.flux_defs.specs.Histories.{state_after}
 use Rattle.flux_defs.specs.Overtaken.{Candidate, Cause, IsOvertaken}
-use Rattle.flux_defs.specs.Interleaving.{Machine, HasNext, IsOpen, Happens, IsAnswered, IsOneHistory, HasLookedAt}
+use Rattle.flux_defs.specs.Interleaving.{HasNext, IsOpen, IsAnswered, IsOneHistory, HasLookedAt}
 use Rattle.flux_defs.specs.Interleaving.{candidate_on, with_flight, first_machine}
 use Rattle.flux_defs.specs.declared.verdicts.Verdict.{Verdict}
 use Rattle.std.specs.Prelude.{true, false, All, IsTrue}
 use Rattle.std.specs.List.{AllByRecursion}
-use Rattle.list_laws.proofs.Lists.{all_at}
+use Rattle.list_laws.proofs.Lists.{all_at, set_twice}
 use Rattle.interleave_law.specs.declared.flights.Progress.{Progress}
 use Rattle.sched_core.specs.Courses.{Course}
 use Rattle.sched_core.specs.Answered.{IsDecided}
@@ -31,7 +31,7 @@ use Rattle.interleave_law.specs.declared.flights.Flight.{Flight}
 use Rattle.interleave_law.specs.declared.flights.Flight.TheVariants as flight
 use Rattle.interleave_law.specs.Machines.{Interleaved, progress_of, idle_progress, flight_of, machine_of, seen_as}
 use Rattle.interleave_law.specs.Machines.{HasProperLines, IsNext, IsFlightFor, IsRunning, IsStepOf}
-use Rattle.interleave_law.proofs.OneHistory.{some_same, set_cases, one_first, one_happens}
+use Rattle.interleave_law.proofs.OneHistory.{set_cases, one_first, one_happens}
 
 -- of a list of kept progress, what stands at a place of the mapped one
 mapped_at : (xs : List Progress) (c : ℕ) (q : over.Progress) → slice_get (map progress_of xs) c ≡ Some q →
@@ -68,25 +68,19 @@ module _ (h : List Entry) (script : Script) (clients : List Progress) (c : ℕ) 
   pub next_same : (p p' : Progress) (l l' : Line) →
       IsNext script clients c p l → IsNext script clients c p' l' → (p' ≡ p) × (l' ≡ l)
   next_same p p' l l' n n' =
-      let same : p' ≡ p = some_same p' p (sym n'.progress ∙ n.progress) in
-      let lines : n'.lines ≡ n.lines = some_same n'.lines n.lines (sym n'.lines-are ∙ n.lines-are) in
+      let same : p' ≡ p = same_Some p' p (sym n'.progress ∙ n.progress) in
+      let lines : n'.lines ≡ n.lines = same_Some n'.lines n.lines (sym n'.lines-are ∙ n.lines-are) in
       let here : slice_get n.lines p.done ≡ Some l' =
       subst (λ (ls : List Line). slice_get ls p.done ≡ Some l') lines
       (subst (λ (x : Progress). slice_get n'.lines x.done ≡ Some l') same n'.next) in
-      (same, some_same l' l (sym here ∙ n.next))
+      (same, same_Some l' l (sym here ∙ n.next))
 
 -- an item is exchanged and then put back
 pub put_back : (xs : List Progress) (c : ℕ) (a y : Progress) →
     slice_get xs c ≡ Some y → slice_set (slice_set xs c a) c y ≡ xs
 put_back [] c a y at = absurd cc
-put_back (x ∷ xs) zero a y at = ap (λ (z : Progress). z ∷ xs) (sym (some_same x y at))
+put_back (x ∷ xs) zero a y at = ap (λ (z : Progress). z ∷ xs) (sym (same_Some x y at))
 put_back (x ∷ xs) (suc c) a y at = ap (λ (zs : List Progress). x ∷ zs) (put_back xs c a y at)
-
--- an item is exchanged twice
-set_twice : (xs : List Progress) (c : ℕ) (a y : Progress) → slice_set (slice_set xs c a) c y ≡ slice_set xs c y
-set_twice [] c a y = refl
-set_twice (x ∷ xs) zero a y = refl
-set_twice (x ∷ xs) (suc c) a y = ap (λ (zs : List Progress). x ∷ zs) (set_twice xs c a y)
 
 -- the same of lists that are told by equations
 pub put_again : (xs left put : List Progress) (c : ℕ) (a y z : Progress) →
@@ -209,7 +203,7 @@ module _ (core : Course) (script : Script) (clients : List Progress) (c : ℕ) w
     -- the same of what was taken out of its place
     pub next_taken : (taken : Progress) → slice_get clients c ≡ Some taken → IsNext script clients c taken l
     next_taken taken at =
-        subst (λ (q : Progress). IsNext script clients c q l) (some_same p taken (sym n.progress ∙ at)) n
+        subst (λ (q : Progress). IsNext script clients c q l) (same_Some p taken (sym n.progress ∙ at)) n
 
     pub within : c < length clients
     within = slice_get_within clients c p n.progress

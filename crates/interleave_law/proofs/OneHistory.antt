@@ -1,12 +1,11 @@
 -- Each event keeps the history one.
 use Rattle.std.proofs.Common.{◌≡◌, ◌≢◌, ℕ, zero, suc, Bool, if◌then◌else◌, ◌+◌, ◌==◌, List, [], ◌∷◌, ◌++◌, map, take}
 use Rattle.std.proofs.Common.{slice_get, slice_set, Some, inl, inr, ◌⊎◌, refl, sym, ◌∙◌, ap, subst, arith, append_assoc}
-use Rattle.std.proofs.Common.{add-one}
-use Rattle.std.proofs.Math.Seq.{take-suc}
 use Rattle.std.proofs.lemmas.Bool.Decides.{eqb_tells}
 use Rattle.std.proofs.lemmas.List.{append-nil, map-append}
 use Rattle.std.proofs.lemmas.List.Elements.{filter-append}
-use Rattle.std.proofs.lemmas.Option.{slice_get_within, get_or_from_slice_get}
+use Rattle.std.proofs.lemmas.Option.{same_Some}
+use Rattle.sched_core.proofs.Grown.{legal_snoc}
 use mathlib.Core.List.{IsPrefix}
 use Rattle.flux_defs.specs.declared.events.Event.{Event}
 use Rattle.flux_defs.specs.declared.events.Event.TheVariants.{Look, Search, Commit, Decide}
@@ -14,20 +13,13 @@ use Rattle.flux_defs.specs.declared.journal.ClientLine.{ClientLine}
 use Rattle.flux_defs.specs.declared.journal.Entry.{Entry}
 use Rattle.flux_defs.specs.declared.journal.Line.{Line}
 use Rattle.flux_defs.specs.declared.journal.Script.{Script}
-use Rattle.flux_defs.specs.Scheduler.{Setting, State, first_state, Replies, after}
-use Rattle.flux_defs.specs.Histories.{state_after, IsLegalFrom, IsLegal, of_client}
+use Rattle.flux_defs.specs.Scheduler.{Setting, first_state}
+use Rattle.flux_defs.specs.Histories.{IsLegal, of_client}
 use Rattle.flux_defs.specs.Scripts.{HasLines, line_of, client_line}
 use Rattle.flux_defs.specs.Interleaving.{Flight, Idle, Looked, Searched, Progress, at_rest, Machine, first_machine}
 use Rattle.flux_defs.specs.Interleaving.{HasNext, with_flight, IsAnswered, Happens, Takes, Runs, HasLookedAt}
 use Rattle.flux_defs.specs.Interleaving.{IsOneHistory}
-
-legal_snoc : (g : Setting) (s : State) (journal : List Entry) (e : Entry) →
-    IsLegalFrom g s journal → Replies g (state_after s journal) e.command e.reply → IsLegalFrom g s (journal ++ e ∷ [])
-legal_snoc g s [] e legal reply = (reply, tt)
-legal_snoc g s (x ∷ xs) e legal reply = (legal.0, legal_snoc g (after s x.command x.reply) xs e legal.1 reply)
-
-pub some_same : {X : Type 0} (x y : X) → Some x ≡ Some y → x ≡ y
-some_same x y e = cc
+use Rattle.list_laws.proofs.Lists.{take_next}
 
 -- what stands at a place of a list in which one item was exchanged
 pub set_cases : {X : Type 0} (xs : List X) (i j : ℕ) (y x : X) → slice_get (slice_set xs i y) j ≡ Some x →
@@ -40,13 +32,6 @@ set_cases (z ∷ xs) (suc i) (suc j) y x at = elim (set_cases xs i j y x at) [
   | inl s ↦ inl (ap suc s.0, s.1)
   | inr s ↦ inr (λ e. s.0 (omega arith), s.1)
 ]
-
--- one more item of a list is taken
-take_one : (lines : List Line) (k : ℕ) (l : Line) →
-    slice_get lines k ≡ Some l → take (k + 1) lines ≡ take k lines ++ l ∷ []
-take_one lines k l at =
-    rw add-one (take-suc lines k l (slice_get_within lines k l at)
-    ∙ ap (λ (x : Line). take k lines ++ x ∷ []) (get_or_from_slice_get lines k l l at))
 
 -- a list begins itself, and what begins it begins a longer one
 begins_itself : (h : List Entry) → IsPrefix h h
@@ -132,7 +117,7 @@ module _ (g : Setting) (script : Script) where
             (subst (λ (cs : List Progress). slice_get cs d ≡ Some q) answered.clients there)) [
               | inl y ↦
                   let mine : HasLines script c lines = subst (λ (d : ℕ). HasLines script d lines) y.0 of in
-                  let lines-are : next.lines ≡ lines = some_same next.lines lines (sym next.lines-are ∙ mine) in
+                  let lines-are : next.lines ≡ lines = same_Some next.lines lines (sym next.lines-are ∙ mine) in
                   let at : slice_get lines p.done ≡ Some l =
                   subst (λ (ls : List Line). slice_get ls p.done ≡ Some l) lines-are next.next in
                   let old : map line_of (of_client c m.history) ≡ map (client_line c) (take p.done lines) =
@@ -141,7 +126,7 @@ module _ (g : Setting) (script : Script) where
                   ∙ (map-append line_of (of_client c m.history) (e ∷ [])
                   ∙ (ap (λ (ls : List ClientLine). ls ++ client_line c l ∷ []) old
                   ∙ (sym (map-append (client_line c) (take p.done lines) (l ∷ []))
-                  ∙ (ap (map (client_line c)) (sym (take_one lines p.done l at))
+                  ∙ (ap (map (client_line c)) (sym (take_next lines p.done l at))
                   ∙ (λ i. map (client_line (sym y.0 i)) (take (sym y.1 i).done lines))))))
               | inr n ↦
                   ap (map line_of) (others_more d m.history e (λ is. n.0 (sym is))) ∙ one.parts d q lines n.1 of
