@@ -1,21 +1,21 @@
 -- The list of vertices that a graph itself is.
-use Rattle.std.specs.Prelude.{ℕ, suc, List, [], ◌∷◌, unwrap_or, slice_get}
+use Rattle.std.specs.Prelude.{ℕ, suc, List, [], ◌∷◌}
 use Rattle.flux_defs.specs.declared.vertices.Vertex.{Vertex}
 use Rattle.resource_graph.specs.NamedGraph.{NamedGraph}
-use Rattle.resource_graph.specs.Tables.{name_at}
+use Rattle.resource_graph.specs.Tables.{name_at, base_at, unit_at, properties_at}
 use Rattle.graph_build.specs.declared.raw.RawVertex.{RawVertex}
 
 -- vertex v, which is x, with its texts
 abbrev pub own_vertex : NamedGraph → ℕ → Vertex → RawVertex
 own_vertex g v x = record {
   kind = x.kind;
-  base = unwrap_or (slice_get g.bases v) [];
+  base = base_at g v;
   name = name_at g v;
   id = x.id;
   rank = x.rank;
   size = x.size;
-  unit = unwrap_or (slice_get g.units v) [];
-  properties = unwrap_or (slice_get g.properties v) [];
+  unit = unit_at g v;
+  properties = properties_at g v;
   parent = x.parent;
 }
 

@@ -15,7 +15,7 @@ use Rattle.serde_json.specs.Data.{Data}
 use Rattle.json_whole.specs.declared.fields.FieldFault.{FieldFault}
 use Rattle.flux_defs.specs.declared.vertices.Vertex.{Vertex}
 use Rattle.resource_graph.specs.NamedGraph.{NamedGraph}
-use Rattle.resource_graph.specs.Tables.{name_at}
+use Rattle.resource_graph.specs.Tables.{name_at, base_at, properties_at, unit_at}
 use Rattle.graph_json.specs.Fields.{is_unit, small_number, small_given, size_given}
 use Rattle.text_forms.specs.Names.{is_name, is_name_byte}
 use Rattle.json_fields.specs.Names.{ruled, ruled_field, ruled_given}
@@ -24,7 +24,8 @@ use Rattle.json_fields.specs.Values.{keys_of}
 use Rattle.graph_json.specs.Edges.{FileEdge, edge_of, edges_of}
 use Rattle.graph_json.specs.GraphFile.{GraphFile, file_of}
 use Rattle.graph_json.specs.FileGraph.{AreProperties, HasFileNumbers}
-use Rattle.graph_json.specs.WrittenGraph.{or_none, keys_object, properties_at, metadata_data, node_data, nodes_data}
+use Rattle.graph_json.specs.WrittenGraph.{or_none, keys_object, written_properties, metadata_data, node_data}
+use Rattle.graph_json.specs.WrittenGraph.{nodes_data}
 use Rattle.graph_json.specs.WrittenGraph.{edge_data, with_edge, edges_data, graph_data}
 use Rattle.json_written.specs.Texts.{readable}
 use Rattle.graph_json.specs.declared.field_paths.FieldPath.TheVariants.{PropertyKey}
@@ -38,13 +39,13 @@ abbrev pub file_node : NamedGraph → ℕ → Vertex → FileNode
 file_node g v x = record {
   id = decimal v;
   kind = unwrap_or (slice_get g.resources.kinds x.kind) [];
-  base = unwrap_or (slice_get g.bases v) [];
+  base = base_at g v;
   number = x.id;
   name = name_at g v;
   rank = x.rank;
   size = x.size;
-  unit = unwrap_or (slice_get g.units v) [];
-  properties = unwrap_or (slice_get g.properties v) [];
+  unit = unit_at g v;
+  properties = properties_at g v;
 }
 
 abbrev pub file_nodes : NamedGraph → ℕ → List Vertex → List FileNode
@@ -70,10 +71,10 @@ written_file g =
 -- the texts and numbers of vertex v, which is x, keep their rules
 pub record FitsNode (g : NamedGraph) (v : ℕ) (x : Vertex) : Type 0 where
   pub kind : is_name MOST_TYPE_BYTES (unwrap_or (slice_get g.resources.kinds x.kind) []) ≡ true
-  pub base : is_name MOST_NAME_BYTES (unwrap_or (slice_get g.bases v) []) ≡ true
+  pub base : is_name MOST_NAME_BYTES (base_at g v) ≡ true
   pub name : is_name MOST_NAME_BYTES (name_at g v) ≡ true
-  pub unit : is_unit (unwrap_or (slice_get g.units v) []) ≡ true
-  pub properties : AreProperties (unwrap_or (slice_get g.properties v) [])
+  pub unit : is_unit (unit_at g v) ≡ true
+  pub properties : AreProperties (properties_at g v)
   pub numbers : HasFileNumbers x
   pub size : x.size ≤ GREATEST_NUMBER
 
@@ -131,17 +132,17 @@ read_node at id d x kind base n name rank size unit properties same =
     rw (kind, base, n, name, rank, size, unit, properties, same) refl
 
 module _ (g : NamedGraph) (v : ℕ) (x : Vertex) (fits : FitsNode g v x) where
-  same_properties : properties_at g v ≡ unwrap_or (slice_get g.properties v) []
-  same_properties = ap in_order (readable_names (unwrap_or (slice_get g.properties v) []) fits.properties.0)
+  same_properties : written_properties g v ≡ properties_at g v
+  same_properties = ap in_order (readable_names (properties_at g v) fits.properties.0)
       ∙ fits.properties.1
 
-  kept_properties : (at : ℕ) → properties_given at (metadata_data g v x) ≡ Ok (unwrap_or (slice_get g.properties v) [])
+  kept_properties : (at : ℕ) → properties_given at (metadata_data g v x) ≡ Ok (properties_at g v)
   kept_properties at =
-      let keys : keys_of (keys_object (properties_at g v)) ≡ unwrap_or (slice_get g.properties v) [] =
-      same_keys (properties_at g v) ∙ same_properties in
+      let keys : keys_of (keys_object (written_properties g v)) ≡ properties_at g v =
+      same_keys (written_properties g v) ∙ same_properties in
       ap (λ ks. if list_all (is_name MOST_NAME_BYTES) ks then Ok ks else Err
       (record { field = PropertyKey at; fault = FieldFault.Text })) keys
-      ∙ ap (λ b. if b then Ok (unwrap_or (slice_get g.properties v) []) else Err
+      ∙ ap (λ b. if b then Ok (properties_at g v) else Err
       (record { field = PropertyKey at; fault = FieldFault.Text })) fits.properties.0
 
   pub node_read : (at : ℕ) → node_of at (node_data g v x) ≡ Ok (file_node g v x)
@@ -149,15 +150,15 @@ module _ (g : NamedGraph) (v : ℕ) (x : Vertex) (fits : FitsNode g v x) where
       read_node at (decimal v) (metadata_data g v x) (file_node g v x)
       (kept (is_name MOST_TYPE_BYTES) (unwrap_or (slice_get g.resources.kinds x.kind) [])
       (readable_name MOST_TYPE_BYTES (unwrap_or (slice_get g.resources.kinds x.kind) []) fits.kind) fits.kind)
-      (kept (is_name MOST_NAME_BYTES) (unwrap_or (slice_get g.bases v) [])
-      (readable_name MOST_NAME_BYTES (unwrap_or (slice_get g.bases v) []) fits.base) fits.base)
+      (kept (is_name MOST_NAME_BYTES) (base_at g v)
+      (readable_name MOST_NAME_BYTES (base_at g v) fits.base) fits.base)
       (kept_small x.id fits.numbers.0)
       (kept (is_name MOST_NAME_BYTES) (name_at g v)
       (readable_name MOST_NAME_BYTES (name_at g v) fits.name) fits.name)
       (kept_small x.rank fits.numbers.1)
       (kept_size x.size fits.size)
-      (kept is_unit (unwrap_or (slice_get g.units v) [])
-      (readable_unit (unwrap_or (slice_get g.units v) []) fits.unit) fits.unit)
+      (kept is_unit (unit_at g v)
+      (readable_unit (unit_at g v) fits.unit) fits.unit)
       (kept_properties at)
       refl
 

@@ -1,18 +1,21 @@
 -- What is written of a graph is read as the value of the graph.
 use Rattle.std.proofs.Common.{◌≡◌, refl, sym, ap, ◌∙◌, ℕ, suc, ◌<◌, ◌^◌, List, [], ◌∷◌, map, Bool, true, ◌&&◌, Option}
-use Rattle.std.proofs.Common.{Some, None, IfSome, unwrap_or, slice_get, arith}
+use Rattle.std.proofs.Common.{Some, None, IfSome, arith}
 use Rattle.std.specs.List.{AllByRecursion, fold}
 use Rattle.std.specs.Ordering.{nat_cmp, match_ordering, is_lt, ordering_reverse}
 use Rattle.std.specs.declared.cmp.Ordering.{Ordering}
 use Rattle.std.specs.declared.cmp.Ordering.TheVariants.{Less, Equal, Greater}
 use Rattle.std.specs.Cmp.Lexicographic.{slice_cmp, nat_list_cmp_total}
 use Rattle.std.specs.BTreeSet.{insert_key}
+use Rattle.std.proofs.lemmas.Bool.{and_from}
+use Rattle.resource_graph.specs.Tables.{properties_at}
 use Rattle.serde_json.specs.Read.{read}
 use Rattle.json_whole.proofs.Words.{and_left, and_right}
 use Rattle.flux_defs.specs.declared.vertices.Vertex.{Vertex}
 use Rattle.resource_graph.specs.NamedGraph.{NamedGraph}
 use Rattle.graph_json.specs.WrittenGraph.{or_none, keys_object, edges_data, with_edge, nodes_data, node_data, edge_data}
-use Rattle.graph_json.specs.WrittenGraph.{properties_at, graph_data, graph_text, HasSmallNumbers, HasAllSmallNumbers}
+use Rattle.graph_json.specs.WrittenGraph.{written_properties, graph_data, graph_text, HasSmallNumbers}
+use Rattle.graph_json.specs.WrittenGraph.{HasAllSmallNumbers}
 use Rattle.json_written.specs.Texts.{readable}
 use Rattle.json_written.proofs.PlainLaws.{IsWhole, IsPlain, ArePlain, HasPlain, is_below, read_compact}
 
@@ -29,9 +32,6 @@ abbrev pub ordered : List (List ℕ) → Bool
 ordered [] = true
 ordered (k ∷ ks) = below k ks && ordered ks
 
-both : (a b : Bool) → a ≡ true → b ≡ true → (a && b) ≡ true
-both a b p q = ap (λ x. x && b) p ∙ q
-
 pub is_less : (o : Ordering) → is_lt o ≡ true → o ≡ Less
 is_less Less e = refl
 is_less Equal e = absurd (cc)
@@ -43,19 +43,19 @@ less_then k l m p q =
 
 below_then : (k l : List ℕ) (ks : List (List ℕ)) → less k l ≡ true → below l ks ≡ true → below k ks ≡ true
 below_then k l [] p h = refl
-below_then k l (m ∷ ks) p h = both (less k m) (below k ks)
+below_then k l (m ∷ ks) p h = and_from (less k m) (below k ks)
     (less_then k l m p (and_left (less l m) (below l ks) h)) (below_then k l ks p (and_right (less l m) (below l ks) h))
 
 below_insert : (x k : List ℕ) (ks : List (List ℕ)) →
     less x k ≡ true → below x ks ≡ true → below x (insert_key (slice_cmp nat_cmp) ks k) ≡ true
-below_insert x k [] p h = both (less x k) true p refl
+below_insert x k [] p h = and_from (less x k) true p refl
 below_insert x k (y ∷ ys) p h = by (slice_cmp nat_cmp k y) (below_insert x k ys p (and_right (less x y) (below x ys) h))
   where
     by : (o : Ordering) → below x (insert_key (slice_cmp nat_cmp) ys k) ≡ true →
         below x (match_ordering o (k ∷ y ∷ ys) (y ∷ ys) (y ∷ insert_key (slice_cmp nat_cmp) ys k)) ≡ true
-    by Less ih = both (less x k) (below x (y ∷ ys)) p h
+    by Less ih = and_from (less x k) (below x (y ∷ ys)) p h
     by Equal ih = h
-    by Greater ih = both (less x y) _ (and_left (less x y) (below x ys) h) ih
+    by Greater ih = and_from (less x y) _ (and_left (less x y) (below x ys) h) ih
 
 pub ordered_insert : (k : List ℕ) (ks : List (List ℕ)) →
     ordered ks ≡ true → ordered (insert_key (slice_cmp nat_cmp) ks k) ≡ true
@@ -70,10 +70,10 @@ ordered_insert k (x ∷ xs) h =
         ordered (match_ordering o (k ∷ x ∷ xs) (x ∷ xs) (x ∷ insert_key (slice_cmp nat_cmp) xs k)) ≡ true
     by Less e ih =
         let first : less k x ≡ true = ap is_lt (sym e) in
-        both (below k (x ∷ xs)) (ordered (x ∷ xs))
-        (both (less k x) (below k xs) first (below_then k x xs first (and_left (below x xs) (ordered xs) h))) h
+        and_from (below k (x ∷ xs)) (ordered (x ∷ xs))
+        (and_from (less k x) (below k xs) first (below_then k x xs first (and_left (below x xs) (ordered xs) h))) h
     by Equal e ih = h
-    by Greater e ih = both (below x (insert_key (slice_cmp nat_cmp) xs k)) _
+    by Greater e ih = and_from (below x (insert_key (slice_cmp nat_cmp) xs k)) _
         (below_insert x k xs (after e) (and_left (below x xs) (ordered xs) h)) ih
 
 pub ordered_all : (ks more : List (List ℕ)) →
@@ -84,7 +84,7 @@ ordered_all ks (k ∷ more) h = ordered_all (insert_key (slice_cmp nat_cmp) ks k
 below_keys : (k : List ℕ) (ks : List (List ℕ)) → below k ks ≡ true → is_below k (keys_object ks) ≡ true
 below_keys k [] h = refl
 below_keys k (l ∷ ls) h =
-    both (less k l) _ (and_left (less k l) (below k ls) h) (below_keys k ls (and_right (less k l) (below k ls) h))
+    and_from (less k l) _ (and_left (less k l) (below k ls) h) (below_keys k ls (and_right (less k l) (below k ls) h))
 
 plain_keys : (n : ℕ) (ks : List (List ℕ)) → ordered ks ≡ true → HasPlain n (keys_object ks)
 plain_keys n [] h = tt
@@ -118,8 +118,8 @@ plain_node g v x small = (
             (tt, refl, tt),
             refl,
             (
-              plain_keys 0 (properties_at g v)
-                  (ordered_all [] (map readable (unwrap_or (slice_get g.properties v) [])) refl),
+              plain_keys 0 (written_properties g v)
+                  (ordered_all [] (map readable (properties_at g v)) refl),
               refl,
               (whole_or_none x.rank small.2, refl, (small.0, refl, (tt, refl, (tt, refl, tt)))),
             ),

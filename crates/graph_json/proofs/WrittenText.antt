@@ -17,7 +17,7 @@ use Rattle.serde_json.specs.Read.{read}
 use Rattle.json_whole.specs.Whole.{value_in, value_of}
 use Rattle.flux_defs.specs.declared.vertices.Vertex.{Vertex}
 use Rattle.resource_graph.specs.NamedGraph.{NamedGraph, path_text}
-use Rattle.resource_graph.specs.Tables.{name_at}
+use Rattle.resource_graph.specs.Tables.{name_at, base_at, properties_at, unit_at}
 use Rattle.graph_json.specs.Nodes.{in_order}
 use Rattle.graph_json.specs.WrittenGraph.{keys_object, paths_data, metadata_data, node_data, nodes_data, contains_data}
 use Rattle.graph_json.specs.WrittenGraph.{edge_data, with_edge, edges_data, graph_data, graph_text, HasAllSmallNumbers}
@@ -65,7 +65,7 @@ clear_paths g v = (IsUtf8-are_ascii (codes "containment") refl, clear_readable (
 clear_metadata : (g : NamedGraph) (v : ℕ) (x : Vertex) → IsClear (metadata_data g v x)
 clear_metadata g v x = (
   IsUtf8-are_ascii (codes "basename") refl,
-  clear_readable (unwrap_or (slice_get g.bases v) []),
+  clear_readable (base_at g v),
   (
     IsUtf8-are_ascii (codes "id") refl,
     tt,
@@ -77,7 +77,7 @@ clear_metadata g v x = (
         clear_paths g v,
         (
           IsUtf8-are_ascii (codes "properties") refl,
-          clear_properties (unwrap_or (slice_get g.properties v) []),
+          clear_properties (properties_at g v),
           (
             IsUtf8-are_ascii (codes "rank") refl,
             tt,
@@ -87,7 +87,7 @@ clear_metadata g v x = (
               (
                 IsUtf8-are_ascii (codes "type") refl,
                 clear_readable (unwrap_or (slice_get g.resources.kinds x.kind) []),
-                (IsUtf8-are_ascii (codes "unit") refl, clear_readable (unwrap_or (slice_get g.units v) []), tt),
+                (IsUtf8-are_ascii (codes "unit") refl, clear_readable (unit_at g v), tt),
               ),
             ),
           ),

@@ -7,6 +7,7 @@ use Rattle.serde_json.specs.Data.{Members, no_members, member}
 use Rattle.serde_json.specs.Written.{compact_text}
 use Rattle.flux_defs.specs.declared.vertices.Vertex.{Vertex}
 use Rattle.resource_graph.specs.NamedGraph.{NamedGraph, path_text}
+use Rattle.resource_graph.specs.Tables.{properties_at}
 use Rattle.json_written.specs.Texts.{readable}
 use Rattle.graph_json.specs.Nodes.{in_order}
 
@@ -28,8 +29,8 @@ abbrev pub text_at : List (List ℕ) → ℕ → List ℕ
 text_at texts v = readable (unwrap_or (slice_get texts v) [])
 
 -- the properties of vertex v, in byte order, each once
-abbrev pub properties_at : NamedGraph → ℕ → List (List ℕ)
-properties_at g v = in_order (map readable (unwrap_or (slice_get g.properties v) []))
+abbrev pub written_properties : NamedGraph → ℕ → List (List ℕ)
+written_properties g v = in_order (map readable (properties_at g v))
 
 -- the one path of vertex v
 abbrev pub paths_data : NamedGraph → ℕ → Data
@@ -42,7 +43,7 @@ metadata_data g v x = object (
     member (codes "id") (number_or_none x.id) (
     member (codes "name") (string (text_at g.names v)) (
     member (codes "paths") (paths_data g v) (
-    member (codes "properties") (object (keys_object (properties_at g v))) (
+    member (codes "properties") (object (keys_object (written_properties g v))) (
     member (codes "rank") (number_or_none x.rank) (
     member (codes "size") (number (unsigned x.size)) (
     member (codes "type") (string (text_at g.resources.kinds x.kind)) (

@@ -1,16 +1,17 @@
 //! The text of a graph.
-ghost use Rattle.std.specs.Prelude.{◌≡◌, ◌<◌, codes, [], ◌∷◌, ◌++◌, length, map, Some, unwrap_or, slice_get, decimal};
+ghost use Rattle.std.specs.Prelude.{◌≡◌, ◌<◌, codes, [], ◌∷◌, ◌++◌, length, map, Some, slice_get, decimal};
 ghost use Rattle.std.specs.Prelude.{IfOk, OnOk};
 ghost use Rattle.json.specs.Token.{begin_object, end_object, key, string, number};
 ghost use Rattle.serde_json.specs.Data.{member, no_members, object, unsigned, number as number_data};
 ghost use Rattle.serde_json.specs.Data.{string as string_data};
 ghost use Rattle.graph_json.specs.Nodes.{in_order};
-ghost use Rattle.graph_json.specs.WrittenGraph.{text_at, number_or_none, keys_object, properties_at, paths_data};
+ghost use Rattle.graph_json.specs.WrittenGraph.{text_at, number_or_none, keys_object, paths_data};
 ghost use Rattle.graph_json.specs.WrittenGraph.{metadata_data, node_data, nodes_data, contains_data, edge_data};
 ghost use Rattle.graph_json.specs.WrittenGraph.{edges_data, graph_data, graph_text, HasAllSmallNumbers};
 ghost use Rattle.json_written.specs.Texts.{readable};
 ghost use Rattle.serde_json.specs.Read.{read};
 ghost use Rattle.resource_graph.specs.NamedGraph.{NamedGraph};
+ghost use Rattle.resource_graph.specs.Tables.{properties_at};
 ghost use Rattle.graph_json.specs.WrittenTokens.{keys_tokens, names_tokens, node_tokens, edge_tokens, edge_tokens};
 ghost use Rattle.json_written.specs.Tokens.{Adds, value_tokens, rest_tokens, member_tokens};
 
@@ -117,7 +118,7 @@ fn unit_text(graph: &Graph, at: u32) -> &str
 /// The properties of a vertex.
 fn properties_of(graph: &Graph, at: u32) -> &[Text]
     requires { at < length graph.now.resources.vertices }
-    ensures { result.now ≡ unwrap_or (slice_get graph.now.properties at) [] }
+    ensures { result.now ≡ properties_at graph.now at }
 {
     graph.properties_of(at).items()
 }

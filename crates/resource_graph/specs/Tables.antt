@@ -35,6 +35,16 @@ rank_at vertices v = option_and_then (λ x. x.rank) (slice_get vertices v)
 abbrev pub name_at : NamedGraph → ℕ → List ℕ
 name_at g v = unwrap_or (slice_get g.names v) []
 
+-- its basename, the unit of its size, and its properties; nothing past the last vertex
+abbrev pub base_at : NamedGraph → ℕ → List ℕ
+base_at g v = unwrap_or (slice_get g.bases v) []
+
+abbrev pub unit_at : NamedGraph → ℕ → List ℕ
+unit_at g v = unwrap_or (slice_get g.units v) []
+
+abbrev pub properties_at : NamedGraph → ℕ → List (List ℕ)
+properties_at g v = unwrap_or (slice_get g.properties v) []
+
 -- the type that is called so, and none exactly where no type is
 abbrev pub IsNamedKind : ResourceGraph → List ℕ → Option ℕ → Type 0
 IsNamedKind g name found =
