@@ -1,11 +1,11 @@
 -- From the core's answers to the book's.
-use Rattle.std.proofs.Common.{◌≡◌, ℕ, ◌+◌, ◌-◌, ◌<◌, List, [], ◌∷◌, ◌++◌, length, slice_get, Some, refl, sym, ap, ◌∙◌}
+use Rattle.std.proofs.Common.{◌≡◌, ℕ, ◌+◌, ◌-◌, ◌<◌, List, [], ◌∷◌, ◌++◌, length, Some, refl, sym, ap, ◌∙◌}
 use Rattle.std.proofs.Common.{subst, arith, length-append, append-nil, Result, Ok, Err, IfOk, IfErr}
 use Rattle.std.specs.List.{range_with_len}
 use Rattle.std.proofs.lemmas.Option.{slice_get_within}
 use mathlib.Core.List.{IsPrefix}
 use base.Growing.{prefix_trans}
-use Rattle.list_laws.proofs.Lists.{prefix_length}
+use Rattle.list_laws.proofs.Lists.{prefix_length, get_last}
 use Rattle.flux_defs.specs.declared.journal.Command.{Command}
 use Rattle.flux_defs.specs.declared.journal.Command.TheVariants as command
 use Rattle.flux_defs.specs.declared.journal.Entry.{Entry}
@@ -25,10 +25,6 @@ use Rattle.sched_core.specs.Searched.{Searched, candidate_in}
 use Rattle.sched_core.specs.declared.candidates.Commit.{Commit}
 use Rattle.sched_core.specs.declared.candidates.Commit.TheVariants as commit
 use Rattle.commit_book.specs.Books.{course, IsDecidedAt, IsCommittedAt, gained, entry_in, SeesAnswer}
-
-last_at : (xs : List Entry) (e : Entry) → slice_get (xs ++ e ∷ []) (length xs) ≡ Some e
-last_at [] e = refl
-last_at (x ∷ xs) e = last_at xs e
 
 -- the core is one of the setting with this journal
 is_course : (g : Setting) (core : Course) (journal : List Entry) →
@@ -57,7 +53,7 @@ module _ (client line : ℕ)
   decided_line : line_at core'.journal (length core.journal)
       ≡ Some (record { client = client; line = line; command = command })
   decided_line = ap (λ (j : List Entry). line_at j (length core.journal)) d.journal
-      ∙ ap line_of_any (last_at core.journal _)
+      ∙ ap line_of_any (get_last core.journal _)
 
   decided_length : length core'.journal ≡ length core.journal + 1
   decided_length = ap length d.journal ∙ length-append core.journal _

@@ -4,6 +4,7 @@ use Rattle.std.proofs.Common.{filter, get_or, slice_get, Some, All, Contains, re
 use Rattle.std.specs.List.{AllByRecursion}
 use Rattle.std.proofs.lemmas.List.Elements.{All-from_recursion}
 use Rattle.std.proofs.lemmas.Option.{slice_get-get_or}
+use Rattle.std.proofs.Math.Bool.{or-true}
 use mathlib.Core.Logic.{dite}
 use native.Mathlib.Decide.{ℕ_discrete}
 use Rattle.flux_defs.specs.declared.journal.ClientLine.{ClientLine}
@@ -14,6 +15,7 @@ use Rattle.flux_defs.specs.Histories.{of_client}
 use Rattle.flux_defs.specs.Scripts.{HasLines, has_number, line_of, client_line, Interleaves, Answers}
 use Rattle.one_history.specs.Together.{NumbersApart, order_of}
 use Rattle.one_history.proofs.Parts.{part_yes, part_no}
+use Rattle.list_laws.proofs.Lists.{contains_more, contains_mapped, all_from}
 
 -- ---- lists
 
@@ -21,35 +23,13 @@ all_from_places : {X : Type 0} (P : X → Type 0) (xs : List X) →
     ((k : ℕ) (x : X) → slice_get xs k ≡ Some x → P x) → All P xs
 all_from_places P xs f k d l = f k (get_or xs k d) (slice_get-get_or xs k d l)
 
-by_recursion : {X : Type 0} (P : X → Type 0) (xs : List X) →
-    ((k : ℕ) (x : X) → slice_get xs k ≡ Some x → P x) → AllByRecursion P xs
-by_recursion P [] f = tt
-by_recursion P (x ∷ xs) f = (f 0 x refl, by_recursion P xs (λ k. f (suc k)))
-
-contains_more : {X : Type 0} (y : X) (xs : List X) (x : X) → Contains xs x → Contains (y ∷ xs) x
-contains_more y xs x (k, l, is) = (suc k, omega (arith, l), is)
-
-contains_mapped : {X Y : Type 0} (f : X → Y) (xs : List X) (x : X) (k : ℕ) → k < length xs → get_or xs k x ≡ x
-    → Contains (map f xs) (f x)
-contains_mapped f [] x k l e = absurd (omega arith)
-contains_mapped f (y ∷ ys) x zero l e = (0, omega arith, ap f e)
-contains_mapped f (y ∷ ys) x (suc k) l e =
-    let r = contains_mapped f ys x k (omega arith) e in contains_more (f y) (map f ys) (f x) r
-
-same_eq : (n : ℕ) → (n == n) ≡ true
-same_eq n = eq-eqb n n refl
-
-or_right : (a : Bool) → (a || true) ≡ true
-or_right true = refl
-or_right false = refl
-
 has_contained : (ls : List Line) (l : Line) (k : ℕ) → k < length ls → get_or ls k l ≡ l → has_number ls l.line ≡ true
 has_contained [] l k lt e = absurd (omega arith)
 has_contained (x ∷ ls) l zero lt e =
     let same : x.line ≡ l.line = ap (λ (y : Line). y.line) e in
     ap (λ b. b || has_number ls l.line) (eq-eqb x.line l.line same)
 has_contained (x ∷ ls) l (suc k) lt e =
-    ap (λ b. (x.line == l.line) || b) (has_contained ls l k (omega arith) e) ∙ or_right (x.line == l.line)
+    ap (λ b. (x.line == l.line) || b) (has_contained ls l k (omega arith) e) ∙ or-true (x.line == l.line)
 
 -- ---- a client's entries
 
@@ -159,7 +139,7 @@ module _ (script : Script) (apart : NumbersApart script) (h : List Entry)
   interleaves = record {
     known = All-from_recursion _ (order_of h) (numbered h (λ p e at. answers_at p e at));
     each = λ c ls has.
-        told_apart c (has_number ls) h (by_recursion (λ e. has_number ls e.line ≡ (e.client == c)) h (tells c ls has))
+        told_apart c (has_number ls) h (all_from (λ e. has_number ls e.line ≡ (e.client == c)) h (tells c ls has))
         ∙ numbers_of c (of_client c h) ls (parts c ls has);
   }
     where
@@ -179,4 +159,4 @@ module _ (script : Script) (apart : NumbersApart script) (h : List Entry)
       let first : HasLines script 0 ls = ap (λ lss. slice_get lss 0) one in
       let few : (p : ℕ) (e : Entry) → slice_get h p ≡ Some e → e.client ≡ 0 = λ p e at.
       let k = known p e at in let n = ap length one in omega arith in
-      ap (map line_of) (sym (all_of_one h (by_recursion (λ e. e.client ≡ 0) h few))) ∙ parts 0 ls first
+      ap (map line_of) (sym (all_of_one h (all_from (λ e. e.client ≡ 0) h few))) ∙ parts 0 ls first

@@ -4,6 +4,7 @@ use Rattle.std.proofs.Common.{Option, Some, None, refl, sym, ap, ◌∙◌, subs
 use Rattle.std.specs.List.{sum_by}
 use Rattle.std.proofs.lemmas.List.Sums.{sum_by-cons}
 use Rattle.std.proofs.lemmas.Option.{slice_get_within}
+use Rattle.match_workers.proofs.Gaining.{rise_between}
 use mathlib.Core.Logic.{dite}
 use native.Mathlib.Decide.{ℕ_discrete}
 use Rattle.flux_defs.specs.declared.journal.ClientLine.{ClientLine}
@@ -22,10 +23,6 @@ AreTold h n [] [] = Unit {0}
 AreTold h n (ls ∷ lss) (g ∷ gs) =
     RiseWithin 0 g (length h) × (map (line_at h) g ≡ map (some_line n) ls) × AreTold h (n + 1) lss gs
 AreTold h n lss gs = ⊥
-
-rise_between : (a b : ℕ) (ps : List ℕ) → RiseWithin a ps b → a ≤ b
-rise_between a b [] r = r
-rise_between a b (p ∷ ps) r = let h = rise_between (p + 1) b ps r.1 in let q = r.0 in omega arith
 
 -- none of the positions is below the first
 times_under : (p a b : ℕ) (ps : List ℕ) → RiseWithin a ps b → p < a → times p ps ≡ 0

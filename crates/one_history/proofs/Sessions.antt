@@ -7,6 +7,7 @@ use Rattle.std.proofs.Math.Seq.{take-length}
 use Rattle.std.proofs.lemmas.List.Elements.{All-nil, All-cons, All-pop, All-from_recursion}
 use Rattle.std.proofs.lemmas.List.Sums.{sum_by-cons}
 use Rattle.std.proofs.lemmas.Option.{slice_get_within}
+use Rattle.std.proofs.lemmas.Bool.{or_parts}
 use mathlib.Core.List.{IsPrefix}
 use base.Growing.{prefix_trans}
 use Rattle.list_laws.proofs.Lists.{prefix_length}
@@ -268,15 +269,11 @@ or_left : (a b : Bool) → (a || b) ≡ false → a ≡ false
 or_left false b h = refl
 or_left true b h = h
 
-or_right : (a b : Bool) → (a || b) ≡ false → b ≡ false
-or_right false b h = h
-or_right true b h = absurd cc
-
 none_stopped : (ss : List Sitting) → list_any (λ s. s.stopped) ss ≡ false → AllByRecursion (λ s. s.stopped ≡ false) ss
 none_stopped [] h = tt
 none_stopped (s ∷ ss) h = (
   or_left s.stopped (list_any (λ (x : Sitting). x.stopped) ss) h,
-  none_stopped ss (or_right s.stopped (list_any (λ (x : Sitting). x.stopped) ss) h),
+  none_stopped ss (or_parts s.stopped (list_any (λ (x : Sitting). x.stopped) ss) h).1,
 )
 
 -- ---- the book is closed

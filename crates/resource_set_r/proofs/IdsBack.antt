@@ -28,6 +28,7 @@ use Rattle.std.proofs.lemmas.List.Sums.{sum_by-cons, sum_by-append}
 use Rattle.flux_defs.specs.declared.limits.TheConstants.{NO_ID}
 use Rattle.resource_set_r.proofs.Rising.{sorted_front, sorted_rest}
 use Rattle.text_forms.proofs.Ascii.{utf8_decimal}
+use Rattle.list_laws.proofs.Tests.{less_is_below}
 
 abbrev pub Small : ℕ → Type 0
 Small n = n < NO_ID
@@ -188,9 +189,6 @@ ranks_of_elements children (rank ∷ ranks) = ranks_from children (element_of ra
 
 -- ---- no rank is covered twice
 
-less_is : (x y : ℕ) → nat_cmp x y ≡ Less → x < y
-less_is x y e = grind (arith, nat_tests)
-
 -- ranges have a number as often as it stands among their ids
 in_ids : (count lo id : ℕ) →
     count_by (nat_eq id) (ids_from count lo) ≡ cond (nat_le lo id && nat_lt id (lo + count)) 1 0
@@ -226,7 +224,7 @@ none_above : (id x : ℕ) (xs : List ℕ) →
     AllByRecursion (λ y. nat_cmp x y ≡ Less) xs → id ≤ x → count_by (nat_eq id) xs ≡ 0
 none_above id x [] all le = refl
 none_above id x (y ∷ ys) all le =
-    let lt : x < y = less_is x y all.0 in
+    let lt : x < y = less_is_below x y all.0 in
     let other : nat_eq id y ≡ false = ne_eqb id y (λ e. omega arith) in
     let step : count_by (nat_eq id) (y ∷ ys) ≡ cond (nat_eq id y) 1 0 + count_by (nat_eq id) ys =
     sum_by-cons (λ z. cond (nat_eq id z) 1 0) y ys in

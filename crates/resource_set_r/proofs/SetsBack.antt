@@ -1,5 +1,5 @@
 -- R that is written of a job is R of a set that says what the job has.
-use Rattle.std.proofs.Common.{◌≡◌, refl, sym, ap, subst, ◌∙◌, ℕ, ◌≤◌, List, [], ◌∷◌, length, map, Option, None, Ok}
+use Rattle.std.proofs.Common.{◌≡◌, refl, sym, ap, subst, ◌∙◌, ℕ, ◌≤◌, List, length, map, Option, None, Ok}
 use Rattle.std.proofs.Common.{IsTrue, codes, arith}
 use Rattle.std.specs.List.{AllByRecursion, filter_map, filter}
 use Rattle.std.specs.List.Sorted.{IsStrictlyIncreasing}
@@ -32,11 +32,7 @@ use Rattle.resource_set_r.proofs.RowsBack.{elements_back, ranks_said, cores_said
 use Rattle.resource_set_r.proofs.RowsBack.{hosts_back, hosts_for_back, second_back, execution_back}
 use Rattle.resource_set_r.proofs.HostsBack.{utf8_hostlists, ranked_above, rank_small, id_small, host_named}
 use Rattle.resource_set_r.proofs.JsonBack.{value_of-r_text}
-
-all_mapped : (P : List ℕ → Type 0) (f : ℕ → List ℕ) (xs : List ℕ) →
-    AllByRecursion (λ x. P (f x)) xs → AllByRecursion P (map f xs)
-all_mapped P f [] all = tt
-all_mapped P f (x ∷ xs) all = (all.0, all_mapped P f xs all.1)
+use Rattle.list_laws.proofs.Lists.{all_mapped}
 
 module _ (g : NamedGraph) (job : Job) (can : CanBeRead g job) where
   abbrev vertices : List Vertex
