@@ -1,6 +1,6 @@
 -- The tasks of V1, by how many there are.
 use Rattle.std.proofs.Common.{ℕ, ◌≡◌, ◌⊎◌, inl, inr, refl, ◌∙◌, ap, true, false, not, Some, None, List, [], ◌∷◌, length}
-use Rattle.std.proofs.Common.{◌==◌, Result, Ok, Err, IfErr, Global, codes, arith}
+use Rattle.std.proofs.Common.{◌==◌, Ok, Err, Global, codes, arith}
 use Rattle.std.proofs.lemmas.Bool.{ne_eqb}
 use Rattle.json_fields.specs.Values.{result_and_then}
 use Rattle.json.specs.declared.value.Value.{Value}
@@ -17,10 +17,6 @@ pub one_value : (vs : List (Value Global)) → (length vs == 1) ≡ is_one (item
 one_value [] = refl
 one_value (v ∷ []) = refl
 one_value (v ∷ w ∷ vs) = ne_eqb (length (v ∷ w ∷ vs)) 1 (λ one. omega (arith, one))
-
-pub if_err : {A E : Type 0} {P Q : E → Type 0} (r : Result A E) → IfErr r P → ((e : E) → P e → Q e) → IfErr r Q
-if_err (Ok x) h f = tt
-if_err (Err e) h f = f e h
 
 module _ (labels : List (List ℕ)) (d : Data) (ds : Items) (read : task_list d ≡ Ok ds) where
   by_list : v1_tasks labels d

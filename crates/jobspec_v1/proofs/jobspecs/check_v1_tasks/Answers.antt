@@ -1,7 +1,8 @@
 use Rattle.std.proofs.Common.{◌∙◌, sym, ap, Err, inr}
+use Rattle.std.proofs.lemmas.Result.{IfErr-weaker}
 use Rattle.json_whole.specs.Values.{view, items_view}
 use Rattle.jobspec_v1.specs.declared.faults.SpecFault.TheVariants.{Task}
-use Rattle.jobspec_v1.proofs.TaskLaws.{not_one, one_fine, one_told, if_err}
+use Rattle.jobspec_v1.proofs.TaskLaws.{not_one, one_fine, one_told}
 use Rattle.jobspec_v1.proofs.jobspecs.check_v1_tasks.Goals as goal
 
 pub returns-in_ok-of-in-Ok-clause-told : goal.returns-in_ok-of-in-Ok-clause-told
@@ -19,5 +20,6 @@ returns-in-Ok-2-clause-fine c = λ ok.
 pub returns-in-Ok-2-clause-told : goal.returns-in-Ok-2-clause-told
 returns-in-Ok-2-clause-told c =
     let one = sym c.is_one.ensures ∙ c.if-not-is_one.false in
-    if_err c.check_tasks.result c.check_tasks.ensures.told
+    IfErr-weaker c.check_tasks.result _ _
     (one_told c.args.labels.now (view c.args.value.now) (items_view c.in-Ok.values.now) c.in-Ok.ensures.read one)
+    c.check_tasks.ensures.told
