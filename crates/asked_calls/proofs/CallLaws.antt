@@ -1,6 +1,7 @@
 -- Words are at most one call.
-use Rattle.std.proofs.Common.{◌≡◌, ℕ, List, ◌∷◌, get_or, codes, Option, Some, None, MatchOption, unwrap_or, refl, sym}
+use Rattle.std.proofs.Common.{◌≡◌, ℕ, List, get_or, codes, Option, Some, None, MatchOption, unwrap_or, refl, sym}
 use Rattle.std.proofs.Common.{◌∙◌, ap, subst, arith}
+use Rattle.std.proofs.lemmas.Option.{same_Some}
 use Rattle.text_forms.specs.Numbers.{number_in}
 use Rattle.command_words.specs.Givens.{Word}
 use Rattle.command_words.specs.Values.{Values, values_in}
@@ -10,13 +11,11 @@ use Rattle.asked_calls.specs.Calls.{Served, Call, serve, print, load, IsHorizonO
 use Rattle.asked_calls.specs.Calls.{AreWordsOf, only_name, IsInForm, IsCallOf, call_held}
 use Rattle.asked_calls.specs.declared.calls.Asked.{Asked}
 use Rattle.prune_filters.proofs.RuleLaws.{one_list}
-
-some_is : {X : Type 0} (x y : X) → Some x ≡ Some y → x ≡ y
-some_is x y e = cc
+use Rattle.list_laws.proofs.Lists.{heads, tails}
 
 horizon_once : (word : Option Word) (a b : ℕ) → IsHorizonOf word a → IsHorizonOf word b → a ≡ b
 horizon_once None a b one two = one ∙ sym two
-horizon_once (Some word) a b one two = some_is a b (sym one.number ∙ two.number)
+horizon_once (Some word) a b one two = same_Some a b (sym one.number ∙ two.number)
 
 -- the words of the two forms differ
 no_form : codes "v1" ≡ codes "rfc14" → ⊥
@@ -40,16 +39,10 @@ serving_once values a b one two =
     let form = form_once values.jobspec a.form b.form one.form two.form in
     λ i. record { name = name i; horizon = horizon i; rules = rules i; form = form i }
 
-heads : (x y : Word) (xs ys : List Word) → x ∷ xs ≡ y ∷ ys → x ≡ y
-heads x y xs ys same = cc
-
-tails : (x y : Word) (xs ys : List Word) → x ∷ xs ≡ y ∷ ys → xs ≡ ys
-tails x y xs ys same = cc
-
 values_once : (c d : Word) (words : List Word) (a b : Values) → AreWordsOf c words a → AreWordsOf d words b → a ≡ b
 values_once c d words a b one two =
     let behind = tails c d one.behind two.behind (sym one.words-are ∙ two.words-are) in
-    some_is a b (sym one.values-are ∙ (ap values_in behind ∙ two.values-are))
+    same_Some a b (sym one.values-are ∙ (ap values_in behind ∙ two.values-are))
 
 -- a word by its first letter
 abbrev letter : Word → ℕ
@@ -89,7 +82,7 @@ form_of_words words (load a) (print b) (v, of_v, one) two =
 form_of_words words (load a) (load b) (v, of_v, one) (w, of_w, two) =
     let values = values_once (codes "load") (codes "load") words (only_name v) (only_name w) of_v of_w in
     let word : v ≡ w = ap (λ (x : Values). x.graph) values in
-    ap load (some_is a b (sym one.number ∙ (ap number_in word ∙ two.number)))
+    ap load (same_Some a b (sym one.number ∙ (ap number_in word ∙ two.number)))
 form_of_words words (print a) (print b) one two =
     let values = values_once (codes "graph") (codes "graph") words (only_name a) (only_name b) one two in
     ap (λ (v : Values). print v.graph) values
@@ -103,4 +96,4 @@ pub read_as : (words : List Word) (o : Option Asked) (a : Asked) → MatchOption
     ((call : Call) → IsCallOf words call → ⊥) (λ asked. IsCallOf words (call_held asked)) → o ≡ Some a →
     IsCallOf words (call_held a)
 read_as words None a read is = absurd (let none : None ≡ Some a = is in cc)
-read_as words (Some b) a read is = subst (λ (x : Asked). IsCallOf words (call_held x)) (some_is b a is) read
+read_as words (Some b) a read is = subst (λ (x : Asked). IsCallOf words (call_held x)) (same_Some b a is) read

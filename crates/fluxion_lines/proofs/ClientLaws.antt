@@ -1,6 +1,6 @@
 -- Clients of an input: no line number is of two of them, and they are no more than the limits allow.
 use Rattle.std.proofs.Common.{◌≡◌, ℕ, ◌+◌, ◌≤◌, ◌==◌, ◌||◌, nat_lt, if◌then◌else◌, Bool, true, false, cond, List, []}
-use Rattle.std.proofs.Common.{◌∷◌, map, length, Option, Some, None, inl, inr, refl, sym, ◌∙◌, ap, arith}
+use Rattle.std.proofs.Common.{◌∷◌, map, length, Some, None, inl, inr, refl, sym, ◌∙◌, ap, arith}
 use Rattle.std.specs.List.{AllByRecursion}
 use Rattle.std.specs.Option.{option_or}
 use Rattle.std.proofs.lemmas.Bool.{eqb-true}
@@ -19,6 +19,7 @@ use Rattle.fluxion_lines.specs.Inputs.{bars_in, client_in, clients_of, line_over
 use Rattle.fluxion_lines.specs.Inputs.{over_from, over_in}
 use Rattle.fluxion_lines.specs.Scripts.{line_held, lines_by, script_of}
 use Rattle.fluxion_lines.proofs.ScriptLaws.{by_more, lines_are, numbers_are_own}
+use Rattle.list_laws.proofs.Options.{neither}
 
 -- ---- numbers
 
@@ -59,14 +60,6 @@ module _ (g : NamedGraph) (form : Form) (bytes : List ℕ) where
 
 -- ---- limits
 
-first_none : {X : Type 0} (a b : Option X) → option_or a b ≡ None → a ≡ None
-first_none None b h = refl
-first_none (Some x) b h = h
-
-rest_none : {X : Type 0} (a b : Option X) → option_or a b ≡ None → b ≡ None
-rest_none None b h = h
-rest_none (Some x) b h = absurd cc
-
 few_here : (limits : Limits) (at bytes clients : ℕ) (many long late : Bool) → nat_lt limits.clients clients ≡ many
     → (if late then Some (over.Lines at)
     else if long then Some (over.LineBytes at) else if many then Some (over.Clients at) else None) ≡ None
@@ -89,8 +82,8 @@ few_from limits g form clients bars at (raw ∷ raws) few h =
     few_from limits g form next (bars + bars_in g form raw) (at + 1) raws
     (few_here limits at
     (length raw) (length next) (nat_lt limits.clients (length next)) (nat_lt limits.line_bytes (length raw))
-    (nat_lt limits.lines at) refl (first_none size barred (first_none (option_or size barred) rest h)))
-    (rest_none (option_or size barred) rest h)
+    (nat_lt limits.lines at) refl (neither size barred (neither (option_or size barred) rest h).0).0)
+    (neither (option_or size barred) rest h).1
 
 -- a script within the limits has no more clients than they allow
 pub few_clients_within : (limits : Limits) (g : NamedGraph) (form : Form) (bytes : List ℕ) →

@@ -4,8 +4,7 @@ use Rattle.std.proofs.Common.{[], ◌∷◌, ◌++◌, map, drop, Option, Some, 
 use Rattle.std.proofs.Common.{refl, arith, append_assoc}
 use Rattle.std.specs.Option.{option_or}
 use Rattle.std.proofs.lemmas.Bool.{ltb-false, le-ltb}
-use Rattle.std.proofs.lemmas.List.{drop_more}
-use Rattle.std.proofs.lemmas.Option.{slice_get_within, get_or_from_slice_get, slice_get_cases}
+use Rattle.std.proofs.lemmas.Option.{slice_get_cases, same_Some}
 use Rattle.std.proofs.Math.ListN.{drop_of_length-le}
 use Rattle.std.specs.List.{AllByRecursion}
 use Rattle.flux_defs.specs.declared.vertices.Vertex.{Vertex}
@@ -87,16 +86,13 @@ bars_fit limits at bars few = ap (λ b. if b then Some (over.Barred at) else Non
 
 -- ---- what the text of the lines alone tells
 
-some_over : (x y : Over) → Some x ≡ Some y → x ≡ y
-some_over x y e = cc
-
 by_size : (size later later_size : Option Over) (many : Bool) (at : ℕ) (o : Over) →
     is_by_size o ≡ true → (later ≡ Some o → later_size ≡ Some o) →
     option_or (option_or size (if many then Some (over.Barred at) else None)) later ≡ Some o →
     option_or size later_size ≡ Some o
 by_size (Some x) later later_size many at o told behind is = is
 by_size None later later_size true at o told behind is =
-    absurd (let bad : false ≡ true = ap is_by_size (some_over (over.Barred at) o is) ∙ told in cc)
+    absurd (let bad : false ≡ true = ap is_by_size (same_Some (over.Barred at) o is) ∙ told in cc)
 by_size None later later_size false at o told behind is = behind is
 
 -- a line past one of these limits is the first past one of them
@@ -116,10 +112,6 @@ pub size_told : (limits : Limits) (g : NamedGraph) (form : Form) (bytes : List �
 size_told limits g form bytes o told is = size_from limits g form [] 0 1 (lines_of bytes) o told is
 
 -- ---- the names of a table
-
-pub name_at : (xs : List (List ℕ)) (k : ℕ) (x : List ℕ) → slice_get xs k ≡ Some x → drop k xs ≡ x ∷ drop (k + 1) xs
-name_at xs k x h =
-    drop_more xs k x (slice_get_within xs k x h) ∙ ap (λ y. y ∷ drop (k + 1) xs) (get_or_from_slice_get xs k x x h)
 
 pub no_name : (xs : List (List ℕ)) (k : ℕ) → slice_get xs k ≡ None → drop k xs ≡ []
 no_name xs k none = elim (slice_get_cases xs k).1 [

@@ -60,7 +60,3 @@ place_in p (x ∷ xs) t = place_by p (p x) x xs t (place_in p xs t)
 -- a text's place is in the table that has it
 pub place_within : (texts : List (List ℕ)) (t : List ℕ) → index_of texts t < length (with_text texts t)
 place_within texts t = place_in (bytes_eq t) texts t
-
-pub empty_is : (xs : List ℕ) → length xs ≡ 0 → xs ≡ []
-empty_is [] e = refl
-empty_is (x ∷ xs) e = absurd (omega arith)

@@ -1,11 +1,12 @@
 -- What an order of a script's lines determines.
 use Rattle.std.proofs.Common.{◌≡◌, ◌⊎◌, ℕ, zero, suc, ◌+◌, ◌<◌, ◌≤◌, ◌==◌, ◌||◌, nat_lt, Bool, true, false, cond}
-use Rattle.std.proofs.Common.{if◌then◌else◌, Option, Some, None, List, [], ◌∷◌, map, filter, length, All, Contains, inl}
+use Rattle.std.proofs.Common.{if◌then◌else◌, Option, Some, None, List, [], ◌∷◌, map, filter, length, Contains, inl}
 use Rattle.std.proofs.Common.{inr, refl, sym, ◌∙◌, ap, subst, arith, true≢false}
 use Rattle.std.specs.List.{AllByRecursion}
-use Rattle.std.specs.Option.{option_or}
 use Rattle.std.proofs.lemmas.Bool.{ltb-false}
 use Rattle.std.proofs.lemmas.Bool.Decides.{eqb_tells}
+use Rattle.std.proofs.Math.Bool.{or-true}
+use Rattle.std.proofs.lemmas.List.Elements.{recursion_from_All}
 use Rattle.flux_defs.specs.declared.journal.Command.{Command}
 use Rattle.flux_defs.specs.declared.journal.Entry.{Entry}
 use Rattle.flux_defs.specs.declared.journal.Line.{Line}
@@ -20,13 +21,14 @@ use Rattle.fluxion_lines.specs.declared.commands.Form.{Form}
 use Rattle.fluxion_lines.specs.Lines.{lines_of}
 use Rattle.flux_defs.specs.declared.limits.Limits.{Limits}
 use Rattle.text_table.specs.Tables.{with_text}
-use Rattle.list_laws.proofs.Lists.{all_filter}
+use Rattle.list_laws.proofs.Lists.{all_filter, all_contained, contains_none, all_mapped, heads, tails}
 use Rattle.fluxion_lines.specs.declared.input.Over.{Over}
 use Rattle.fluxion_lines.specs.declared.input.Over.TheVariants as over
 use Rattle.fluxion_lines.specs.Inputs.{client_in, clients_of, lines_from, numbered_lines, line_over_size, bars_in}
 use Rattle.fluxion_lines.specs.Inputs.{over_bars, line_over, over_from, over_in}
 use Rattle.fluxion_lines.specs.Scripts.{line_held, lines_by, script_of, input_order}
-use Rattle.fluxion_lines.proofs.ScriptLaws.{RiseFrom, rises, has_lines, lines_are, is_client, few_clients, all_mapped}
+use Rattle.fluxion_lines.proofs.ScriptLaws.{RiseFrom, rises, has_lines, lines_are, is_client, few_clients}
+use Rattle.list_laws.proofs.Options.{neither}
 
 -- ---- legal histories
 
@@ -37,12 +39,6 @@ line_same e f same = (
   ap
       (λ (l : ClientLine). l.command) same,
 )
-
-heads : {X : Type 0} (x y : X) (xs ys : List X) → x ∷ xs ≡ y ∷ ys → x ≡ y
-heads x y xs ys same = cc
-
-tails : {X : Type 0} (x y : X) (xs ys : List X) → x ∷ xs ≡ y ∷ ys → xs ≡ ys
-tails x y xs ys same = cc
 
 -- the lines that a legal history answers determine it
 pub legal_once : (g : Setting) (s : State) (h k : List Entry) → map line_of h ≡ map line_of k → IsLegalFrom g s h →
@@ -66,9 +62,6 @@ legal_once g s (e ∷ h) (f ∷ k) same one two =
 first_or_later : {X : Type 0} (y : X) (ys : List X) (x : X) → Contains (y ∷ ys) x → (y ≡ x) ⊎ Contains ys x
 first_or_later y ys x (zero, lt, is) = inl is
 first_or_later y ys x (suc k, lt, is) = inr (k, omega (arith, lt), is)
-
-no_item : {X : Type 0} (x : X) → Contains [] x → ⊥
-no_item x (k, lt, is) = omega (arith, lt)
 
 filtered_by : (c : ℕ) (t : Bool) (l : ClientLine) (rest : List ClientLine) (y : Line) → Contains
     (map line_held (cond t (l ∷ rest) rest)) y →
@@ -94,7 +87,7 @@ of_client c l ls y has = elim (filtered_by c (l.client == c) l (filter (λ x. x.
 
 -- its number is not below the first
 not_below : (c at : ℕ) (ls : List ClientLine) (y : Line) → RiseFrom at ls → Contains (lines_by c ls) y → at ≤ y.line
-not_below c at [] y rise has = absurd (no_item y has)
+not_below c at [] y rise has = absurd (contains_none y has)
 not_below c at (l ∷ ls) y rise has = elim (of_client c l ls y has) [
   | inl both ↦ (let low = rise.0 in let is : l.line ≡ y.line = ap (λ (x : Line). x.line) both.1 in omega arith)
   | inr more ↦ (let low = rise.0 in let rest = not_below c (l.line + 1) ls y rise.1 more in omega (arith, low, rest))
@@ -103,7 +96,7 @@ not_below c at (l ∷ ls) y rise has = elim (of_client c l ls y has) [
 -- a number is that of one line, of one client
 pub one_line : (c d at : ℕ) (ls : List ClientLine) (x y : Line) → RiseFrom at ls → Contains (lines_by c ls) x →
     Contains (lines_by d ls) y → x.line ≡ y.line → (c ≡ d) × (x ≡ y)
-one_line c d at [] x y rise one two same = absurd (no_item x one)
+one_line c d at [] x y rise one two same = absurd (contains_none x one)
 one_line c d at (l ∷ ls) x y rise one two same = elim (of_client c l ls x one) [
   | inl first ↦ elim (of_client d l ls y two) [
     | inl second ↦ (sym first.0 ∙ second.0, sym first.1 ∙ second.1)
@@ -126,19 +119,15 @@ all_kept p (x ∷ xs) h = ap (λ t. cond t (x ∷ filter p xs) (filter p xs)) h.
 
 -- a number that a line has
 pub has_it : (ls : List Line) (n : ℕ) → Contains (map (λ l. l.line) ls) n → has_number ls n ≡ true
-has_it [] n has = absurd (no_item n has)
+has_it [] n has = absurd (contains_none n has)
 has_it (l ∷ ls) n has = elim (first_or_later l.line (map (λ x. x.line) ls) n has) [
   | inl is ↦ elim (eqb_tells l.line n) [
     | inl same ↦ ap (λ t. t || has_number ls n) same.0
     | inr differ ↦ absurd
         (differ.1 is)
   ]
-  | inr more ↦ ap (λ t. (l.line == n) || t) (has_it ls n more) ∙ or_true (l.line == n)
+  | inr more ↦ ap (λ t. (l.line == n) || t) (has_it ls n more) ∙ or-true (l.line == n)
 ]
-  where
-    or_true : (b : Bool) → (b || true) ≡ true
-    or_true true = refl
-    or_true false = refl
 
 numbers_held : (ls : List ClientLine) → map (λ (l : Line). l.line) (map line_held ls) ≡ map
     (λ (l : ClientLine). l.line) ls
@@ -156,20 +145,7 @@ all_of_one ls few = ap (λ (xs : List ClientLine). map (λ (l : Line). l.line) (
     zero_is [] h = tt
     zero_is (x ∷ xs) h = (ap (λ n. n == 0) (let none : x.client ≡ 0 = omega (arith, h.0) in none), zero_is xs h.1)
 
-by_recursion : {X : Type 0} (P : X → Type 0) (xs : List X) → All P xs → AllByRecursion P xs
-by_recursion P [] all = tt
-by_recursion P (x ∷ xs) all = (all 0 x (omega arith), by_recursion P xs (λ k d lt. all (suc k) d (omega (arith, lt))))
-
-contained : {X : Type 0} (P : X → Type 0) (xs : List X) (x : X) → AllByRecursion P xs → Contains xs x → P x
-contained P [] x all has = absurd (no_item x has)
-contained P (y ∷ ys) x all has = elim
-    (first_or_later y ys x has) [ inl is ↦ subst P is all.0 | inr more ↦ contained P ys x all.1 more ]
-
 -- ---- the limit on lines
-
-neither : {X : Type 0} (a b : Option X) → option_or a b ≡ None → (a ≡ None) × (b ≡ None)
-neither (Some x) b none = absurd (let no : Some x ≡ None = none in cc)
-neither None b none = (refl, none)
 
 not_many : (b : Bool) (x : Over) (rest : Option Over) → (if b then Some x else rest) ≡ None → b ≡ false
 not_many true x rest none = absurd (let no : Some x ≡ None = none in cc)
@@ -229,8 +205,9 @@ module _ (g : NamedGraph) (form : Form) (bytes : List ℕ) where
   pub one_play : (s : Setting) (order : List ℕ) (h k : List Entry) → Plays s (script_of g form bytes) order h →
       Plays s (script_of g form bytes) order k → h ≡ k
   one_play s order h k one two =
-      legal_once s first_state h k (all_answers h k (by_recursion (Answers (script_of g form bytes)) h one.answers)
-      (by_recursion (Answers (script_of g form bytes)) k two.answers)
+      legal_once s first_state h k
+      (all_answers h k (recursion_from_All (Answers (script_of g form bytes)) h one.answers)
+      (recursion_from_All (Answers (script_of g form bytes)) k two.answers)
       (one.lines ∙ sym two.lines)) one.legal two.legal
 
   abbrev IsKnown : ℕ → Type 0
@@ -272,12 +249,12 @@ module _ (g : NamedGraph) (form : Form) (bytes : List ℕ) where
   one_client order interleaves one = by (length (clients_of bytes)) refl
     where
       by : (n : ℕ) → length (clients_of bytes) ≡ n → order ≡ input_order g form bytes
-      by zero none = no_order order (by_recursion IsKnown order interleaves.known) none ∙ sym
+      by zero none = no_order order (recursion_from_All IsKnown order interleaves.known) none ∙ sym
           (ap (map (λ (l : ClientLine). l.line)) (no_lines (numbered_lines g form bytes)
           (few_clients g form bytes) none))
       by (suc n) some =
           sym (all_kept (has_number (held_by 0)) order (of_first order
-          (by_recursion IsKnown order interleaves.known) one))
+          (recursion_from_All IsKnown order interleaves.known) one))
           ∙ (interleaves.each 0 (held_by 0) (has_lines g form bytes 0 (omega arith))
           ∙ all_of_one (numbered_lines g form bytes) (below_one (numbered_lines g form bytes)
           (few_clients g form bytes) one))
@@ -292,7 +269,7 @@ module _ (g : NamedGraph) (form : Form) (bytes : List ℕ) where
       all_mapped (λ (n : ℕ). n ≤ most) (λ (l : Line). l.line) (held_by c)
       (all_mapped (λ (l : Line). l.line ≤ most) line_held (filter (λ l. l.client == c) (numbered_lines g form bytes))
       (all_filter (λ (l : ClientLine). l.line ≤ most) (λ l. l.client == c) (numbered_lines g form bytes) small)) in
-      contained (λ (n : ℕ). n ≤ most) (map (λ (l : Line). l.line) (held_by c)) n held
+      all_contained (λ (n : ℕ). n ≤ most) (map (λ (l : Line). l.line) (held_by c)) n held
       (subst (λ (l : List Line). Contains (map (λ (x : Line). x.line) l) n) own has)
 
   numbers_small : (most : ℕ) → AllByRecursion (λ (l : ClientLine). l.line ≤ most) (numbered_lines g form bytes) →
@@ -309,4 +286,4 @@ module _ (g : NamedGraph) (form : Form) (bytes : List ℕ) where
       AllByRecursion (λ (e : Entry). e.line ≤ limits.lines) history
   answered_small limits history within interleaves =
       numbers_small limits.lines (numbers_within limits g form [] 0 1 (lines_of bytes) within) history
-      (by_recursion IsKnown (map (λ (e : Entry). e.line) history) interleaves.known)
+      (recursion_from_All IsKnown (map (λ (e : Entry). e.line) history) interleaves.known)

@@ -1,17 +1,16 @@
 -- The lines of an input in their order, and those of each client.
 use Rattle.std.proofs.Common.{◌≡◌, ◌≢◌, ◌-◌, unwrap_or, slice_set, append-nil, ℕ, zero, suc, ◌+◌, ◌<◌, ◌≤◌, ◌==◌, ◌||◌}
 use Rattle.std.proofs.Common.{Bool, true, false, cond, if◌then◌else◌, List, [], ◌∷◌, ◌++◌, map, filter, length}
-use Rattle.std.proofs.Common.{length-append, get_or, All, Contains, Option, Some, slice_get, option_map, inl, inr, refl}
+use Rattle.std.proofs.Common.{length-append, Contains, Option, Some, slice_get, option_map, inl, inr, refl}
 use Rattle.std.proofs.Common.{sym, ◌∙◌, ap, subst, arith}
 use Rattle.std.specs.List.{AllByRecursion, list_any, range_with_len}
-use Rattle.std.proofs.lemmas.Bool.{ne_eqb}
-use Rattle.std.proofs.lemmas.Bool.Decides.{nat_tests}
+use Rattle.std.proofs.lemmas.Bool.{ne_eqb, eq-eqb}
 use Rattle.std.proofs.lemmas.List.FromFn.{length-range_with_len, length-map-range_with_len, get_or-range_with_len}
-use Rattle.std.proofs.lemmas.Option.{slice_get-map, slice_get_within, slice_get_cases}
+use Rattle.std.proofs.lemmas.Option.{slice_get-map, slice_get_within, slice_get_cases, same_Some}
 use Rattle.std.specs.Str.{bytes_eq}
 use Rattle.std.proofs.lemmas.List.{map-append}
-use Rattle.std.proofs.lemmas.List.Elements.{filter-append}
-use Rattle.list_laws.proofs.Lists.{all_filter}
+use Rattle.std.proofs.lemmas.List.Elements.{filter-append, All-from_recursion}
+use Rattle.list_laws.proofs.Lists.{all_filter, contains_more, contains_mapped, all_mapped, all_at_middle}
 use Rattle.flux_defs.specs.declared.journal.Command.{Command}
 use Rattle.flux_defs.specs.declared.journal.Line.{Line}
 use Rattle.resource_graph.specs.NamedGraph.{NamedGraph}
@@ -31,34 +30,10 @@ all_and : {X : Type 0} {P Q R : X → Type 0} (xs : List X) →
 all_and [] f ps qs = tt
 all_and (x ∷ xs) f ps qs = (f x ps.0 qs.0, all_and xs f ps.1 qs.1)
 
-pub all_mapped : {X Y : Type 0} (P : Y → Type 0) (f : X → Y) (xs : List X) →
-    AllByRecursion (λ x. P (f x)) xs → AllByRecursion P (map f xs)
-all_mapped P f [] h = tt
-all_mapped P f (x ∷ xs) h = (h.0, all_mapped P f xs h.1)
-
 pub all_unmapped : {X Y : Type 0} (P : Y → Type 0) (f : X → Y) (xs : List X) →
     AllByRecursion P (map f xs) → AllByRecursion (λ x. P (f x)) xs
 all_unmapped P f [] h = tt
 all_unmapped P f (x ∷ xs) h = (h.0, all_unmapped P f xs h.1)
-
--- what all have by recursion, each at its place has
-pub at_each : {X : Type 0} (P : X → Type 0) (xs : List X) → AllByRecursion P xs → All P xs
-at_each P [] h k d lt = absurd (omega arith)
-at_each P (x ∷ xs) h zero d lt = h.0
-at_each P (x ∷ xs) h (suc k) d lt = at_each P xs h.1 k d (omega arith)
-
-in_more : {X : Type 0} (y : X) (xs : List X) (x : X) → Contains xs x → Contains (y ∷ xs) x
-in_more y xs x (k, lt, is) = (suc k, omega (arith, lt), is)
-
-in_mapped : {X Y : Type 0} (f : X → Y) (xs : List X) (x : X) (k : ℕ) →
-    k < length xs → get_or xs k x ≡ x → Contains (map f xs) (f x)
-in_mapped f [] x k lt e = absurd (omega arith)
-in_mapped f (y ∷ ys) x zero lt e = (0, omega arith, ap f e)
-in_mapped f (y ∷ ys) x (suc k) lt e = let r = in_mapped f ys x k (omega arith) e in
-    (suc r.0, (let s = r.1 in omega arith), r.2)
-
-pub same_eq : (n : ℕ) → (n == n) ≡ true
-same_eq n = grind (arith, nat_tests)
 
 -- ---- numbers rise
 
@@ -100,7 +75,7 @@ none_before c n at (l ∷ ls) rise lt =
 -- a client's lines have exactly its numbers
 head_by : (b : Bool) (l : ClientLine) (held : List Line) → has_number held l.line ≡ false →
     has_number (cond b (line_held l ∷ held) held) l.line ≡ b
-head_by true l held none = ap (λ t. t || has_number held l.line) (same_eq l.line)
+head_by true l held none = ap (λ t. t || has_number held l.line) (eq-eqb l.line l.line refl)
 head_by false l held none = none
 
 tail_by : (b : Bool) (l x : ClientLine) (held : List Line) → l.line < x.line →
@@ -144,7 +119,7 @@ told_apart c test (l ∷ ls) tells =
 -- each line is among those of its client
 among_by : (b : Bool) (l x : ClientLine) (held : List Line) → Contains held (line_held x) →
     Contains (cond b (line_held l ∷ held) held) (line_held x)
-among_by true l x held has = in_more (line_held l) held (line_held x) has
+among_by true l x held has = contains_more (line_held l) held (line_held x) has
 among_by false l x held has = has
 
 first_by : (b : Bool) (l : ClientLine) (held : List Line) → b ≡ true →
@@ -156,7 +131,8 @@ among : (ls : List ClientLine) → AllByRecursion (λ l. Contains (lines_by l.cl
 among [] = tt
 among (l ∷ ls) = (
   subst (λ held. Contains held (line_held l))
-      (sym (by_more l.client l ls)) (first_by (l.client == l.client) l (lines_by l.client ls) (same_eq l.client)),
+      (sym (by_more l.client l ls))
+      (first_by (l.client == l.client) l (lines_by l.client ls) (eq-eqb l.client l.client refl)),
   all_and ls (λ x has also. subst (λ held. Contains held (line_held x)) (sym (by_more x.client l ls))
       (among_by (l.client == x.client) l x (lines_by x.client ls) has)) (among ls) (among ls),
 )
@@ -213,7 +189,7 @@ of_other c done l other = sym (filtered_more c done l ∙ (ap (λ ls. lines_by c
 of_own : (done : List ClientLine) (l : ClientLine) →
     lines_by l.client done ++ line_held l ∷ [] ≡ lines_by l.client (done ++ l ∷ [])
 of_own done l = sym (filtered_more l.client done l ∙ ap (λ ls. lines_by l.client done ++ ls)
-    (by_more l.client l [] ∙ ap (λ b. cond b (line_held l ∷ []) []) (same_eq l.client)))
+    (by_more l.client l [] ∙ ap (λ b. cond b (line_held l ∷ []) []) (eq-eqb l.client l.client refl)))
 
 unwrapped : {X : Type 0} (o : Option X) (x d : X) → o ≡ Some x → unwrap_or o d ≡ x
 unwrapped o x d is = ap (λ t. unwrap_or t d) is
@@ -225,9 +201,6 @@ in_range n c lt = elim (slice_get_cases (range_with_len 0 n) c).1 [
   | inl (x, within, some, is) ↦ some ∙ ap Some (let at = get_or-range_with_len 0 n c x lt in omega (arith, at, is))
   | inr (gone, none) ↦ absurd (let long = length-range_with_len 0 n in omega (arith, long, gone, lt))
 ]
-
-some_is : {X : Type 0} (x y : X) → Some x ≡ Some y → x ≡ y
-some_is x y e = cc
 
 module _ (g : NamedGraph) (form : Form) (bytes : List ℕ) where
   abbrev pub lines : List ClientLine
@@ -244,7 +217,7 @@ module _ (g : NamedGraph) (form : Form) (bytes : List ℕ) where
   lines_are c ls had =
       let within = slice_get_within (map (λ client. lines_by client lines) (range_with_len 0 count)) c ls had in
       let long = length-map-range_with_len (λ client. lines_by client lines) 0 count in
-      some_is (lines_by c lines) ls (sym (has_lines c (omega (arith, within, long))) ∙ had)
+      same_Some (lines_by c lines) ls (sym (has_lines c (omega (arith, within, long))) ∙ had)
 
   -- a client's numbers are those of its lines
   pub numbers_are_own : (c : ℕ) → AllByRecursion (λ l. has_number (lines_by c lines) l.line ≡ (l.client == c)) lines
@@ -274,13 +247,13 @@ module _ (g : NamedGraph) (form : Form) (bytes : List ℕ) where
     l.client,
     lines_by l.client lines,
     h.0,
-    in_mapped (λ x. x.line) (lines_by l.client lines) (line_held l) h.1.0 h.1.1 h.1.2,
+    contains_mapped (λ x. x.line) (lines_by l.client lines) (line_held l) h.1.0 h.1.1 h.1.2,
   )
 
   -- the order of the input interleaves the script
   pub interleaves : Interleaves (script_of g form bytes) (input_order g form bytes)
   interleaves = record {
-    known = at_each IsKnown
+    known = All-from_recursion IsKnown
         (input_order g form bytes) (all_mapped IsKnown (λ l. l.line) lines (all_and lines known_line held held));
     each = λ c ls had. subst
         (λ (x : List Line). filter (has_number x) (input_order g form bytes) ≡ map (λ l. l.line) x) (lines_are c ls had)
@@ -344,14 +317,4 @@ proper_lists P count ls all =
     (λ c. held_filtered P c ls all))
 
 pub at_split : {X : Type 0} (P : X → Type 0) (xs ys zs : List X) (z : X) → xs ≡ ys ++ z ∷ zs → AllByRecursion P xs → P z
-at_split {X} P xs ys zs z is all = split ys (subst (AllByRecursion P) is all)
-  where
-    split : (ys : List X) → AllByRecursion P (ys ++ z ∷ zs) → P z
-    split [] h = h.0
-    split (y ∷ ys) h = split ys h.1
-
--- what is changed twice has the last value
-pub set_twice : {X : Type 0} (xs : List X) (k : ℕ) (x y : X) → slice_set (slice_set xs k x) k y ≡ slice_set xs k y
-set_twice [] k x y = refl
-set_twice (z ∷ xs) zero x y = refl
-set_twice (z ∷ xs) (suc k) x y = ap (λ ys. z ∷ ys) (set_twice xs k x y)
+at_split P xs ys zs z is all = all_at_middle P ys z zs (subst (AllByRecursion P) is all)

@@ -9,6 +9,7 @@ use Rattle.std.specs.Str.Parse.{AllDigits}
 use Rattle.std.proofs.lemmas.Bool.{and_parts}
 use Rattle.std.proofs.lemmas.Bool.Decides.{eqb_tells}
 use Rattle.std.proofs.lemmas.Fmt.{decimal_is_IsNumeral, length-decimal-le}
+use Rattle.std.proofs.Math.Nat.{mod-le}
 use Rattle.load_script.specs.declared.lines.TheConstants.{MOST_COMMANDS}
 use Rattle.list_laws.proofs.Lists.{all_append}
 use Rattle.load_script.specs.Draws.{drawn, row_of, extent_of, seconds_on, second_at}
@@ -191,12 +192,9 @@ fine_command k row extent second few small late =
     (fine_memories (1 + extent % 32) (duration_of extent) (omega arith) (omega arith)))
     (fine_cond (row == 6) 800 _ _
     (fine_more _ 800 _ (omega arith) (fine_append _ _ _ _ (fine_text (codes "cancel ") refl) (fine_decimal
-    (1 + extent % k) (let le = mod_le extent k in omega (arith, le)))))
+    (1 + extent % k) (let le = mod-le extent k in omega (arith, le)))))
     (fine_more _ 800 _ (omega arith) (fine_append _ _ _ _ (fine_text (codes "advance ") refl)
     (fine_decimal second late))))))
-  where
-    mod_le : (m n : ℕ) → m % n ≤ m
-    mod_le m n = omega arith
 
 pub fine_line : (commands k : ℕ) → commands ≤ MOST_COMMANDS → k ≤ MOST_COMMANDS → Fine 1000 (load_line commands k)
 unfolding load_line

@@ -7,7 +7,7 @@ use Rattle.std.specs.Option.{IsSomeAnd, option_map_or}
 use Rattle.std.proofs.lemmas.Bool.{cases_lt}
 use Rattle.std.proofs.lemmas.Bool.Decides.{eqb_tells}
 use Rattle.std.proofs.lemmas.Fmt.{decimal_injective}
-use Rattle.std.proofs.lemmas.Option.{slice_get-get_or, slice_get_within, same_Some}
+use Rattle.std.proofs.lemmas.Option.{slice_get-get_or, slice_get_within, same_Some, none-some}
 use Rattle.std.proofs.lemmas.List.Folds.{list_any_none}
 use Rattle.flux_defs.specs.declared.limits.TheConstants.{GREATEST_NUMBER}
 use Rattle.flux_defs.specs.declared.vertices.Vertex.{Vertex}
@@ -220,12 +220,6 @@ kinds_of v x there = kinds_by v x (told v x there)
 
 -- ---- parents
 
-some_is : (a b : ℕ) → Some a ≡ Some b → a ≡ b
-some_is a b e = cc
-
-not_some : (p : ℕ) → None ≡ Some p → ⊥
-not_some p e = cc
-
 -- a parent stands before its child, among the first three types; it is of a lesser kind
 record Over (v p kind : ℕ) : Type 0 where
   before : p < v
@@ -234,9 +228,9 @@ record Over (v p kind : ℕ) : Type 0 where
   of_core : kind ≡ 3 → 17 ≤ p
 
 over_by : (v p : ℕ) (x : Vertex) → Told v x → x.parent ≡ Some p → Over v p x.kind
-over_by v p x (top at k none s) e = absurd (not_some p (sym none ∙ e))
+over_by v p x (top at k none s) e = absurd (none-some p (sym none ∙ e))
 over_by v p x (racked low high k up s) e =
-    let is : 0 ≡ p = some_is 0 p (sym up ∙ e) in
+    let is : 0 ≡ p = same_Some 0 p (sym up ∙ e) in
     record {
       before = omega arith;
       low = omega arith;
@@ -245,7 +239,7 @@ over_by v p x (racked low high k up s) e =
       of_core = λ c. absurd (omega arith);
     }
 over_by v p x (noded i less at k up s r) e =
-    let is : 1 + i / 16 ≡ p = some_is (1 + i / 16) p (sym up ∙ e) in
+    let is : 1 + i / 16 ≡ p = same_Some (1 + i / 16) p (sym up ∙ e) in
     record {
       before = omega arith;
       low = omega arith;
@@ -254,7 +248,7 @@ over_by v p x (noded i less at k up s r) e =
       of_core = λ c. absurd (omega arith);
     }
 over_by v p x (cored i less at k up s d) e =
-    let is : 17 + i / 16 ≡ p = some_is (17 + i / 16) p (sym up ∙ e) in
+    let is : 17 + i / 16 ≡ p = same_Some (17 + i / 16) p (sym up ∙ e) in
     record {
       before = omega arith;
       low = omega arith;
@@ -263,7 +257,7 @@ over_by v p x (cored i less at k up s d) e =
       of_core = λ c. omega arith;
     }
 over_by v p x (pooled i less at k up s) e =
-    let is : 17 + i ≡ p = some_is (17 + i) p (sym up ∙ e) in
+    let is : 17 + i ≡ p = same_Some (17 + i) p (sym up ∙ e) in
     record {
       before = omega arith;
       low = omega arith;
@@ -278,7 +272,7 @@ child_of v p e = by (slice_get shapes v) refl e
   where
     by : (o : Option Vertex) → slice_get shapes v ≡ o → option_and_then (λ (x : Vertex). x.parent) o ≡ Some p →
         (x : Vertex) × (slice_get shapes v ≡ Some x) × (x.parent ≡ Some p)
-    by None there up = absurd (not_some p up)
+    by None there up = absurd (none-some p up)
     by (Some x) there up = (x, there, up)
 
 parent_read : (v : ℕ) (x : Vertex) → slice_get shapes v ≡ Some x → parent_of shapes v ≡ x.parent
@@ -315,14 +309,14 @@ depth (suc most) v x there = by (parent_of shapes v) refl (depth most)
 -- what is above is of a lesser kind
 above : (n v u : ℕ) (x y : Vertex) → slice_get shapes v ≡ Some x → slice_get shapes u ≡ Some y →
     up shapes n (Some v) ≡ Some u → (v ≡ u) ⊎ (y.kind < x.kind)
-above zero v u x y at_v at_u e = inl (some_is v u e)
+above zero v u x y at_v at_u e = inl (same_Some v u e)
 above (suc n) v u x y at_v at_u e = by (parent_of shapes v) refl e (λ p z at f. above n p u z y at at_u f)
   where
     by : (o : Option ℕ) → parent_of shapes v ≡ o → up shapes n o ≡ Some u →
         ((p : ℕ) (z : Vertex) → slice_get shapes p ≡ Some z → up shapes n (Some p) ≡ Some u →
         (p ≡ u) ⊎ (y.kind < z.kind)) →
         (v ≡ u) ⊎ (y.kind < x.kind)
-    by None none f upper = absurd (not_some u (sym (up-None shapes n) ∙ f))
+    by None none f upper = absurd (none-some u (sym (up-None shapes n) ∙ f))
     by (Some p) some f upper =
         let o = over_by v p x (told v x at_v) (sym (parent_read v x at_v) ∙ some) in
         let low = o.low in
@@ -427,7 +421,7 @@ node_above v x there kind = by x.parent refl
         no (top at k p s) = omega arith
         no (racked low high k p s) = omega arith
         no (noded i less at k p s r) = omega arith
-        no (cored i less at k p s d) = not_some (17 + i / 16) (sym e ∙ p)
+        no (cored i less at k p s d) = none-some (17 + i / 16) (sym e ∙ p)
         no (pooled i less at k p s) = omega arith
 
     by : (o : Option ℕ) → x.parent ≡ o →
@@ -454,7 +448,7 @@ only_node v n x there kind node below =
     let p = node_above v x there kind in
     let lt : v < length shapes = slice_get_within shapes v x there in
     let up_to = parent_below shapes first v n lt below in
-    let same : up_to.0 ≡ p.0 = some_is up_to.0 p.0 (sym up_to.1 ∙ (parent_read v x there ∙ p.1)) in
+    let same : up_to.0 ≡ p.0 = same_Some up_to.0 p.0 (sym up_to.1 ∙ (parent_read v x there ∙ p.1)) in
     let own = of_node p.0 p.2 in
     let other = of_node n node in
     elim (eqb_tells p.0 n) [
@@ -495,8 +489,8 @@ double_id v (device, (u, before, kind, kind_v, kind_u, id, id_v, id_u, n, node, 
     let j = core_told u y.0 (told u y.0 y.1) core_u in
     let own_v : x.0.id ≡ Some id = at_value (slice_get shapes v) (λ (w : Vertex). w.id ≡ Some id) x.0 x.1 id_v in
     let own_u : y.0.id ≡ Some id = at_value (slice_get shapes u) (λ (w : Vertex). w.id ≡ Some id) y.0 y.1 id_u in
-    let ids : i.0 % 16 ≡ j.0 % 16 = some_is (i.0 % 16) (j.0 % 16) (sym i.4 ∙ (own_v ∙ (sym own_u ∙ j.4))) in
-    let parents : 17 + i.0 / 16 ≡ 17 + j.0 / 16 = some_is (17 + i.0 / 16) (17 + j.0 / 16) (sym i.3 ∙ (up_v
+    let ids : i.0 % 16 ≡ j.0 % 16 = same_Some (i.0 % 16) (j.0 % 16) (sym i.4 ∙ (own_v ∙ (sym own_u ∙ j.4))) in
+    let parents : 17 + i.0 / 16 ≡ 17 + j.0 / 16 = same_Some (17 + i.0 / 16) (17 + j.0 / 16) (sym i.3 ∙ (up_v
     ∙ (sym up_u ∙ j.3))) in
     omega (arith, before, i.2, j.2, ids, parents)
 
@@ -506,7 +500,7 @@ same_numbers [] i j small_i small_j e = decimal_injective i j small_i small_j e
 same_numbers (b ∷ word) i j small_i small_j e = same_numbers word i j small_i small_j cc
 
 parents_are : (r s : RawVertex) (p q : ℕ) → r.parent ≡ Some p → s.parent ≡ Some q → s.parent ≡ r.parent → q ≡ p
-parents_are r s p q up_r up_s same = some_is q p (sym up_s ∙ (same ∙ up_r))
+parents_are r s p q up_r up_s same = same_Some q p (sym up_s ∙ (same ∙ up_r))
 
 numbers_are : (word : List ℕ) (r s : RawVertex) (i j : ℕ) → i < 18446744073709551616 → j < 18446744073709551616 →
     r.name ≡ word ++ decimal i → s.name ≡ word ++ decimal j → s.name ≡ r.name → j ≡ i
@@ -519,7 +513,7 @@ parent_in r = r.parent
 siblings : (v u : ℕ) (r s : RawVertex) → Spot v r → Spot u s → u < v → s.parent ≡ r.parent → (r.parent ≡ None → ⊥) →
     s.name ≡ r.name → ⊥
 siblings v u r s (is_cluster a e) there before same some names = some (ap (λ (w : RawVertex). w.parent) e)
-siblings v u r s (is_rack i few a e) (is_cluster b f) before same some names = not_some 0 (sym (ap (λ
+siblings v u r s (is_rack i few a e) (is_cluster b f) before same some names = none-some 0 (sym (ap (λ
     (w : RawVertex). w.parent) f) ∙ (same ∙ ap (λ (w : RawVertex). w.parent) e))
 siblings v u r s (is_rack i few a e) (is_rack j less b f) before same some names =
     let is = numbers_are (codes "rack") r s i j (omega arith) (omega arith) (ap (λ (w : RawVertex). w.name) e) (ap (λ
@@ -527,7 +521,7 @@ siblings v u r s (is_rack i few a e) (is_rack j less b f) before same some names
 siblings v u r s (is_rack i few a e) (is_node j less b f) before same some names = omega arith
 siblings v u r s (is_rack i few a e) (is_core j less b f) before same some names = omega arith
 siblings v u r s (is_rack i few a e) (is_memory j less b f) before same some names = omega arith
-siblings v u r s (is_node i few a e) (is_cluster b f) before same some names = not_some (1 + i / 16) (sym (ap (λ
+siblings v u r s (is_node i few a e) (is_cluster b f) before same some names = none-some (1 + i / 16) (sym (ap (λ
     (w : RawVertex). w.parent) f) ∙ (same ∙ ap (λ (w : RawVertex). w.parent) e))
 siblings v u r s (is_node i few a e) (is_rack j less b f) before same some names =
     let is = parents_are r s (1 + i / 16) 0 (ap (λ (w : RawVertex). w.parent) e) (ap (λ
@@ -537,7 +531,7 @@ siblings v u r s (is_node i few a e) (is_node j less b f) before same some names
     (w : RawVertex). w.name) f) names in omega arith
 siblings v u r s (is_node i few a e) (is_core j less b f) before same some names = omega arith
 siblings v u r s (is_node i few a e) (is_memory j less b f) before same some names = omega arith
-siblings v u r s (is_core i few a e) (is_cluster b f) before same some names = not_some (17 + i / 16) (sym (ap (λ
+siblings v u r s (is_core i few a e) (is_cluster b f) before same some names = none-some (17 + i / 16) (sym (ap (λ
     (w : RawVertex). w.parent) f) ∙ (same ∙ ap (λ (w : RawVertex). w.parent) e))
 siblings v u r s (is_core i few a e) (is_rack j less b f) before same some names =
     let is = parents_are r s (17 + i / 16) 0 (ap (λ (w : RawVertex). w.parent) e) (ap (λ
@@ -552,7 +546,7 @@ siblings v u r s (is_core i few a e) (is_core j less b f) before same some names
     (w : RawVertex). w.name) e) (ap (λ (w : RawVertex). w.name) f) names in
     omega arith
 siblings v u r s (is_core i few a e) (is_memory j less b f) before same some names = omega arith
-siblings v u r s (is_memory i few a e) (is_cluster b f) before same some names = not_some (17 + i) (sym (ap (λ
+siblings v u r s (is_memory i few a e) (is_cluster b f) before same some names = none-some (17 + i) (sym (ap (λ
     (w : RawVertex). w.parent) f) ∙ (same ∙ ap (λ (w : RawVertex). w.parent) e))
 siblings v u r s (is_memory i few a e) (is_rack j less b f) before same some names =
     let is = parents_are r s (17 + i) 0 (ap (λ (w : RawVertex). w.parent) e) (ap (λ
@@ -594,7 +588,7 @@ double_name v (u, before, same, inl (some, parents)) = by (parent_of shapes v) r
         let s = spot u y.0 y.1 in
         let up_r : r.0.parent ≡ Some p = sym (ap (λ (w : Vertex). w.parent) r.2) ∙ x.2 in
         let up_s : s.0.parent ≡ Some p = sym (ap (λ (w : Vertex). w.parent) s.2) ∙ y.2 in
-        siblings v u r.0 s.0 r.4 s.4 before (up_s ∙ sym up_r) (λ none. not_some p (sym none ∙ up_r))
+        siblings v u r.0 s.0 r.4 s.4 before (up_s ∙ sym up_r) (λ none. none-some p (sym none ∙ up_r))
         (names_same v u r.0 s.0 r.1 s.1 same)
 double_name v (u, before, same, inr (node_u, node_v)) =
     let x = of_node v node_v in
@@ -611,7 +605,7 @@ bad_rank : Nowhere (HasBadRank graph)
 bad_rank v (some, node, inl none) =
     let x = of_node v node in
     let i = node_told v x.0 (told v x.0 x.1) x.2 in
-    not_some i.0 (sym (at_value (slice_get shapes v) (λ (w : Vertex). w.rank ≡ None) x.0 x.1 none) ∙ i.3)
+    none-some i.0 (sym (at_value (slice_get shapes v) (λ (w : Vertex). w.rank ≡ None) x.0 x.1 none) ∙ i.3)
 bad_rank v (some, node, inr (u, before, node_u, rank, rank_v, rank_u)) =
     let x = of_node v node in
     let y = of_node u node_u in
@@ -621,17 +615,17 @@ bad_rank v (some, node, inr (u, before, node_u, rank, rank_v, rank_u)) =
     (w : Vertex). w.rank ≡ Some rank) x.0 x.1 rank_v in
     let of_u : y.0.rank ≡ Some rank = at_value (slice_get shapes u) (λ
     (w : Vertex). w.rank ≡ Some rank) y.0 y.1 rank_u in
-    let is : i.0 ≡ j.0 = some_is i.0 j.0 (sym i.3 ∙ (of_v ∙ (sym of_u ∙ j.3))) in
+    let is : i.0 ≡ j.0 = same_Some i.0 j.0 (sym i.3 ∙ (of_v ∙ (sym of_u ∙ j.3))) in
     omega (arith, before, is, i.2, j.2)
 
 -- ---- all rows
 
 root_at : (v : ℕ) (x : Vertex) → Told v x → x.parent ≡ None → v ≡ 0
 root_at v x (top at k p s) none = at
-root_at v x (racked low high k p s) none = absurd (not_some 0 (sym none ∙ p))
-root_at v x (noded i less at k p s r) none = absurd (not_some (1 + i / 16) (sym none ∙ p))
-root_at v x (cored i less at k p s d) none = absurd (not_some (17 + i / 16) (sym none ∙ p))
-root_at v x (pooled i less at k p s) none = absurd (not_some (17 + i) (sym none ∙ p))
+root_at v x (racked low high k p s) none = absurd (none-some 0 (sym none ∙ p))
+root_at v x (noded i less at k p s r) none = absurd (none-some (1 + i / 16) (sym none ∙ p))
+root_at v x (cored i less at k p s d) none = absurd (none-some (17 + i / 16) (sym none ∙ p))
+root_at v x (pooled i less at k p s) none = absurd (none-some (17 + i) (sym none ∙ p))
 
 chain_falls : (most v : ℕ) → length (chain shapes most (Some v)) ≤ suc v
 chain_falls zero v = omega arith
@@ -684,7 +678,7 @@ facts = record {
   housed = λ v device. (let x = of_device v device in let p = node_above v x.0 x.1 x.2 in (p.0, p.2, p.3));
   identified = λ v has.
       (let x = of_device v has.0 in let i = core_told v x.0 (told v x.0 x.1) x.2 in
-      not_some (i.0 % 16) (sym (at_value (slice_get shapes v) (λ (w : Vertex). w.id ≡ None) x.0 x.1 has.1) ∙ i.4));
+      none-some (i.0 % 16) (sym (at_value (slice_get shapes v) (λ (w : Vertex). w.id ≡ None) x.0 x.1 has.1) ∙ i.4));
   ids = double_id;
   names_apart = double_name;
   ranks = bad_rank;

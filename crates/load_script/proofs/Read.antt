@@ -4,10 +4,11 @@ use Rattle.std.proofs.Common.{◌++◌, map, take, length, get_or, codes, Some, 
 use Rattle.std.proofs.Common.{subst, arith, append_assoc, if◌then◌else◌, lit≤}
 use Rattle.std.specs.List.{AllByRecursion, concat, range_with_len}
 use Rattle.std.specs.Option.{option_or}
-use Rattle.std.proofs.lemmas.Bool.Decides.{nat_tests, eqb_tells}
+use Rattle.std.proofs.lemmas.Bool.Decides.{eqb_tells}
 use Rattle.std.proofs.Math.Nat.{mul-suc, mul-le-mul}
 use Rattle.std.proofs.lemmas.List.{length-map}
 use Rattle.std.proofs.lemmas.List.FromFn.{length-range_with_len}
+use Rattle.std.proofs.lemmas.Bool.{le-ltb}
 use Rattle.flux_defs.specs.declared.limits.TheConstants.{MOST_VERTICES}
 use Rattle.list_laws.proofs.Lists.{all_along}
 use Rattle.text_forms.specs.Cuts.{Lacks}
@@ -148,19 +149,16 @@ times_more : (m n : ℕ) → m * suc n ≡ m + m * n
 times_more m n = let is = mul-suc m n in omega (arith, is)
 
 module _ (g : NamedGraph) where
-  not_less : (m n : ℕ) → n ≤ m → nat_lt m n ≡ false
-  not_less m n le = grind (arith, nat_tests)
-
   size_none : (limits : Limits) (at bytes clients : ℕ) → at ≤ limits.lines → bytes ≤ limits.line_bytes →
       clients ≤ limits.clients →
       over_size limits at bytes clients ≡ None
   size_none limits at bytes clients few short ok =
       ap (λ b. if b then Some (over.Lines at) else if nat_lt limits.line_bytes bytes then Some (over.LineBytes at)
-      else if nat_lt limits.clients clients then Some (over.Clients at) else None) (not_less limits.lines at few)
+      else if nat_lt limits.clients clients then Some (over.Clients at) else None) (le-ltb limits.lines at few)
       ∙ (ap (λ b. if b then Some (over.LineBytes at) else if nat_lt limits.clients clients then Some
       (over.Clients at) else None)
-      (not_less limits.line_bytes bytes short)
-      ∙ ap (λ b. if b then Some (over.Clients at) else None) (not_less limits.clients clients ok))
+      (le-ltb limits.line_bytes bytes short)
+      ∙ ap (λ b. if b then Some (over.Clients at) else None) (le-ltb limits.clients clients ok))
 
   none_from : (limits : Limits) (clients : List (List ℕ)) (bars at : ℕ) (raws : List (List ℕ)) → Few clients →
       AllByRecursion Good raws →
@@ -180,7 +178,7 @@ module _ (g : NamedGraph) where
       size_none limits at (length raw) (length (with_text clients (client_in raw))) (omega (arith, lines)) (omega
       (arith, long, short)) (omega (arith, one, some)) in
       let here : over_bars limits at (bars + bars_in g Rfc14 raw) ≡ None =
-      ap (λ b. if b then Some (over.Barred at) else None) (not_less limits.barred (bars + bars_in g Rfc14 raw) (omega
+      ap (λ b. if b then Some (over.Barred at) else None) (le-ltb limits.barred (bars + bars_in g Rfc14 raw) (omega
       (arith, own, more, barred))) in
       let rest = none_from limits (with_text clients (client_in raw)) (bars + bars_in g Rfc14 raw) (at + 1) raws
       (inr next) good.1 short some

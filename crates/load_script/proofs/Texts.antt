@@ -1,18 +1,11 @@
 -- What one command more adds to the input of a load.
-use Rattle.std.proofs.Common.{◌≡◌, ℕ, suc, ◌+◌, ◌*◌, ◌%◌, ◌/◌, List, [], ◌∷◌, ◌++◌, map, codes, refl, sym, ◌∙◌, ap}
-use Rattle.std.proofs.Common.{arith, append_assoc}
+use Rattle.std.proofs.Common.{◌≡◌, ℕ, ◌+◌, ◌*◌, ◌%◌, ◌/◌, List, [], ◌∷◌, ◌++◌, map, codes, sym, ◌∙◌, ap}
+use Rattle.std.proofs.Common.{arith, append_assoc, add-one, append-nil}
 use Rattle.std.specs.List.{concat, range_with_len}
 use Rattle.std.proofs.lemmas.List.FromFn.{map-range_with_len_more}
 use Rattle.std.proofs.lemmas.List.Folds.{concat-append}
 use Rattle.load_script.specs.Draws.{drawn, row_of, extent_of, seconds_on, second_at}
 use Rattle.load_script.specs.Lines.{command_text, load_line, ended_line}
-
-one_more : (k : ℕ) → k + 1 ≡ suc k
-one_more k = omega arith
-
-append_none : (xs : List ℕ) → xs ++ [] ≡ xs
-append_none [] = refl
-append_none (x ∷ xs) = ap (λ ys. x ∷ ys) (append_none xs)
 
 -- the texts of one more number
 pub texts_more : (f : ℕ → List ℕ) (k : ℕ) →
@@ -20,21 +13,21 @@ pub texts_more : (f : ℕ → List ℕ) (k : ℕ) →
 texts_more f k =
     ap concat (map-range_with_len_more f 1 k (k + 1) (omega arith))
     ∙ (concat-append (map f (range_with_len 1 k)) (f (k + 1) ∷ [])
-    ∙ ap (λ ys. concat (map f (range_with_len 1 k)) ++ ys) (append_none (f (k + 1))))
+    ∙ ap (λ ys. concat (map f (range_with_len 1 k)) ++ ys) (append-nil (f (k + 1))))
 
 -- the next number
 pub drawn_more : (commands k number : ℕ) → number ≡ drawn commands k →
     (1103515245 * number + 12345) % 2147483648 ≡ drawn commands (k + 1)
 drawn_more commands k number is =
-    ap (λ n. (1103515245 * n + 12345) % 2147483648) is ∙ sym (ap (drawn commands) (one_more k))
+    ap (λ n. (1103515245 * n + 12345) % 2147483648) is ∙ sym (ap (drawn commands) (add-one k))
 
 -- the second behind one more command
 pub second_more : (commands k number second : ℕ) → number ≡ drawn commands (k + 1) → second ≡ second_at commands k →
     second + seconds_on (number / 65536 % 8) (number / 65536 / 8) ≡ second_at commands (k + 1)
 second_more commands k number second is at =
     (λ i. at i + seconds_on (is i / 65536 % 8) (is i / 65536 / 8))
-    ∙ (ap (λ j. second_at commands k + seconds_on (row_of commands j) (extent_of commands j)) (one_more k)
-    ∙ sym (ap (second_at commands) (one_more k)))
+    ∙ (ap (λ j. second_at commands k + seconds_on (row_of commands j) (extent_of commands j)) (add-one k)
+    ∙ sym (ap (second_at commands) (add-one k)))
 
 -- the line of one more command
 pub line_more : (commands k number second : ℕ) → number ≡ drawn commands (k + 1) → second ≡ second_at commands (k + 1) →

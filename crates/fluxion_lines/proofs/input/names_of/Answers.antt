@@ -1,7 +1,8 @@
 use Rattle.std.proofs.Common.{◌≡◌, ◌+◌, ◌++◌, ◌∷◌, [], Some, None, sym, ◌∙◌, ap, drop, slice_get, option_map}
 use Rattle.std.proofs.Common.{append_assoc, append-nil, arith}
 use Rattle.std.proofs.lemmas.Option.{slice_get_within}
-use Rattle.fluxion_lines.proofs.InputLaws.{name_at, no_name}
+use Rattle.fluxion_lines.proofs.InputLaws.{no_name}
+use Rattle.list_laws.proofs.Lists.{drop_here}
 use Rattle.fluxion_lines.proofs.input.names_of.Goals as goal
 
 pub loop-name-preserved : goal.loop-name-preserved
@@ -18,7 +19,7 @@ loop-name-preserved c =
           ∙ (append_assoc c.loop-name.names.items
           (c.in-Some.name.now ∷ []) (drop (c.loop-name.number + 1) c.args.table.now)
           ∙ (ap (λ xs. c.loop-name.names.items ++ xs)
-          (sym (name_at c.args.table.now c.loop-name.number c.in-Some.name.now at)) ∙ c.loop-name.invariant.names));
+          (sym (drop_here c.args.table.now c.loop-name.number c.in-Some.name.now at)) ∙ c.loop-name.invariant.names));
     }
 
 pub returns : goal.returns

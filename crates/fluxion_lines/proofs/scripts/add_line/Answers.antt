@@ -1,6 +1,6 @@
 use Rattle.std.proofs.Common.{◌++◌, ◌∷◌, [], sym, ◌∙◌, ap, slice_set, unwrap_or, Option, List}
 use Rattle.flux_defs.specs.declared.journal.Line.{Line}
-use Rattle.fluxion_lines.proofs.ScriptLaws.{set_twice}
+use Rattle.list_laws.proofs.Lists.{set_twice}
 use Rattle.fluxion_lines.proofs.scripts.add_line.Goals as goal
 
 pub returns-in-Ok : goal.returns-in-Ok
