@@ -1,16 +1,13 @@
-use Rattle.std.proofs.Common.{◌≡◌, ℕ, ◌<◌, ◌==◌, ◌∙◌, List, Some, length, slice_get, true, inl, inr, refl, ap, subst}
+use Rattle.std.proofs.Common.{◌≡◌, ◌<◌, ◌==◌, ◌∙◌, List, Some, length, slice_get, refl, ap, subst}
 use Rattle.std.proofs.Common.{sym, arith}
-use Rattle.std.proofs.lemmas.Bool.Decides.{eqb_tells}
 use Rattle.std.proofs.lemmas.Map.Keys.{any_passes_from_place}
 use Rattle.std.proofs.lemmas.Option.{slice_get-get_or}
+use Rattle.std.proofs.lemmas.Bool.{eq-eqb}
 use Rattle.flux_defs.specs.declared.claims.Job.{Job}
 use Rattle.book_state.specs.Books.{rows_of, StandsFor}
 use Rattle.book_state.proofs.TieLaws.{live_tells}
 use Rattle.calls_compared.proofs.Places.{split}
 use Rattle.calls_compared.proofs.books.Tried.remove.Goals as goal
-
-same_id : (a : ℕ) → (a == a) ≡ true
-same_id a = elim (eqb_tells a a) [ inl same ↦ same.0 | inr differ ↦ absurd (differ.1 refl) ]
 
 pub after_remove-requires-clause-live : goal.after_remove-requires-clause-live
 after_remove-requires-clause-live g c =
@@ -25,7 +22,7 @@ after_remove-requires-clause-live g c =
     slice_get-get_or left c.args.at job inside ∙ ap Some (sym c.remove-job.ensures.value) in
     (live_tells (rows_of c.self.inside.book) jobs c.self.invariant.0.ties job.id).1
     (any_passes_from_place (λ (j : Job). j.id == job.id) jobs c.args.at job
-    (subst (λ (xs : List Job). slice_get xs c.args.at ≡ Some job) items there) (same_id job.id))
+    (subst (λ (xs : List Job). slice_get xs c.args.at ≡ Some job) items there) (eq-eqb job.id job.id refl))
 
 pub invariant_of-result : goal.invariant_of-result
 invariant_of-result g c =
