@@ -126,7 +126,8 @@ impl<P: Planner + Drop> Item<P> {
             ((k : ℕ) (p : P) → slice_get self.now k ≡ Some p → renew_cost P.settle_cost P.change_cost p ≤ most) →
             steps.new ≤ steps.old + count_some row.now * most }
     {
-        let mut planners = List::new(alloc);
+        let room = Vec::with_capacity(alloc, self.planners.len())?;
+        let mut planners = List::of_vec(room);
         for place in 0..self.planners.len() {
             let Some(old) = self.planners.get(place) else {
                 unreachable!()
@@ -161,7 +162,8 @@ impl<P: Planner + Drop> Item<P> {
             ((k : ℕ) (p : P) → slice_get self.now k ≡ Some p → renew_cost P.settle_cost P.change_cost p ≤ most) →
             steps.new ≤ steps.old + count_some row.now * most }
     {
-        let mut planners = List::new(alloc);
+        let room = Vec::with_capacity(alloc, self.planners.len())?;
+        let mut planners = List::of_vec(room);
         for place in 0..self.planners.len() {
             let Some(old) = self.planners.get(place) else {
                 unreachable!()

@@ -54,7 +54,8 @@ impl Rows {
     fn take(&mut self, alloc: Global, vertex: u32) -> Result<List<u64>, AllocError>
         ensures { IfOk result (IsRow (places_of self.old) (places_of self.new) vertex) }
     {
-        let mut row = List::new(alloc);
+        let room = Vec::with_capacity(alloc, self.places.len())?;
+        let mut row = List::of_vec(room);
         for place in 0..self.places.len() {
             let number = self.places[place].take(vertex);
             match row.push(number) {
