@@ -8,6 +8,7 @@ use Rattle.std.specs.declared.cmp.Ordering.TheVariants.{Less, Equal, Greater}
 use Rattle.std.specs.Cmp.Lexicographic.{slice_cmp, nat_list_cmp_total}
 use Rattle.std.specs.BTreeSet.{insert_key}
 use Rattle.std.specs.Str.{is_utf8}
+use Rattle.std.proofs.lemmas.Bool.{and_parts}
 use Rattle.json.specs.Json as json
 use Rattle.json.specs.Lex.{tokens}
 use Rattle.serde_json.specs.Data.{Data, null, boolean, number, string, array, object, Items, no_items, item, Members}
@@ -16,7 +17,6 @@ use Rattle.serde_json.specs.Find.{get, get_member}
 use Rattle.serde_json.specs.Read.{number_of, of_json, of_items, of_members, read, max_depth}
 use Rattle.json_whole.specs.Plain.{plain_of}
 use Rattle.json_whole.specs.Whole.{value_in, value_of}
-use Rattle.json_whole.proofs.Words.{and_left, and_right}
 use Rattle.graph_json.specs.Nodes.{in_order}
 use Rattle.json_fields.specs.Values.{keys_of}
 use Rattle.graph_json.proofs.WrittenLaws.{less, below, ordered, ordered_insert, ordered_all}
@@ -35,7 +35,7 @@ insert_last : (front : List (List ℕ)) (k : List ℕ) (ks : List (List ℕ)) �
     AllBelow front (k ∷ ks) → insert_key (slice_cmp nat_cmp) front k ≡ front ++ k ∷ []
 insert_last [] k ks all = refl
 insert_last (x ∷ front) k ks all =
-    let lesser : less x k ≡ true = and_left (less x k) (below x ks) all.0 in
+    let lesser : less x k ≡ true = (and_parts (less x k) (below x ks) all.0).0 in
     let after : slice_cmp nat_cmp k x ≡ Greater =
     greater (slice_cmp nat_cmp k x) (ap is_lt (sym (nat_list_cmp_total.antisymm x k)) ∙ lesser) in
     ap (λ o. match_ordering o (k ∷ x ∷ front) (x ∷ front) (x ∷ insert_key (slice_cmp nat_cmp) front k)) after
@@ -44,15 +44,15 @@ insert_last (x ∷ front) k ks all =
 below_more : (front : List (List ℕ)) (k : List ℕ) (ks : List (List ℕ)) →
     AllBelow front (k ∷ ks) → below k ks ≡ true → AllBelow (front ++ k ∷ []) ks
 below_more [] k ks all here = (here, tt)
-below_more (x ∷ front) k ks all here = (and_right (less x k) (below x ks) all.0, below_more front k ks all.1 here)
+below_more (x ∷ front) k ks all here = ((and_parts (less x k) (below x ks) all.0).1, below_more front k ks all.1 here)
 
 fold_last : (front ks : List (List ℕ)) →
     AllBelow front ks → ordered ks ≡ true → fold (insert_key (slice_cmp nat_cmp)) front ks ≡ front ++ ks
 fold_last front [] all up = sym (append-nil front)
 fold_last front (k ∷ ks) all up =
     ap (λ l. fold (insert_key (slice_cmp nat_cmp)) l ks) (insert_last front k ks all)
-    ∙ (fold_last (front ++ k ∷ []) ks (below_more front k ks all (and_left (below k ks) (ordered ks) up))
-    (and_right (below k ks) (ordered ks) up) ∙ append_assoc front (k ∷ []) ks)
+    ∙ (fold_last (front ++ k ∷ []) ks (below_more front k ks all ((and_parts (below k ks) (ordered ks) up).0))
+    ((and_parts (below k ks) (ordered ks) up).1) ∙ append_assoc front (k ∷ []) ks)
 
 pub in_order-ordered : (ks : List (List ℕ)) → ordered ks ≡ true → in_order ks ≡ ks
 in_order-ordered ks up = fold_last [] ks tt up

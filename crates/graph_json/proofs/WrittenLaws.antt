@@ -7,10 +7,9 @@ use Rattle.std.specs.declared.cmp.Ordering.{Ordering}
 use Rattle.std.specs.declared.cmp.Ordering.TheVariants.{Less, Equal, Greater}
 use Rattle.std.specs.Cmp.Lexicographic.{slice_cmp, nat_list_cmp_total}
 use Rattle.std.specs.BTreeSet.{insert_key}
-use Rattle.std.proofs.lemmas.Bool.{and_from}
+use Rattle.std.proofs.lemmas.Bool.{and_from, and_parts}
 use Rattle.resource_graph.specs.Tables.{properties_at}
 use Rattle.serde_json.specs.Read.{read}
-use Rattle.json_whole.proofs.Words.{and_left, and_right}
 use Rattle.flux_defs.specs.declared.vertices.Vertex.{Vertex}
 use Rattle.resource_graph.specs.NamedGraph.{NamedGraph}
 use Rattle.graph_json.specs.WrittenGraph.{or_none, keys_object, edges_data, with_edge, nodes_data, node_data, edge_data}
@@ -44,24 +43,26 @@ less_then k l m p q =
 below_then : (k l : List ℕ) (ks : List (List ℕ)) → less k l ≡ true → below l ks ≡ true → below k ks ≡ true
 below_then k l [] p h = refl
 below_then k l (m ∷ ks) p h = and_from (less k m) (below k ks)
-    (less_then k l m p (and_left (less l m) (below l ks) h)) (below_then k l ks p (and_right (less l m) (below l ks) h))
+    (less_then k l m p ((and_parts (less l m) (below l ks) h).0))
+    (below_then k l ks p ((and_parts (less l m) (below l ks) h).1))
 
 below_insert : (x k : List ℕ) (ks : List (List ℕ)) →
     less x k ≡ true → below x ks ≡ true → below x (insert_key (slice_cmp nat_cmp) ks k) ≡ true
 below_insert x k [] p h = and_from (less x k) true p refl
-below_insert x k (y ∷ ys) p h = by (slice_cmp nat_cmp k y) (below_insert x k ys p (and_right (less x y) (below x ys) h))
+below_insert x k (y ∷ ys) p h =
+    by (slice_cmp nat_cmp k y) (below_insert x k ys p ((and_parts (less x y) (below x ys) h).1))
   where
     by : (o : Ordering) → below x (insert_key (slice_cmp nat_cmp) ys k) ≡ true →
         below x (match_ordering o (k ∷ y ∷ ys) (y ∷ ys) (y ∷ insert_key (slice_cmp nat_cmp) ys k)) ≡ true
     by Less ih = and_from (less x k) (below x (y ∷ ys)) p h
     by Equal ih = h
-    by Greater ih = and_from (less x y) _ (and_left (less x y) (below x ys) h) ih
+    by Greater ih = and_from (less x y) _ ((and_parts (less x y) (below x ys) h).0) ih
 
 pub ordered_insert : (k : List ℕ) (ks : List (List ℕ)) →
     ordered ks ≡ true → ordered (insert_key (slice_cmp nat_cmp) ks k) ≡ true
 ordered_insert k [] h = refl
 ordered_insert k (x ∷ xs) h =
-    by (slice_cmp nat_cmp k x) refl (ordered_insert k xs (and_right (below x xs) (ordered xs) h))
+    by (slice_cmp nat_cmp k x) refl (ordered_insert k xs ((and_parts (below x xs) (ordered xs) h).1))
   where
     after : Greater ≡ slice_cmp nat_cmp k x → less x k ≡ true
     after e = ap is_lt (nat_list_cmp_total.antisymm x k) ∙ ap (λ o. is_lt (ordering_reverse o)) (sym e)
@@ -71,10 +72,10 @@ ordered_insert k (x ∷ xs) h =
     by Less e ih =
         let first : less k x ≡ true = ap is_lt (sym e) in
         and_from (below k (x ∷ xs)) (ordered (x ∷ xs))
-        (and_from (less k x) (below k xs) first (below_then k x xs first (and_left (below x xs) (ordered xs) h))) h
+        (and_from (less k x) (below k xs) first (below_then k x xs first ((and_parts (below x xs) (ordered xs) h).0))) h
     by Equal e ih = h
     by Greater e ih = and_from (below x (insert_key (slice_cmp nat_cmp) xs k)) _
-        (below_insert x k xs (after e) (and_left (below x xs) (ordered xs) h)) ih
+        (below_insert x k xs (after e) ((and_parts (below x xs) (ordered xs) h).0)) ih
 
 pub ordered_all : (ks more : List (List ℕ)) →
     ordered ks ≡ true → ordered (fold (insert_key (slice_cmp nat_cmp)) ks more) ≡ true
@@ -84,14 +85,15 @@ ordered_all ks (k ∷ more) h = ordered_all (insert_key (slice_cmp nat_cmp) ks k
 below_keys : (k : List ℕ) (ks : List (List ℕ)) → below k ks ≡ true → is_below k (keys_object ks) ≡ true
 below_keys k [] h = refl
 below_keys k (l ∷ ls) h =
-    and_from (less k l) _ (and_left (less k l) (below k ls) h) (below_keys k ls (and_right (less k l) (below k ls) h))
+    and_from (less k l) _ ((and_parts (less k l) (below k ls) h).0)
+    (below_keys k ls ((and_parts (less k l) (below k ls) h).1))
 
 plain_keys : (n : ℕ) (ks : List (List ℕ)) → ordered ks ≡ true → HasPlain n (keys_object ks)
 plain_keys n [] h = tt
 plain_keys n (k ∷ ks) h = (
   tt,
-  below_keys k ks (and_left (below k ks) (ordered ks) h),
-  plain_keys n ks (and_right (below k ks) (ordered ks) h),
+  below_keys k ks ((and_parts (below k ks) (ordered ks) h).0),
+  plain_keys n ks ((and_parts (below k ks) (ordered ks) h).1),
 )
 
 -- ---- a graph's value

@@ -6,7 +6,7 @@ use Rattle.std.specs.List.{prefix_len, list_all}
 use Rattle.std.specs.Char.{is_ascii_digit}
 use Rattle.std.specs.Str.Parse.{digits_value}
 use Rattle.std.specs.Float.Numeral.{Parts, scan_numeral}
-use Rattle.std.proofs.lemmas.Bool.{lt-ltb}
+use Rattle.std.proofs.lemmas.Bool.{lt-ltb, and_parts}
 use Rattle.std.proofs.lemmas.List.{get_or_past}
 use Rattle.std.proofs.lemmas.List.Elements.{All-take}
 use Rattle.std.proofs.lemmas.List.Sums.{AllPass-from_list_all, list_all-from_AllPass}
@@ -17,15 +17,15 @@ use Rattle.fast_float.specs.Text.{with_sign}
 use Rattle.json_whole.specs.Run.{is_run_byte, digit_count, is_number, is_whole, has_zero_fraction, is_negative, listed}
 use Rattle.json_whole.specs.Run.{written}
 use Rattle.json_whole.proofs.Tokens.{IsExact}
-use Rattle.json_whole.proofs.Words.{IsRun, and_left, and_right}
+use Rattle.json_whole.proofs.Words.{IsRun}
 
 -- ---- digits as a numeral
 
 digits_all : (ds : List ℕ) → list_all is_ascii_digit ds ≡ true → prefix_len is_ascii_digit ds ≡ length ds
 digits_all [] h = refl
 digits_all (d ∷ ds) h =
-    let first = and_left (is_ascii_digit d) (list_all is_ascii_digit ds) h in
-    let rest = digits_all ds (and_right (is_ascii_digit d) (list_all is_ascii_digit ds) h) in
+    let first = (and_parts (is_ascii_digit d) (list_all is_ascii_digit ds) h).0 in
+    let rest = digits_all ds ((and_parts (is_ascii_digit d) (list_all is_ascii_digit ds) h).1) in
     rw (first, rest) (omega arith)
 
 -- digits alone
@@ -62,9 +62,9 @@ whole_exact : (s : List ℕ) → is_number s ≡ true → is_whole s ≡ true �
 unfolding number_of
 whole_exact [] n w = let no : true ≡ false = sym n ∙ no_number in absurd (cc)
 whole_exact (x ∷ xs) n w =
-    let digits = and_left (list_all is_ascii_digit (x ∷ xs)) _ w in
-    let fits = and_right (list_all is_ascii_digit (x ∷ xs)) _ w in
-    let first = and_left (is_ascii_digit x) (list_all is_ascii_digit xs) digits in
+    let digits = (and_parts (list_all is_ascii_digit (x ∷ xs)) _ w).0 in
+    let fits = (and_parts (list_all is_ascii_digit (x ∷ xs)) _ w).1 in
+    let first = (and_parts (is_ascii_digit x) (list_all is_ascii_digit xs) digits).0 in
     rw (
       digit_not_minus x first,
       scan_digits (x ∷ xs) digits,
@@ -79,12 +79,12 @@ negative_exact : (s : List ℕ) → is_negative s ≡ true → IsExact s
 unfolding number_of
 negative_exact s g =
     let ds = drop 1 s in
-    let minus = and_left (get_or s 0 0 == 45) _ g in
-    let behind = and_right (get_or s 0 0 == 45) _ g in
-    let digits = and_left (list_all is_ascii_digit ds) _ behind in
-    let bounds = and_right (list_all is_ascii_digit ds) _ behind in
-    let above = and_left (nat_lt 0 (digits_value 10 ds)) _ bounds in
-    let fits = and_right (nat_lt 0 (digits_value 10 ds)) _ bounds in
+    let minus = (and_parts (get_or s 0 0 == 45) _ g).0 in
+    let behind = (and_parts (get_or s 0 0 == 45) _ g).1 in
+    let digits = (and_parts (list_all is_ascii_digit ds) _ behind).0 in
+    let bounds = (and_parts (list_all is_ascii_digit ds) _ behind).1 in
+    let above = (and_parts (nat_lt 0 (digits_value 10 ds)) _ bounds).0 in
+    let fits = (and_parts (nat_lt 0 (digits_value 10 ds)) _ bounds).1 in
     rw (minus, scan_digits ds digits, number_minus ds (some_digit ds above) above fits) refl
 
 -- a list of the run's text, or run bytes that are exact where they are a number
@@ -101,7 +101,8 @@ written_by : (n w z g : Bool) (r : List ℕ) →
 written_by false w z g r en ew ez eg h = inr (h, λ number. let no : true ≡ false = sym number ∙ en in absurd (cc))
 written_by true true z g r en ew ez eg h = inr (h, λ number. whole_exact r number ew)
 written_by true false true g r en ew ez eg h = inr
-    (run_take (digit_count r) r h, λ number. whole_exact _ number (and_left (is_whole (take (digit_count r) r)) _ ez))
+    (run_take (digit_count r) r h,
+    λ number. whole_exact _ number ((and_parts (is_whole (take (digit_count r) r)) _ ez).0))
 written_by true false false true r en ew ez eg h = inr (h, λ number. negative_exact r eg)
 written_by true false false false r en ew ez eg h = inl refl
 

@@ -2,7 +2,7 @@
 use Rattle.std.proofs.Common.{◌≡◌, ℕ, List, [], ◌∷◌, ◌++◌, length, take, drop, Bool, true, false, cond, ◌||◌, ◌&&◌}
 use Rattle.std.proofs.Common.{◌==◌, Option, Some, None, inl, inr, refl, sym, ap, ◌∙◌, arith, append_assoc, nat_eq}
 use Rattle.std.proofs.Common.{ne_eqb}
-use Rattle.std.proofs.lemmas.Bool.{eqb-true}
+use Rattle.std.proofs.lemmas.Bool.{eqb-true, and_parts}
 use Rattle.std.proofs.lemmas.List.{take-append-drop}
 use Rattle.std.proofs.lemmas.Slice.Eq.{bytes_eq-Decides}
 use Rattle.std.specs.List.{starts_with}
@@ -17,7 +17,7 @@ use Rattle.json.specs.Lex as lexing
 use Rattle.json_whole.specs.Run.{begins_run, is_run_byte, first_run, is_number, listed}
 use Rattle.json_whole.specs.Plain.{outside, in_run, in_string, escaped, plain_from, plain_of}
 use Rattle.json_whole.proofs.Tokens.{IsExact, Exact, Behind, Lexed}
-use Rattle.json_whole.proofs.Words.{IsRun, and_left, and_right, run_rest, run_head, run_class, run_token}
+use Rattle.json_whole.proofs.Words.{IsRun, run_rest, run_head, run_class, run_token}
 use Rattle.json_whole.proofs.Numerals.{first_run_bytes}
 use Rattle.json_whole.proofs.Steps.{plain_end, not_begun, begun_not_quote}
 use Rattle.json_whole.proofs.Exact.{Written, written_is}
@@ -146,8 +146,8 @@ literal_clear : (name t : List ℕ) → ((rest : List ℕ) → is_clear (name ++
     (starts_with nat_eq t name && ends_word (drop (length name) t)) ≡ true → is_clear t ≡ true
 literal_clear name t passes h =
     let front : name ≡ take (length name) t =
-    (bytes_eq-Decides name (take (length name) t)).0 (and_left (starts_with nat_eq t name) _ h) in
-    let behind = clear_end (drop (length name) t) (and_right (starts_with nat_eq t name) _ h) in
+    (bytes_eq-Decides name (take (length name) t)).0 ((and_parts (starts_with nat_eq t name) _ h).0) in
+    let behind = clear_end (drop (length name) t) ((and_parts (starts_with nat_eq t name) _ h).1) in
     let joined : name ++ drop (length name) t ≡ t =
     ap (λ l. l ++ drop (length name) t) front ∙ take-append-drop (length name) t in
     ap is_clear (sym joined) ∙ passes (drop (length name) t) ∙ behind

@@ -6,7 +6,7 @@ use Rattle.std.proofs.Common.{arith, one-add, length-append, length-drop}
 use Rattle.std.specs.Prelude.{⊤, IfSome}
 use Rattle.std.specs.List.{starts_with}
 use Rattle.std.proofs.Math.Seq.{take-append_seam}
-use Rattle.std.proofs.lemmas.Bool.{eqb-true}
+use Rattle.std.proofs.lemmas.Bool.{eqb-true, and_parts}
 use Rattle.std.proofs.lemmas.List.{take-append-drop}
 use Rattle.std.proofs.lemmas.Slice.Eq.{bytes_eq-Decides}
 use Rattle.json.specs.Token as tok
@@ -24,7 +24,7 @@ use Rattle.json_whole.specs.Plain as plain
 use Rattle.json_whole.specs.Stays.{Stays, ItemsStay, MembersStay}
 use Rattle.json_whole.specs.Whole.{json_in}
 use Rattle.json_whole.proofs.Tokens.{kept, mapped}
-use Rattle.json_whole.proofs.Words.{IsRun, and_left, and_right, run_head, run_class, run_goes_on, number_split}
+use Rattle.json_whole.proofs.Words.{IsRun, run_head, run_class, run_goes_on, number_split}
 use Rattle.json_whole.proofs.Numerals.{first_run_bytes}
 use Rattle.json_whole.proofs.Steps.{plain_end, begun_here, begun_is_run, run_passed}
 use Rattle.json_whole.proofs.Lexed.{word_passes, ends_not, no_number}
@@ -299,8 +299,8 @@ module _ (n : ℕ) (f : Facts n) where
   name_stands name t le some stay passes g h =
       let ys = drop (length name) t in
       let front : name ≡ take (length name) t =
-      (bytes_eq-Decides name (take (length name) t)).0 (and_left (starts_with nat_eq t name) _ h) in
-      let ends = and_right (starts_with nat_eq t name) _ h in
+      (bytes_eq-Decides name (take (length name) t)).0 ((and_parts (starts_with nat_eq t name) _ h).0) in
+      let ends = (and_parts (starts_with nat_eq t name) _ h).1 in
       let joined : name ++ ys ≡ t = ap (λ l. l ++ ys) front ∙ take-append-drop (length name) t in
       let rest : GoodLexed (lex in_word ys) =
       subst GoodLexed (passes ys) (subst (λ l. GoodLexed (lex in_word (drop 1 l))) (sym joined) g) in

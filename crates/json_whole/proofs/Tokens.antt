@@ -8,6 +8,7 @@ use Rattle.json.specs.Lex.{may_begin, may_close, if_allowed, place_token, punctu
 use Rattle.json.specs.Json as json
 use Rattle.serde_json.specs.Read.{number_of, max_depth}
 use Rattle.std.specs.Option.{option_map_or}
+use Rattle.std.proofs.lemmas.Bool.{and_from}
 use Rattle.serde_json.specs.Find.{is_float}
 use Rattle.json_whole.specs.Whole.{json_in}
 
@@ -132,9 +133,6 @@ AreWhole js = IsTrue (items_have_whole_numbers js)
 abbrev AreWholeMembers : json.Members → Type 0
 AreWholeMembers ms = IsTrue (members_have_whole_numbers ms)
 
-both : (a b : Bool) → IsTrue a → IsTrue b → IsTrue (a && b)
-both a b p q = rw (p, q) refl
-
 -- ---- from tokens to a JSON value
 
 -- what was read keeps to P, and what is left is exact
@@ -176,7 +174,7 @@ module _ (parse : json.Parse json.Json) (reads : Reads IsWhole parse) where
   items_turn more again ts h (Some rest) e = (refl, e)
   items_turn more again ts h None e =
       kept (Read IsWhole) (Read AreWhole) _ (parse ts) (reads ts h) (λ q r. mapped
-      (Read AreWhole) (Read AreWhole) _ (more q.1) (again q.1 r.1) (λ p s. (both _ _ r.0 s.0, s.1)))
+      (Read AreWhole) (Read AreWhole) _ (more q.1) (again q.1 r.1) (λ p s. (and_from _ _ r.0 s.0, s.1)))
 
   items_read : (n : ℕ) → Reads AreWhole (json.items parse n)
   unfolding json.items
@@ -189,7 +187,7 @@ module _ (parse : json.Parse json.Json) (reads : Reads IsWhole parse) where
   members_turn more again None ts h = (refl, h)
   members_turn more again (Some k) ts h =
       kept (Read IsWhole) (Read AreWholeMembers) _ (parse ts) (reads ts h) (λ q r. mapped (Read AreWholeMembers)
-      (Read AreWholeMembers) _ (more q.1) (again q.1 r.1) (λ p s. (both _ _ r.0 s.0, s.1)))
+      (Read AreWholeMembers) _ (more q.1) (again q.1 r.1) (λ p s. (and_from _ _ r.0 s.0, s.1)))
 
   members_read : (n : ℕ) → Reads AreWholeMembers (json.members parse n)
   unfolding json.members

@@ -1,5 +1,5 @@
 -- The data of a tree whose numbers are whole is what serde_json's reading says, and has no float.
-use Rattle.std.proofs.Common.{◌≡◌, ℕ, List, Bool, true, false, ◌||◌, Option, Some, None, option_map, refl, sym}
+use Rattle.std.proofs.Common.{◌≡◌, ℕ, List, true, false, ◌||◌, Option, Some, None, option_map, refl, sym}
 use Rattle.std.proofs.Common.{true≢false}
 use Rattle.std.proofs.Common.{not}
 use Rattle.std.specs.Prelude.{IsTrue}
@@ -8,6 +8,7 @@ use Rattle.std.specs.declared.cmp.Ordering.{Ordering}
 use Rattle.std.specs.declared.cmp.Ordering.TheVariants.{Less, Equal, Greater}
 use Rattle.std.specs.Ordering.{nat_cmp, match_ordering}
 use Rattle.std.specs.Cmp.Lexicographic.{slice_cmp}
+use Rattle.std.proofs.lemmas.Bool.{or_from, or_parts, and_parts}
 use Rattle.json.specs.Json as json
 use Rattle.serde_json.specs.Data as value
 use Rattle.serde_json.specs.Find.{is_float}
@@ -15,19 +16,11 @@ use Rattle.serde_json.specs.Read.{number_of, of_json, of_items, of_members}
 use Rattle.serde_json.specs.Written.{has_float, items_have_float, members_have_float}
 use Rattle.json_whole.specs.Values.{whole_or_zero, data_of, items_data, members_data}
 use Rattle.json_whole.proofs.Tokens.{has_whole_numbers, items_have_whole_numbers, members_have_whole_numbers}
-use Rattle.json_whole.proofs.Words.{and_left, and_right}
 
 -- ---- no float
 
 abbrev WholeMembers : value.Members → Type 0
 WholeMembers ms = members_have_float ms ≡ false
-
-neither : (a b : Bool) → a ≡ false → b ≡ false → (a || b) ≡ false
-neither a b p q = rw (p, q) refl
-
-both_no : (a b : Bool) → (a || b) ≡ false → (a ≡ false) × (b ≡ false)
-both_no true b h = absurd (cc)
-both_no false b h = (refl, h)
 
 chosen : (o : Ordering) (a b c : value.Members) →
     WholeMembers a → WholeMembers b → WholeMembers c → WholeMembers (match_ordering o a b c)
@@ -37,11 +30,11 @@ chosen Greater a b c p q r = r
 
 whole_put : (k : List ℕ) (d : value.Data) (ms : value.Members) →
     has_float d ≡ false → WholeMembers ms → WholeMembers (value.put k d ms)
-whole_put k d value.no_members h m = neither (has_float d) false h refl
+whole_put k d value.no_members h m = or_from (has_float d) false h refl
 whole_put k d (value.member l e ms) h m =
-    let parts = both_no (has_float e) (members_have_float ms) m in
+    let parts = or_parts (has_float e) (members_have_float ms) m in
     chosen (slice_cmp nat_cmp k l) _ _ _
-    (neither _ _ h m) (neither _ _ h parts.1) (neither _ _ parts.0 (whole_put k d ms h parts.1))
+    (or_from _ _ h m) (or_from _ _ h parts.1) (or_from _ _ parts.0 (whole_put k d ms h parts.1))
 
 no_float_number : (o : Option value.Num) → is_float (whole_or_zero o) ≡ false
 no_float_number None = refl
@@ -60,7 +53,7 @@ mutual
 
   items_data-no_float : (js : json.Items) → items_have_float (items_data js) ≡ false
   items_data-no_float json.no_items = refl
-  items_data-no_float (json.item j js) = neither _ _ (data_of-no_float j) (items_data-no_float js)
+  items_data-no_float (json.item j js) = or_from _ _ (data_of-no_float j) (items_data-no_float js)
 
   members_data-no_float : (ms : json.Members) (found : value.Members) →
       WholeMembers found → WholeMembers (members_data ms found)
@@ -89,12 +82,12 @@ mutual
   of_items-whole : (js : json.Items) → IsTrue (items_have_whole_numbers js) → of_items js ≡ Some (items_data js)
   of_items-whole json.no_items h = refl
   of_items-whole (json.item j js) h =
-      rw (of_json-whole j (and_left (has_whole_numbers j) _ h), of_items-whole js (and_right (has_whole_numbers j) _ h))
-      refl
+      let both = and_parts (has_whole_numbers j) _ h in
+      rw (of_json-whole j both.0, of_items-whole js both.1) refl
 
   of_members-whole : (ms : json.Members) → IsTrue (members_have_whole_numbers ms) → (found : value.Members) →
       of_members ms found ≡ Some (members_data ms found)
   of_members-whole json.no_members h found = refl
   of_members-whole (json.member k j ms) h found =
-      rw (of_json-whole j (and_left (has_whole_numbers j) _ h))
-      (of_members-whole ms (and_right (has_whole_numbers j) _ h) (value.put k (data_of j) found))
+      let both = and_parts (has_whole_numbers j) _ h in
+      rw (of_json-whole j both.0) (of_members-whole ms both.1 (value.put k (data_of j) found))

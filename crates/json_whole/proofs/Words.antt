@@ -9,6 +9,7 @@ use Rattle.std.proofs.Math.Seq.{take-append_seam}
 use Rattle.std.proofs.lemmas.List.{drop-append-le}
 use Rattle.std.proofs.lemmas.List.Elements.{All-drop}
 use Rattle.std.proofs.lemmas.List.Sums.{prefix_len-le-length, AllPass-from_list_all, list_all-from_AllPass}
+use Rattle.std.proofs.lemmas.Bool.{and_parts}
 use Rattle.json.specs.Token.{number, bad}
 use Rattle.json.specs.Word.{is_operator, is_space, head, ends_word, number_before, word, after_digits, after_minus}
 use Rattle.json.specs.Word.{after_sign, after_whole, after_fraction, after_exponent, after_number}
@@ -19,19 +20,11 @@ use Rattle.json_whole.proofs.Tokens.{IsExact, Exact, Behind}
 abbrev pub IsRun : List ℕ → Type 0
 IsRun r = list_all is_run_byte r ≡ true
 
-pub and_left : (a b : Bool) → (a && b) ≡ true → a ≡ true
-and_left true b h = refl
-and_left false b h = h
-
-pub and_right : (a b : Bool) → (a && b) ≡ true → b ≡ true
-and_right true b h = h
-and_right false b h = absurd (cc)
-
 pub run_rest : (x : ℕ) (r : List ℕ) → IsRun (x ∷ r) → IsRun r
-run_rest x r h = and_right (is_run_byte x) (list_all is_run_byte r) h
+run_rest x r h = (and_parts (is_run_byte x) (list_all is_run_byte r) h).1
 
 pub run_head : (x : ℕ) (r : List ℕ) → IsRun (x ∷ r) → is_run_byte x ≡ true
-run_head x r h = and_left (is_run_byte x) (list_all is_run_byte r) h
+run_head x r h = (and_parts (is_run_byte x) (list_all is_run_byte r) h).0
 
 run_drop : (n : ℕ) (r : List ℕ) → IsRun r → IsRun (drop n r)
 run_drop n r h = list_all-from_AllPass is_run_byte

@@ -4,9 +4,8 @@ use Rattle.std.proofs.Common.{true, ◌&&◌, Some, option_map, option_and_then,
 use Rattle.std.specs.Ordering.{nat_cmp, match_ordering, is_lt, ordering_reverse}
 use Rattle.std.specs.declared.cmp.Ordering.{Ordering}
 use Rattle.std.specs.declared.cmp.Ordering.TheVariants.{Less, Equal, Greater}
-use Rattle.json_whole.proofs.Words.{and_left, and_right}
 use Rattle.std.specs.Cmp.Lexicographic.{slice_cmp, nat_list_cmp_total}
-use Rattle.std.proofs.lemmas.Bool.{and_from}
+use Rattle.std.proofs.lemmas.Bool.{and_from, and_parts}
 use Rattle.json.specs.Json as json
 use Rattle.json.specs.Tree as tree
 use Rattle.json.specs.Lex.{tokens}
@@ -137,23 +136,24 @@ put_last : (fs : Members) (k : List ℕ) (d : Data) →
 put_last no_members k d h = refl
 put_last (member l e fs) k d h =
     let first : is_lt (ordering_reverse (slice_cmp nat_cmp k l)) ≡ true =
-    ap is_lt (sym (nat_list_cmp_total.antisymm l k)) ∙ and_left _ _ h in
+    ap is_lt (sym (nat_list_cmp_total.antisymm l k)) ∙ (and_parts _ _ h).0 in
     put_after (slice_cmp nat_cmp k l) _ _ _ first
-    ∙ ap (member l e) (put_last fs k d (and_right (is_lt (slice_cmp nat_cmp l k)) _ h))
+    ∙ ap (member l e) (put_last fs k d ((and_parts (is_lt (slice_cmp nat_cmp l k)) _ h).1))
 
 -- one more of the first members
 below_last : (fs : Members) (k : List ℕ) (d : Data) (l : List ℕ) → are_below fs l ≡ true →
     is_lt (slice_cmp nat_cmp k l) ≡ true → are_below (behind fs (member k d no_members)) l ≡ true
 below_last no_members k d l h p = and_from (is_lt (slice_cmp nat_cmp k l)) true p refl
 below_last (member m e fs) k d l h p = and_from (is_lt (slice_cmp nat_cmp m l)) _
-    (and_left _ _ h) (below_last fs k d l (and_right (is_lt (slice_cmp nat_cmp m l)) _ h) p)
+    ((and_parts _ _ h).0) (below_last fs k d l ((and_parts (is_lt (slice_cmp nat_cmp m l)) _ h).1) p)
 
 all_below_more : (fs : Members) (k : List ℕ) (d : Data) (ms : Members) →
     all_below fs ms ≡ true → is_below k ms ≡ true → all_below (behind fs (member k d no_members)) ms ≡ true
 all_below_more fs k d no_members h p = refl
 all_below_more fs k d (member l e ms) h p =
-    and_from (are_below (behind fs (member k d no_members)) l) _ (below_last fs k d l (and_left _ _ h) (and_left _ _ p))
-    (all_below_more fs k d ms (and_right (are_below fs l) _ h) (and_right (is_lt (slice_cmp nat_cmp k l)) _ p))
+    and_from (are_below (behind fs (member k d no_members)) l) _
+    (below_last fs k d l ((and_parts _ _ h).0) ((and_parts _ _ p).0))
+    (all_below_more fs k d ms ((and_parts (are_below fs l) _ h).1) ((and_parts (is_lt (slice_cmp nat_cmp k l)) _ p).1))
 
 none_below : (ms : Members) → all_below no_members ms ≡ true
 none_below no_members = refl
@@ -187,9 +187,9 @@ mutual
   members_back n no_members fs h below = ap Some (sym (behind_none fs))
   members_back n (member k d ms) fs h below =
       ap (option_and_then (λ e. of_members (members_outline ms) (put k e fs))) (back n d h.0)
-      ∙ ap (of_members (members_outline ms)) (put_last fs k d (and_left _ _ below))
+      ∙ ap (of_members (members_outline ms)) (put_last fs k d ((and_parts _ _ below).0))
       ∙ members_back n ms
-      (behind fs (member k d no_members)) h.2 (all_below_more fs k d ms (and_right (are_below fs k) _ below) h.1)
+      (behind fs (member k d no_members)) h.2 (all_below_more fs k d ms ((and_parts (are_below fs k) _ below).1) h.1)
       ∙ ap Some (behind_last fs k d ms)
 
 -- the compact text is JSON of the value

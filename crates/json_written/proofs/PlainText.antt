@@ -2,7 +2,7 @@
 use Rattle.std.proofs.Common.{◌≡◌, refl, sym, ap, ◌∙◌, ℕ, zero, suc, ◌+◌, ◌-◌, ◌^◌, ◌<◌, ◌≤◌, ◌/◌, ◌%◌, pos, negsuc}
 use Rattle.std.proofs.Common.{List, [], ◌∷◌, ◌++◌, length, take, drop, Bool, true, false, cond, ◌||◌, ◌⊎◌, inl, inr}
 use Rattle.std.proofs.Common.{◌==◌, nat_lt, nat_le, decimal, append_assoc, append-nil, arith, one-add}
-use Rattle.std.proofs.lemmas.Bool.{ne_eqb, lt-ltb, le-leb, and_from, cond_both, ltb-true, ltb-false}
+use Rattle.std.proofs.lemmas.Bool.{ne_eqb, lt-ltb, le-leb, and_from, cond_both, ltb-true, ltb-false, and_parts}
 use Rattle.std.proofs.Math.Seq.{take-append_seam, drop-append_seam}
 use Rattle.std.proofs.lemmas.Fmt.{digits_decimal, digits_value-decimal, decimal_nonempty}
 use Rattle.std.specs.Char.{is_ascii_digit, digit_char}
@@ -21,7 +21,7 @@ use Rattle.json_whole.specs.Run.{is_negative, written}
 use Rattle.json_whole.specs.Plain.{outside, in_string, plain_from, plain_of}
 use Rattle.json_whole.proofs.Numerals.{digits_by_test}
 use Rattle.json_whole.proofs.Steps.{plain_end, run_at}
-use Rattle.json_whole.proofs.Words.{and_left, and_right, IsRun, run_head, run_rest}
+use Rattle.json_whole.proofs.Words.{IsRun, run_head, run_rest}
 use Rattle.json_written.proofs.PlainLaws.{IsWhole, IsPlain, ArePlain, HasPlain}
 
 -- the text stays where no run goes on behind it
@@ -56,10 +56,10 @@ run_stays x run all begun same rest stops =
 digits_run : (ds : List ℕ) → list_all is_ascii_digit ds ≡ true → IsRun ds
 digits_run [] all = refl
 digits_run (d ∷ ds) all =
-    let digit : is_ascii_digit d ≡ true = and_left (is_ascii_digit d) (list_all is_ascii_digit ds) all in
+    let digit : is_ascii_digit d ≡ true = (and_parts (is_ascii_digit d) (list_all is_ascii_digit ds) all).0 in
     and_from (is_run_byte d) (list_all is_run_byte ds)
     (ap (λ b. b || ((d == 43) || ((d == 45) || ((d == 46) || ((d == 101) || (d == 69)))))) digit)
-    (digits_run ds (and_right (is_ascii_digit d) (list_all is_ascii_digit ds) all))
+    (digits_run ds ((and_parts (is_ascii_digit d) (list_all is_ascii_digit ds) all).1))
 
 number_test : (run : List ℕ) → IsNumber run → is_number run ≡ true
 number_test run is = ap (λ o. option_map_or (λ rest. length rest == 0) o false) is
@@ -76,7 +76,7 @@ written_negative run n w z g = rw (n, w, z, g) refl
 stays_digits : (ds : List ℕ) → 0 < length ds → list_all is_ascii_digit ds ≡ true → written ds ≡ ds → Stays ds
 stays_digits [] some all same = absurd (omega arith)
 stays_digits (d ∷ ds) some all same = run_stays d ds (digits_run (d ∷ ds) all)
-    (ap (λ b. b || (d == 45)) (and_left (is_ascii_digit d) (list_all is_ascii_digit ds) all)) same
+    (ap (λ b. b || (d == 45)) ((and_parts (is_ascii_digit d) (list_all is_ascii_digit ds) all).0)) same
 
 stays_decimal : (n : ℕ) → n < 2 ^ 64 → Stays (decimal n)
 stays_decimal n h =
