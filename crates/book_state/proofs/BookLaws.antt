@@ -7,6 +7,7 @@ use Rattle.std.specs.List.{AllByRecursion}
 use Rattle.std.specs.Ordering.{nat_cmp}
 use Rattle.std.specs.Cmp.{nat_cmp_total}
 use Rattle.std.specs.FinMap.{FinMap, empty, get, insert, len, len-insert}
+use Rattle.std.proofs.lemmas.Option.{slice_get_within}
 use Rattle.flux_defs.specs.declared.vertices.Vertex.{Vertex}
 use Rattle.flux_defs.specs.declared.claims.Claim.{Claim}
 use Rattle.flux_defs.specs.declared.claims.Job.{Job}
@@ -16,6 +17,7 @@ use Rattle.flux_defs.specs.ValidGraph.{StandsInPreorder}
 use Rattle.flux_defs.specs.Jobs.{vertex_of}
 use Rattle.flux_defs.specs.Closed.{no_bars}
 use Rattle.flux_defs.specs.Available.{IsAvailable}
+use Rattle.list_laws.proofs.Lists.{get_some}
 use Rattle.graph_laws.proofs.Containment.{ParentsFirst}
 use Rattle.graph_laws.proofs.Preorder.{parents_first}
 use Rattle.planner_points.specs.Spans.{free_at}
@@ -26,7 +28,7 @@ use Rattle.book_laws.specs.Grouped.{grouped}
 use Rattle.book_laws.proofs.GroupedLaws.{used_grouped}
 use Rattle.book_laws.proofs.Alike.{AmountAlike, available_alike}
 use Rattle.vertex_planners.specs.Lists.{items_of, at_place}
-use Rattle.vertex_planners.proofs.PlaceLaws.{item_at, within_list, place_len}
+use Rattle.vertex_planners.proofs.PlaceLaws.{place_len}
 use Rattle.vertex_accounts.specs.declared.quantities.Quantity.{Quantity}
 use Rattle.vertex_accounts.specs.declared.quantities.Quantity.TheVariants.{Holds, Claims, Takes}
 use Rattle.vertex_accounts.specs.Quantities.{amount_in}
@@ -51,8 +53,8 @@ alike_in : (vertices : List Vertex) (a b : List Job) (accounts : Accounts Plan) 
 alike_in vertices a b accounts k q of x y v m lt =
     let quantities = (arc_value accounts.counted).quantities in
     let items = items_of accounts.planners in
-    let len = place_len (length quantities) k (within_list quantities k q of) items x.graph.places in
-    let (p, at) = item_at (at_place k items) v (let n = x.graph.len in omega (arith, len, n, lt)) in
+    let len = place_len (length quantities) k (slice_get_within quantities k q of) items x.graph.places in
+    let (p, at) = get_some (at_place k items) v (let n = x.graph.len in omega (arith, len, n, lt)) in
     let f = amount_in vertices q v in
     let sx = (x.kept k q of).spans v p at in
     let sy = (y.kept k q of).spans v p at in

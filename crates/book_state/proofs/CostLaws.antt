@@ -4,11 +4,13 @@ use Rattle.std.proofs.Common.{inr, refl, sym, ap, subst, arith}
 use Rattle.std.proofs.Math.Nat.{pow-suc, mul-le-mul_right}
 use Rattle.std.proofs.lemmas.Bool.Decides.{leb_tells}
 use Rattle.std.specs.Arc.{arc_value}
+use Rattle.std.proofs.lemmas.Option.{slice_get_within}
 use Rattle.flux_defs.specs.declared.limits.TheConstants.{MOST_VERTICES}
 use Rattle.flux_defs.specs.declared.vertices.Vertex.{Vertex}
 use Rattle.flux_defs.specs.declared.claims.Job.{Job}
 use Rattle.flux_defs.specs.Digits.{digits_within, dig}
 use Rattle.flux_defs.proofs.DigitLaws.{some_dig, below_dig, dig_mono}
+use Rattle.list_laws.proofs.Lists.{get_some}
 use Rattle.planner_points.specs.declared.spans.Span.{Span}
 use Rattle.planner_min_tree.specs.Plans as Plans
 use Rattle.planner_min_tree.specs.Plans.{Plan}
@@ -17,7 +19,7 @@ use Rattle.book_laws.specs.Grouped.{grouped, times_of}
 use Rattle.book_laws.proofs.GroupedLaws.{grouped_few, times_many}
 use Rattle.planner_points.specs.Work.{renew_cost}
 use Rattle.vertex_planners.specs.Lists.{items_of}
-use Rattle.vertex_planners.proofs.PlaceLaws.{within_list, item_at, in_place}
+use Rattle.vertex_planners.proofs.PlaceLaws.{in_place}
 use Rattle.vertex_accounts.specs.declared.books.Accounts.{Accounts}
 use Rattle.vertex_accounts.specs.Quantities.{amount_in}
 use Rattle.vertex_planners.specs.Work.{change_most, CostWithin}
@@ -74,8 +76,8 @@ module _ (book : Accounts Plan) (vertices : List Vertex)
   planner_cost v k item plan there at =
       let quantities = (arc_value book.counted).quantities in
       let lt : k < length quantities = (let wide = is.graph.places v item there in
-      let within = within_list item k plan at in omega (arith, wide, within)) in
-      let (q, of) = item_at quantities k lt in
+      let within = slice_get_within item k plan at in omega (arith, wide, within)) in
+      let (q, of) = get_some quantities k lt in
       let among = in_place (length quantities) k lt (items_of book.planners) is.graph.places v item plan there at in
       points_cost plan (grouped (amount_in vertices q v) jobs) book.count ((is.kept k q of).spans v plan among)
       (let few = grouped_few (amount_in vertices q v) jobs in let count = is.count in omega (arith, few, count))
@@ -159,9 +161,9 @@ products claims types rules b each few le =
     let e : (279 * (claims * b)) * rules ≡ 279 * (rules * (claims * b)) = grind arith in
     omega (arith, one, c, parts, more, up, d, e)
 
-expanded : (claims rules b : ℕ) → 8192 * (claims + 1) * (1 + rules) * b
+pub change_sum : (claims rules b : ℕ) → 8192 * (claims + 1) * (1 + rules) * b
     ≡ 8192 * (claims * b) + 8192 * (rules * (claims * b)) + 8192 * b + 8192 * (rules * b)
-expanded claims rules b = grind arith
+change_sum claims rules b = grind arith
 
 -- a job more or less within the bound: all accounts, the times and the row
 pub change_covered : (vertices count g types rules claims times old mid new : ℕ) →
@@ -182,5 +184,5 @@ change_covered vertices count g types rules claims times old mid new few kept sp
     let alike = ap dig same in
     let ids : dig (g + 1) ≤ b = dig_mono (g + 1) (2 * count + g + 4) (omega arith) in
     let rows : dig (g + 2) ≤ b = dig_mono (g + 2) (2 * count + g + 4) (omega arith) in
-    let sum = expanded claims rules b in
+    let sum = change_sum claims rules b in
     omega (arith, accounts, row, span, all, alike, doubled, ids, rows, sum, four, some)

@@ -1,11 +1,12 @@
 -- Rows and jobs that agree go on to agree.
 use Rattle.std.proofs.Common.{◌≡◌, ◌≢◌, ℕ, false, not, ◌==◌, List, [], ◌∷◌, ◌++◌, ◌↔◌, IsTrue, Some, None, Option, inl}
 use Rattle.std.proofs.Common.{inr, refl, sym, ◌∙◌, ap, subst, true≢false, cond}
-use Rattle.std.proofs.lemmas.Bool.{and_parts, and_from, or_cases, or_left, or_right}
+use Rattle.std.proofs.lemmas.Bool.{and_parts, and_from, or_cases, or_left, or_right, eq-eqb, eqb-true}
 use Rattle.std.proofs.lemmas.Bool.Decides.{eqb_tells}
 use Rattle.std.specs.List.{list_any}
 use Rattle.std.specs.Ordering.{nat_cmp}
 use Rattle.std.specs.FinMap.{FinMap, get, insert, empty, get-empty}
+use Rattle.std.proofs.lemmas.Option.{same_Some}
 use Rattle.flux_defs.specs.declared.claims.Job.{Job}
 use Rattle.flux_defs.specs.Scheduler.{without_job}
 use Rattle.job_table.specs.declared.tables.Row.{Row}
@@ -56,18 +57,12 @@ agree_of rows jobs t = record {
   own = own_to jobs t.own;
 }
 
-same_id : (a b : ℕ) → a ≡ b → IsTrue (a == b)
-same_id a b e = elim (eqb_tells a b) [ inl y ↦ y.0 | inr n ↦ absurd (n.1 e) ]
-
-id_is : (a b : ℕ) → IsTrue (a == b) → a ≡ b
-id_is a b t = elim (eqb_tells a b) [ inl y ↦ y.1 | inr n ↦ absurd (true≢false (sym t ∙ n.0)) ]
-
 pub agree_none : Agree empty []
 agree_none = record { live = λ id. ap is_live_row (get-empty nat_cmp id); own = refl }
 
 -- a job more
 has_more : (jobs : List Job) (job : Job) (k : ℕ) → HasJob (jobs ++ job ∷ []) k → (job.id ≡ k → ⊥) → HasJob jobs k
-has_more [] job k h ne = elim (or_cases (job.id == k) false h) [ inl t ↦ absurd (ne (id_is job.id k t)) | inr f ↦ f ]
+has_more [] job k h ne = elim (or_cases (job.id == k) false h) [ inl t ↦ absurd (ne (eqb-true job.id k t)) | inr f ↦ f ]
 has_more (j ∷ jobs) job k h ne = elim (or_cases (j.id == k) (list_any (λ x. x.id == k) (jobs ++ job ∷ [])) h) [
   | inl t ↦ or_left _ _ t
   | inr r ↦ or_right (j.id == k) _ (has_more jobs job k r ne)
@@ -81,13 +76,13 @@ has_old (j ∷ jobs) job k h = elim (or_cases (j.id == k) (list_any (λ x. x.id 
 ]
 
 has_new : (jobs : List Job) (job : Job) (k : ℕ) → job.id ≡ k → HasJob (jobs ++ job ∷ []) k
-has_new [] job k e = or_left _ false (same_id job.id k e)
+has_new [] job k e = or_left _ false (eq-eqb job.id k e)
 has_new (j ∷ jobs) job k e = or_right (j.id == k) _ (has_new jobs job k e)
 
 own_more : (jobs : List Job) (job : Job) → HaveOwnIds jobs → (HasJob jobs job.id → ⊥) → HaveOwnIds (jobs ++ job ∷ [])
 own_more [] job own new = ((λ h. true≢false (sym h)), tt)
 own_more (j ∷ jobs) job own new = (
-  (λ h. own.0 (has_more jobs job j.id h (λ e. new (or_left _ _ (same_id j.id job.id (sym e)))))),
+  (λ h. own.0 (has_more jobs job j.id h (λ e. new (or_left _ _ (eq-eqb j.id job.id (sym e)))))),
   own_more jobs job own.1 (λ h. new (or_right (j.id == job.id) _ h)),
 )
 
@@ -121,7 +116,7 @@ agree_more rows jobs job at fresh a = agree_of _ _ (tied_more rows jobs job at f
 pub without_is : (id : ℕ) (job : Job) (jobs : List Job) →
     job.id ≡ id → without_job id (job ∷ jobs) ≡ without_job id jobs
 without_is id job jobs e =
-    ap (λ b. cond (not b) (job ∷ without_job id jobs) (without_job id jobs)) (same_id job.id id e)
+    ap (λ b. cond (not b) (job ∷ without_job id jobs) (without_job id jobs)) (eq-eqb job.id id e)
 
 pub without_not : (id : ℕ) (job : Job) (jobs : List Job) →
     job.id ≢ id → without_job id (job ∷ jobs) ≡ job ∷ without_job id jobs
@@ -136,7 +131,7 @@ gone id (job ∷ jobs) h = elim (eqb_tells job.id id) [
   | inl y ↦ gone id jobs (subst (λ (js : List Job). HasJob js id) (without_is id job jobs y.1) h)
   | inr n ↦ elim (or_cases (job.id == id) (list_any (λ x. x.id == id) (without_job id jobs))
       (subst (λ (js : List Job). HasJob js id) (without_not id job jobs n.1) h)) [
-        | inl t ↦ n.1 (id_is job.id id t)
+        | inl t ↦ n.1 (eqb-true job.id id t)
         | inr r ↦ gone id jobs r
       ]
 ]
@@ -158,7 +153,7 @@ stays id k [] ne h = h
 stays id k (job ∷ jobs) ne h = elim (eqb_tells job.id id) [
   | inl y ↦ subst (λ (js : List Job). HasJob js k)
       (sym (without_is id job jobs y.1)) (elim (or_cases (job.id == k) (list_any (λ x. x.id == k) jobs) h) [
-        | inl t ↦ absurd (ne (sym (id_is job.id k t) ∙ y.1))
+        | inl t ↦ absurd (ne (sym (eqb-true job.id k t) ∙ y.1))
         | inr r ↦ stays id k jobs ne r
       ])
   | inr n ↦ subst (λ (js : List Job). HasJob js k)
@@ -181,7 +176,7 @@ tied_less : (rows : FinMap nat_cmp Row) (jobs : List Job) (id at : ℕ) →
 tied_less rows jobs id at a = record {
   live = λ k. elim (eqb_tells k id) [
     | inl y ↦ (
-      λ h. let e : cancelled_row at ≡ live_row h.0 = some_is (sym (get_same rows id (cancelled_row at))
+      λ h. let e : cancelled_row at ≡ live_row h.0 = same_Some _ _ (sym (get_same rows id (cancelled_row at))
           ∙ subst (λ (x : ℕ). get (insert rows id (cancelled_row at)) x ≡ Some (live_row h.0)) y.1 h.1) in
           absurd (true≢false (sym (ap (λ r. r.live) e))),
       λ h. absurd (gone id jobs (subst (HasJob (without_job id jobs)) y.1 h)),
@@ -193,9 +188,6 @@ tied_less rows jobs id at a = record {
   ];
   own = own_less id jobs a.own;
 }
-  where
-    some_is : {x y : Row} → Some x ≡ Some y → x ≡ y
-    some_is e = cc
 
 pub agree_less : (rows : FinMap nat_cmp Row) (jobs : List Job) (id at : ℕ) →
     Agree rows jobs → Agree (insert rows id (cancelled_row at)) (without_job id jobs)
@@ -205,11 +197,11 @@ agree_less rows jobs id at a = agree_of _ _ (tied_less rows jobs id at (tied_of 
 none_without : (id : ℕ) (jobs : List Job) → (HasJob jobs id → ⊥) → without_job id jobs ≡ jobs
 none_without id [] f = refl
 none_without id (job ∷ jobs) f =
-    without_not id job jobs (λ e. f (or_left _ _ (same_id job.id id e)))
+    without_not id job jobs (λ e. f (or_left _ _ (eq-eqb job.id id e)))
     ∙ ap (λ js. job ∷ js) (none_without id jobs (λ h. f (or_right (job.id == id) _ h)))
 
 in_middle : (before after : List Job) (job : Job) → HasJob (before ++ job ∷ after) job.id
-in_middle [] after job = or_left _ _ (same_id job.id job.id refl)
+in_middle [] after job = or_left _ _ (eq-eqb job.id job.id refl)
 in_middle (j ∷ before) after job = or_right (j.id == job.id) _ (in_middle before after job)
 
 middle : (before after : List Job) (job : Job) →

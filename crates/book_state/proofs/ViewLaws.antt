@@ -24,6 +24,7 @@ use Rattle.book_state.specs.Books.{graph_of, vertices_of, rules_of, accounts_of,
 use Rattle.book_state.specs.Books.{StandsFor, IsBook, MayAdd, cost_of, change_cost_of}
 use Rattle.flux_defs.specs.Closed.{no_bars}
 use Rattle.flux_defs.specs.Available.{IsAvailable}
+use Rattle.resource_graph.proofs.Values.{value_of}
 use Rattle.book_laws.specs.Amounts.{TakesFromPool}
 use Rattle.book_laws.specs.TotalLaws.{AreFair}
 use Rattle.book_laws.proofs.Adding.{fair_added}
@@ -100,20 +101,16 @@ module _ (g : NamedGraph) (a : Accounts Plan) (book : Kept) (eg : g ≡ graph_of
       new ≤ old + 8192 * (claims + 1) * (1 + rules) * dig (2 * x.count + len (rows_of book) + 4)) ea covered
 
 -- the accounts keep totals of each type of which the rules keep one at some vertex
-there : {A : Type 0} (o : Option A) (P : A → Type 0) → IsSomeAnd o P → (x : A) × (o ≡ Some x) × P x
-there None P h = absurd h
-there (Some x) P h = (x, refl, h)
-
 pub kind_kept : (a : Accounts Plan) (book : Kept) → a ≡ accounts_of book → (jobs : List Job) → StandsFor book jobs →
     (v kind : ℕ) → IsTotalKept book v kind → HasTotals a kind
 kind_kept a book ea jobs is v kind keeps =
     let kinds = (graph_of book).resources.kinds in
     let rules = rules_of book in
     let (x, at, pair) =
-    there (slice_get (vertices_of book) v) (λ x. IsPairKept (graph_of book) rules x.kind kind) keeps in
+    value_of (slice_get (vertices_of book) v) (λ x. IsPairKept (graph_of book) rules x.kind kind) keeps in
     let (high, upper, some) =
-    there (slice_get kinds x.kind) (λ high. IsSomeAnd (slice_get kinds kind) (λ low. IsKept rules high low)) pair in
-    let (low, lower, rule) = there (slice_get kinds kind) (λ low. IsKept rules high low) some in
+    value_of (slice_get kinds x.kind) (λ high. IsSomeAnd (slice_get kinds kind) (λ low. IsKept rules high low)) pair in
+    let (low, lower, rule) = value_of (slice_get kinds kind) (λ low. IsKept rules high low) some in
     subst (λ (b : Accounts Plan). HasTotals b kind) (sym ea)
     (is.kinds kind low lower (rule.0, rule.1, rule.2, rule.3, rule.4.0))
 

@@ -1,13 +1,17 @@
 -- What the accounts' least values say, and how many steps they take.
-use Rattle.std.proofs.Common.{◌≡◌, ℕ, zero, suc, ◌+◌, ◌-◌, ◌*◌, ◌<◌, ◌≤◌, nat_lt, List, ◌∷◌, length, Option, Some, None}
+use Rattle.std.proofs.Common.{◌≡◌, ℕ, ◌+◌, ◌-◌, ◌*◌, ◌<◌, ◌≤◌, nat_lt, List, ◌∷◌, length, Option, Some, None}
 use Rattle.std.proofs.Common.{IfSome, MatchOption, slice_get, ◌↔◌, inl, inr, refl, sym, ◌∙◌, ap, subst, arith, IsTrue}
 use Rattle.std.proofs.lemmas.Bool.Decides.{Decides-ltb}
+use Rattle.std.proofs.lemmas.Option.{slice_get_within}
+use Rattle.std.proofs.Math.Nat.{mul-le-mul_right}
 use Rattle.flux_defs.specs.declared.vertices.Vertex.{Vertex}
 use Rattle.flux_defs.specs.declared.claims.Job.{Job}
 use Rattle.flux_defs.specs.declared.claims.Window.{Window}
 use Rattle.flux_defs.specs.Digits.{dig}
 use Rattle.flux_defs.specs.Graph.{parent_of, chain}
 use Rattle.flux_defs.specs.Jobs.{some_live_claim, SomeMoment, IsPoint, IsNextPoint}
+use Rattle.list_laws.proofs.Lists.{get_some}
+use Rattle.resource_graph.proofs.ChainLaws.{chain-None}
 use Rattle.planner_points.specs.declared.spans.Span.{Span}
 use Rattle.planner_points.specs.Spans.{free_at, HasRoom, IsLeastFree, IsLastBelow, IsFirstFree, IsEnd, IsNextEnd}
 use Rattle.book_laws.specs.Amounts.{is_hold, holds_along, capacity}
@@ -15,12 +19,12 @@ use Rattle.book_laws.specs.Grouped.{grouped, times_of}
 use Rattle.book_laws.proofs.GroupedLaws.{ends_points, least_tells, points_ends}
 use Rattle.book_laws.proofs.Views.{held_tells, least_left}
 use Rattle.book_laws.proofs.Closing.{held_cons, held_nil}
-use Rattle.vertex_planners.proofs.ClaimSums.{chain_opens, chain_none}
+use Rattle.vertex_planners.proofs.ClaimSums.{chain_opens}
 use Rattle.vertex_accounts.specs.declared.quantities.Quantity.{Quantity}
 use Rattle.vertex_accounts.specs.declared.quantities.Quantity.TheVariants.{Holds, Claims, Takes, Units}
 use Rattle.vertex_planners.specs.Counting.{counts_at}
 use Rattle.vertex_planners.specs.Lists.{AreWide, at_place}
-use Rattle.vertex_planners.proofs.PlaceLaws.{item_at, within_list, in_place}
+use Rattle.vertex_planners.proofs.PlaceLaws.{in_place}
 use Rattle.vertex_accounts.specs.declared.counted.Counted.{Counted}
 use Rattle.vertex_accounts.specs.Books.{ArePlanned, AreAllKept}
 use Rattle.vertex_accounts.specs.Quantities.{amount_in, total_in, claim_count, part_count, most_claims, IsUnitsOf}
@@ -78,7 +82,7 @@ pub held_none : (jobs : List Job) (w : Window) (vertices : List Vertex) (most : 
     from ≡ None → HeldAlong jobs w vertices most from → ⊥
 held_none jobs w vertices most from e h =
     held_nil jobs w (subst (λ (vs : List ℕ). SomeMoment w (λ m. IsTrue (some_live_claim jobs m (holds_along vs))))
-    (ap (chain vertices most) e ∙ chain_none vertices most) h)
+    (ap (chain vertices most) e ∙ chain-None vertices most) h)
 
 pub held_zero : (jobs : List Job) (w : Window) (vertices : List Vertex) (most : ℕ) (from : Option ℕ) →
     most ≡ 0 → HeldAlong jobs w vertices most from → ⊥
@@ -136,15 +140,6 @@ pub two_work : (old mid new look rest all : ℕ) →
     mid ≤ old + look → new ≤ mid + rest → all ≡ look + rest → new ≤ old + all
 two_work old mid new look rest all a b e = omega (arith, a, b, e)
 
-mul_most : (a b c : ℕ) → a ≤ b → a * c ≤ b * c
-mul_most zero b c le = omega arith
-mul_most (suc a) zero c le = absurd (omega (arith, le))
-mul_most (suc a) (suc b) c le =
-    let rest = mul_most a b c (omega (arith, le)) in
-    let x : suc a * c ≡ c + a * c = omega arith in
-    let y : suc b * c ≡ c + b * c = omega arith in
-    omega (arith, rest, x, y)
-
 -- the steps along the chain above a vertex
 pub closed_work : (vertices : List Vertex) (v n old mid new : ℕ) →
     v < length vertices → length (chain vertices (length vertices) (Some v)) ≤ 16 → mid ≤ old + n →
@@ -153,8 +148,8 @@ pub closed_work : (vertices : List Vertex) (v n old mid new : ℕ) →
 closed_work vertices v n old mid new lt few first work =
     let opens =
     ap (λ (vs : List ℕ). length vs) (chain_opens vertices (length vertices) v (λ e. omega (arith, e, lt))) in
-    let most = mul_most (length (chain vertices (length vertices - 1) (parent_of vertices v))) 15
-    (look_most (length vertices) n) (omega (arith, few, opens)) in
+    let above : length (chain vertices (length vertices - 1) (parent_of vertices v)) ≤ 15 = omega (arith, few, opens) in
+    let most = mul-le-mul_right (look_most (length vertices) n) above in
     omega (arith, first, work, most)
 
 pub none_of : (o : Option ℕ) → ((x : ℕ) → o ≡ Some x → ⊥) → o ≡ None
@@ -176,7 +171,7 @@ pub planner_there : {P : Type 0} (places place : ℕ) (items : List (List P)) �
     AreWide places items → place < places → (v : ℕ) (item : List P) → slice_get items v ≡ Some item →
     (p : P) × (slice_get item place ≡ Some p) × (slice_get (at_place place items) v ≡ Some p)
 planner_there places place items wide lt v item there =
-    let (p, at) = item_at item place (let w = wide v item there in omega (arith, w, lt)) in
+    let (p, at) = get_some item place (let w = wide v item there in omega (arith, w, lt)) in
     (p, at, in_place places place lt items wide v item p there at)
 
 module _ {P : Type 0} (vertices : List Vertex)
@@ -186,7 +181,7 @@ module _ {P : Type 0} (vertices : List Vertex)
   -- a vertex's item has each place
   pub place_in : place < length item
   place_in = let w = is.places v item there in
-      let lt = within_list counted.quantities place q of in omega (arith, w, lt)
+      let lt = slice_get_within counted.quantities place q of in omega (arith, w, lt)
 
   -- the least of the planner at a place of a vertex's item
   pub least_here : (total_of : P → ℕ) (stands_for : P → List Span → Type 0) (jobs : List Job) (w : Window) (n : ℕ) →
@@ -196,7 +191,7 @@ module _ {P : Type 0} (vertices : List Vertex)
       IsLeastFree (total_in vertices q v) (grouped (amount_in vertices q v) jobs) w n
   least_here total_of stands_for jobs w n kept least =
       let (p, at, among) = planner_there
-      (length counted.quantities) place items is.places (within_list counted.quantities place q of) v item there in
+      (length counted.quantities) place items is.places (slice_get_within counted.quantities place q of) v item there in
       subst (λ (t : ℕ). IsLeastFree t (grouped (amount_in vertices q v) jobs) w n) ((kept place q of).totals v p among)
       (least p at (grouped (amount_in vertices q v) jobs) ((kept place q of).spans v p among))
 
@@ -208,7 +203,7 @@ module _ {P : Type 0} (vertices : List Vertex)
       FirstOrNone (total_in vertices q v) (grouped (amount_in vertices q v) jobs) from quantity found
   first_here total_of stands_for jobs from quantity found kept first =
       let (p, at, among) = planner_there
-      (length counted.quantities) place items is.places (within_list counted.quantities place q of) v item there in
+      (length counted.quantities) place items is.places (slice_get_within counted.quantities place q of) v item there in
       subst (λ (t : ℕ). FirstOrNone t (grouped (amount_in vertices q v) jobs) from quantity found)
       ((kept place q of).totals v p among)
       (first p at (grouped (amount_in vertices q v) jobs) ((kept place q of).spans v p among))
@@ -221,7 +216,7 @@ module _ {P : Type 0} (vertices : List Vertex)
       BelowOrNone (total_in vertices q v) (grouped (amount_in vertices q v) jobs) w quantity found
   below_here total_of stands_for jobs w quantity found kept last =
       let (p, at, among) = planner_there
-      (length counted.quantities) place items is.places (within_list counted.quantities place q of) v item there in
+      (length counted.quantities) place items is.places (slice_get_within counted.quantities place q of) v item there in
       subst (λ (t : ℕ). BelowOrNone t (grouped (amount_in vertices q v) jobs) w quantity found)
       ((kept place q of).totals v p among)
       (last p at (grouped (amount_in vertices q v) jobs) ((kept place q of).spans v p among))

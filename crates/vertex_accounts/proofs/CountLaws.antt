@@ -5,15 +5,17 @@ use Rattle.std.proofs.Common.{ap, subst, arith}
 use Rattle.std.specs.List.{sum_by}
 use Rattle.std.proofs.lemmas.Bool.{cases_lt}
 use Rattle.std.proofs.lemmas.List.Sums.{sum_by-cons, sum_by-append, sum_by_more}
-use Rattle.std.proofs.lemmas.Option.{get_or_from_slice_get}
+use Rattle.std.proofs.lemmas.Option.{get_or_from_slice_get, slice_get_within}
+use Rattle.std.proofs.Math.Nat.{add-mul}
 use Rattle.flux_defs.specs.declared.vertices.Vertex.{Vertex}
 use Rattle.flux_defs.specs.declared.claims.Claim.{Claim}
+use Rattle.list_laws.proofs.Lists.{last_or, get_old, get_last}
 use Rattle.planner_points.specs.declared.spans.Span.{Span}
 use Rattle.vertex_planners.specs.declared.amounts.Amounts.{Amounts}
 use Rattle.vertex_planners.specs.Numbers.{amount_at, count_of, HasKeysBelow}
 use Rattle.vertex_planners.specs.Rows.{count_all, HaveKeysBelow}
 use Rattle.vertex_planners.specs.Lists.{AreWide}
-use Rattle.vertex_planners.proofs.PlaceLaws.{within_list, slice_push, old_there, new_there, of_place}
+use Rattle.vertex_planners.proofs.PlaceLaws.{of_place}
 use Rattle.vertex_accounts.specs.declared.quantities.Quantity.{Quantity}
 use Rattle.vertex_accounts.specs.declared.quantities.Quantity.TheVariants.{Holds, Claims, Takes}
 use Rattle.vertex_accounts.specs.declared.counted.Counted.{Counted}
@@ -40,7 +42,7 @@ module _ (vertices : List Vertex) (old new : Counted) (is : AreCounted vertices 
         claims = moved old.quantities new.quantities 1 Claims same is.claims;
         takes = moved old.quantities new.quantities 2 Takes same is.takes;
         units = λ kind place at.
-            elim (slice_push old.places none (Some place) kind (moved new.places _ kind (Some place) (sym pushed) at)) [
+            elim (last_or old.places none (Some place) kind (moved new.places _ kind (Some place) (sym pushed) at)) [
               | inl earlier ↦ (let (q, of, units) = is.units kind place earlier in
                   (q, moved old.quantities new.quantities place q same of, units))
               | inr here ↦ absurd (let e : none ≡ Some place = here.1 in cc)
@@ -61,12 +63,12 @@ module _ (vertices : List Vertex) (old new : Counted) (is : AreCounted vertices 
       let counts = ap kept_count places ∙ sum_by-append kept_one old.places (entry ∷ []) in
       let last = sum_by-cons kept_one entry [] in
       let earlier = λ (k : ℕ) (r : Quantity) (at : slice_get old.quantities k ≡ Some r).
-      moved (old.quantities ++ q ∷ []) new.quantities k r quantities (old_there old.quantities q r k at) in
+      moved (old.quantities ++ q ∷ []) new.quantities k r quantities (get_old old.quantities q r k at) in
       record {
         holds = earlier 0 Holds is.holds;
         claims = earlier 1 Claims is.claims;
         takes = earlier 2 Takes is.takes;
-        units = λ kind place at. elim (slice_push old.places entry
+        units = λ kind place at. elim (last_or old.places entry
             (Some place) kind (moved new.places _ kind (Some place) (sym places) at)) [
               | inl before ↦ (let (r, of, is_units) = is.units kind place before in (r, earlier place r of, is_units))
               | inr here ↦ (
@@ -74,11 +76,11 @@ module _ (vertices : List Vertex) (old new : Counted) (is : AreCounted vertices 
                   let behind : length old.quantities ≡ place = cc in (
                     q,
                     moved (old.quantities ++ q ∷ []) new.quantities place q quantities
-                        (ap (slice_get (old.quantities ++ q ∷ [])) (sym behind) ∙ new_there old.quantities q),
+                        (ap (slice_get (old.quantities ++ q ∷ [])) (sym behind) ∙ get_last old.quantities q),
                     subst (λ (j : ℕ). IsUnitsOf j q) (sym here.0) units,
                   ))
             ];
-        capacities = λ k r at. elim (slice_push old.quantities q r k (moved new.quantities _ k r (sym quantities) at)) [
+        capacities = λ k r at. elim (last_or old.quantities q r k (moved new.quantities _ k r (sym quantities) at)) [
           | inl before ↦ is.capacities k r before
           | inr here ↦ subst (KnowsCapacities vertices) here.1 knows
         ];
@@ -108,14 +110,14 @@ pub one_type : (names : List (List ℕ)) (Named : List ℕ → Type 0) (kind : �
     (name : List ℕ) (old new : List (Option ℕ)) → HavePlaces names Named kind old → slice_get names kind ≡ Some name →
     IsPlaceAdded (Named name) old new → HavePlaces names Named (kind + 1) new
 one_type names Named kind name old new so_far at (entry, pushed, tells) =
-    let inside = within_list names kind name at in
+    let inside = slice_get_within names kind name at in
     let len = so_far.len in
     record {
       within = omega (arith, inside);
       len = ap length pushed ∙ length-append old (entry ∷ []) ∙ ap (λ n. n + 1) len;
       counted = λ k other lt there named. elim (cases_lt k kind) [
         | inl before ↦ (let (place, was) = so_far.counted k other before there named in
-            (place, moved _ new k (Some place) pushed (old_there old entry (Some place) k was)))
+            (place, moved _ new k (Some place) pushed (get_old old entry (Some place) k was)))
         | inr past ↦ (
             let same : k ≡ kind = omega (arith, lt, past) in
             let both : Some other ≡ Some name = sym there ∙ (ap (slice_get names) same ∙ at) in
@@ -123,10 +125,10 @@ one_type names Named kind name old new so_far at (entry, pushed, tells) =
             let (place, e) = some_of entry (tells.0 (subst Named is named)) in (
               place,
               moved _ new k (Some place) pushed
-                  (ap (slice_get (old ++ entry ∷ [])) (same ∙ sym len) ∙ new_there old entry ∙ ap Some e),
+                  (ap (slice_get (old ++ entry ∷ [])) (same ∙ sym len) ∙ get_last old entry ∙ ap Some e),
             ))
       ];
-      only = λ k place got. elim (slice_push old entry (Some place) k (moved new _ k (Some place) (sym pushed) got)) [
+      only = λ k place got. elim (last_or old entry (Some place) k (moved new _ k (Some place) (sym pushed) got)) [
         | inl before ↦ so_far.only k place before
         | inr here ↦ (name, ap (slice_get names) (here.0 ∙ len) ∙ at, tells.1 (ap is_some here.1))
       ];
@@ -151,13 +153,13 @@ one_number vertices quantities claims i old new q amounts so_far at pushed sums 
     let before = so_far.few in
     let counts = ap count_all pushed ∙ sum_by-append count_of old (amounts ∷ []) in
     let last = sum_by-cons count_of amounts [] in
-    let reach = sum_by_more reach_of quantities i q (within_list quantities i q at) ∙ ap (λ (y : Quantity).
+    let reach = sum_by_more reach_of quantities i q (slice_get_within quantities i q at) ∙ ap (λ (y : Quantity).
     sum_by reach_of (take i quantities) + reach_of y) (get_or_from_slice_get quantities i q q at) in
     let product = ap (λ (r : ℕ). r * length claims) reach in
-    let parts = sum_times (sum_by reach_of (take i quantities)) (reach_of q) (length claims) in
+    let parts = add-mul (sum_by reach_of (take i quantities)) (reach_of q) (length claims) in
     record {
       len = ap length pushed ∙ length-append old (amounts ∷ []) ∙ ap (λ n. n + 1) so_far.len;
-      sums = λ k r some of there v. elim (slice_push old amounts some k (moved new _ k some (sym pushed) there)) [
+      sums = λ k r some of there v. elim (last_or old amounts some k (moved new _ k some (sym pushed) there)) [
         | inl earlier ↦ so_far.sums k r some of earlier v
         | inr here ↦ (
             let both : Some q ≡ Some r = sym at ∙ (ap (slice_get quantities) (sym (here.0 ∙ so_far.len)) ∙ of) in
@@ -165,21 +167,18 @@ one_number vertices quantities claims i old new q amounts so_far at pushed sums 
             ap (λ a. amount_at a v) (sym here.1)
             ∙ sums v ∙ ap (λ (y : Quantity). sum_by (amount_in vertices y v) claims) same)
       ];
-      keys = λ k some there. elim (slice_push old amounts some k (moved new _ k some (sym pushed) there)) [
+      keys = λ k some there. elim (last_or old amounts some k (moved new _ k some (sym pushed) there)) [
         | inl earlier ↦ so_far.keys k some earlier
         | inr here ↦ subst (HasKeysBelow (length vertices)) here.1 keys
       ];
       few = omega (arith, before, counts, last, product, parts, few);
     }
-  where
-    sum_times : (a b c : ℕ) → (a + b) * c ≡ a * c + b * c
-    sum_times a b c = grind arith
 
 -- the planners of one vertex more
 module _ {P : Type 0} (places v : ℕ)
     (old new : List (List P)) (item : List P) (len : length old ≡ v) (pushed : new ≡ old ++ item ∷ []) where
   pub one_wide : AreWide places old → length item ≡ places → AreWide places new
-  one_wide wide as_many u x at = elim (slice_push old item x u (moved new _ u x (sym pushed) at)) [
+  one_wide wide as_many u x at = elim (last_or old item x u (moved new _ u x (sym pushed) at)) [
     | inl earlier ↦ wide u x earlier
     | inr here ↦ ap length (sym here.1) ∙ as_many
   ]
@@ -191,7 +190,7 @@ module _ {P : Type 0} (places v : ℕ)
       ((k : ℕ) (p : P) → slice_get item k ≡ Some p → stands_for p []) →
       AreNew total_of stands_for vertices quantities new
   one_new total_of stands_for vertices quantities totals is sums of_totals none u k x p q at has of =
-      elim (slice_push old item x u (moved new _ u x (sym pushed) at)) [
+      elim (last_or old item x u (moved new _ u x (sym pushed) at)) [
         | inl earlier ↦ is u k x p q earlier has of
         | inr here ↦ (
             let mine : slice_get item k ≡ Some p = ap (λ y. slice_get y k) here.1 ∙ has in (
@@ -207,7 +206,7 @@ pub new_kept : {P : Type 0} (total_of : P → ℕ)
     AreWide (length counted.quantities) items → AreNew total_of stands_for vertices counted.quantities items →
     AreAllKept total_of stands_for vertices [] counted items
 new_kept total_of stands_for vertices counted items wide new k q of =
-    let lt = within_list counted.quantities k q of in
+    let lt = slice_get_within counted.quantities k q of in
     record {
       totals = λ v p at. (let (item, there, has) = of_place (length counted.quantities) k lt items wide v p at in
           (new v k item p q there has of).0);

@@ -4,6 +4,7 @@ use Rattle.std.proofs.Common.{append-nil, sym, ◌∙◌, ap, subst, arith}
 use Rattle.std.specs.List.{AllByRecursion, sum_by}
 use Rattle.std.specs.Arc.{arc_value}
 use Rattle.std.proofs.lemmas.List.Sums.{sum_by-cons, sum_by-append}
+use Rattle.std.proofs.lemmas.Option.{slice_get_within}
 use Rattle.flux_defs.specs.declared.vertices.Vertex.{Vertex}
 use Rattle.flux_defs.specs.declared.claims.Claim.{Claim}
 use Rattle.flux_defs.specs.declared.claims.Claim.TheVariants.{Take, Hold, Pass}
@@ -26,7 +27,7 @@ use Rattle.vertex_planners.specs.declared.amounts.Amounts.{Amounts}
 use Rattle.vertex_planners.specs.Numbers.{amount_at}
 use Rattle.vertex_planners.specs.Lists.{items_of, AreWide, at_place}
 use Rattle.vertex_planners.specs.Kept.{Gains, Loses, RoomAt, SpansAt, AtPlaces}
-use Rattle.vertex_planners.proofs.PlaceLaws.{within_list, same_place, place_len}
+use Rattle.vertex_planners.proofs.PlaceLaws.{same_place, place_len}
 use Rattle.vertex_accounts.specs.declared.quantities.Quantity.{Quantity}
 use Rattle.vertex_accounts.specs.declared.quantities.Quantity.TheVariants.{Holds, Claims, Takes, Units}
 use Rattle.vertex_accounts.specs.declared.counted.Counted.{Counted}
@@ -76,12 +77,7 @@ fits_all g o jobs fair few (Units capacities) v m =
     let room = part_room g o capacities.kind v jobs m fair.within fair.pools in
     omega (arith, le, room)
 
--- the member of a list, and the counts of claims
-pub middle_of : {X : Type 0} (P : X → Type 0) (before : List X) (x : X) (after : List X) →
-    AllByRecursion P (before ++ x ∷ after) → P x
-middle_of P [] x after h = h.0
-middle_of P (y ∷ ys) x after h = middle_of P ys x after h.1
-
+-- the counts of claims
 pub count_middle : (before : List Job) (job : Job) (after : List Job) →
     count_claims (before ++ job ∷ after) ≡ length job.claims + count_claims (before ++ after)
 count_middle before job after =
@@ -142,7 +138,7 @@ module _ {P : Type 0} (total_of : P → ℕ) (stands_for : P → List Span → T
           let (amounts, at) = same_place counted.quantities places k q (sym numbers.len) of in
           gained_kept total_of stands_for (total_in vertices q)
           (amount_in vertices q) job (amount_at amounts) before after (at_place k old) (at_place k new)
-          (lens k (within_list counted.quantities k q of))
+          (lens k (slice_get_within counted.quantities k q of))
           (numbers.sums k q amounts of at) (gains k amounts at) (kept k q of)
 
       pub left_kept : AtPlaces (Loses total_of stands_for (time_of job)) places old new →
@@ -152,7 +148,7 @@ module _ {P : Type 0} (total_of : P → ℕ) (stands_for : P → List Span → T
           let (amounts, at) = same_place counted.quantities places k q (sym numbers.len) of in
           lost_kept total_of stands_for (total_in vertices q)
           (amount_in vertices q) job (amount_at amounts) before after (at_place k old) (at_place k new)
-          (lens k (within_list counted.quantities k q of))
+          (lens k (slice_get_within counted.quantities k q of))
           (numbers.sums k q amounts of at) (loses k amounts at) (kept k q of)
 
   module _ (vertices : List Vertex)

@@ -6,6 +6,8 @@ use Rattle.std.specs.Option.{option_map_or}
 use Rattle.std.proofs.lemmas.Bool.{and_parts, and_from}
 use Rattle.std.proofs.lemmas.Bool.Decides.{nat_tests, leb_tells}
 use Rattle.std.proofs.lemmas.List.Sums.{sum_by-cons}
+use Rattle.std.proofs.Math.Bool.{and-false}
+use Rattle.std.proofs.lemmas.Option.{slice_get_within}
 use Rattle.flux_defs.specs.declared.vertices.Vertex.{Vertex}
 use Rattle.flux_defs.specs.Graph.{ResourceGraph, is_at_or_below, size_of}
 use Rattle.flux_defs.specs.ValidGraph.{StandsInPreorder}
@@ -33,15 +35,11 @@ module _ (kind low past : ℕ) (le : low ≤ past) where
     | inr short ↦ ap (λ b. cond (b && nat_lt u past) (units_in kind x) 0) short.0
   ]
 
-  and_false : (b : Bool) → (b && false) ≡ false
-  and_false true = refl
-  and_false false = refl
-
   after_range : (u : ℕ) (x : Vertex) → past ≤ u → ranged u x ≡ 0
   after_range u x ge = elim (leb_tells (suc u) past) [
     | inl within ↦ absurd (let h : suc u ≤ past = within.1 in omega arith)
     | inr over ↦ ap (λ b. cond (nat_le low u && b) (units_in kind x) 0) over.0
-        ∙ ap (λ b. cond b (units_in kind x) 0) (and_false (nat_le low u))
+        ∙ ap (λ b. cond b (units_in kind x) 0) (and-false (nat_le low u))
   ]
 
   none_after : (at : ℕ) (xs : List Vertex) → past ≤ at → sum_by (λ (u, x). ranged u x) (enumerate_from at xs) ≡ 0
@@ -85,11 +83,6 @@ module _ (kind low past : ℕ) (le : low ≤ past) where
       omega arith
 
 module _ (g : ResourceGraph) (o : StandsInPreorder g) (kind v : ℕ) where
-  inside : (u : ℕ) (x : Vertex) (xs : List Vertex) → slice_get xs u ≡ Some x → u < length xs
-  inside u x [] e = absurd (cc)
-  inside zero x (y ∷ ys) e = omega arith
-  inside (suc u) x (y ∷ ys) e = let r = inside u x ys e in omega arith
-
   by_tests : (a b c : Bool) (n k : ℕ) → n ≡ k → b ≡ c → cond (a && b) n 0 ≡ cond c (cond a k 0) 0
   by_tests true true c n k e f = e ∙ ap (λ x. cond x k 0) f
   by_tests true false c n k e f = ap (λ x. cond x k 0) f
@@ -125,7 +118,7 @@ module _ (g : ResourceGraph) (o : StandsInPreorder g) (kind v : ℕ) where
         all_same g.vertices (λ u x. cond ((x.kind == kind) && is_at_or_below g.vertices u v) (size_of g.vertices u) 0)
         (λ u x. ranged kind v past later u x)
         (λ u x e. by_tests (x.kind == kind) (is_at_or_below g.vertices u v) (nat_le v u && nat_lt u past)
-        (size_of g.vertices u) x.size (size_here u x e) (below_is u (inside u x g.vertices e))) in
+        (size_of g.vertices u) x.size (size_here u x e) (below_is u (slice_get_within g.vertices u x e))) in
         let sum = range_sum kind v past later 0 g.vertices v past (omega arith) (omega arith) in
         omega arith
 
@@ -135,7 +128,7 @@ module _ (g : ResourceGraph) (o : StandsInPreorder g) (kind v : ℕ) where
       all_same g.vertices
       (λ u x. cond ((x.kind == kind) && is_at_or_below g.vertices u v) (size_of g.vertices u) 0) (λ u x. 0)
       (λ u x e. by_none (x.kind == kind)
-      (is_at_or_below g.vertices u v) (size_of g.vertices u) (none u (inside u x g.vertices e)))
+      (is_at_or_below g.vertices u v) (size_of g.vertices u) (none u (slice_get_within g.vertices u x e)))
       ∙ sum_none (enumerate_from 0 g.vertices)
     where
       by_none : (a b : Bool) (n : ℕ) → b ≡ false → cond (a && b) n 0 ≡ 0

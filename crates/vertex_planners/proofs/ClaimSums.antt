@@ -17,6 +17,7 @@ use Rattle.vertex_planners.specs.Chains.{sum_on, ParentsIn}
 use Rattle.vertex_planners.specs.Counting.{counts_at}
 use Rattle.book_laws.specs.Amounts.{is_hold}
 use Rattle.std.proofs.lemmas.Bool.{cases_lt, lt-ltb}
+use Rattle.resource_graph.proofs.ChainLaws.{chain-None}
 
 -- one claim more
 pub claim_step : (f : Claim → ℕ) (xs : List Claim) (i : ℕ) (d : Claim) (old new more : ℕ) →
@@ -74,10 +75,6 @@ chain_step vertices most u v more old mid new above some e up f =
     ap (λ (o : Option ℕ). sum_on v more (chain vertices (most - 1) o)) up in
     omega arith
 
-pub chain_none : (vertices : List Vertex) (most : ℕ) → chain vertices most None ≡ []
-chain_none vertices zero = refl
-chain_none vertices (suc most) = refl
-
 pub parent_inside : (vertices : List Vertex) (u : ℕ) (above : Option ℕ) →
     above ≡ parent_of vertices u → ParentsIn vertices → IfSome above (λ p. p < length vertices)
 parent_inside vertices u None e inside = tt
@@ -105,7 +102,7 @@ module _ (vertices : List Vertex) (first : ParentsFirst vertices) (v more : ℕ)
 
           up : (o : Option ℕ) → parent_of vertices u ≡ o → ((w : ℕ) →
               w < v → sum_on v more (chain vertices most (Some w)) ≡ 0) → sum_on v more (chain vertices most o) ≡ 0
-          up None e rest = ap (sum_on v more) (chain_none vertices most)
+          up None e rest = ap (sum_on v more) (chain-None vertices most)
           up (Some p) e rest = rest p (let below = first u p e in omega arith)
 
   once : (most : ℕ) (o : Option ℕ) →
@@ -136,7 +133,7 @@ module _ (vertices : List Vertex) (first : ParentsFirst vertices) (v more : ℕ)
       parted x y ne = elim (eqb_tells y x) [ inl same ↦ absurd (ne (sym same.1)) | inr differ ↦ differ.0 ]
 
       above : (o : Option ℕ) → parent_of vertices u ≡ o → u ≡ v → sum_on v more (chain vertices most o) ≡ 0
-      above None e same = ap (sum_on v more) (chain_none vertices most)
+      above None e same = ap (sum_on v more) (chain-None vertices most)
       above (Some p) e same = below_all most p (let below = first u p e in omega arith)
 
   pub once_above : (u : ℕ) →

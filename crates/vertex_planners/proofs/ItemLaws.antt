@@ -1,11 +1,11 @@
 -- The planners of one vertex, changed place by place.
 use Rattle.std.proofs.Common.{◌≡◌, ℕ, zero, suc, ◌+◌, ◌*◌, ◌≤◌, List, [], ◌∷◌, ◌++◌, length, take, Some, slice_get, inl}
 use Rattle.std.proofs.Common.{inr, refl, sym, ◌∙◌, ap, subst, arith}
-use Rattle.std.proofs.Math.Nat.{mul-le-mul_right}
+use Rattle.std.proofs.Math.Nat.{add-mul, mul-le-mul_right}
 use Rattle.std.proofs.lemmas.List.Sums.{sum_by_more, sum_by-take-le}
-use Rattle.std.proofs.lemmas.Option.{get_or_from_slice_get}
+use Rattle.std.proofs.lemmas.Option.{get_or_from_slice_get, slice_get_within}
+use Rattle.list_laws.proofs.Lists.{last_or}
 use Rattle.vertex_planners.specs.Rows.{some_one, count_some}
-use Rattle.vertex_planners.proofs.PlaceLaws.{within_list, slice_push}
 
 -- the planners so far are changed by their numbers
 abbrev pub AtSoFar : {P : Type 0} → (ℕ → P → P → Type 0) → List ℕ → List P → List P → Type 0
@@ -16,7 +16,7 @@ pub one_more : {P : Type 0} (Q : ℕ → P → P → Type 0) (row : List ℕ) (o
     length now ≡ i → AtSoFar Q row old now →
     slice_get row i ≡ Some n → slice_get old i ≡ Some p → Q n p r → next ≡ now ++ r ∷ [] → AtSoFar Q row old next
 one_more Q row old now next i n p r len so_far number there q pushed k m u w a b c =
-    elim (slice_push now r w k (ap (λ xs. slice_get xs k) (sym pushed) ∙ c)) [
+    elim (last_or now r w k (ap (λ xs. slice_get xs k) (sym pushed) ∙ c)) [
       | inl earlier ↦ so_far k m u w a b earlier
       | inr here ↦ (let place : k ≡ i = here.0 ∙ len in
           let numbers : Some n ≡ Some m = sym number ∙ (ap (slice_get row) (sym place) ∙ a) in
@@ -38,13 +38,10 @@ module _ (row : List ℕ) (i n most start before after cost : ℕ) (number : sli
   pub steps_more : after ≤ start + count_some (take (i + 1) row) * most
   steps_more =
       let step = step_of n none in
-      let more = ap (λ (k : ℕ). k * most) (sum_by_more some_one row i n (within_list row i n number)
+      let more = ap (λ (k : ℕ). k * most) (sum_by_more some_one row i n (slice_get_within row i n number)
       ∙ ap (λ (y : ℕ). count_some (take i row) + some_one y) (get_or_from_slice_get row i n n number)) in
-      let parts = sum_times (count_some (take i row)) (some_one n) most in
+      let parts = add-mul (count_some (take i row)) (some_one n) most in
       omega (arith, step, more, parts, so_far)
-    where
-      sum_times : (a b c : ℕ) → (a + b) * c ≡ a * c + b * c
-      sum_times a b c = grind arith
 
   pub steps_all : after ≤ start + count_some row * most
   steps_all =

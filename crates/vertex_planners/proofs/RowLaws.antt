@@ -5,11 +5,11 @@ use Rattle.std.proofs.Common.{refl, sym, ◌∙◌, ap, subst, arith}
 use Rattle.std.specs.Prelude.{slice_set}
 use Rattle.std.proofs.lemmas.Bool.Decides.{eqb_tells}
 use Rattle.std.proofs.lemmas.List.Sums.{sum_by-cons, sum_by-append, sum_by-set}
-use Rattle.std.proofs.lemmas.Option.{get_or_from_slice_get}
+use Rattle.std.proofs.lemmas.Option.{get_or_from_slice_get, slice_get_within}
+use Rattle.list_laws.proofs.Lists.{get_old, get_last, get_set, get_beside, set_length}
 use Rattle.vertex_planners.specs.declared.amounts.Amounts.{Amounts}
 use Rattle.vertex_planners.specs.Numbers.{kept_at, count_of, IsTaken}
 use Rattle.vertex_planners.specs.Rows.{count_all, some_one, count_some, IsRow}
-use Rattle.vertex_planners.proofs.PlaceLaws.{within_list, old_there, new_there, set_there, set_others, set_len}
 
 -- the numbers of the first i places are taken off
 pub record TakenSoFar (old now : List Amounts) (v i : ℕ) (row : List ℕ) : Type 0 where
@@ -47,7 +47,7 @@ module _ (old now next : List Amounts) (v i : ℕ) (row more : List ℕ) (amount
       slice_get now i ≡ Some amounts → next ≡ slice_set now i rest → IsTaken amounts rest v n → more ≡ row ++ n ∷ [] →
       TakenSoFar old next v (i + 1) more
   one_taken so_far at stored taken pushed =
-      let lt = within_list now i amounts at in
+      let lt = slice_get_within now i amounts at in
       let before = so_far.fewer in
       let one = taken.fewer in
       let some = kept_one (kept_at amounts v) n taken.was in
@@ -58,16 +58,16 @@ module _ (old now next : List Amounts) (v i : ℕ) (row more : List ℕ) (amount
       let last = sum_by-cons some_one n [] in
       let same_old : slice_get old i ≡ Some amounts = sym (so_far.later i (omega arith)) ∙ at in
       record {
-        len = ap length stored ∙ set_len now i rest ∙ so_far.len;
+        len = ap length stored ∙ set_length now i rest ∙ so_far.len;
         places = ap length pushed
             ∙ (let l = length-append row (n ∷ []) in let p = so_far.places in omega (arith, l, p));
         done = λ k a lk was. elim (eqb_tells k i) [
           | inl same ↦ (
             rest,
             n,
-            ap (slice_get next) same.1 ∙ ap (λ xs. slice_get xs i) stored ∙ set_there now i rest lt,
+            ap (slice_get next) same.1 ∙ ap (λ xs. slice_get xs i) stored ∙ get_set now i rest lt,
             ap (slice_get more) (same.1 ∙ sym so_far.places)
-                ∙ ap (λ xs. slice_get xs (length row)) pushed ∙ new_there row n,
+                ∙ ap (λ xs. slice_get xs (length row)) pushed ∙ get_last row n,
             (let is : amounts
                 ≡ a = (let both : Some amounts ≡ Some a = sym same_old ∙ sym (ap (slice_get old) same.1) ∙ was in cc) in
                 subst (λ (x : Amounts). IsTaken x rest v n) is taken),
@@ -76,14 +76,14 @@ module _ (old now next : List Amounts) (v i : ℕ) (row more : List ℕ) (amount
               (let (r, m, there, number, is) = so_far.done k a (let ne = differ.1 in omega (arith, lk, ne)) was in (
                 r,
                 m,
-                ap (λ xs. slice_get xs k) stored ∙ set_others now i k rest differ.1 ∙ there,
-                ap (λ xs. slice_get xs k) pushed ∙ old_there row n m k number,
+                ap (λ xs. slice_get xs k) stored ∙ get_beside now i k rest differ.1 ∙ there,
+                ap (λ xs. slice_get xs k) pushed ∙ get_old row n m k number,
                 is,
               ))
         ];
         later = λ k le.
             ap (λ xs. slice_get xs k) stored
-            ∙ set_others now i k rest (λ e. omega (arith, e, le)) ∙ so_far.later k (omega (arith, le));
+            ∙ get_beside now i k rest (λ e. omega (arith, e, le)) ∙ so_far.later k (omega (arith, le));
         fewer = omega (arith, before, one, some, kept, sums, here, numbers, last);
         less = λ k a lk was some_kept. elim (eqb_tells k i) [
           | inl same ↦ (let is : amounts
@@ -102,8 +102,9 @@ pub all_taken : (old now : List Amounts) (v i : ℕ) (row : List ℕ) →
 all_taken old now v i row so_far all = record {
   len = so_far.len;
   places = so_far.places ∙ all;
-  each = λ k amounts at. so_far.done k amounts (let lt = within_list old k amounts at in omega (arith, lt, all)) at;
+  each = λ k amounts at.
+      so_far.done k amounts (let lt = slice_get_within old k amounts at in omega (arith, lt, all)) at;
   fewer = so_far.fewer;
   less = λ (k, amounts, at, some).
-      so_far.less k amounts (let lt = within_list old k amounts at in omega (arith, lt, all)) at some;
+      so_far.less k amounts (let lt = slice_get_within old k amounts at in omega (arith, lt, all)) at some;
 }

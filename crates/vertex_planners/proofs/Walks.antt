@@ -1,18 +1,20 @@
 -- A walk over the vertices that have numbers, which changes their items one by one.
 use Rattle.std.proofs.Common.{◌≡◌, ◌≢◌, ℕ, ◌+◌, ◌*◌, ◌<◌, ◌≤◌, List, length, Option, Some, None, is_some, true≢false}
 use Rattle.std.proofs.Common.{unwrap_or, slice_get, IsSome, IfSome, IfNone, inl, inr, refl, sym, ◌∙◌, ap, subst, arith}
-use Rattle.std.proofs.Math.Nat.{mul-le-mul_right}
+use Rattle.std.proofs.Math.Nat.{add-mul, mul-add, mul-le-mul_right}
 use Rattle.std.proofs.lemmas.Bool.Decides.{eqb_tells}
+use Rattle.std.proofs.lemmas.Option.{slice_get_within}
 use Rattle.flux_defs.specs.declared.claims.Window.{Window}
 use Rattle.planner_points.specs.declared.spans.Span.{Span}
 use Rattle.flux_defs.specs.Digits.{dig}
+use Rattle.list_laws.proofs.Lists.{get_some}
 use Rattle.vertex_planners.specs.declared.amounts.Amounts.{Amounts}
 use Rattle.vertex_planners.specs.Numbers.{kept_at, amount_at}
 use Rattle.vertex_planners.specs.Rows.{count_all, count_some, HaveKeysBelow, IsLeft, IsGone, HasNoneLeft, IsRowTaken}
 use Rattle.vertex_planners.specs.Lists.{AreWide}
 use Rattle.vertex_planners.specs.Kept.{Gains, Loses, AtNumbers, AtRow, AtAmounts, AtPlaces}
 use Rattle.vertex_planners.specs.Work.{change_most, CostWithin}
-use Rattle.vertex_planners.proofs.PlaceLaws.{item_at, within_list, same_place, of_place, in_place}
+use Rattle.vertex_planners.proofs.PlaceLaws.{same_place, of_place, in_place}
 
 -- what the planners of one vertex become by its number at each place
 pub record AtVertex {P : Type 0}
@@ -91,9 +93,9 @@ module _ {P : Type 0} (Q : ℕ → P → P → Type 0) (old : List (List P)) (nu
     pub row_before : (R : ℕ → P → Type 0) → AreWide (length numbers) old →
         AtAmounts R numbers old → (x : List P) → slice_get now v ≡ Some x → AtNumbers R row x
     row_before R wide all x at k n p number there =
-        let lt : k < length numbers = (let in_row = within_list row k n number in
+        let lt : k < length numbers = (let in_row = slice_get_within row k n number in
         let places = w.places in let row_len = off.row_is.places in omega (arith, in_row, places, row_len)) in
-        let (amounts, of) = item_at numbers k lt in
+        let (amounts, of) = get_some numbers k lt in
         let (m, also, is) = number_is k amounts of in
         let both : Some m ≡ Some n = sym also ∙ number in
         let same : m ≡ n = cc in
@@ -182,10 +184,7 @@ module _ {P : Type 0} (Q : ℕ → P → P → Type 0) (old : List (List P)) (nu
       where
         times_more : (a b c d : ℕ) → a + b ≤ c → a * d + b * d ≤ c * d
         times_more a b c d le = let m = mul-le-mul_right d le in
-            let e : (a + b) * d ≡ a * d + b * d = grind arith in omega (arith, m, e)
-
-        parts : (a b c : ℕ) → a * (b + c) ≡ a * b + a * c
-        parts a b c = grind arith
+            let e = add-mul a b d in omega (arith, m, e)
 
         counts_down : (had has some look each start end all : ℕ) →
             has + some ≤ had → has < had → end ≤ start + (look + some * each) →
@@ -193,8 +192,8 @@ module _ {P : Type 0} (Q : ℕ → P → P → Type 0) (old : List (List P)) (nu
         counts_down had has some look each start end all fewer_numbers less one rest =
             let looks = times_more has 1 had look (omega (arith, less)) in
             let changes = times_more has some had each fewer_numbers in
-            let a = parts had look each in
-            let b = parts has look each in
+            let a = mul-add had look each in
+            let b = mul-add has look each in
             let c : 1 * look ≡ look = omega arith in
             omega (arith, looks, changes, a, b, c, one, rest)
 
@@ -213,7 +212,7 @@ module _ {P : Type 0} (Q : ℕ → P → P → Type 0) (old : List (List P)) (nu
 
     pub walk_ends : AreWide (length numbers) old → AtPlaces Q numbers old now
     walk_ends wide k amounts of v p r a b =
-        let lt = within_list numbers k amounts of in
+        let lt = slice_get_within numbers k amounts of in
         let (x, was, p_there) = of_place (length numbers) k lt old wide v p a in
         let (y, is, r_there) = of_place (length numbers) k lt now (still_wide wide) v r b in
         (w.done v x y was is (none v)).each k amounts p r of p_there r_there

@@ -1,11 +1,11 @@
 use Rattle.std.proofs.Common.{◌+◌, ◌<◌, ℕ, List, Some, length, sym, ◌∙◌, ap, subst, arith}
 use Rattle.flux_defs.specs.declared.vertices.Vertex.{Vertex}
 use Rattle.flux_defs.specs.Graph.{chain}
+use Rattle.list_laws.proofs.Lists.{get_some}
 use Rattle.graph_laws.proofs.Preorder.{parents_first}
 use Rattle.vertex_planners.specs.Numbers.{amount_at, HasKeysBelow}
 use Rattle.vertex_planners.specs.Chains.{sum_on, ParentsIn}
 use Rattle.vertex_planners.proofs.ClaimSums.{once_above, parents_in}
-use Rattle.vertex_planners.proofs.PlaceLaws.{item_at}
 use Rattle.vertex_planners.proofs.measures.raise_from.Goals as goal
 
 pub returns-clause-sums : goal.returns-clause-sums
@@ -33,7 +33,7 @@ returns-clause-few c = λ within.
     let g = c.args.graph.now.resources in
     let same = ap (λ (vs : List Vertex). length (chain vs (length vs) (Some c.args.vertex)))
     (c.items-vertices.ensures ∙ c.vertices.ensures.value) in
-    let (x, at) = item_at g.vertices c.args.vertex within in
+    let (x, at) = get_some g.vertices c.args.vertex within in
     let shallow = c.vertices.ensures.valid.valid.shallow c.args.vertex x at in
     let few = c.in_ok-raise.ensures.few in
     omega (arith, same, shallow, few)

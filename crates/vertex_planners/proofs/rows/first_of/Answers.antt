@@ -1,10 +1,9 @@
 use Rattle.std.proofs.Common.{◌≡◌, Some, length, inl, inr, refl, ap, sym, ◌∙◌, subst, arith, slice_get}
 use Rattle.std.proofs.lemmas.Bool.Decides.{eqb_tells}
-use Rattle.std.proofs.lemmas.Option.{slice_get_read}
+use Rattle.std.proofs.lemmas.Option.{slice_get_read, slice_get_within}
 use Rattle.vertex_planners.specs.declared.amounts.Amounts.{Amounts}
 use Rattle.vertex_planners.specs.Numbers.{kept_at}
 use Rattle.std.proofs.Common.{None}
-use Rattle.vertex_planners.proofs.PlaceLaws.{within_list}
 use Rattle.vertex_planners.proofs.rows.first_of.Goals as goal
 
 pub loop-amounts-preserved : goal.loop-amounts-preserved
@@ -23,5 +22,5 @@ loop-amounts-preserved c = record {
 
 pub returns-clause-none : goal.returns-clause-none
 returns-clause-none c = λ v k amounts at.
-    c.loop-amounts.invariant.none k amounts (let lt = within_list c.args.places.now k amounts at in
+    c.loop-amounts.invariant.none k amounts (let lt = slice_get_within c.args.places.now k amounts at in
     let past = c.loop-amounts-test.false in omega (arith, lt, past)) at v

@@ -8,7 +8,6 @@ use Rattle.planner_min_tree.specs.Plans as Plans
 use Rattle.planner_min_tree.specs.Plans.{Plan}
 use Rattle.vertex_accounts.specs.declared.books.Accounts.{Accounts}
 use Rattle.vertex_accounts.specs.Books.{AreAccounts, HasTotals, IsOnGraph, types_of}
-use Rattle.vertex_accounts.proofs.JoinLaws.{middle_of}
 use Rattle.book_state.specs.declared.held.Kept.{Kept}
 use Rattle.book_state.specs.Filtered.{Filtered}
 use Rattle.book_state.specs.Books.{graph_of, vertices_of, rules_of, rows_of, accounts_of, StandsFor}
@@ -16,6 +15,7 @@ use Rattle.book_state.proofs.BookLaws.{moved, moved_to, removed, split_at}
 use Rattle.book_state.proofs.TieLaws.{without_middle}
 use Rattle.book_state.proofs.ViewLaws.{accounts_at, change_at}
 use Rattle.flux_defs.specs.Digits.{dig}
+use Rattle.list_laws.proofs.Lists.{all_at_middle}
 use Rattle.book_state.proofs.held.BookState.after_remove.Goals as goal
 
 pub without_job-requires-clause-on_graph : goal.without_job-requires-clause-on_graph
@@ -24,7 +24,7 @@ without_job-requires-clause-on_graph g c =
     let (before, after, e) = split_at jobs c.args.job.now has in
     let y = subst (StandsFor c.args.self.now) e x in
     subst (λ (h : NamedGraph). IsOnGraph h.resources.vertices c.args.job.now) (sym c.graph-graph.ensures.value)
-    (middle_of (IsOnGraph (vertices_of c.args.self.now)) before c.args.job.now after y.accounts_are.on_graph)
+    (all_at_middle (IsOnGraph (vertices_of c.args.self.now)) before c.args.job.now after y.accounts_are.on_graph)
 
 pub without_job-requires-clause-there : goal.without_job-requires-clause-there
 without_job-requires-clause-there g c =

@@ -1,7 +1,7 @@
 use Rattle.std.proofs.Common.{◌<◌, arith}
+use Rattle.list_laws.proofs.Lists.{get_some}
 use Rattle.planner_points.specs.Spans.{HasRoom, IsLastBelow}
 use Rattle.vertex_planners.specs.Lists.{items_of}
-use Rattle.vertex_planners.proofs.PlaceLaws.{item_at}
 use Rattle.vertex_accounts.specs.Books.{counted_of}
 use Rattle.vertex_accounts.proofs.AskingLaws.{units_as, place_in}
 use Rattle.vertex_accounts.proofs.LittleLaws.{closed_or_enough, less_left}
@@ -9,7 +9,7 @@ use Rattle.vertex_accounts.proofs.books.Accounts.below_at.Goals as goal
 
 pub below_in-requires-clause-place : goal.below_in-requires-clause-place
 below_in-requires-clause-place g c =
-    let (q, of) = item_at (counted_of c.args.self.now).quantities c.args.place c.requires.place in
+    let (q, of) = get_some (counted_of c.args.self.now).quantities c.args.place c.requires.place in
     place_in c.args.graph.now.resources.vertices (counted_of c.args.self.now) (items_of c.args.self.now.planners)
     c.requires.graph c.args.vertex c.at-item.result.now c.at-item.ensures.item c.args.place q of
 

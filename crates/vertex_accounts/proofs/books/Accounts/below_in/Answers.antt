@@ -1,6 +1,6 @@
 use Rattle.std.proofs.Common.{arith}
+use Rattle.list_laws.proofs.Lists.{get_some}
 use Rattle.vertex_planners.specs.Lists.{items_of}
-use Rattle.vertex_planners.proofs.PlaceLaws.{item_at}
 use Rattle.vertex_accounts.specs.Books.{counted_of}
 use Rattle.vertex_accounts.proofs.AskingLaws.{below_here}
 use Rattle.vertex_accounts.proofs.books.Accounts.below_in.Goals as goal
@@ -14,7 +14,7 @@ returns-clause-last g c = λ vertices jobs q is of.
 
 pub returns-clause-work : goal.returns-clause-work
 returns-clause-work g c = λ n looks.
-    let (p, at) = item_at c.args.item.now c.args.place c.requires.place in
+    let (p, at) = get_some c.args.item.now c.args.place c.requires.place in
     let few = looks c.args.vertex c.args.place c.args.item.now p c.requires.item at in
     let work = c.last_below.ensures.work p at in
     omega (arith, few, work)

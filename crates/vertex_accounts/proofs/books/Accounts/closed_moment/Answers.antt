@@ -2,11 +2,11 @@ use Rattle.std.proofs.Common.{◌+◌, ◌-◌, ◌*◌, ◌≤◌, ℕ, List, S
 use Rattle.flux_defs.specs.declared.vertices.Vertex.{Vertex}
 use Rattle.flux_defs.specs.declared.claims.Job.{Job}
 use Rattle.flux_defs.specs.Graph.{chain, parent_of}
+use Rattle.list_laws.proofs.Lists.{get_some}
 use Rattle.graph_laws.proofs.Preorder.{parents_first}
 use Rattle.vertex_planners.specs.Chains.{ParentsIn}
 use Rattle.vertex_planners.specs.Lists.{items_of}
 use Rattle.vertex_planners.proofs.ClaimSums.{parents_in, parent_inside}
-use Rattle.vertex_planners.proofs.PlaceLaws.{item_at}
 use Rattle.vertex_accounts.specs.declared.quantities.Quantity.TheVariants.{Holds}
 use Rattle.vertex_accounts.specs.Costs.{look_most}
 use Rattle.vertex_accounts.specs.Books.{AreAccounts, counted_of}
@@ -75,7 +75,7 @@ returns-in-None-clause-work g c = λ n looks.
     (subst (λ (vs : List Vertex). c.held_up.new.steps ≤ c.below_in.new.steps + length (chain vs c.saturating_sub.result
     c.parent_in-above.result) * look_most (length vs) n) (c.items-vertices.ensures ∙ c.vertices.ensures.value)
     (c.held_up.ensures.work n looks)) in
-    let (x, at) = item_at vertices c.args.vertex c.requires.inside in
+    let (x, at) = get_some vertices c.args.vertex c.requires.inside in
     closed_work vertices c.args.vertex n c.args.steps.now c.below_in.new.steps c.held_up.new.steps c.requires.inside
     (c.vertices.ensures.valid.valid.shallow c.args.vertex x at)
     (c.below_in.ensures.work n looks)

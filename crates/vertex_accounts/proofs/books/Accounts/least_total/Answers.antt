@@ -1,10 +1,10 @@
 use Rattle.std.proofs.Common.{sym, ◌∙◌, subst, true≢false}
+use Rattle.list_laws.proofs.Lists.{get_some}
 use Rattle.book_laws.specs.Amounts.{capacity}
 use Rattle.graph_laws.proofs.Preorder.{parents_first}
 use Rattle.book_laws.proofs.Views.{NeverClosed, none_in_total, left_in_total}
 use Rattle.planner_points.specs.Spans.{IsLeastFree}
 use Rattle.vertex_planners.specs.Lists.{items_of}
-use Rattle.vertex_planners.proofs.PlaceLaws.{item_at}
 use Rattle.vertex_accounts.specs.Books.{counted_of}
 use Rattle.vertex_accounts.specs.Quantities.{part_count}
 use Rattle.book_laws.specs.Grouped.{grouped}
@@ -15,7 +15,7 @@ use Rattle.vertex_accounts.proofs.books.Accounts.least_total.Goals as goal
 
 pub least_in-least-requires-clause-place : goal.least_in-least-requires-clause-place
 least_in-least-requires-clause-place g c =
-    let (q, of) = item_at (counted_of c.args.self.now).quantities c.args.place c.requires.place in
+    let (q, of) = get_some (counted_of c.args.self.now).quantities c.args.place c.requires.place in
     place_in c.args.graph.now.resources.vertices (counted_of c.args.self.now) (items_of c.args.self.now.planners)
     c.requires.graph c.args.vertex c.at-item.result.now c.at-item.ensures.item c.args.place q of
 

@@ -1,7 +1,7 @@
 use Rattle.std.proofs.Common.{ℕ, ◌+◌, ◌*◌, slice_get, sym, ◌∙◌, ap, arith}
 use Rattle.flux_defs.specs.Digits.{dig}
+use Rattle.list_laws.proofs.Lists.{get_some}
 use Rattle.vertex_planners.specs.Lists.{items_of}
-use Rattle.vertex_planners.proofs.PlaceLaws.{item_at}
 use Rattle.vertex_accounts.specs.declared.counted.Counted.{Counted}
 use Rattle.vertex_accounts.specs.Books.{counted_of}
 use Rattle.vertex_accounts.proofs.AskingLaws.{place_in, first_here}
@@ -39,7 +39,7 @@ returns-clause-work g c = λ n looks.
     let inside =
     place_in c.args.graph.now.resources.vertices (counted_of c.args.self.now) (items_of c.args.self.now.planners)
     c.requires.graph 0 c.at-item.result.now c.at-item.ensures.item c.in-Some-place_of.place q of in
-    let (p, at) = item_at c.at-item.result.now c.in-Some-place_of.place inside in
+    let (p, at) = get_some c.at-item.result.now c.in-Some-place_of.place inside in
     let few = looks 0 c.in-Some-place_of.place c.at-item.result.now p c.at-item.ensures.item at in
     let look = c.first_free.ensures.work p at in
     let next = c.next_point.ensures.work in

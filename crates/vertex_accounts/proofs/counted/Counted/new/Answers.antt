@@ -1,7 +1,7 @@
 use Rattle.std.proofs.Common.{◌≡◌, List, ℕ, Some, option_copied, slice_get, sym, ◌∙◌, ap, subst, arith}
 use Rattle.std.proofs.Common.{None}
+use Rattle.std.proofs.lemmas.Option.{slice_get_within}
 use Rattle.prune_filters.specs.Filters.{IsCounted}
-use Rattle.vertex_planners.proofs.PlaceLaws.{within_list}
 use Rattle.vertex_accounts.specs.Counts.{IsPlaceAdded}
 use Rattle.vertex_accounts.proofs.CountLaws.{one_type, past_list}
 use Rattle.vertex_accounts.proofs.FewTypes.{few_kept}
@@ -25,7 +25,7 @@ returns-clause-kinds c = λ kind name at counted.
     let kinds = c.args.graph.now.resources.kinds in
     let none : slice_get kinds c.loop-name.kind ≡ None = sym c.kind_name.ensures ∙ ap option_copied c.in_default.is in
     let past = past_list kinds c.loop-name.kind none in
-    let inside = within_list kinds kind name at in
+    let inside = slice_get_within kinds kind name at in
     c.loop-name.invariant.places.counted kind name (omega (arith, past, inside)) at counted
 
 pub returns-clause-types : goal.returns-clause-types
