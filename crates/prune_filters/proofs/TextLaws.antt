@@ -1,10 +1,9 @@
 -- How a text falls into items, and an item into two types.
-use Rattle.std.proofs.Common.{◌≡◌, ◌≢◌, ℕ, ◌+◌, nat_lt, nat_le, nat_eq, true, false, ◌&&◌, List, [], ◌∷◌, ◌++◌, length}
-use Rattle.std.proofs.Common.{sum_by, inl, inr, refl, sym, ◌∙◌, ap, subst, arith, IsTrue, true≢false, cond}
+use Rattle.std.proofs.Common.{◌≡◌, ◌≢◌, ℕ, ◌+◌, nat_lt, nat_le, true, ◌&&◌, List, [], ◌∷◌, ◌++◌, length}
+use Rattle.std.proofs.Common.{sum_by, refl, sym, ◌∙◌, ap, subst, arith, IsTrue, true≢false, cond}
 use Rattle.std.proofs.Common.{append_assoc, Option, Some, None, MatchOption}
 use Rattle.std.specs.List.{AllByRecursion, AllZip, onto_first, list_all}
-use Rattle.std.proofs.lemmas.Bool.{and_parts}
-use Rattle.std.proofs.lemmas.Bool.Decides.{eqb_tells}
+use Rattle.std.proofs.lemmas.Bool.{and_parts, ne_eqb}
 use Rattle.std.proofs.lemmas.List.Sums.{sum_by_push}
 use Rattle.prune_filters.specs.declared.rules.Rule.{Rule}
 use Rattle.text_forms.specs.Cuts.{Lacks}
@@ -12,14 +11,11 @@ use Rattle.text_forms.specs.Names.{is_name_byte}
 use Rattle.prune_filters.specs.Names.{is_type_name, items_of}
 use Rattle.prune_filters.specs.Filters.{Spells, IsRule, IsFirstFault, AreRulesOf}
 
-unequal : (b c : ℕ) → b ≢ c → nat_eq b c ≡ false
-unequal b c ne = elim (eqb_tells b c) [ inl same ↦ absurd (ne same.1) | inr differ ↦ differ.0 ]
-
 -- a text without a comma is one item
 pub items_none : (text : List ℕ) → Lacks 44 text → items_of text ≡ text ∷ []
 items_none [] none = refl
 items_none (b ∷ bs) none =
-    ap (λ test. cond test ([] ∷ items_of bs) (onto_first b (items_of bs))) (unequal b 44 none.0)
+    ap (λ test. cond test ([] ∷ items_of bs) (onto_first b (items_of bs))) (ne_eqb b 44 none.0)
     ∙ ap (onto_first b) (items_none bs none.1)
 
 -- a comma ends the first item
@@ -27,7 +23,7 @@ pub items_cut : (item rest : List ℕ) → Lacks 44 item → items_of (item ++ 4
 items_cut [] rest none = refl
 items_cut (b ∷ bs) rest none =
     ap (λ test. cond test ([] ∷ items_of (bs ++ 44 ∷ rest)) (onto_first b (items_of (bs ++ 44 ∷ rest))))
-    (unequal b 44 none.0) ∙ ap (onto_first b) (items_cut bs rest none.1)
+    (ne_eqb b 44 none.0) ∙ ap (onto_first b) (items_cut bs rest none.1)
 
 -- a type's name has no colon
 no_colon_byte : (b : ℕ) → is_name_byte b ≡ true → b ≢ 58
