@@ -5,8 +5,8 @@ use Rattle.std.proofs.Common.{refl, sym, ◌∙◌, ap, subst, arith, nat_lt}
 use Rattle.std.specs.List.{list_any, AllByRecursion}
 use Rattle.std.specs.Option.{IsSomeAnd, option_map_or}
 use Rattle.std.specs.Prelude.{option_and_then}
-use Rattle.std.proofs.lemmas.Bool.{cases_lt, or_left, or_right}
-use Rattle.std.proofs.lemmas.Bool.Decides.{eqb_tells, nat_tests}
+use Rattle.std.proofs.lemmas.Bool.{cases_lt, or_left, or_right, lt-ltb, le-ltb}
+use Rattle.std.proofs.lemmas.Bool.Decides.{eqb_tells}
 use Rattle.std.proofs.lemmas.Option.{slice_get_past}
 use Rattle.std.proofs.lemmas.List.{get_or_default}
 use Rattle.std.proofs.lemmas.List.Folds.{list_any_at, list_any_none}
@@ -149,21 +149,15 @@ module _ (g : ResourceGraph) (names : List (List ℕ)) (valid : IsValidGraph g n
       nat_lt u past ≡ list_any (λ u. is_at_or_below g.vertices u v) barred
   below_some v past u p f =
       elim (cases_lt u past) [
-        | inl before ↦ (let there = f.there in is_less u past before
+        | inl before ↦ (let there = f.there in lt-ltb u past before
             ∙ sym (one_passes (λ u. is_at_or_below g.vertices u v) barred there.0 u there.1 there.2
             (p.covered u f.low before)))
-        | inr after ↦ not_less u past after ∙ sym (none_pass (λ u. is_at_or_below g.vertices u v) barred (λ i within h.
+        | inr after ↦ le-ltb u past after ∙ sym (none_pass (λ u. is_at_or_below g.vertices u v) barred (λ i within h.
             (let w = slice_index barred i in
             let lo : v ≤ w = below_le g.vertices (parents_first g valid.preorder) w v h in
             let hi : w < past = p.whole w (in_list g.vertices w (nodes i within)) h in
             let least : u ≤ w = f.least i within lo in omega arith)))
       ]
-    where
-      is_less : (a b : ℕ) → a < b → nat_lt a b ≡ true
-      is_less a b lt = grind (arith, nat_tests)
-
-      not_less : (a b : ℕ) → b ≤ a → nat_lt a b ≡ false
-      not_less a b le = grind (arith, nat_tests)
 
 -- a vertex with a rank is a node, and one without is none
 pub rank_node : (vertices : List Vertex) (v : ℕ) → is_some (rank_at vertices v) ≡ true → IsNode vertices v

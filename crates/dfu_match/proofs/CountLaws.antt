@@ -39,11 +39,6 @@ each_at P [] (suc i) need rest e v = absurd (cc)
 each_at P (n ∷ ns) zero need rest e v = let same : n ≡ need = cc in subst P same v.0
 each_at P (n ∷ ns) (suc i) need rest e v = each_at P ns i need rest e v.1
 
-pub amount_some : (vertices : List Vertex) (need : Need) → IsValidNeed vertices need → 1 ≤ amount_of need
-amount_some vertices (Vert' kind count hold m needs) v = v.0
-amount_some vertices (Pool kind quantity) v = v.0
-amount_some vertices (Spread' count m needs) v = v.0
-
 -- the needs inside a valid need
 pub valid_inside : (vertices : List Vertex) (kind count : ℕ) (hold : Bool) (needs : List Need) →
     IsValidNeed vertices (Vert kind count hold needs) → AreValidNeeds vertices needs

@@ -13,6 +13,7 @@ use Rattle.flux_defs.specs.Graph.{parent_of, is_at_or_below}
 use Rattle.flux_defs.specs.Jobs.{is_live, some_live_claim, holds_over, is_on_or_below}
 use Rattle.flux_defs.specs.Closed.{Scene, is_touched, IsClosedIn, IsTouchedIn}
 use Rattle.flux_defs.specs.Available.{IsAvailable}
+use Rattle.list_laws.proofs.Lists.{any_either}
 use Rattle.graph_laws.proofs.Containment.{ParentsFirst, up, up-None, steps_of, at_or_below, below_self, below_parent}
 use Rattle.graph_laws.proofs.Containment.{below_trans, not_to}
 use Rattle.graph_laws.proofs.Preorder.{has_parent}
@@ -24,22 +25,6 @@ pub above_inside : (vertices : List Vertex) →
     ParentsFirst vertices → (v p : ℕ) → parent_of vertices v ≡ Some p → p < length vertices
 above_inside vertices first v p e = let below = first v p e in
     let within = has_parent vertices v p e in omega (arith, below, within)
-
--- one of two tests passes where a third does
-any_either : {X : Type 0} (f g h : X → Bool) →
-    ((x : X) → IsTrue (f x) → IsTrue (g x) ⊎ IsTrue (h x)) → (xs : List X) → IsTrue (list_any f xs) →
-    IsTrue (list_any g xs) ⊎ IsTrue (list_any h xs)
-any_either f g h step [] t = absurd (true≢false (sym t))
-any_either f g h step (x ∷ xs) t = elim (or_cases (f x) (list_any f xs) t) [
-  | inl here ↦ elim (step x here) [
-    | inl a ↦ inl (or_left (g x) (list_any g xs) a)
-    | inr b ↦ inr (or_left (h x) (list_any h xs) b)
-  ]
-  | inr later ↦ elim (any_either f g h step xs later) [
-    | inl a ↦ inl (or_right (g x) (list_any g xs) a)
-    | inr b ↦ inr (or_right (h x) (list_any h xs) b)
-  ]
-]
 
 live_either : (f g h : Claim → Bool) → ((c : Claim) → IsTrue (f c) → IsTrue (g c) ⊎ IsTrue (h c)) →
     (jobs : List Job) (m : ℕ) → IsTrue (some_live_claim jobs m f) →

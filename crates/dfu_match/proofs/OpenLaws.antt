@@ -24,7 +24,7 @@ use Rattle.dfu_match.specs.Walks.{IsParentFrom, ServesNone}
 use Rattle.dfu_match.specs.Pairs.{IsOpenFor, IsClear, IsClearScope, IsClearBetween, IsClearBefore, IsSpanOf}
 use Rattle.list_laws.proofs.Lists.{all_along}
 use Rattle.match_laws.proofs.NeedLists.{server}
-use Rattle.dfu_match.proofs.CountLaws.{amount_some}
+use Rattle.prune_laws.proofs.Demanded.{amount_some}
 use Rattle.dfu_match.proofs.DemandLaws.{demand_Vert, demand_Spread}
 
 module _ (g : ResourceGraph) (names : List (List ℕ)) (valid : IsValidGraph g names) where

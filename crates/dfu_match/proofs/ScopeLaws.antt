@@ -1,12 +1,12 @@
 -- Which vertices are in a scope, and of a need.
 use Rattle.std.proofs.Common.{◌≡◌, ◌≢◌, ℕ, zero, suc, ◌+◌, ◌<◌, ◌≤◌, ◌==◌, ◌&&◌, ◌↔◌, Bool, true, List, [], ◌∷◌, length}
-use Rattle.std.proofs.Common.{Option, Some, None, slice_get, is_some, inl, inr, refl, sym, ◌∙◌, ap, subst, arith}
-use Rattle.std.proofs.Common.{IsTrue, true≢false}
+use Rattle.std.proofs.Common.{Option, Some, None, slice_get, is_some, refl, sym, ◌∙◌, ap, subst, arith}
+use Rattle.std.proofs.Common.{IsTrue}
 use Rattle.std.specs.Prelude.{codes, IsSome}
 use Rattle.std.specs.Option.{IsSomeAnd}
 use Rattle.std.specs.List.{list_any}
-use Rattle.std.proofs.lemmas.Bool.{cases_lt, and_parts, and_from, or_cases, or_left, or_right}
-use Rattle.std.proofs.lemmas.Option.{slice_get_past}
+use Rattle.std.proofs.lemmas.Bool.{and_parts, and_from, or_left, or_right}
+use Rattle.std.proofs.lemmas.Option.{slice_get_within}
 use Rattle.flux_defs.specs.declared.vertices.Vertex.{Vertex}
 use Rattle.flux_defs.specs.declared.claims.Claim.{Claim}
 use Rattle.flux_defs.specs.declared.requests.Need.{Need}
@@ -17,8 +17,10 @@ use Rattle.flux_defs.specs.Lowest.{CanServe}
 use Rattle.graph_laws.proofs.Containment.{below_le, below_from, below_to, equal_to, equal_from}
 use Rattle.graph_laws.proofs.Preorder.{parents_first}
 use Rattle.resource_graph.specs.Tables.{IsPast, IsNamedKind}
+use Rattle.resource_graph.proofs.Values.{value_of, from_value}
 use Rattle.match_laws.proofs.Walk.{NoneBetween}
 use Rattle.match_laws.proofs.NeedLists.{server}
+use Rattle.prune_laws.proofs.Demanded.{any_item, in_graph}
 use Rattle.dfu_match.specs.Searches.{Covers, IsKindOfNeed}
 use Rattle.dfu_match.specs.Tables.{IsNodesKind}
 use Rattle.dfu_match.specs.Walks.{ServesNone}
@@ -102,16 +104,7 @@ module _ (g : ResourceGraph) (names : List (List ℕ)) (valid : IsValidGraph g n
       at_vertex None k = elim k [ ]
       at_vertex (Some y) k = never y.kind k
 
--- an item of which a test holds, and so back
-any_item : (test : Vertex → Bool) (xs : List Vertex) → IsTrue (list_any test xs) →
-    (i : ℕ) × (x : Vertex) × (slice_get xs i ≡ Some x) × IsTrue (test x)
-any_item test [] h = absurd (true≢false (sym h))
-any_item test (x ∷ xs) h =
-    elim (or_cases (test x) (list_any test xs) h) [
-      | inl here ↦ (0, x, refl, here)
-      | inr later ↦ (let r = any_item test xs later in (suc r.0, r.1, r.2, r.3))
-    ]
-
+-- a test holds of an item of the list
 item_any : (test : Vertex → Bool) (xs : List Vertex) (i : ℕ) (x : Vertex) → slice_get xs i ≡ Some x → IsTrue (test x) →
     IsTrue (list_any test xs)
 item_any test [] i x e h = absurd (cc)
@@ -119,61 +112,43 @@ item_any test (y ∷ ys) zero x e h =
     let same : y ≡ x = cc in or_left (test y) (list_any test ys) (subst (λ (z : Vertex). IsTrue (test z)) (sym same) h)
 item_any test (y ∷ ys) (suc i) x e h = or_right (test y) (list_any test ys) (item_any test ys i x e h)
 
-the_vertex : (P : Vertex → Type 0) (o : Option Vertex) → IsSomeAnd o P → (x : Vertex) × (o ≡ Some x) × P x
-the_vertex P None h = elim h [ ]
-the_vertex P (Some x) h = (x, refl, h)
-
-at_vertex : (P : Vertex → Type 0) (o : Option Vertex) (x : Vertex) → o ≡ Some x → P x → IsSomeAnd o P
-at_vertex P o x e p = subst (λ (y : Option Vertex). IsSomeAnd y P) (sym e) p
-
 module _ (g : ResourceGraph) (names : List (List ℕ)) (valid : IsValidGraph g names) where
   -- the type called node is the kind of nodes
   pub nodes_told : (nodes : Option ℕ) → IsNamedKind g (codes "node") nodes → IsNodesKind g.vertices nodes
   nodes_told None none kind = (
     λ t. absurd (let r = any_item (λ x. (x.kind == kind) && is_some x.rank) g.vertices t in
-        no_node g names valid none r.0 (at_vertex (λ x. is_some x.rank ≡ true) (slice_get g.vertices r.0) r.1 r.2
+        no_node g names valid none r.0 (from_value (slice_get g.vertices r.0) (λ x. is_some x.rank ≡ true) r.1 r.2
         (and_parts (r.1.kind == kind) (is_some r.1.rank) r.3).1)),
     λ e. absurd (cc),
   )
   nodes_told (Some k) is kind = (
     λ t. (let r = any_item (λ x. (x.kind == kind) && is_some x.rank) g.vertices t in
         let b = and_parts (r.1.kind == kind) (is_some r.1.rank) r.3 in
-        let node = at_vertex (λ x. is_some x.rank ≡ true) (slice_get g.vertices r.0) r.1 r.2 b.1 in
-        let own = the_vertex (λ x. x.kind ≡ k) (slice_get g.vertices r.0) ((node_kind g names valid k is r.0).0 node) in
+        let node = from_value (slice_get g.vertices r.0) (λ x. is_some x.rank ≡ true) r.1 r.2 b.1 in
+        let own = value_of (slice_get g.vertices r.0) (λ x. x.kind ≡ k) ((node_kind g names valid k is r.0).0 node) in
         let same : own.0 ≡ r.1 = (let both : Some own.0 ≡ Some r.1 = sym own.1 ∙ r.2 in cc) in
         let first : r.1.kind ≡ k = ap (λ x. x.kind) (sym same) ∙ own.2 in
         ap Some (sym first ∙ equal_to r.1.kind kind b.0)),
     λ e. (let same : k ≡ kind = cc in
-        let used = valid.kinds.used k (within k is) in
-        let node = the_vertex (λ x. is_some x.rank ≡ true) (slice_get g.vertices used.0)
+        let used = valid.kinds.used k (slice_get_within g.kinds k (codes "node") is) in
+        let node = value_of (slice_get g.vertices used.0) (λ x. is_some x.rank ≡ true)
         ((node_kind g names valid k is used.0).1 used.1) in
-        let own = the_vertex (λ x. x.kind ≡ k) (slice_get g.vertices used.0) used.1 in
+        let own = value_of (slice_get g.vertices used.0) (λ x. x.kind ≡ k) used.1 in
         let one : own.0 ≡ node.0 = (let both : Some own.0 ≡ Some node.0 = sym own.1 ∙ node.1 in cc) in
         item_any (λ x. (x.kind == kind) && is_some x.rank) g.vertices used.0 node.0 node.1
         (and_from (node.0.kind == kind) (is_some node.0.rank)
         (equal_from node.0.kind kind (ap (λ x. x.kind) (sym one) ∙ (own.2 ∙ same))) node.2)),
   )
-    where
-      within : (k : ℕ) → slice_get g.kinds k ≡ Some (codes "node") → k < length g.kinds
-      within k e = elim (cases_lt k (length g.kinds)) [
-        | inl lt ↦ lt
-        | inr past ↦ absurd (let none : slice_get g.kinds k ≡ None = slice_get_past g.kinds k past in
-            let clash : None ≡ Some (codes "node") = sym none ∙ e in cc)
-      ]
 
 module _ (vertices : List Vertex) (ok : Claim → Type 0) (scope : Scope) (need : Need) where
   abbrev can : ℕ → ℕ → Type 0
   can = CanServe vertices ok scope need
 
-  in_graph : (p : Scope) (v : ℕ) → IsIn vertices p v → v < length vertices
-  in_graph Everywhere v h = h
-  in_graph (Beneath u) v h = h.0
-
   -- no vertex before the scope serves
   pub none_before : (from to : ℕ) → Covers vertices scope from to → NoneBetween can 0 from
   none_before from to cover v q lo hi some c =
       let s = server vertices ok scope need v q c in
-      let within : from ≤ v = ((cover v (in_graph scope v s.1)).0 s.1).0 in omega arith
+      let within : from ≤ v = ((cover v (in_graph vertices scope v s.1)).0 s.1).0 in omega arith
 
   -- nor one that the walk passes over
   pub none_skipped : (at v : ℕ) → ServesNone vertices ok need at v → NoneBetween can at v
@@ -184,7 +159,7 @@ module _ (vertices : List Vertex) (ok : Claim → Type 0) (scope : Scope) (need 
       (v q : ℕ) → at ≤ v → 1 ≤ q → can v q → ⊥
   none_after from at to cover none v q lo some c =
       let s = server vertices ok scope need v q c in
-      none scope v q lo ((cover v (in_graph scope v s.1)).0 s.1).1 some c
+      none scope v q lo ((cover v (in_graph vertices scope v s.1)).0 s.1).1 some c
 
   -- nor any where the need has no kind
   pub none_at_all : IsKindOfNeed vertices need None → (v q : ℕ) → can v q → ⊥

@@ -1,6 +1,6 @@
 -- How many steps a search takes: of a walk over the vertices of a need, and of the needs of a list.
 use Rattle.std.proofs.Common.{◌≡◌, ◌≢◌, ℕ, zero, suc, ◌+◌, ◌-◌, ◌*◌, ◌<◌, ◌≤◌, Bool, List, [], ◌∷◌, append-nil, inl}
-use Rattle.std.proofs.Common.{inr, Option, Some, None, length, length-append, take, drop, get_or, slice_get, refl, sym}
+use Rattle.std.proofs.Common.{inr, Option, Some, None, length, length-append, take, drop, get_or, refl, sym}
 use Rattle.std.proofs.Common.{ap, subst, arith}
 use Rattle.std.specs.Prelude.{Contains, IfSome, IfNone, MatchOption}
 use Rattle.std.specs.List.{AllByRecursion}
@@ -15,6 +15,8 @@ use Rattle.flux_defs.specs.Needs.{HasNoSpread, IsValidNeed}
 use Rattle.graph_laws.proofs.Containment.{below_le, below_to}
 use Rattle.graph_laws.proofs.Preorder.{parents_first}
 use Rattle.std.proofs.lemmas.Bool.{cases_lt}
+use Rattle.std.proofs.lemmas.Option.{slice_get_within}
+use Rattle.list_laws.proofs.Lists.{contains_more, get_some}
 use Rattle.flux_laws.proofs.Rows.{no_spread_to_list}
 use Rattle.resource_graph.specs.Tables.{IsPast}
 use Rattle.prune_filters.specs.Shorts.{IsShortFor}
@@ -300,20 +302,17 @@ every_length (suc m) n =
     let c = every_length m n in
     omega (arith, b, c)
 
-there_next : (x p : Pair) (xs : List Pair) → Contains xs p → Contains (x ∷ xs) p
-there_next x p xs there = (suc there.0, (let lt : there.0 < length xs = there.1 in omega arith), there.2)
-
 there_later : (place n : ℕ) (rest : List Pair) (p : Pair) → Contains rest p → Contains (pairs_at place n rest) p
 there_later place zero rest p there = there
 there_later place (suc n) rest p there =
-    there_next (record { place = place; vertex = n }) p (pairs_at place n rest) (there_later place n rest p there)
+    contains_more (record { place = place; vertex = n }) (pairs_at place n rest) p (there_later place n rest p there)
 
 there_at : (place n v : ℕ) (rest : List Pair) → v < n →
     Contains (pairs_at place n rest) (record { place = place; vertex = v })
 there_at place zero v rest lt = absurd (omega arith)
 there_at place (suc n) v rest lt = elim (cases_lt v n) [
-  | inl less ↦ there_next (record { place = place; vertex = n }) (record { place = place; vertex = v })
-      (pairs_at place n rest) (there_at place n v rest less)
+  | inl less ↦ contains_more (record { place = place; vertex = n }) (pairs_at place n rest)
+      (record { place = place; vertex = v }) (there_at place n v rest less)
   | inr same ↦ (
       let e : n ≡ v = omega arith in
       let is : record { place = place; vertex = n } ≡ record { place = place; vertex = v } =
@@ -336,19 +335,9 @@ every_there (suc m) n place v lt hi = elim (cases_lt place m) [
 pub every_open : (vertices : List Vertex) (jobs : List Job) (w : Window) (keeps : ℕ → ℕ → Type 0) (all : List Need) →
     HasEachOpen vertices jobs w keeps all (every_pair (length all) (length vertices))
 every_open vertices jobs w keeps all place v need at lt opens =
-    every_there (length all) (length vertices) place v (within place all need at) lt
-  where
-    within : (i : ℕ) (xs : List Need) (x : Need) → slice_get xs i ≡ Some x → i < length xs
-    within i [] x e = absurd (cc)
-    within zero (y ∷ ys) x e = omega arith
-    within (suc i) (y ∷ ys) x e = let r = within i ys x e in omega (arith, r)
+    every_there (length all) (length vertices) place v (slice_get_within all place need at) lt
 
 -- the root is open for each need
-there_is : (xs : List Need) (k : ℕ) → k < length xs → (x : Need) × (slice_get xs k ≡ Some x)
-there_is [] k lt = absurd (omega arith)
-there_is (x ∷ xs) zero lt = (x, refl)
-there_is (x ∷ xs) (suc k) lt = there_is xs k (omega arith)
-
 roots_open : (g : ResourceGraph) (names : List (List ℕ)) → IsValidGraph g names → (jobs : List Job) (w : Window)
     (keeps : ℕ → ℕ → Type 0) (all : List Need) (pairs : List Pair) →
     HasEachOpen g.vertices jobs w keeps all pairs → (k : ℕ) → k ≤ length all → k ≤ count_among 0 k 0 1 pairs
@@ -356,7 +345,7 @@ roots_open g names valid jobs w keeps all pairs has zero le = omega arith
 roots_open g names valid jobs w keeps all pairs has (suc k) le =
     let first = parents_first g valid.preorder in
     let before = roots_open g names valid jobs w keeps all pairs has k (omega arith) in
-    let need = there_is all k (omega arith) in
+    let need = get_some all k (omega arith) in
     let here = count_here k 0 pairs (has k 0 need.0 need.1 valid.preorder.some (λ u below is.
     let b = below_to g.vertices first 0 u below in
     let le' = below_le g.vertices first 0 u b.0 in

@@ -2,7 +2,6 @@
 use Rattle.std.proofs.Common.{◌≡◌, ℕ, ◌*◌, ◌≤◌, Bool, true, false, List, [], ◌∷◌, ◌++◌, refl, sym, ◌∙◌, ap, subst}
 use Rattle.std.proofs.Common.{arith, append_assoc, append-nil, take, length}
 use Rattle.std.proofs.Math.Seq.{take-append_seam}
-use Rattle.std.proofs.Math.Nat.{mul-le-mul}
 use Rattle.flux_defs.specs.declared.vertices.Vertex.{Vertex}
 use Rattle.flux_defs.specs.declared.claims.Claim.{Claim}
 use Rattle.flux_defs.specs.declared.claims.Claim.TheVariants.{Hold}
@@ -33,10 +32,6 @@ extends_none old P p = ([], sym (append-nil old), p)
 
 pub extends_twice : (old mid new a b : List Claim) → mid ≡ old ++ a → new ≡ mid ++ b → new ≡ old ++ (a ++ b)
 extends_twice old mid new a b e f = f ∙ (ap (λ x. x ++ b) e ∙ append_assoc old a b)
-
--- an amount of a scaled need is some
-pub some_scaled : (k amount : ℕ) → 1 ≤ k → 1 ≤ amount → 1 ≤ k * amount
-some_scaled k amount p q = mul-le-mul p q
 
 -- cut back to what stood before, the list is as it was
 pub cut_back : (old new more : List Claim) → new ≡ old ++ more → take (length old) new ≡ old

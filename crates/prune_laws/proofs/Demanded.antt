@@ -2,8 +2,7 @@
 use Rattle.std.proofs.Common.{◌≡◌, ◌≢◌, ℕ, zero, suc, ◌+◌, ◌-◌, ◌*◌, ◌<◌, ◌≤◌, ◌==◌, nat_eq, nat_le, Bool, true, false}
 use Rattle.std.proofs.Common.{not, ◌&&◌, ◌||◌, if◌then◌else◌, List, [], ◌∷◌, length, Option, Some, None, slice_get}
 use Rattle.std.proofs.Common.{is_some, inl, inr, refl, sym, ◌∙◌, ap, subst, arith, IsTrue, true≢false}
-use Rattle.std.specs.Prelude.{IsSome}
-use Rattle.std.specs.List.{AllByRecursion, list_any, sum_by, enumerate_from}
+use Rattle.std.specs.List.{AllByRecursion, list_any}
 use Rattle.std.specs.Option.{IsSomeAnd, option_map_or}
 use Rattle.std.proofs.Math.Nat.{mul-le-mul, mul-le-mul_right}
 use Rattle.std.proofs.lemmas.Bool.{and_parts, or_cases, or_left, or_right}
@@ -27,10 +26,10 @@ use Rattle.flux_defs.specs.Needs.{amount_of, IsOfNeed, HasNoSpread, HaveNoSpread
 use Rattle.flux_defs.specs.Needs.{AreValidRow}
 use Rattle.flux_defs.specs.Fits.{Pick, served, AreDistinct, Pieces, Piece, Fits, FitsRow}
 use Rattle.graph_laws.proofs.Containment.{below_trans, below_le, below_parent, below_self, below_from, below_to}
-use Rattle.graph_laws.proofs.Containment.{equal_to, equal_from, not_from, not_to}
+use Rattle.graph_laws.proofs.Containment.{equal_to, equal_from, not_to}
 use Rattle.graph_laws.proofs.Preorder.{parents_first}
-use Rattle.flux_laws.proofs.Groups.{AreDisjoint, AtOrBelow, IsOfPicks, IsRootOf, picks_disjoint, siblings_disjoint}
-use Rattle.flux_laws.proofs.Groups.{piece_vertex, disjoint_sym}
+use Rattle.flux_laws.proofs.Groups.{AreDisjoint, IsOfPicks, IsRootOf, picks_disjoint, siblings_disjoint}
+use Rattle.flux_laws.proofs.Groups.{piece_vertex}
 use Rattle.flux_laws.proofs.Valid.{nodes_alike, none_nested}
 use Rattle.flux_laws.proofs.Rows.{fits_list, valid_to_row}
 use Rattle.list_laws.proofs.Tests.{false_from}
@@ -108,7 +107,7 @@ module _ (vertices : List Vertex) (kind : ℕ) where
       ∙ ap (needs_demand vertices kind) (items_hidden-the_row-Need-0 needs)
 
 -- an item of which a test holds
-any_item : (test : Vertex → Bool) (xs : List Vertex) → IsTrue (list_any test xs) →
+pub any_item : (test : Vertex → Bool) (xs : List Vertex) → IsTrue (list_any test xs) →
     (i : ℕ) × (x : Vertex) × (slice_get xs i ≡ Some x) × IsTrue (test x)
 any_item test [] h = absurd (true≢false (sym h))
 any_item test (x ∷ xs) h =
@@ -128,17 +127,14 @@ the_item : (P : Vertex → Type 0) (o : Option Vertex) → IsSomeAnd o P → (x 
 the_item P None h = elim h [ ]
 the_item P (Some x) h = (x, refl)
 
-in_graph : (vertices : List Vertex) (scope : Scope) (v : ℕ) → IsIn vertices scope v → v < length vertices
+pub in_graph : (vertices : List Vertex) (scope : Scope) (v : ℕ) → IsIn vertices scope v → v < length vertices
 in_graph vertices Everywhere v h = h
 in_graph vertices (Beneath u) v h = h.0
 
-amount_some : (vertices : List Vertex) (need : Need) → IsValidNeed vertices need → 1 ≤ amount_of need
+pub amount_some : (vertices : List Vertex) (need : Need) → IsValidNeed vertices need → 1 ≤ amount_of need
 amount_some vertices (Vert' kind count hold m needs) v = v.0
 amount_some vertices (Pool kind quantity) v = v.0
 amount_some vertices (Spread' count m needs) v = v.0
-
-mul_some : (k amount : ℕ) → 1 ≤ k → 1 ≤ amount → 1 ≤ k * amount
-mul_some k amount p q = mul-le-mul p q
 
 module _ (g : ResourceGraph) (names : List (List ℕ)) (valid : IsValidGraph g names) where
   abbrev vs : List Vertex
@@ -397,7 +393,7 @@ module _ (g : ResourceGraph) (names : List (List ℕ)) (valid : IsValidGraph g n
       row_cover k some scope end_of-Need s cs f = covered_none (IsRootOf vs first unnested end_of-Need) scope
       row_cover k some scope (more_of-Need need rest) s cs f =
           let group = group_cover scope need (k * amount_of need)
-          (mul_some k (amount_of need) some (amount_some vs need s.0)) f.3.0 f.3.3
+          (mul-le-mul some (amount_some vs need s.0)) f.3.0 f.3.3
           (pieces_cover scope need (piece_total scope need s.0) f.3.0 f.0 f.3.1 f.3.2 f.3.4) in
           covered_both (IsOfPicks vs first unnested ok need f.3.0) (IsRootOf vs first unnested rest)
           (IsRootOf vs first unnested (more_of-Need need rest)) scope (demand vs kind (k * amount_of need) need)

@@ -13,6 +13,7 @@ use Rattle.match_laws.proofs.Walk.{reached_start, reached_over, reached_next, re
 use Rattle.match_laws.proofs.NeedLists.{greatest_along, group_to, group_from}
 use Rattle.match_laws.proofs.ViewLaws.{available_take}
 use Rattle.match_laws.proofs.Sizes.{size_Vert, size_Spread, size_item}
+use Rattle.prune_laws.proofs.Demanded.{amount_some}
 use Rattle.dfu_match.specs.Searches.{open_to, meets, scope_of}
 use Rattle.dfu_match.proofs.ScopeLaws.{none_before, none_skipped, none_after, none_at_all, found}
 use Rattle.dfu_match.specs.Tables.{needs_all}
@@ -89,7 +90,7 @@ copies-whole_times-best-requires-clause-some g t c =
     c.need-item.is in
     let valid : AreValidNeeds c.args.s.now.graph.now.resources.vertices items = rw c.items-need-items.ensures
     c.requires.valid in
-    rw c.amount-amount.ensures (laws.amount_some c.args.s.now.graph.now.resources.vertices need
+    rw c.amount-amount.ensures (amount_some c.args.s.now.graph.now.resources.vertices need
     (laws.valid_at c.args.s.now.graph.now.resources.vertices items i need (drop (i + 1) items) split valid))
 
 pub copies-returns-then-best-eq0-clause-greatest : goal.copies-returns-then-best-eq0-clause-greatest

@@ -1,6 +1,7 @@
 use Rattle.std.proofs.Common.{arith, rules, ◌≡◌, ◌+◌, ◌*◌, ◌-◌, ◌<◌, ◌≤◌, List, [], ◌∷◌, ◌++◌, length, take, drop}
 use Rattle.std.proofs.Common.{append-nil, refl, sym, ◌∙◌, inl, inr, true≢false}
 use Rattle.std.proofs.lemmas.List.{drop_all}
+use Rattle.std.proofs.Math.Nat.{mul-le-mul}
 use denote.Param.Weighed.{most}
 use Rattle.flux_defs.specs.declared.claims.Claim.{Claim}
 use Rattle.flux_defs.specs.declared.claims.Claim.TheVariants.{Take, Hold, Pass}
@@ -14,6 +15,7 @@ use Rattle.match_laws.proofs.Walk.{filled_start, filled_over, filled_next, fille
 use Rattle.match_laws.proofs.Walk.{lacks_over, lacks_end}
 use Rattle.match_laws.proofs.NeedLists.{group_to, group_at, completes_next, completes_end}
 use Rattle.match_laws.proofs.Sizes.{size_Vert, size_Spread, size_item}
+use Rattle.prune_laws.proofs.Demanded.{amount_some}
 use Rattle.dfu_match.specs.Searches.{open_to, scope_of}
 use Rattle.dfu_match.proofs.ScopeLaws.{none_before, none_skipped, none_after, none_at_all, found}
 use Rattle.dfu_match.specs.Tables.{needs_all}
@@ -220,7 +222,7 @@ write_group-returns-in_default-clause-written g t c =
     let never = none_at_all vs ok scope need c.in_default.ensures in
     filled_none _ (serves_less vs ok (takes_less _ _) scope need) (λ v q cs. ⊥) (c.args.k * amount_of need) 0
     (c.args.k * amount_of need) [] (λ v q lo h can. never v q can)
-    (laws.some_scaled c.args.k (amount_of need) c.requires.some (counts.amount_some vs need c.requires.valid))
+    (mul-le-mul c.requires.some (amount_some vs need c.requires.valid))
     (filled_start _ _ (c.args.k * amount_of need) 0 (λ v q lo hi h can. never v q can))
     (group_to vs ok scope need (c.args.k * amount_of need) some))
 
