@@ -2,20 +2,18 @@
 use Rattle.std.proofs.Common.{◌≡◌, ℕ, zero, suc, ◌<◌, ◌≤◌, nat_le, List, [], ◌∷◌, length, refl, sym, ◌∙◌, ap, arith}
 use Rattle.std.proofs.Common.{cond, inl, inr, slice_set, insert, remove, get_or}
 use Rattle.std.proofs.lemmas.Bool.{cases_lt}
+use Rattle.planner_points.proofs.Ends.{if_le, if_gt}
 use Rattle.planner_min_tree.specs.declared.points.Point.{Point}
 use Rattle.planner_min_tree.specs.declared.marking.Mark.{Mark}
 use Rattle.planner_min_tree.specs.Points.{count_before}
 use Rattle.planner_min_tree.specs.Marks.{added, fresh, lessened, marked, unmarked}
-use Rattle.planner_min_tree.proofs.Dips.{if_le, if_gt}
+use Rattle.planner_min_tree.proofs.Keeps.{marked_on, unmarked_on}
 
 count_past : (t : ℕ) (p : Point) (ps : List Point) → p.time < t → count_before t (p ∷ ps) ≡ suc (count_before t ps)
 count_past t p ps lt = if_le {a = suc p.time} {b = t} _ _ lt
 
 count_here : (t : ℕ) (p : Point) (ps : List Point) → t ≤ p.time → count_before t (p ∷ ps) ≡ 0
 count_here t p ps ge = if_gt {a = suc p.time} {b = t} _ _ (omega arith)
-
-marked_on : (d : Mark) (q : Point) (ps : List Point) → q.time < d.time → marked d (q ∷ ps) ≡ q ∷ marked d ps
-marked_on d q ps lt = if_le {a = suc q.time} {b = d.time} _ _ lt
 
 -- the point at the place has the mark's time
 pub marks_here : (d : Mark) (ps : List Point) (at : ℕ) (p : Point) → at ≡ count_before d.time ps → at < length ps →
@@ -88,9 +86,6 @@ marks_again d ps at z p q c l t g e =
     swap_set ps at q l ∙ ap (λ u. slice_set ps at u) e ∙ marks_here d ps at p c l g time
 
 pub ruleset mark_facts = (marks_last, marks_other, marks_again)
-
-unmarked_on : (d : Mark) (q : Point) (ps : List Point) → q.time < d.time → unmarked d (q ∷ ps) ≡ q ∷ unmarked d ps
-unmarked_on d q ps lt = if_le {a = suc q.time} {b = d.time} _ _ lt
 
 -- no point has the mark's time
 pub unmarks_nothing : (d : Mark) (ps : List Point) (at : ℕ) → at ≡ count_before d.time ps →

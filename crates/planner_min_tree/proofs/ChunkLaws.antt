@@ -4,6 +4,7 @@ use Rattle.std.proofs.Common.{append-nil, inl, inr, Some, slice_get}
 use Rattle.std.proofs.lemmas.Bool.{cases_lt}
 use Rattle.balanced_tree.specs.declared.edits.Edit.{Edit}
 use Rattle.balanced_tree.specs.Edits.{edited, made}
+use Rattle.planner_points.proofs.Ends.{if_le, if_gt}
 use Rattle.planner_min_tree.specs.declared.points.Point.{Point}
 use Rattle.planner_min_tree.specs.declared.marking.Mark.{Mark}
 use Rattle.planner_min_tree.specs.declared.marking.Change.{Change}
@@ -11,7 +12,6 @@ use Rattle.planner_min_tree.specs.declared.marking.Change.TheVariants.{More, Les
 use Rattle.planner_min_tree.specs.Points.{latest_of}
 use Rattle.planner_min_tree.specs.Chunks.{flat, AreFilled, chunk_at}
 use Rattle.planner_min_tree.specs.Marks.{added, fresh, lessened, marked, unmarked, changed, time_of}
-use Rattle.planner_min_tree.proofs.Dips.{if_le, if_gt}
 use Rattle.planner_min_tree.proofs.TwoSides.{flat_append}
 
 -- a change later than all of a list leaves the list

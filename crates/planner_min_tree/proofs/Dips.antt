@@ -1,9 +1,9 @@
 -- What two lists of points, one after the other, do to a number.
-use Rattle.std.proofs.Common.{◌≡◌, ℕ, suc, ◌+◌, ◌-◌, ◌^◌, ◌<◌, ◌≤◌, min, max, nat_le, List, [], ◌∷◌, ◌++◌, length, Some}
-use Rattle.std.proofs.Common.{None, refl, sym, ◌∙◌, ap, arith, cond, inl, inr, get_or, take, drop}
+use Rattle.std.proofs.Common.{◌≡◌, ℕ, suc, ◌+◌, ◌-◌, ◌^◌, ◌<◌, ◌≤◌, min, max, List, [], ◌∷◌, ◌++◌, length, Some}
+use Rattle.std.proofs.Common.{None, refl, sym, ◌∙◌, ap, arith, inl, inr, get_or, take, drop}
 use Rattle.std.specs.Prelude.{Option, IfNone}
-use Rattle.std.proofs.lemmas.Bool.Decides.{leb_tells}
 use Rattle.std.proofs.lemmas.Bool.{cases_lt}
+use Rattle.planner_points.proofs.Ends.{if_le, if_gt}
 use Rattle.planner_min_tree.specs.declared.points.Point.{Point}
 use Rattle.planner_min_tree.specs.Points.{latest_of, need_of, rest_of, past, after, Runs, lowest, lowest_before}
 use Rattle.planner_min_tree.specs.Points.{lowest_from, lowest_in, first_from, top_of, highest, value_at, first_rise}
@@ -83,14 +83,6 @@ runs_fit (p ∷ xs) x h = runs_fit xs (past p x) h.2
 pub runs_lowest : (xs : List Point) (x : ℕ) → Runs xs x → lowest xs x ≡ x - need_of xs
 runs_lowest [] x h = omega arith
 runs_lowest (p ∷ xs) x h = omega (arith, runs_lowest xs (past p x) h.2, runs_need xs (past p x) h.2, h.1)
-
--- a test of two numbers, and what it chooses
-module _ {A : Type 0} where
-  pub if_le : {a b : ℕ} (x y : A) → a ≤ b → cond (nat_le a b) x y ≡ x
-  if_le {a} {b} x y h = elim (leb_tells a b) [ inl t ↦ rw t.0 refl | inr f ↦ absurd (omega (arith, f.1)) ]
-
-  pub if_gt : {a b : ℕ} (x y : A) → b < a → cond (nat_le a b) x y ≡ y
-  if_gt {a} {b} x y h = elim (leb_tells a b) [ inl t ↦ absurd (omega (arith, t.1)) | inr f ↦ rw f.0 refl ]
 
 -- both lists before or at the moment, or the second not needed
 pub first_right : (t : ℕ) (xs ys : List Point) → latest_of xs < t → first_from t (xs ++ ys) ≡ first_from t ys

@@ -10,10 +10,10 @@ use Rattle.planner_min_tree.specs.declared.points.Point.{Point}
 use Rattle.planner_min_tree.specs.declared.marking.Mark.{Mark}
 use Rattle.planner_min_tree.specs.Marks.{added, fresh, lessened, marked, unmarked, IsRising, Tallies, when_at, at}
 use Rattle.planner_min_tree.specs.Marks.{ends_at, taken_at, given_at, starts_at, stops_at, start_of, stop_of}
-use Rattle.planner_min_tree.proofs.Dips.{if_le, if_gt}
 use Rattle.planner_min_tree.proofs.Sums.{total_append, now_at, not_yet_at, past_at, at_none, each_of, each_append}
 use Rattle.planner_min_tree.proofs.Sums.{each_front, each_back}
 use Rattle.planner_points.proofs.Starts.{in_yes, in_early, in_late}
+use Rattle.planner_points.proofs.Ends.{if_le, if_gt}
 use Rattle.planner_min_tree.specs.Chunks.{Each}
 
 abbrev point_at : (Point → ℕ) → ℕ → List Point → ℕ
@@ -21,8 +21,8 @@ point_at f t ps = at (λ p. p.time) f t ps
 
 -- the three ways in which a mark meets the first point
 module _ (d : Mark) (p : Point) (ps : List Point) where
-  on : p.time < d.time → marked d (p ∷ ps) ≡ p ∷ marked d ps
-  on lt = if_le {a = suc p.time} {b = d.time} _ _ lt
+  pub marked_on : p.time < d.time → marked d (p ∷ ps) ≡ p ∷ marked d ps
+  marked_on lt = if_le {a = suc p.time} {b = d.time} _ _ lt
 
   here : p.time ≡ d.time → marked d (p ∷ ps) ≡ added d p ∷ ps
   here e = if_gt {a = suc p.time} {b = d.time} _ _ (omega arith) ∙ if_le {a = p.time} {b = d.time} _ _ (omega arith)
@@ -30,8 +30,8 @@ module _ (d : Mark) (p : Point) (ps : List Point) where
   before : d.time < p.time → marked d (p ∷ ps) ≡ fresh d ∷ p ∷ ps
   before lt = if_gt {a = suc p.time} {b = d.time} _ _ (omega arith) ∙ if_gt {a = p.time} {b = d.time} _ _ lt
 
-  un_on : p.time < d.time → unmarked d (p ∷ ps) ≡ p ∷ unmarked d ps
-  un_on lt = if_le {a = suc p.time} {b = d.time} _ _ lt
+  pub unmarked_on : p.time < d.time → unmarked d (p ∷ ps) ≡ p ∷ unmarked d ps
+  unmarked_on lt = if_le {a = suc p.time} {b = d.time} _ _ lt
 
   un_cut : p.time ≡ d.time → p.ends ≤ 1 → unmarked d (p ∷ ps) ≡ ps
   un_cut e few = if_gt {a = suc p.time} {b = d.time} _ _ (omega arith)
@@ -60,7 +60,7 @@ after_marked : (t : ℕ) (d : Mark) (ps : List Point) → t < d.time → Each (�
 after_marked t d [] lt h = (lt, tt)
 after_marked t d (p ∷ ps) lt h =
     elim (meets d p) [
-      | earlier e ↦ rw (on d p ps e) (h.0, after_marked t d ps lt h.1)
+      | earlier e ↦ rw (marked_on d p ps e) (h.0, after_marked t d ps lt h.1)
       | same e ↦ rw (here d p ps e) (h.0, h.1)
       | later e ↦ rw (before d p ps e) (lt, h)
     ]
@@ -69,7 +69,7 @@ rising_marked : (d : Mark) (ps : List Point) → IsRising ps → IsRising (marke
 rising_marked d [] h = (tt, tt)
 rising_marked d (p ∷ ps) h =
     elim (meets d p) [
-      | earlier e ↦ rw (on d p ps e) (after_marked p.time d ps e h.0, rising_marked d ps h.1)
+      | earlier e ↦ rw (marked_on d p ps e) (after_marked p.time d ps e h.0, rising_marked d ps h.1)
       | same e ↦ rw (here d p ps e) h
       | later e ↦ rw (before d p ps e) (
         (
@@ -85,7 +85,7 @@ some_marked : (d : Mark) (ps : List Point) → Each (λ p. 0 < p.ends) ps → Ea
 some_marked d [] h = (omega arith, tt)
 some_marked d (p ∷ ps) h =
     elim (meets d p) [
-      | earlier e ↦ rw (on d p ps e) (h.0, some_marked d ps h.1)
+      | earlier e ↦ rw (marked_on d p ps e) (h.0, some_marked d ps h.1)
       | same e ↦ rw (here d p ps e) (omega arith, h.1)
       | later e ↦ rw (before d p ps e) (omega arith, h)
     ]
@@ -118,7 +118,7 @@ sum_marked : (f : Point → ℕ) (d : Mark) → ((p : Point) → f (added d p) �
 sum_marked f d add t [] = omega arith
 sum_marked f d add t (p ∷ ps) =
     elim (meets d p) [
-      | earlier e ↦ rw (on d p ps e) (omega (arith, sum_marked f d add t ps))
+      | earlier e ↦ rw (marked_on d p ps e) (omega (arith, sum_marked f d add t ps))
       | same e ↦ rw (here d p ps e, add p) (let w = when_add t p.time (f p) (f (fresh d)) in
           let s = ap (λ u. when_at t u (f (fresh d))) e in omega arith)
       | later e ↦ rw (before d p ps e) (omega arith)
@@ -130,7 +130,7 @@ after_unmarked : (t : ℕ) (d : Mark) (ps : List Point) → Each (λ q. t < q.ti
 after_unmarked t d [] h = tt
 after_unmarked t d (p ∷ ps) h =
     elim (meets d p) [
-      | earlier e ↦ rw (un_on d p ps e) (h.0, after_unmarked t d ps h.1)
+      | earlier e ↦ rw (unmarked_on d p ps e) (h.0, after_unmarked t d ps h.1)
       | same e ↦ elim (cases_lt 1 p.ends) [
         | inl many ↦ rw (un_less d p ps e many) (h.0, h.1)
         | inr few ↦ rw (un_cut d p ps e few) h.1
@@ -142,7 +142,7 @@ rising_unmarked : (d : Mark) (ps : List Point) → IsRising ps → IsRising (unm
 rising_unmarked d [] h = tt
 rising_unmarked d (p ∷ ps) h =
     elim (meets d p) [
-      | earlier e ↦ rw (un_on d p ps e) (after_unmarked p.time d ps h.0, rising_unmarked d ps h.1)
+      | earlier e ↦ rw (unmarked_on d p ps e) (after_unmarked p.time d ps h.0, rising_unmarked d ps h.1)
       | same e ↦ elim (cases_lt 1 p.ends) [
         | inl many ↦ rw (un_less d p ps e many) h
         | inr few ↦ rw (un_cut d p ps e few) h.1
@@ -154,7 +154,7 @@ some_unmarked : (d : Mark) (ps : List Point) → Each (λ p. 0 < p.ends) ps → 
 some_unmarked d [] h = tt
 some_unmarked d (p ∷ ps) h =
     elim (meets d p) [
-      | earlier e ↦ rw (un_on d p ps e) (h.0, some_unmarked d ps h.1)
+      | earlier e ↦ rw (unmarked_on d p ps e) (h.0, some_unmarked d ps h.1)
       | same e ↦ elim (cases_lt 1 p.ends) [
         | inl many ↦ rw (un_less d p ps e many) (omega arith, h.1)
         | inr few ↦ rw (un_cut d p ps e few) h.1
@@ -183,7 +183,7 @@ sum_unmarked f d less t (p ∷ ps) rise can =
             );
             whole = λ h. omega (arith, can.whole (omega arith));
           }) in
-          rw (un_on d p ps e) (omega (arith, ih)))
+          rw (unmarked_on d p ps e) (omega (arith, ih)))
       | same e ↦ (
           let far : Each (λ q. d.time < q.time) ps = each_of
           (λ (q : Point) (g : p.time < q.time). let h : d.time < q.time = omega arith in h) ps rise.0 in

@@ -6,11 +6,11 @@ use Rattle.std.proofs.lemmas.Bool.{cases_lt}
 use Rattle.flux_defs.specs.declared.claims.Window.{Window}
 use Rattle.planner_points.specs.declared.spans.Span.{Span}
 use Rattle.planner_points.specs.Spans.{HasRoom, IsLastBelow}
+use Rattle.planner_points.proofs.Ends.{if_le, if_gt}
 use Rattle.planner_min_tree.specs.declared.points.Point.{Point}
 use Rattle.planner_min_tree.specs.Chunks.{Each}
 use Rattle.planner_min_tree.specs.Points.{past, value_at, low_to, low_end}
 use Rattle.planner_min_tree.specs.Marks.{IsRising, Marks}
-use Rattle.planner_min_tree.proofs.Dips.{if_le, if_gt}
 use Rattle.planner_min_tree.proofs.Lows.{or_neither, or_one, low_less, low_much}
 
 -- right before the one moment the number is less, and from it on up to the other it is so much

@@ -1,19 +1,17 @@
 -- What a planner's calls rest on: the points of spans, and how many steps a tree of points takes.
 use Rattle.std.proofs.Common.{◌≡◌, ℕ, ◌+◌, ◌*◌, ◌<◌, ◌≤◌, ◌^◌, List, [], ◌∷◌, ◌++◌, length, length-append, arith, refl}
-use Rattle.std.proofs.Common.{Some, None}
 use Rattle.std.proofs.Math.Nat.{mul-le-mul_right}
 use Rattle.flux_defs.specs.Digits.{dig}
 use Rattle.flux_defs.proofs.DigitLaws.{dig_mono}
 use Rattle.planner_points.specs.declared.spans.Span.{Span}
-use Rattle.planner_points.specs.Spans.{span_of, HasRoom, IsLeastFree, IsEnd, IsNextEnd}
+use Rattle.planner_points.specs.Spans.{span_of, HasRoom, IsLeastFree}
 use Rattle.flux_defs.specs.declared.claims.Window.{Window}
 use Rattle.planner_min_tree.specs.declared.points.Point.{Point}
 use Rattle.planner_min_tree.specs.Chunks.{flat, AreFilled}
-use Rattle.planner_min_tree.specs.Points.{Runs, lowest_in, first_from}
+use Rattle.planner_min_tree.specs.Points.{Runs, lowest_in}
 use Rattle.planner_min_tree.specs.Marks.{Marks, Tallies, marked, unmarked, start_of, stop_of}
 use Rattle.planner_min_tree.proofs.Values as values
 use Rattle.planner_min_tree.proofs.Keeps as keeps
-use Rattle.planner_min_tree.proofs.Nexts as nexts
 use Rattle.planner_min_tree.proofs.Counts as counts
 
 -- there are at most as many chunks as points
@@ -62,13 +60,6 @@ module _ (total : ℕ) (points : List Point) (w : Window) (q : ℕ) (lt : w.from
   pub marks_without : Marks total points (xs ++ span_of w q ∷ ys) →
       Marks total (unmarked (stop_of w q) (unmarked (start_of w q) points)) (xs ++ ys)
   marks_without marks = marks_of total _ _ (keeps.marks_without total points w q lt xs ys marks.tallies)
-
-module _ (total : ℕ) (points : List Point) (spans : List Span) (marks : Marks total points spans) (after : ℕ) where
-  pub next_is : (p : Point) → first_from (after + 1) points ≡ Some p → IsNextEnd spans after p.time
-  next_is p e = nexts.next_is total points spans marks.tallies after p e
-
-  pub next_none : first_from (after + 1) points ≡ None → (u : ℕ) → after < u → IsEnd spans u → ⊥
-  next_none e u lt end = nexts.next_none total points spans marks.tallies after e u lt end
 
 -- the cost of one round of a search, and of all
 pub one_more : (k n b : ℕ) → k + 1 ≤ n → k * (6 * b) + 6 * b ≤ n * (6 * b)

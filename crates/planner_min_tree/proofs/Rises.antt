@@ -5,11 +5,11 @@ use Rattle.std.specs.Prelude.{MatchOption}
 use Rattle.std.proofs.lemmas.Bool.{cases_lt}
 use Rattle.planner_points.specs.declared.spans.Span.{Span}
 use Rattle.planner_points.specs.Spans.{free_at, IsFirstFree}
+use Rattle.planner_points.proofs.Ends.{if_le, if_gt}
 use Rattle.planner_min_tree.specs.declared.points.Point.{Point}
 use Rattle.planner_min_tree.specs.Chunks.{Each}
 use Rattle.planner_min_tree.specs.Points.{past, value_at, first_rise, rise_after}
 use Rattle.planner_min_tree.specs.Marks.{IsRising, Marks, ends_at}
-use Rattle.planner_min_tree.proofs.Dips.{if_le, if_gt}
 use Rattle.planner_min_tree.proofs.Sums.{now_at, at_none, each_of}
 use Rattle.planner_min_tree.proofs.Nexts.{some_end}
 

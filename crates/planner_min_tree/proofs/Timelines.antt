@@ -7,6 +7,7 @@ use Rattle.flux_defs.specs.Digits.{dig}
 use Rattle.balanced_tree.specs.declared.edits.Edit.{Edit}
 use Rattle.balanced_tree.specs.declared.edits.Edit.TheVariants.{Cut}
 use Rattle.balanced_tree.specs.Edits.{edited, made}
+use Rattle.planner_points.proofs.Ends.{if_le, if_gt}
 use Rattle.planner_min_tree.specs.declared.points.Point.{Point}
 use Rattle.planner_min_tree.specs.declared.marking.Mark.{Mark}
 use Rattle.planner_min_tree.specs.declared.marking.Change.{Change}
@@ -14,7 +15,6 @@ use Rattle.planner_min_tree.specs.declared.marking.Change.TheVariants.{More, Les
 use Rattle.planner_min_tree.specs.Points.{latest_of, HasPlace}
 use Rattle.planner_min_tree.specs.Chunks.{flat, AreFilled}
 use Rattle.planner_min_tree.specs.Marks.{added, fresh, lessened, marked, unmarked, changed, time_of, StaysLate}
-use Rattle.planner_min_tree.proofs.Dips.{if_le, if_gt}
 use Rattle.planner_min_tree.proofs.TwoSides.{flat_append}
 use Rattle.planner_min_tree.proofs.ChunkLaws.{changed_left, changed_right, latest_more, some_more, change_fills}
 use Rattle.planner_min_tree.proofs.PlanFacts.{low_height}

@@ -8,11 +8,12 @@ use Rattle.planner_points.specs.declared.spans.Span.{Span}
 use Rattle.planner_points.specs.Spans.{IsEnd, IsNextEnd}
 use Rattle.planner_points.specs.Lists.{sooner}
 
+-- a test of two numbers, and what it chooses
 module _ {A : Type 0} where
-  if_le : {a b : ℕ} (x y : A) → a ≤ b → cond (nat_le a b) x y ≡ x
+  pub if_le : {a b : ℕ} (x y : A) → a ≤ b → cond (nat_le a b) x y ≡ x
   if_le {a} {b} x y h = elim (leb_tells a b) [ inl t ↦ rw t.0 refl | inr f ↦ absurd (omega (arith, f.1)) ]
 
-  if_gt : {a b : ℕ} (x y : A) → b < a → cond (nat_le a b) x y ≡ y
+  pub if_gt : {a b : ℕ} (x y : A) → b < a → cond (nat_le a b) x y ≡ y
   if_gt {a} {b} x y h = elim (leb_tells a b) [ inl t ↦ absurd (omega (arith, t.1)) | inr f ↦ rw f.0 refl ]
 
 -- the answer is the least later moment with the fact, and none where there is no such moment

@@ -3,8 +3,9 @@ use Rattle.std.proofs.Math.Nat.{mul-le-mul_right}
 use Rattle.flux_defs.specs.Digits.{dig}
 use Rattle.planner_points.proofs.Starts.{none_to_next, none_at_all, first_found}
 use Rattle.planner_min_tree.specs.Points.{count_before}
+use Rattle.planner_min_tree.proofs.Nexts.{next_is, next_none}
 use Rattle.planner_min_tree.proofs.Nexts.{counts_more, count_within, first_later}
-use Rattle.planner_min_tree.proofs.PlanFacts.{next_is, next_none, one_more, in_all}
+use Rattle.planner_min_tree.proofs.PlanFacts.{one_more, in_all}
 use Rattle.planner_min_tree.proofs.planner.MinTreePlanner.first_at_least.Goals as goal
 
 pub returns-then-may_start-clause-first : goal.returns-then-may_start-clause-first
@@ -29,7 +30,7 @@ returns-in_default-clause-first g c = λ spans now.
     c.args.from
     c.loop-from.t (c.loop-from.invariant.none spans now)
     (λ s. let t = (c.may_start.ensures.answer spans now).1 s in absurd (cc))
-    (next_none c.args.self.now.total c.args.self.now.points spans now c.loop-from.t (cc))
+    (next_none c.args.self.now.total c.args.self.now.points spans now.tallies c.loop-from.t (cc))
 
 pub returns-in_default-clause-work : goal.returns-in_default-clause-work
 returns-in_default-clause-work g c =
@@ -65,7 +66,7 @@ loop-from-preserved g c =
           c.args.quantity
           c.requires c.args.from c.loop-from.t c.in-Some.point.time (c.loop-from.invariant.none spans now)
           (λ s. let t = (c.may_start.ensures.answer spans now).1 s in absurd (cc))
-          (next_is c.args.self.now.total points spans now c.loop-from.t c.in-Some.point (cc));
+          (next_is c.args.self.now.total points spans now.tallies c.loop-from.t c.in-Some.point (cc));
       work = omega (
         arith,
         one_more (count_before (c.loop-from.t + 1) points) (count_before (c.in-Some.point.time + 1) points) b more,
