@@ -1,11 +1,11 @@
 -- A job whose claims are separate and available, and whose takes are from pools, oversubscribes no vertex; and no fewer
 -- jobs do.
-use Rattle.std.proofs.Common.{◌≡◌, ◌≢◌, ℕ, zero, suc, ◌+◌, ◌-◌, ◌<◌, ◌≤◌, ◌==◌, nat_le, nat_lt, Bool, true, false, not}
-use Rattle.std.proofs.Common.{◌&&◌, ◌||◌, cond, List, [], ◌∷◌, ◌++◌, length, Some, None, slice_get, ◌⊎◌, inl, inr, refl}
+use Rattle.std.proofs.Common.{◌≡◌, ◌≢◌, ℕ, ◌+◌, ◌-◌, ◌<◌, ◌≤◌, ◌==◌, nat_le, nat_lt, Bool, true, false, not}
+use Rattle.std.proofs.Common.{◌&&◌, ◌||◌, cond, List, [], ◌∷◌, ◌++◌, length, ◌⊎◌, inl, inr, refl}
 use Rattle.std.proofs.Common.{sym, ◌∙◌, ap, subst, arith, IsTrue, true≢false}
 use Rattle.std.specs.List.{AllByRecursion, list_any, sum_by}
 use Rattle.std.specs.Option.{option_map_or}
-use Rattle.std.proofs.lemmas.Bool.{cases_lt, and_parts, and_from, or_cases, or_left, or_right}
+use Rattle.std.proofs.lemmas.Bool.{cases_lt, and_parts, or_cases, or_left, or_right}
 use Rattle.std.proofs.lemmas.Bool.Decides.{nat_tests, eqb_tells}
 use Rattle.std.proofs.lemmas.Option.{slice_get_past}
 use Rattle.std.proofs.lemmas.List.Sums.{sum_by-cons}
@@ -16,19 +16,19 @@ use Rattle.flux_defs.specs.declared.claims.Job.{Job}
 use Rattle.flux_defs.specs.declared.claims.Window.{Window}
 use Rattle.flux_defs.specs.Graph.{ResourceGraph, is_at_or_below, is_pool, is_pool_kind, size_of}
 use Rattle.flux_defs.specs.ValidGraph.{StandsInPreorder}
-use Rattle.flux_defs.specs.Jobs.{vertex_of, is_live, some_live_claim, holds_over, is_on_or_below, take_of}
+use Rattle.flux_defs.specs.Jobs.{is_live, some_live_claim, holds_over, is_on_or_below, take_of}
 use Rattle.flux_defs.specs.Closed.{no_bars, is_closed, is_touched, is_withheld, has_withheld}
-use Rattle.flux_defs.specs.Free.{free_at, taken_at}
-use Rattle.flux_defs.specs.Available.{is_available_at, IsAvailable}
+use Rattle.flux_defs.specs.Free.{taken_at}
+use Rattle.flux_defs.specs.Available.{IsAvailable}
 use Rattle.flux_defs.specs.Sound.{AreSeparate, AreAllSeparate}
 use Rattle.list_laws.proofs.Tests.{false_from}
 use Rattle.list_laws.proofs.Lists.{all_append}
-use Rattle.graph_laws.proofs.Containment.{above_is_chain, not_to, equal_to}
+use Rattle.graph_laws.proofs.Containment.{above_is_chain, not_to}
 use Rattle.graph_laws.proofs.Preorder.{parents_first}
-use Rattle.sound_laws.proofs.Sounds.{TakesOne, takes_one}
-use Rattle.book_laws.specs.Amounts.{live_sum, use_of, AreWithinSizes, TakesFromPool}
+use Rattle.sound_laws.proofs.Sounds.{takes_one}
+use Rattle.book_laws.specs.Amounts.{live_sum, use_of, TakesFromPool}
 use Rattle.book_laws.specs.TotalLaws.{AreFair}
-use Rattle.book_laws.proofs.Sums.{bool_of, cond_none, job_sum, live_none, live_cons, live_append, live_push}
+use Rattle.book_laws.proofs.Sums.{cond_none, live_none, live_cons, live_append, live_push}
 use Rattle.book_laws.proofs.Sums.{live_unless, live_either, sum_same, sum_unless}
 use Rattle.book_laws.proofs.Within.{closed_is, use_uncovered}
 

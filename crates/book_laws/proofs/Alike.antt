@@ -3,7 +3,7 @@ use Rattle.std.proofs.Common.{◌≡◌, ℕ, zero, suc, ◌-◌, ◌<◌, nat_l
 use Rattle.std.proofs.Common.{List, [], ◌∷◌, length, Option, Some, None, inl, inr, refl, sym, ◌∙◌, ap}
 use Rattle.std.proofs.Common.{arith, IsTrue}
 use Rattle.std.specs.List.{AllByRecursion}
-use Rattle.std.proofs.lemmas.Bool.{or_cases, or_left, or_right}
+use Rattle.std.proofs.lemmas.Bool.{or_cases, or_left, or_right, cases_Bool}
 use Rattle.std.proofs.Math.Bool.{or-false}
 use Rattle.flux_defs.specs.declared.vertices.Vertex.{Vertex}
 use Rattle.flux_defs.specs.declared.claims.Claim.{Claim}
@@ -18,7 +18,7 @@ use Rattle.flux_defs.specs.Available.{is_available_at, IsAvailable}
 use Rattle.list_laws.proofs.Tests.{same_tests}
 use Rattle.graph_laws.proofs.Containment.{ParentsFirst}
 use Rattle.book_laws.specs.Amounts.{live_sum, is_hold, hold_of, holds_along, claim_within}
-use Rattle.book_laws.proofs.Sums.{bool_of, live_along, live_either}
+use Rattle.book_laws.proofs.Sums.{live_along, live_either}
 use Rattle.book_laws.proofs.Within.{closed_is}
 use Rattle.book_laws.proofs.GroupedLaws.{counted_some, counted_none}
 use Rattle.book_laws.proofs.Closing.{hold_over, nothing_along}
@@ -40,7 +40,7 @@ alike_swap vertices a b h = record {
 some_too : (test : Claim → Bool) (a b : List Job) (m : ℕ) →
     live_sum (λ c. cond (test c) 1 0) a m ≡ live_sum (λ c. cond (test c) 1 0) b m →
     IsTrue (some_live_claim a m test) → IsTrue (some_live_claim b m test)
-some_too test a b m same some = elim (bool_of (some_live_claim b m test)) [
+some_too test a b m same some = elim (cases_Bool (some_live_claim b m test)) [
   | inl there ↦ there
   | inr none ↦ (let one = counted_some test a m some in let zero_ = counted_none test b m none in absurd (omega arith))
 ]

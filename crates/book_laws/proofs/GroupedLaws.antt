@@ -1,19 +1,20 @@
 -- What the spans of jobs take, and how they change with the jobs.
-use Rattle.std.proofs.Common.{◌≡◌, ℕ, zero, suc, ◌+◌, ◌-◌, ◌<◌, ◌≤◌, nat_le, nat_lt, Bool, true, false, ◌&&◌, ◌||◌}
+use Rattle.std.proofs.Common.{◌≡◌, ℕ, zero, suc, ◌+◌, ◌-◌, ◌<◌, ◌≤◌, Bool, false, ◌&&◌, ◌||◌}
 use Rattle.std.proofs.Common.{cond, List, [], ◌∷◌, ◌++◌, length, ◌⊎◌, ◌↔◌, inl, inr, refl, sym, ◌∙◌, ap, subst, arith}
-use Rattle.std.proofs.Common.{append_assoc, length-append, IsTrue, true≢false}
-use Rattle.std.specs.List.{list_any, sum_by, AllByRecursion}
+use Rattle.std.proofs.Common.{append_assoc, length-append, IsTrue}
+use Rattle.std.specs.List.{sum_by}
 use Rattle.std.proofs.lemmas.List.Sums.{sum_by-cons, sum_by-append}
+use Rattle.std.proofs.lemmas.Bool.{cases_Bool}
 use Rattle.flux_defs.specs.declared.claims.Claim.{Claim}
 use Rattle.flux_defs.specs.declared.claims.Job.{Job}
 use Rattle.flux_defs.specs.declared.claims.Window.{Window}
-use Rattle.flux_defs.specs.Jobs.{is_live, some_live_claim, SomeMoment, EachMoment, IsPoint}
+use Rattle.flux_defs.specs.Jobs.{some_live_claim, SomeMoment, IsPoint}
 use Rattle.flux_defs.specs.Free.{IsLeastIn}
 use Rattle.planner_points.specs.declared.spans.Span.{Span}
-use Rattle.planner_points.specs.Spans.{span_of, is_in, used_at, free_at, IsEnd}
+use Rattle.planner_points.specs.Spans.{span_of, is_in, used_at, IsEnd}
 use Rattle.book_laws.specs.Amounts.{live_sum}
 use Rattle.book_laws.specs.Grouped.{time_of, some_span, grouped, times_of, count_claims}
-use Rattle.book_laws.proofs.Sums.{bool_of, cond_none, job_sum, live_cons, live_where, live_unless, live_none, sum_most}
+use Rattle.book_laws.proofs.Sums.{cond_none, live_cons, live_where, live_unless, live_none}
 
 used_append : (xs ys : List Span) (m : ℕ) → used_at (xs ++ ys) m ≡ used_at xs m + used_at ys m
 used_append xs ys m = sum_by-append (λ span. cond (is_in span.window m) span.quantity 0) xs ys
@@ -116,7 +117,7 @@ pub least_tells : (test : Claim → Bool) (jobs : List Job) (w : Window) (total 
     (n < total ↔ SomeMoment w (λ m. IsTrue (some_live_claim jobs m test)))
 least_tells test jobs w total n some least = (
   λ lt. (let (m, lo, hi, e) = least.reached in
-      elim (bool_of (some_live_claim jobs m test)) [
+      elim (cases_Bool (some_live_claim jobs m test)) [
         | inl there ↦ (m, lo, hi, there)
         | inr none ↦ absurd (let z = counted_none test jobs m none in omega arith)
       ]),

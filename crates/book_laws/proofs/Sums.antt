@@ -3,16 +3,12 @@ use Rattle.std.proofs.Common.{◌≡◌, ℕ, zero, ◌+◌, ◌≤◌, Bool, tr
 use Rattle.std.proofs.Common.{◌++◌, ◌⊎◌, inl, inr, refl, sym, ◌∙◌, ap, arith, IsTrue, true≢false}
 use Rattle.std.specs.List.{list_any, sum_by}
 use Rattle.std.proofs.lemmas.Bool.{and_parts, and_from, or_cases, or_left, or_right, or_parts}
-use Rattle.std.proofs.lemmas.List.Sums.{sum_by-cons, sum_by-append, sum_by_push}
+use Rattle.std.proofs.lemmas.List.Sums.{sum_by-cons, sum_by-append, sum_by_push, sum_by-le-sum_by}
 use Rattle.flux_defs.specs.declared.claims.Claim.{Claim}
 use Rattle.flux_defs.specs.declared.claims.Job.{Job}
 use Rattle.flux_defs.specs.Jobs.{is_live, some_live_claim}
 use Rattle.book_laws.specs.Amounts.{live_sum}
 use Rattle.list_laws.proofs.Lists.{any_either}
-
-pub bool_of : (b : Bool) → (b ≡ true) ⊎ (b ≡ false)
-bool_of true = inl refl
-bool_of false = inr refl
 
 pub cond_none : (b : Bool) → cond b zero zero ≡ zero
 cond_none true = refl
@@ -57,15 +53,6 @@ sum_same f g (x ∷ xs) h =
     let e = h x in
     omega arith
 
-pub sum_most : {X : Type 0} (f g : X → ℕ) (xs : List X) → ((x : X) → f x ≤ g x) → sum_by f xs ≤ sum_by g xs
-sum_most f g [] h = omega arith
-sum_most f g (x ∷ xs) h =
-    let a = sum_by-cons f x xs in
-    let b = sum_by-cons g x xs in
-    let r = sum_most f g xs h in
-    let e = h x in
-    omega arith
-
 pub cond_add : (b : Bool) (q r : ℕ) → cond b q 0 + cond b r 0 ≡ cond b (q + r) 0
 cond_add true q r = refl
 cond_add false q r = omega arith
@@ -91,8 +78,8 @@ cond_most false q r le = omega arith
 pub live_most : (f g : Claim → ℕ) (jobs : List Job) (m : ℕ) →
     ((c : Claim) → f c ≤ g c) → live_sum f jobs m ≤ live_sum g jobs m
 live_most f g jobs m h =
-    sum_most (job_sum f m) (job_sum g m) jobs
-    (λ job. cond_most (is_live m job) (sum_by f job.claims) (sum_by g job.claims) (sum_most f g job.claims h))
+    sum_by-le-sum_by (job_sum f m) (job_sum g m) jobs
+    (λ job. cond_most (is_live m job) (sum_by f job.claims) (sum_by g job.claims) (sum_by-le-sum_by f g job.claims h))
 
 -- a sum of live sums is a live sum of sums
 pub live_swap : {X : Type 0} (g : X → Claim → ℕ) (xs : List X) (jobs : List Job) (m : ℕ) →

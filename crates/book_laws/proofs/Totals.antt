@@ -104,9 +104,6 @@ module _ (g : ResourceGraph) (o : StandsInPreorder g) (kind v : ℕ) where
   abbrev counts : ℕ → Vertex → Bool
   counts u x = (x.kind == kind) && is_at_or_below g.vertices u v
 
-  size_here : (u : ℕ) (x : Vertex) → slice_get g.vertices u ≡ Some x → size_of g.vertices u ≡ x.size
-  size_here u x e = ap (λ s. option_map_or (λ y. y.size) s 0) e
-
   -- a take
   take_part : (p q : ℕ) →
       kind_sum g.vertices kind v (λ u. use_of g.vertices u (Take p q)) ≡ part_within g.vertices kind v (Take p q)

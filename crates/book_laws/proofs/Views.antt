@@ -5,6 +5,7 @@ use Rattle.std.proofs.Common.{arith, IsTrue}
 use Rattle.std.specs.List.{sum_by}
 use Rattle.std.proofs.lemmas.Bool.Decides.{nat_tests}
 use Rattle.std.proofs.Math.Bool.{or-false}
+use Rattle.std.proofs.lemmas.Bool.{cases_Bool}
 use Rattle.flux_defs.specs.declared.vertices.Vertex.{Vertex}
 use Rattle.flux_defs.specs.declared.claims.Claim.{Claim}
 use Rattle.flux_defs.specs.declared.claims.Job.{Job}
@@ -18,7 +19,7 @@ use Rattle.planner_points.specs.Spans.{used_at, HasRoom, IsLeastFree}
 use Rattle.book_laws.specs.Amounts.{live_sum, is_hold, hold_of, claim_within, capacity, part_within}
 use Rattle.book_laws.specs.Grouped.{time_of, grouped}
 use Rattle.book_laws.specs.TotalLaws.{AreFair}
-use Rattle.book_laws.proofs.Sums.{bool_of, job_sum, live_push}
+use Rattle.book_laws.proofs.Sums.{job_sum, live_push}
 use Rattle.book_laws.proofs.Totals.{total_open, total_closed}
 use Rattle.book_laws.proofs.GroupedLaws.{used_grouped, least_same, least_tells}
 
@@ -28,7 +29,7 @@ NeverClosed vertices jobs w v = SomeMoment w (λ m. IsTrue (is_closed (no_bars v
 
 open_at : (vertices : List Vertex) (jobs : List Job) (w : Window) (v m : ℕ) →
     NeverClosed vertices jobs w v → w.from ≤ m → m < w.to → is_closed (no_bars vertices jobs) m v ≡ false
-open_at vertices jobs w v m never lo hi = elim (bool_of (is_closed (no_bars vertices jobs) m v)) [
+open_at vertices jobs w v m never lo hi = elim (cases_Bool (is_closed (no_bars vertices jobs) m v)) [
   | inl yes_ ↦ absurd (never (m, lo, hi, yes_))
   | inr none ↦ none
 ]

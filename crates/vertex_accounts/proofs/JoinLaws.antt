@@ -3,7 +3,7 @@ use Rattle.std.proofs.Common.{◌≡◌, ℕ, ◌+◌, ◌-◌, ◌<◌, ◌≤�
 use Rattle.std.proofs.Common.{append-nil, sym, ◌∙◌, ap, subst, arith}
 use Rattle.std.specs.List.{AllByRecursion, sum_by}
 use Rattle.std.specs.Arc.{arc_value}
-use Rattle.std.proofs.lemmas.List.Sums.{sum_by-cons, sum_by-append}
+use Rattle.std.proofs.lemmas.List.Sums.{sum_by-cons, sum_by-append, sum_by-le-sum_by}
 use Rattle.std.proofs.lemmas.Option.{slice_get_within}
 use Rattle.flux_defs.specs.declared.vertices.Vertex.{Vertex}
 use Rattle.flux_defs.specs.declared.claims.Claim.{Claim}
@@ -18,7 +18,7 @@ use Rattle.planner_points.specs.Spans.{span_of, free_at}
 use Rattle.book_laws.specs.Amounts.{live_sum, is_hold, hold_of, part_within, use_of}
 use Rattle.book_laws.specs.Grouped.{time_of, grouped, times_of, count_claims}
 use Rattle.book_laws.specs.TotalLaws.{AreFair}
-use Rattle.book_laws.proofs.Sums.{job_sum, live_most, sum_most}
+use Rattle.book_laws.proofs.Sums.{job_sum, live_most}
 use Rattle.book_laws.proofs.Totals.{part_room}
 use Rattle.book_laws.proofs.Adding.{all_removed, fair_removed}
 use Rattle.book_laws.proofs.GroupedLaws.{times_append}
@@ -44,7 +44,8 @@ few_sum f h [] = omega arith
 few_sum f h (c ∷ cs) = let a = sum_by-cons f c cs in let b = h c in let r = few_sum f h cs in omega (arith, a, b, r)
 
 live_few : (f : Claim → ℕ) → ((c : Claim) → f c ≤ 1) → (jobs : List Job) (m : ℕ) → live_sum f jobs m ≤ count_claims jobs
-live_few f h jobs m = sum_most (job_sum f m) (λ job. length job.claims) jobs (λ job. by_life (is_live m job) job)
+live_few f h jobs m =
+    sum_by-le-sum_by (job_sum f m) (λ job. length job.claims) jobs (λ job. by_life (is_live m job) job)
   where
     by_life : (b : Bool) (job : Job) → cond b (sum_by f job.claims) 0 ≤ length job.claims
     by_life true job = few_sum f h job.claims

@@ -2,6 +2,7 @@
 use Rattle.std.proofs.Common.{◌≡◌, ℕ, ◌+◌, ◌-◌, ◌<◌, ◌≤◌, ◌↔◌, Bool, is_some, List, length, Option, Some}
 use Rattle.std.proofs.Common.{None, MatchOption, inl, inr}
 use Rattle.std.proofs.Common.{refl, sym, ◌∙◌, subst, arith, IsTrue, true≢false}
+use Rattle.std.proofs.lemmas.Bool.{cases_Bool}
 use Rattle.flux_defs.specs.declared.vertices.Vertex.{Vertex}
 use Rattle.flux_defs.specs.declared.claims.Job.{Job}
 use Rattle.flux_defs.specs.declared.claims.Window.{Window}
@@ -18,7 +19,7 @@ use Rattle.book_laws.specs.Grouped.{grouped}
 use Rattle.book_laws.specs.TotalLaws.{AreFair}
 use Rattle.book_laws.proofs.Closing.{held_closed}
 use Rattle.book_laws.proofs.GroupedLaws.{used_grouped}
-use Rattle.book_laws.proofs.Sums.{bool_of, live_most}
+use Rattle.book_laws.proofs.Sums.{live_most}
 use Rattle.book_laws.proofs.Totals.{total_open, total_closed}
 use Rattle.book_laws.proofs.Views.{NeverClosed, left_in_total}
 use Rattle.vertex_accounts.specs.declared.quantities.Quantity.TheVariants.{Holds}
@@ -131,7 +132,7 @@ module _ (g : ResourceGraph) (o : StandsInPreorder g) (jobs : List Job) (fair : 
       let used = used_grouped (part_count g.vertices kind v) jobs m in
       let most =
       live_most (part_count g.vertices kind v) (part_within g.vertices kind v) jobs m (part_less g.vertices kind v) in
-      elim (bool_of (is_closed (no_bars g.vertices jobs) m v)) [
+      elim (cases_Bool (is_closed (no_bars g.vertices jobs) m v)) [
         | inl closed ↦ (let none = total_closed g o kind v jobs m closed in omega (arith, none, lt))
         | inr open_ ↦ (
             let all = total_open g o kind v jobs m fair.within fair.pools open_ in

@@ -1,7 +1,7 @@
 -- Holds that count above the vertex alone that they hold: that the vertex is held says it there.
 use Rattle.std.proofs.Common.{◌≡◌, ◌+◌, ℕ, ◌-◌, ◌<◌, ◌≤◌, nat_lt, Bool, true, false, ◌||◌, ◌&&◌, cond, List, length}
 use Rattle.std.proofs.Common.{◌⊎◌, ◌↔◌, inl, inr, refl, sym, ◌∙◌, ap, subst, arith, IsTrue, true≢false}
-use Rattle.std.proofs.lemmas.Bool.{and_parts, or_cases, or_left}
+use Rattle.std.proofs.lemmas.Bool.{and_parts, or_cases, or_left, cases_Bool}
 use Rattle.std.proofs.lemmas.Bool.Decides.{eqb_tells}
 use Rattle.flux_defs.specs.declared.vertices.Vertex.{Vertex}
 use Rattle.flux_defs.specs.declared.claims.Claim.{Claim}
@@ -16,7 +16,7 @@ use Rattle.planner_points.specs.Spans.{free_at, IsLeastFree}
 use Rattle.book_laws.specs.Amounts.{live_sum, is_hold, hold_of, claim_within, part_of, part_within}
 use Rattle.book_laws.specs.Grouped.{grouped}
 use Rattle.book_laws.proofs.GroupedLaws.{used_grouped}
-use Rattle.book_laws.proofs.Sums.{bool_of, live_add, live_along, live_either, live_most, live_none, live_unless}
+use Rattle.book_laws.proofs.Sums.{live_add, live_along, live_either, live_most, live_none, live_unless}
 use Rattle.book_laws.proofs.Views.{NeverClosed}
 use Rattle.book_laws.proofs.Within.{closed_is}
 use Rattle.vertex_planners.specs.Counting.{counts_at}
@@ -83,7 +83,7 @@ module _ (vertices : List Vertex) (first : ParentsFirst vertices) (v : ℕ) (ins
 
       one_of : (c : Claim) → IsTrue (is_on_or_below vertices v c) →
           IsTrue (counts_at vertices v c) ⊎ IsTrue (is_hold v c)
-      one_of c on = elim (bool_of (is_hold v c)) [
+      one_of c on = elim (cases_Bool (is_hold v c)) [
         | inl own ↦ inr own
         | inr other ↦ inl (counted (nat_lt 0 v) (is_hold v c) (is_on_or_below vertices v c) other ∙ on)
       ]
@@ -91,7 +91,7 @@ module _ (vertices : List Vertex) (first : ParentsFirst vertices) (v : ℕ) (ins
   -- where the vertex isn't closed no claim holds it
   same_part : (kind : ℕ) (c : Claim) → holds_over vertices v c ≡ false →
       part_count vertices kind v c ≡ part_within vertices kind v c
-  same_part kind c open_ = elim (bool_of (is_hold v c)) [
+  same_part kind c open_ = elim (cases_Bool (is_hold v c)) [
     | inl own ↦ absurd (true≢false (sym (hold_there c own).1 ∙ open_))
     | inr other ↦ ap (λ b. cond b (part_of vertices kind c) 0)
         (counted (nat_lt 0 v) (is_hold v c) (is_on_or_below vertices v c) other)
@@ -108,7 +108,7 @@ module _ (vertices : List Vertex) (first : ParentsFirst vertices) (v : ℕ) (ins
     where
       same : (m : ℕ) → w.from ≤ m → m < w.to → free_at total (grouped (part_count vertices kind v) jobs) m
           ≡ free_at total (grouped (part_within vertices kind v) jobs) m
-      same m lo hi = elim (bool_of (is_closed (no_bars vertices jobs) m v)) [
+      same m lo hi = elim (cases_Bool (is_closed (no_bars vertices jobs) m v)) [
         | inl closed ↦ absurd (never (m, lo, hi, closed))
         | inr open_ ↦ ap (λ k. total - k) (used_grouped (part_count vertices kind v) jobs m
             ∙ live_unless (holds_over vertices v) (part_count vertices kind v) (part_within vertices kind v)

@@ -2,7 +2,7 @@
 use Rattle.std.proofs.Common.{◌≡◌, ℕ, zero, suc, ◌≤◌, List, [], ◌∷◌, ◌++◌, Option, Some, None, ◌⊎◌, inl, inr, sym, ◌∙◌}
 use Rattle.std.proofs.Common.{subst, arith, IsTrue, true≢false}
 use Rattle.std.specs.Prelude.{sum_by}
-use Rattle.std.proofs.lemmas.Bool.{cases_lt}
+use Rattle.std.proofs.lemmas.Bool.{cases_lt, cases_Bool}
 use Rattle.flux_defs.specs.declared.vertices.Vertex.{Vertex}
 use Rattle.flux_defs.specs.declared.claims.Claim.{Claim}
 use Rattle.flux_defs.specs.declared.claims.Claim.TheVariants.{Take, Hold, Pass}
@@ -22,7 +22,7 @@ use Rattle.book_laws.specs.Amounts.{capacity, part_within}
 use Rattle.book_laws.specs.Grouped.{time_of, some_span, grouped}
 use Rattle.book_laws.specs.TotalLaws.{AreFair}
 use Rattle.book_laws.proofs.GroupedLaws.{used_grouped}
-use Rattle.book_laws.proofs.Sums.{bool_of, live_where}
+use Rattle.book_laws.proofs.Sums.{live_where}
 use Rattle.book_laws.proofs.Totals.{total_open, total_closed}
 use Rattle.book_laws.proofs.Within.{closed_is}
 use Rattle.vertex_accounts.specs.declared.quantities.Quantity.{Quantity}
@@ -72,7 +72,7 @@ module _ (g : ResourceGraph)
       ≡ free_at (capacity g.vertices kind 0) (grouped (part_within g.vertices kind 0) jobs) m
   root_total m =
       let used = used_grouped (part_within g.vertices kind 0) jobs m in
-      elim (bool_of (is_closed (no_bars g.vertices jobs) m 0)) [
+      elim (cases_Bool (is_closed (no_bars g.vertices jobs) m 0)) [
         | inl held ↦ (
             let none = total_closed g o kind 0 jobs m held in
             let all = live_where
