@@ -20,6 +20,7 @@ use Rattle.book_laws.specs.Grouped.{count_claims}
 use Rattle.vertex_accounts.proofs.JoinLaws.{count_push}
 use Rattle.book_state.specs.declared.held.BookState.{BookState}
 use Rattle.book_state.specs.Books.{accounts_of, rules_of, rows_of, cost_of, change_cost_of}
+use Rattle.book_state.proofs.CostLaws.{change_sum}
 use Rattle.overtaken_check.specs.Costs.{scan_most, claims_found}
 use Rattle.sched_core.specs.declared.held.Site.{Site}
 use Rattle.sched_core.specs.declared.held.Kept.{Kept}
@@ -70,10 +71,6 @@ change_grows book claims most old new le work =
 judge_sum : (claims entries b : ℕ) →
     (1024 * claims + 6 * entries + 16) * b ≡ 1024 * (claims * b) + 6 * (entries * b) + 16 * b
 judge_sum claims entries b = grind arith
-
-change_sum : (claims rules b : ℕ) → 8192 * (claims + 1) * (1 + rules) * b
-    ≡ 8192 * (claims * b) + 8192 * (rules * (claims * b)) + 8192 * b + 8192 * (rules * b)
-change_sum claims rules b = grind arith
 
 commit_sum : (claims rules b : ℕ) → 16384 * (claims + 1) * (1 + rules) * b
     ≡ 16384 * (claims * b) + 16384 * (rules * (claims * b)) + 16384 * b + 16384 * (rules * b)

@@ -6,19 +6,16 @@ use Rattle.flux_defs.specs.declared.vertices.Vertex.{Vertex}
 use Rattle.flux_defs.specs.declared.claims.Claim.{Claim}
 use Rattle.flux_defs.specs.declared.requests.Need.{Need, Vert', Pool, Spread', Row_of-Need, end_of-Need, more_of-Need}
 use Rattle.flux_defs.specs.declared.requests.Need.TheBlock.{hidden-the_row-Need-0}
-use Rattle.flux_defs.specs.Graph.{Scope, Everywhere, Beneath, IsIn}
+use Rattle.flux_defs.specs.Graph.{Scope, Beneath}
 use Rattle.flux_defs.specs.Jobs.{vertex_of}
 use Rattle.flux_defs.specs.Fits.{Pick, Pieces, Piece, FitsRow, Fits}
 use Rattle.flux_laws.proofs.Rows.{fits_list}
 use Rattle.list_laws.proofs.Lists.{all_append}
+use Rattle.prune_laws.proofs.Demanded.{in_graph}
 
 module _ (vertices : List Vertex) (ok : Claim → Type 0) where
   abbrev IsOn : Claim → Type 0
   IsOn c = vertex_of c < length vertices
-
-  in_graph : (scope : Scope) (v : ℕ) → IsIn vertices scope v → v < length vertices
-  in_graph Everywhere v h = h
-  in_graph (Beneath u) v h = h.0
 
   pieces_on : (piece : ℕ → ℕ → List Claim → Type 0) →
       ((v q : ℕ) (cs : List Claim) → piece v q cs → AllByRecursion IsOn cs) →
@@ -31,12 +28,13 @@ module _ (vertices : List Vertex) (ok : Claim → Type 0) where
     piece_on : (scope : Scope) (need : Need) (v q : ℕ) (cs : List Claim) → Piece vertices ok scope need v q cs →
         AllByRecursion IsOn cs
     piece_on scope (Vert' kind count true m needs) v q cs p = subst (AllByRecursion IsOn) (sym p.3.0)
-        (in_graph scope v p.1, tt)
+        (in_graph vertices scope v p.1, tt)
     piece_on scope (Vert' kind count false m needs) v q cs p = subst (AllByRecursion IsOn) (sym p.3.1)
-        (in_graph scope v p.1, row_on 1 (Beneath v) needs p.3.0 p.3.3)
-    piece_on scope (Pool kind quantity) v q cs p = subst (AllByRecursion IsOn) (sym p.2) (in_graph scope v p.0, tt)
+        (in_graph vertices scope v p.1, row_on 1 (Beneath v) needs p.3.0 p.3.3)
+    piece_on scope (Pool kind quantity) v q cs p =
+        subst (AllByRecursion IsOn) (sym p.2) (in_graph vertices scope v p.0, tt)
     piece_on scope (Spread' count m needs) v q cs p = subst (AllByRecursion IsOn) (sym p.2.1)
-        (in_graph scope v p.0, row_on q (Beneath v) needs p.2.0 p.2.3)
+        (in_graph vertices scope v p.0, row_on q (Beneath v) needs p.2.0 p.2.3)
 
     row_on : {m : _} (k : ℕ) (scope : Scope) (row : Row_of-Need m) (cs : List Claim) →
         FitsRow vertices ok k scope row cs → AllByRecursion IsOn cs
