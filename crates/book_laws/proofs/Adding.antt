@@ -5,7 +5,7 @@ use Rattle.std.proofs.Common.{◌&&◌, ◌||◌, cond, List, [], ◌∷◌, ◌
 use Rattle.std.proofs.Common.{sym, ◌∙◌, ap, subst, arith, IsTrue, true≢false}
 use Rattle.std.specs.List.{AllByRecursion, list_any, sum_by}
 use Rattle.std.specs.Option.{option_map_or}
-use Rattle.std.proofs.lemmas.Bool.{cases_lt, and_parts, or_cases, or_left, or_right}
+use Rattle.std.proofs.lemmas.Bool.{cases_lt, and_parts, or_cases, or_left, or_right, false_from_ne_true}
 use Rattle.std.proofs.lemmas.Bool.Decides.{nat_tests, eqb_tells}
 use Rattle.std.proofs.lemmas.Option.{slice_get_past}
 use Rattle.std.proofs.lemmas.List.Sums.{sum_by-cons}
@@ -21,7 +21,6 @@ use Rattle.flux_defs.specs.Closed.{no_bars, is_closed, is_touched, is_withheld, 
 use Rattle.flux_defs.specs.Free.{taken_at}
 use Rattle.flux_defs.specs.Available.{IsAvailable}
 use Rattle.flux_defs.specs.Sound.{AreSeparate, AreAllSeparate}
-use Rattle.list_laws.proofs.Tests.{false_from}
 use Rattle.list_laws.proofs.Lists.{all_append}
 use Rattle.graph_laws.proofs.Containment.{above_is_chain, not_to}
 use Rattle.graph_laws.proofs.Preorder.{parents_first}
@@ -45,7 +44,7 @@ module _ (g : ResourceGraph) (o : StandsInPreorder g) where
   ]
   covered_apart u lt (Hold h) (Hold k) covers apart =
       ap (λ b. cond b (size_of g.vertices u) 0)
-      (false_from (is_at_or_below g.vertices u k)
+      (false_from_ne_true (is_at_or_below g.vertices u k)
       (λ both. elim (above_is_chain g.vertices (parents_first g o) u h k lt covers both) [
         | inl up ↦ apart.1.second up
         | inr down ↦ apart.1.first down
@@ -112,7 +111,7 @@ module _ (g : ResourceGraph) (o : StandsInPreorder g) where
     free_under m u h lt under closed touched =
         live_unless (λ c. holds_over g.vertices h c || is_on_or_below g.vertices h c)
         (use_of g.vertices u) (λ c. 0) unused jobs m
-        (false_from (some_live_claim jobs m (λ c. holds_over g.vertices h c || is_on_or_below g.vertices h c))
+        (false_from_ne_true (some_live_claim jobs m (λ c. holds_over g.vertices h c || is_on_or_below g.vertices h c))
         (λ some. elim (live_either (λ c. holds_over g.vertices h c || is_on_or_below g.vertices h c)
         (holds_over g.vertices h) (is_on_or_below g.vertices h)
         (λ c both. or_cases (holds_over g.vertices h c) (is_on_or_below g.vertices h c) both) jobs m some) [
@@ -131,7 +130,7 @@ module _ (g : ResourceGraph) (o : StandsInPreorder g) where
         ]
         unused (Hold k) none =
             ap (λ b. cond b (size_of g.vertices u) 0)
-            (false_from (is_at_or_below g.vertices u k)
+            (false_from_ne_true (is_at_or_below g.vertices u k)
             (λ both. elim (above_is_chain g.vertices (parents_first g o) u h k lt under both) [
               | inl up ↦
                   true≢false (sym (or_left (is_at_or_below g.vertices h k) (is_at_or_below g.vertices k h) up) ∙ none)
@@ -148,8 +147,9 @@ module _ (g : ResourceGraph) (o : StandsInPreorder g) where
         let both = and_parts (not (is_closed (no_bars g.vertices jobs) m h))
         (not (is_touched (no_bars g.vertices jobs) m h)) (had.0 m lo hi) in
         free_under m u h lt covers
-        (false_from (is_closed (no_bars g.vertices jobs) m h) (not_to (is_closed (no_bars g.vertices jobs) m h) both.0))
-        (false_from (is_touched (no_bars g.vertices jobs) m h)
+        (false_from_ne_true (is_closed (no_bars g.vertices jobs) m h)
+        (not_to (is_closed (no_bars g.vertices jobs) m h) both.0))
+        (false_from_ne_true (is_touched (no_bars g.vertices jobs) m h)
         (not_to (is_touched (no_bars g.vertices jobs) m h) both.1))
 
     some_covers : (m u : ℕ) → u < length g.vertices → job.start ≤ m → m < job.end → (cs : List Claim) → AllByRecursion

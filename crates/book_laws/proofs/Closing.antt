@@ -1,6 +1,6 @@
 -- A vertex is closed where it or a vertex above it is held: along the chain of its parents.
-use Rattle.std.proofs.Common.{◌≡◌, ℕ, zero, suc, ◌+◌, ◌-◌, ◌<◌, ◌≤◌, ◌==◌, nat_eq, Bool, true, false, ◌||◌, ◌&&◌, List}
-use Rattle.std.proofs.Common.{[], ◌∷◌, length, Option, Some, None, IsTrue, refl, sym, ◌∙◌, ap, arith, ◌⊎◌, ◌↔◌, inl}
+use Rattle.std.proofs.Common.{◌≡◌, ℕ, ◌+◌, ◌-◌, ◌<◌, ◌≤◌, ◌==◌, Bool, true, false, ◌||◌, ◌&&◌, List}
+use Rattle.std.proofs.Common.{[], ◌∷◌, length, Some, IsTrue, refl, sym, ◌∙◌, ap, arith, ◌⊎◌, ◌↔◌, inl}
 use Rattle.std.proofs.Common.{inr, true≢false}
 use Rattle.std.specs.List.{list_any}
 use Rattle.std.proofs.lemmas.Bool.{or_cases, or_left, or_right}
@@ -9,10 +9,10 @@ use Rattle.flux_defs.specs.declared.claims.Claim.{Claim}
 use Rattle.flux_defs.specs.declared.claims.Claim.TheVariants.{Take, Hold, Pass}
 use Rattle.flux_defs.specs.declared.claims.Job.{Job}
 use Rattle.flux_defs.specs.declared.claims.Window.{Window}
-use Rattle.flux_defs.specs.Graph.{chain, parent_of, is_at_or_below}
+use Rattle.flux_defs.specs.Graph.{chain}
 use Rattle.flux_defs.specs.Jobs.{is_live, some_live_claim, SomeMoment, holds_over}
 use Rattle.flux_defs.specs.Closed.{no_bars, is_closed}
-use Rattle.graph_laws.proofs.Containment.{at_or_below-opens, equal_from, equal_to}
+use Rattle.graph_laws.proofs.Containment.{at_or_below-opens}
 use Rattle.book_laws.specs.Amounts.{is_hold, holds_along}
 use Rattle.book_laws.proofs.Sums.{live_along, live_either}
 use Rattle.book_laws.proofs.Within.{closed_is}

@@ -5,7 +5,7 @@ use Rattle.std.proofs.Common.{refl, sym, ◌∙◌, ap, subst, arith, nat_lt}
 use Rattle.std.specs.List.{list_any, AllByRecursion}
 use Rattle.std.specs.Option.{IsSomeAnd, option_map_or}
 use Rattle.std.specs.Prelude.{option_and_then}
-use Rattle.std.proofs.lemmas.Bool.{cases_lt, or_left, or_right, lt-ltb, le-ltb}
+use Rattle.std.proofs.lemmas.Bool.{cases_lt, or_left, or_right, lt-ltb, le-ltb, false_from_ne_true}
 use Rattle.std.proofs.lemmas.Bool.Decides.{eqb_tells}
 use Rattle.std.proofs.lemmas.Option.{slice_get_past}
 use Rattle.std.proofs.lemmas.List.{get_or_default}
@@ -22,7 +22,6 @@ use Rattle.text_forms.specs.Rising.{IsIndexOf}
 use Rattle.dfu_match.specs.Bars.{is_node_at, AreNodesOf, IsLeastFrom, IsLeastOrNone}
 use Rattle.std.specs.List.Sorted.{IsStrictlyIncreasing}
 use Rattle.text_forms.proofs.RisingLists.{less_later}
-use Rattle.list_laws.proofs.Tests.{false_from}
 
 -- the least number from `from` on stands at the index before which all are less
 pub least_at_index : (list : List ℕ) (from index : ℕ) → IsStrictlyIncreasing list → IsIndexOf list from index →
@@ -50,7 +49,7 @@ none_pass : (test : ℕ → Bool) (list : List ℕ) → ((i : ℕ) → i < lengt
     list_any test list ≡ false
 none_pass test list never =
     list_any_none test list (λ i d lt. let e : get_or list i d ≡ get_or list i 0 = get_or_default list i d 0 lt in
-    false_from (test (get_or list i d)) (λ h. never i lt (subst (λ x. IsTrue (test x)) e h)))
+    false_from_ne_true (test (get_or list i d)) (λ h. never i lt (subst (λ x. IsTrue (test x)) e h)))
 
 one_passes : (test : ℕ → Bool) (list : List ℕ) (i u : ℕ) → i < length list → slice_index list i ≡ u →
     IsTrue (test u) → list_any test list ≡ true

@@ -2,8 +2,7 @@
 use Rattle.std.proofs.Common.{◌≡◌, ◌≢◌, ℕ, zero, suc, ◌+◌, ◌*◌, ◌-◌, ◌^◌, ◌<◌, ◌≤◌, ◌==◌, ◌⊎◌, inl, inr, min, Bool}
 use Rattle.std.proofs.Common.{true, false, List, [], ◌∷◌, ◌++◌, length, take, get_or, slice_get, Some, append-nil}
 use Rattle.std.proofs.Common.{append_assoc, refl, sym, ◌∙◌, ap, subst, arith, IsTrue, true≢false}
-use Rattle.std.proofs.lemmas.Bool.{cases_lt, or_cases, or_left, or_right}
-use Rattle.graph_laws.proofs.Containment.{equal_to, equal_from}
+use Rattle.std.proofs.lemmas.Bool.{cases_lt, or_cases, or_left, or_right, eqb-true, eq-eqb}
 use Rattle.std.specs.Prelude.{Any, Contains, map}
 use Rattle.prune_filters.specs.declared.shorts.Demand.{Demand}
 use Rattle.prune_filters.specs.Shorts.{AreDemandsOf, IsBelow, IsShortOf, IsShortOfAt, IsShortFor, IsShortForAt}
@@ -125,12 +124,12 @@ module _ (vertices : List Vertex) (kind : ℕ) where
     | inr none ↦ (
         let e = demand_Vert 1 own count hold needs in
         let one : 1 ≤ one_if (own == kind) = omega (arith, e) in
-        inl (equal_to own kind (some_of (own == kind) one)))
+        inl (eqb-true own kind (some_of (own == kind) one)))
   ]
 
   pub some_Pool : (own quantity : ℕ) → 1 ≤ demand vertices kind 1 (Pool own quantity) → own ≡ kind
   some_Pool own quantity h = let one : 1 ≤ one_if (own == kind) = omega arith in
-      equal_to own kind (some_of (own == kind) one)
+      eqb-true own kind (some_of (own == kind) one)
 
   pub some_Spread : (count : ℕ) (needs : List Need) → 1 ≤ demand vertices kind 1 (Spread count needs) →
       IsTrue (is_node_kind vertices kind) ⊎ (1 ≤ needs_demand vertices kind needs)
@@ -202,7 +201,7 @@ module _ (amount : ℕ → ℕ) where
           IsTrue (list_any (λ d. d.kind == kind) (map demand_at ks))
       kind_there [] k lt e = absurd (omega arith)
       kind_there (j ∷ ks) zero lt e = or_left (j == kind) (list_any (λ d. d.kind == kind) (map demand_at ks))
-          (equal_from j kind e)
+          (eq-eqb j kind e)
       kind_there (j ∷ ks) (suc k) lt e =
           or_right (j == kind) (list_any (λ d. d.kind == kind) (map demand_at ks)) (kind_there ks k (omega arith) e)
 
@@ -236,7 +235,7 @@ are_demands_of_all vertices needs kinds demands e all = record {
 some_item : (ds : List Demand) (kind : ℕ) → IsTrue (list_any (λ d. d.kind == kind) ds) → Any (λ d. d.kind ≡ kind) ds
 some_item [] kind h = absurd (true≢false (sym h))
 some_item (d ∷ ds) kind h = elim (or_cases (d.kind == kind) (list_any (λ e. e.kind == kind) ds) h) [
-  | inl here ↦ (0, d, omega arith, refl, equal_to d.kind kind here)
+  | inl here ↦ (0, d, omega arith, refl, eqb-true d.kind kind here)
   | inr later ↦ (let r = some_item ds kind later in
       (suc r.0, r.1, (let lt : r.0 < length ds = r.2 in omega arith), r.3, r.4))
 ]

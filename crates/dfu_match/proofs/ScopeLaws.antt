@@ -5,7 +5,7 @@ use Rattle.std.proofs.Common.{IsTrue}
 use Rattle.std.specs.Prelude.{codes, IsSome}
 use Rattle.std.specs.Option.{IsSomeAnd}
 use Rattle.std.specs.List.{list_any}
-use Rattle.std.proofs.lemmas.Bool.{and_parts, and_from, or_left, or_right}
+use Rattle.std.proofs.lemmas.Bool.{and_parts, and_from, or_left, or_right, eqb-true, eq-eqb}
 use Rattle.std.proofs.lemmas.Option.{slice_get_within}
 use Rattle.flux_defs.specs.declared.vertices.Vertex.{Vertex}
 use Rattle.flux_defs.specs.declared.claims.Claim.{Claim}
@@ -14,7 +14,7 @@ use Rattle.flux_defs.specs.Graph.{ResourceGraph, Scope, Everywhere, Beneath, IsI
 use Rattle.flux_defs.specs.ValidGraph.{IsValidGraph, HasType}
 use Rattle.flux_defs.specs.Needs.{IsOfNeed}
 use Rattle.flux_defs.specs.Lowest.{CanServe}
-use Rattle.graph_laws.proofs.Containment.{below_le, below_from, below_to, equal_to, equal_from}
+use Rattle.graph_laws.proofs.Containment.{below_le, below_from, below_to}
 use Rattle.graph_laws.proofs.Preorder.{parents_first}
 use Rattle.resource_graph.specs.Tables.{IsPast, IsNamedKind}
 use Rattle.resource_graph.proofs.Values.{value_of, from_value}
@@ -128,7 +128,7 @@ module _ (g : ResourceGraph) (names : List (List ℕ)) (valid : IsValidGraph g n
         let own = value_of (slice_get g.vertices r.0) (λ x. x.kind ≡ k) ((node_kind g names valid k is r.0).0 node) in
         let same : own.0 ≡ r.1 = (let both : Some own.0 ≡ Some r.1 = sym own.1 ∙ r.2 in cc) in
         let first : r.1.kind ≡ k = ap (λ x. x.kind) (sym same) ∙ own.2 in
-        ap Some (sym first ∙ equal_to r.1.kind kind b.0)),
+        ap Some (sym first ∙ eqb-true r.1.kind kind b.0)),
     λ e. (let same : k ≡ kind = cc in
         let used = valid.kinds.used k (slice_get_within g.kinds k (codes "node") is) in
         let node = value_of (slice_get g.vertices used.0) (λ x. is_some x.rank ≡ true)
@@ -137,7 +137,7 @@ module _ (g : ResourceGraph) (names : List (List ℕ)) (valid : IsValidGraph g n
         let one : own.0 ≡ node.0 = (let both : Some own.0 ≡ Some node.0 = sym own.1 ∙ node.1 in cc) in
         item_any (λ x. (x.kind == kind) && is_some x.rank) g.vertices used.0 node.0 node.1
         (and_from (node.0.kind == kind) (is_some node.0.rank)
-        (equal_from node.0.kind kind (ap (λ x. x.kind) (sym one) ∙ (own.2 ∙ same))) node.2)),
+        (eq-eqb node.0.kind kind (ap (λ x. x.kind) (sym one) ∙ (own.2 ∙ same))) node.2)),
   )
 
 module _ (vertices : List Vertex) (ok : Claim → Type 0) (scope : Scope) (need : Need) where

@@ -5,6 +5,7 @@ use Rattle.std.proofs.Common.{subst, arith}
 use Rattle.std.proofs.Math.Seq.{drop-append_seam}
 use Rattle.std.proofs.lemmas.List.{drop-drop}
 use Rattle.flux_defs.specs.declared.requests.Need.{Need, Vert, Vert', Pool, Spread, Spread'}
+use Rattle.list_laws.proofs.Lists.{get_first}
 use Rattle.prune_filters.specs.Demands.{capped}
 use Rattle.dfu_match.specs.declared.wanting.Wanted.{Wanted}
 use Rattle.dfu_match.specs.Tables.{all_of, row_all, needs_all, StandsAt, StandAt}
@@ -13,12 +14,6 @@ use Rattle.dfu_match.proofs.DemandLaws.{all_Vert, all_Spread}
 
 drop_plus : {X : Type 0} (n k : ℕ) (xs : List X) → drop (n + k) xs ≡ drop k (drop n xs)
 drop_plus n k xs = sym (drop-drop k n xs)
-
-get_first : {X : Type 0} (i : ℕ) (xs rest : List X) (x : X) → drop i xs ≡ x ∷ rest → slice_get xs i ≡ Some x
-get_first zero [] rest x e = absurd (cc)
-get_first zero (y ∷ ys) rest x e = let same : y ≡ x = cc in ap Some same
-get_first (suc i) [] rest x e = absurd (cc)
-get_first (suc i) (y ∷ ys) rest x e = get_first i ys rest x e
 
 left_within : {X : Type 0} (i : ℕ) (xs front more : List X) → drop i xs ≡ front ++ more → 1 ≤ length front →
     i + length front ≤ length xs
@@ -42,7 +37,7 @@ module _ (all : List Need) where
   pub place_there : (place : ℕ) (need : Need) → IsPlaceOf all place need → slice_get all place ≡ Some need
   place_there place need is =
       let first = all_first need in
-      get_first place all (first.0 ++ is.0) need (is.1 ∙ ap (λ x. x ++ is.0) first.1)
+      get_first all (first.0 ++ is.0) place need (is.1 ∙ ap (λ x. x ++ is.0) first.1)
 
   -- the first of a list, and the others
   pub place_first : (place : ℕ) (needs rest : List Need) (need : Need) → needs ≡ need ∷ rest →

@@ -6,13 +6,13 @@ use Rattle.std.specs.Prelude.{slice_get}
 use Rattle.std.specs.Ordering.{nat_cmp, is_lt, ordering_then}
 use Rattle.std.specs.Cmp.Lexicographic.{slice_cmp}
 use Rattle.std.specs.List.{list_any}
-use Rattle.std.proofs.lemmas.Bool.{cases_lt, cases_order, or_right, or_left}
+use Rattle.std.proofs.lemmas.Bool.{cases_lt, cases_order, or_right, or_left, eq-eqb}
 use Rattle.std.proofs.lemmas.List.{reverse-append, reverse-reverse, append_assoc, length_push, get_or_push}
 use Rattle.std.proofs.lemmas.List.Folds.{list_any-append}
 use Rattle.graph_build.proofs.OrderLaws.{itself_number}
 use Rattle.flux_defs.specs.declared.vertices.Vertex.{Vertex}
 use Rattle.flux_defs.specs.Graph.{parent_of, chain, is_at_or_below}
-use Rattle.graph_laws.proofs.Containment.{at_or_below-opens, equal_from}
+use Rattle.graph_laws.proofs.Containment.{at_or_below-opens}
 use Rattle.resource_graph.specs.Chains.{chain_of}
 use Rattle.graph_build.specs.Orders.{IsRooted, IsOrderOf, IsPreorderOf}
 use Rattle.resource_graph.proofs.ChainLaws.{chains_agree, chain_short, chain-None}
@@ -122,7 +122,7 @@ module _ (vertices : List Vertex) (rooted : IsRooted vertices) where
       let here : list_any (nat_eq p) (reverse ys ++ p ∷ []) ≡ true =
       list_any-append (nat_eq p) (reverse ys) (p ∷ [])
       ∙ or_right (list_any (nat_eq p) (reverse ys)) (list_any (nat_eq p) (p ∷ []))
-      (or_left (nat_eq p p) false (equal_from p p refl)) in
+      (or_left (nat_eq p p) false (eq-eqb p p refl)) in
       let there : list_any (nat_eq p) (chain_of vertices v) ≡ true =
       ap (list_any (nat_eq p)) found ∙ (list_any-append (nat_eq p) (reverse (p ∷ ys)) (reverse ends.0) ∙
       or_left (list_any (nat_eq p) (reverse (p ∷ ys))) (list_any (nat_eq p) (reverse ends.0))

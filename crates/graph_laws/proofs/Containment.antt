@@ -1,19 +1,9 @@
 -- Containment: what is at or below what, by steps up the chain of parents.
 use Rattle.std.proofs.Common.{◌≡◌, ◌≢◌, ℕ, zero, suc, ◌+◌, ◌-◌, ◌<◌, ◌≤◌, ◌==◌, nat_eq, Bool, true, false, not, List}
 use Rattle.std.proofs.Common.{length, Option, Some, None, ◌⊎◌, inl, inr, refl, sym, ◌∙◌, ap, arith, IsTrue, true≢false}
-use Rattle.std.proofs.lemmas.Bool.{cases_lt, and_parts, and_from, or_cases, or_left, or_right}
-use Rattle.std.proofs.lemmas.Bool.Decides.{eqb_tells}
+use Rattle.std.proofs.lemmas.Bool.{cases_lt, and_parts, and_from, or_cases, or_left, or_right, eqb-true, eq-eqb}
 use Rattle.flux_defs.specs.declared.vertices.Vertex.{Vertex}
 use Rattle.flux_defs.specs.Graph.{parent_of, has_on_chain, is_at_or_below, is_below}
-
-pub equal_to : (u v : ℕ) → IsTrue (nat_eq u v) → u ≡ v
-equal_to u v h = elim (eqb_tells u v) [ inl same ↦ same.1 | inr differ ↦ absurd (true≢false (sym h ∙ differ.0)) ]
-
-pub equal_from : (u v : ℕ) → u ≡ v → IsTrue (nat_eq u v)
-equal_from u v e = elim (eqb_tells u v) [ inl same ↦ same.0 | inr differ ↦ absurd (differ.1 e) ]
-
-pub unequal_from : (u v : ℕ) → u ≢ v → nat_eq u v ≡ false
-unequal_from u v ne = elim (eqb_tells u v) [ inl same ↦ absurd (ne same.1) | inr differ ↦ differ.0 ]
 
 pub not_from : (b : Bool) → (IsTrue b → ⊥) → IsTrue (not b)
 not_from true h = absurd (h refl)
@@ -60,7 +50,7 @@ module _ (vertices : List Vertex) where
   steps_to (suc most) u None h = absurd (true≢false (sym h))
   steps_to (suc most) u (Some v) h =
       elim (or_cases (nat_eq u v) (has_on_chain vertices most (parent_of vertices v) u) h) [
-        | inl here ↦ (0, ap Some (sym (equal_to u v here)))
+        | inl here ↦ (0, ap Some (sym (eqb-true u v here)))
         | inr above ↦ (let r = steps_to most u (parent_of vertices v) above in (suc r.0, r.1))
       ]
 
@@ -69,7 +59,7 @@ module _ (vertices : List Vertex) where
   on_chain zero (suc most) u None lt e = absurd (cc)
   on_chain zero (suc most) u (Some v) lt e =
       let same : u ≡ v = cc in
-      or_left (nat_eq u v) (has_on_chain vertices most (parent_of vertices v) u) (equal_from u v same)
+      or_left (nat_eq u v) (has_on_chain vertices most (parent_of vertices v) u) (eq-eqb u v same)
   on_chain (suc n) (suc most) u None lt e = absurd (cc)
   on_chain (suc n) (suc most) u (Some v) lt e =
       or_right (nat_eq u v) (has_on_chain vertices most (parent_of vertices v) u)
@@ -142,12 +132,12 @@ module _ (vertices : List Vertex) (first : ParentsFirst vertices) where
   -- a vertex other than u that is at or below u is below it, and so back
   pub below_from : (v u : ℕ) → v ≢ u → IsTrue (is_at_or_below vertices v u) → IsTrue (is_below vertices v u)
   below_from v u ne h =
-      and_from (is_at_or_below vertices v u) (not (v == u)) h (not_from (v == u) (λ e. ne (equal_to v u e)))
+      and_from (is_at_or_below vertices v u) (not (v == u)) h (not_from (v == u) (λ e. ne (eqb-true v u e)))
 
   pub below_to : (v u : ℕ) → IsTrue (is_below vertices v u) → IsTrue (is_at_or_below vertices v u) × (v ≢ u)
   below_to v u h =
       let b = and_parts (is_at_or_below vertices v u) (not (v == u)) h in
-      (b.0, λ e. not_to (v == u) b.1 (equal_from v u e))
+      (b.0, λ e. not_to (v == u) b.1 (eq-eqb v u e))
 
   -- a vertex below u has a parent at or below u
   pub parent_below : (v u : ℕ) → v < length vertices →

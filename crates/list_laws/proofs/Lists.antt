@@ -99,6 +99,13 @@ drop_here (y ∷ ys) zero x e = let same : y ≡ x = cc in ap (λ z. z ∷ ys) s
 drop_here (y ∷ ys) (suc k) x e =
     let next : suc (k + 1) ≡ suc k + 1 = omega arith in drop_here ys k x e ∙ ap (λ n. x ∷ drop n (y ∷ ys)) next
 
+-- and the element with which it begins is there
+pub get_first : {X : Type 0} (xs rest : List X) (k : ℕ) (x : X) → drop k xs ≡ x ∷ rest → slice_get xs k ≡ Some x
+get_first [] rest zero x e = absurd (cc)
+get_first [] rest (suc k) x e = absurd (cc)
+get_first (y ∷ ys) rest zero x e = let same : y ≡ x = cc in ap Some same
+get_first (y ∷ ys) rest (suc k) x e = get_first ys rest k x e
+
 -- the elements up to an index and the one there
 pub take_next : {X : Type 0} (xs : List X) (i : ℕ) (x : X) →
     slice_get xs i ≡ Some x → take (i + 1) xs ≡ take i xs ++ x ∷ []

@@ -4,7 +4,7 @@ use Rattle.std.proofs.Common.{false, List, [], ◌∷◌, ◌++◌, length, get_
 use Rattle.std.proofs.Common.{ap, subst, arith, IsTrue, IsSome, true≢false, option_and_then}
 use Rattle.std.specs.Prelude.{slice_get, codes, decimal}
 use Rattle.std.specs.Option.{IsSomeAnd, option_map_or}
-use Rattle.std.proofs.lemmas.Bool.{cases_lt}
+use Rattle.std.proofs.lemmas.Bool.{cases_lt, eqb-true, eq-eqb}
 use Rattle.std.proofs.lemmas.Bool.Decides.{eqb_tells}
 use Rattle.std.proofs.lemmas.Fmt.{decimal_injective}
 use Rattle.std.proofs.lemmas.Option.{slice_get-get_or, slice_get_within, same_Some, none-some}
@@ -16,7 +16,7 @@ use Rattle.flux_defs.specs.ValidGraph.{IsDevice, HasType}
 use Rattle.resource_graph.proofs.Values.{value_of, at_value, from_value}
 use Rattle.resource_graph.specs.Finds.{Nowhere}
 use Rattle.graph_laws.proofs.Containment.{ParentsFirst, up, up-None, steps_of, below_parent, below_from, below_to}
-use Rattle.graph_laws.proofs.Containment.{parent_below, equal_to, equal_from}
+use Rattle.graph_laws.proofs.Containment.{parent_below}
 use Rattle.graph_build.specs.declared.raw.RawVertex.{RawVertex}
 use Rattle.graph_build.specs.Faults.{IsNodeType, HasDoubleId, HasDoubleName, HasBadRank}
 use Rattle.graph_build.specs.Raw.{shape_of, raw_graph, raw_names, KindsApart}
@@ -385,9 +385,9 @@ no_pool kind few = list_any_none (λ (x : Vertex). (x.kind == kind) && not (x.si
     whole x false b kinds sizes small = refl
     whole x true true kinds sizes small = refl
     whole x true false kinds sizes small =
-        let same : x.kind ≡ kind = equal_to x.kind kind kinds in
+        let same : x.kind ≡ kind = eqb-true x.kind kind kinds in
         let one : x.size ≡ 1 = small (omega arith) in
-        absurd (true≢false (sym (equal_from x.size 1 one) ∙ sizes))
+        absurd (true≢false (sym (eq-eqb x.size 1 one) ∙ sizes))
 
     plain : (x : Vertex) → (x.kind < 4 → x.size ≡ 1) → ((x.kind == kind) && not (x.size == 1)) ≡ false
     plain x small = whole x (x.kind == kind) (x.size == 1) refl refl small

@@ -1,12 +1,12 @@
 -- Lists that are filtered, and what a filter leaves out.
-use Rattle.std.proofs.Common.{◌≡◌, ◌≢◌, refl, sym, ◌∙◌, ap, ℕ, zero, suc, ◌+◌, Bool, true, false, not, ◌&&◌, ◌||◌, List}
+use Rattle.std.proofs.Common.{◌≡◌, ◌≢◌, refl, sym, ◌∙◌, ap, ℕ, ◌+◌, Bool, true, false, not, ◌&&◌, ◌||◌, List}
 use Rattle.std.proofs.Common.{[], ◌∷◌, ◌++◌, cond, drop, Some, append_assoc}
 use Rattle.std.specs.Prelude.{slice_get}
 use Rattle.std.specs.List.{filter}
 use Rattle.std.proofs.lemmas.List.Elements.{filter_agree}
 use Rattle.std.proofs.Math.Bool.{not-not}
 use Rattle.node_constraints.specs.Narrowing.{AreOthers}
-use Rattle.list_laws.proofs.Lists.{drop_here}
+use Rattle.list_laws.proofs.Lists.{drop_here, get_first}
 
 pub filter_all : {X : Type 0} (xs : List X) → filter (λ _. true) xs ≡ xs
 filter_all [] = refl
@@ -52,14 +52,6 @@ fails_first p x left xs same other = go (p x) same
     go true here = absurd (other _ here)
     go false here = (here, refl)
 
--- ---- what stands at a place
-
-pub drop_at : (xs ys : List ℕ) (k x : ℕ) → drop k xs ≡ x ∷ ys → slice_get xs k ≡ Some x
-drop_at [] ys zero x same = absurd (cc)
-drop_at [] ys (suc k) x same = absurd (cc)
-drop_at (y ∷ xs) ys zero x same = let first : y ≡ x = cc in ap Some first
-drop_at (y ∷ xs) ys (suc k) x same = drop_at xs ys k x same
-
 -- ---- one step over a list, with its filtered one beside it
 
 pub passed_over : (p : ℕ → Bool) (xs some others : List ℕ) (at next x : ℕ) (all : List ℕ) →
@@ -82,7 +74,7 @@ pub kept_one : (p : ℕ → Bool) (xs some others : List ℕ) (at next x : ℕ) 
     × ((others ++ x ∷ []) ++ filter (λ v. not (p v)) (drop (at + 1) xs) ≡ all)
 kept_one p xs some others at next x all here apart before =
     let step = fails_first p x (drop next some)
-    (drop (at + 1) xs) (before.0 ∙ ap (filter p) here) (λ ys same. apart (drop_at some ys next x same)) in (
+    (drop (at + 1) xs) (before.0 ∙ ap (filter p) here) (λ ys same. apart (get_first some ys next x same)) in (
       step.0,
       append_assoc others (x ∷ []) (filter (λ v. not (p v)) (drop (at + 1) xs)) ∙ (ap
           (λ ys. others ++ ys) (sym step.1) ∙ (ap (λ ys. others ++ filter (λ v. not (p v)) ys) (sym here) ∙ before.1)),

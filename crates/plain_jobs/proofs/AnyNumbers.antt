@@ -1,15 +1,14 @@
 -- Containment of any two numbers: past the graph nothing is below another.
 use Rattle.std.proofs.Common.{◌≡◌, ◌≢◌, ℕ, zero, suc, ◌≤◌, true, false, not, ◌&&◌, List, length, Some, None}
 use Rattle.std.proofs.Common.{option_and_then, ◌⊎◌, inl, inr, refl, sym, ◌∙◌, ap, arith, IsTrue}
-use Rattle.std.proofs.lemmas.Bool.{cases_lt}
+use Rattle.std.proofs.lemmas.Bool.{cases_lt, ne_eqb, false_from_ne_true}
 use Rattle.std.proofs.lemmas.Option.{slice_get_past}
 use Rattle.std.proofs.Math.Bool.{and-true}
 use Rattle.flux_defs.specs.declared.vertices.Vertex.{Vertex}
 use Rattle.flux_defs.specs.Graph.{ResourceGraph, parent_of, is_at_or_below, is_below}
 use Rattle.flux_defs.specs.ValidGraph.{StandsInPreorder}
-use Rattle.graph_laws.proofs.Containment.{on_chain, at_or_below-opens, below_le, unequal_from, steps_of, up-None, up}
+use Rattle.graph_laws.proofs.Containment.{on_chain, at_or_below-opens, below_le, steps_of, up-None, up}
 use Rattle.graph_laws.proofs.Preorder.{parents_first}
-use Rattle.list_laws.proofs.Tests.{false_from}
 
 -- a number is at or below itself, in a graph with a vertex
 pub self_below : (g : ResourceGraph) → StandsInPreorder g → (v : ℕ) → is_at_or_below g.vertices v v ≡ true
@@ -25,7 +24,7 @@ past_steps vertices v u (suc n) past ne e =
 
 pub past_below : (g : ResourceGraph) → StandsInPreorder g →
     (v u : ℕ) → v ≢ u → (length g.vertices ≤ v) ⊎ (length g.vertices ≤ u) → is_at_or_below g.vertices v u ≡ false
-past_below g o v u ne past = false_from (is_at_or_below g.vertices v u) (refuted past)
+past_below g o v u ne past = false_from_ne_true (is_at_or_below g.vertices v u) (refuted past)
   where
     refuted : (length g.vertices ≤ v) ⊎ (length g.vertices ≤ u) → IsTrue (is_at_or_below g.vertices v u) → ⊥
     refuted (inl lower) h = let s = steps_of g.vertices (parents_first g o) v u h in
@@ -40,4 +39,4 @@ past_below g o v u ne past = false_from (is_at_or_below g.vertices v u) (refuted
 -- of two different vertices, being below is being at or below
 pub differ_below : (vertices : List Vertex) (v u : ℕ) → v ≢ u → is_below vertices v u ≡ is_at_or_below vertices v u
 differ_below vertices v u ne =
-    ap (λ b. is_at_or_below vertices v u && not b) (unequal_from v u ne) ∙ and-true (is_at_or_below vertices v u)
+    ap (λ b. is_at_or_below vertices v u && not b) (ne_eqb v u ne) ∙ and-true (is_at_or_below vertices v u)

@@ -5,7 +5,7 @@ use Rattle.std.proofs.Common.{is_some, inl, inr, refl, sym, ◌∙◌, ap, subst
 use Rattle.std.specs.List.{AllByRecursion, list_any}
 use Rattle.std.specs.Option.{IsSomeAnd, option_map_or}
 use Rattle.std.proofs.Math.Nat.{mul-le-mul, mul-le-mul_right}
-use Rattle.std.proofs.lemmas.Bool.{and_parts, or_cases, or_left, or_right}
+use Rattle.std.proofs.lemmas.Bool.{and_parts, or_cases, or_left, or_right, eqb-true, eq-eqb, false_from_ne_true}
 use Rattle.std.proofs.lemmas.Bool.Decides.{eqb_tells, nat_tests}
 use Rattle.flux_defs.specs.declared.vertices.Vertex.{Vertex}
 use Rattle.flux_defs.specs.declared.claims.Claim.{Claim}
@@ -26,13 +26,12 @@ use Rattle.flux_defs.specs.Needs.{amount_of, IsOfNeed, HasNoSpread, HaveNoSpread
 use Rattle.flux_defs.specs.Needs.{AreValidRow}
 use Rattle.flux_defs.specs.Fits.{Pick, served, AreDistinct, Pieces, Piece, Fits, FitsRow}
 use Rattle.graph_laws.proofs.Containment.{below_trans, below_le, below_parent, below_self, below_from, below_to}
-use Rattle.graph_laws.proofs.Containment.{equal_to, equal_from, not_to}
+use Rattle.graph_laws.proofs.Containment.{not_to}
 use Rattle.graph_laws.proofs.Preorder.{parents_first}
 use Rattle.flux_laws.proofs.Groups.{AreDisjoint, IsOfPicks, IsRootOf, picks_disjoint, siblings_disjoint}
 use Rattle.flux_laws.proofs.Groups.{piece_vertex}
 use Rattle.flux_laws.proofs.Valid.{nodes_alike, none_nested}
 use Rattle.flux_laws.proofs.Rows.{fits_list, valid_to_row}
-use Rattle.list_laws.proofs.Tests.{false_from}
 use Rattle.prune_filters.specs.Demands.{one_if, is_node_kind, demand, row_demand, needs_demand, capped}
 use Rattle.prune_laws.specs.PruneLaws.{scene, TooLittleServesNone, TooLittleFitsNone}
 use Rattle.prune_laws.proofs.Sums.{set_sum, parts_sum, part_sum, one_sum}
@@ -156,18 +155,18 @@ module _ (g : ResourceGraph) (names : List (List ℕ)) (valid : IsValidGraph g n
       let named = some_to (λ x. slice_get g.kinds x.kind ≡ Some (Rattle.std.specs.Prelude.codes "node"))
       (slice_get vs v) y.0 y.1 type in
       pool_of y.0.kind v (some_from (λ x. x.kind ≡ y.0.kind) (slice_get vs v) y.0 y.1 refl)
-      ∙ false_from (is_pool_kind vs y.0.kind) (λ t. other y.0.kind named
+      ∙ false_from_ne_true (is_pool_kind vs y.0.kind) (λ t. other y.0.kind named
       (any_item (λ x. (x.kind == y.0.kind) && not (x.size == 1)) vs t))
     where
       other : (k : ℕ) → slice_get g.kinds k ≡ Some (Rattle.std.specs.Prelude.codes "node") →
           (i : ℕ) × (x : Vertex) × (slice_get vs i ≡ Some x) × IsTrue ((x.kind == k) && not (x.size == 1)) → ⊥
       other k named r =
           let b = and_parts (r.1.kind == k) (not (r.1.size == 1)) r.3 in
-          let is : r.1.kind ≡ k = equal_to r.1.kind k b.0 in
+          let is : r.1.kind ≡ k = eqb-true r.1.kind k b.0 in
           let type = some_from (λ x. slice_get g.kinds x.kind ≡ Some (Rattle.std.specs.Prelude.codes "node"))
           (slice_get vs r.0) r.1 r.2 (ap (slice_get g.kinds) is ∙ named) in
           let node = (valid.nodes r.0 r.1 r.2).1 type in
-          not_to (r.1.size == 1) b.1 (equal_from r.1.size 1 (valid.sizes.whole r.0 r.1 r.2 (inl node)))
+          not_to (r.1.size == 1) b.1 (eq-eqb r.1.size 1 (valid.sizes.whole r.0 r.1 r.2 (inl node)))
 
   -- a kind of which some node is is that of each
   node_alike : (kind v : ℕ) → IsTrue (is_node_kind vs kind) → IsNode vs v → HasKind vs kind v
@@ -177,7 +176,7 @@ module _ (g : ResourceGraph) (names : List (List ℕ)) (valid : IsValidGraph g n
       let node = some_from (λ x. is_some x.rank ≡ true) (slice_get vs r.0) r.1 r.2 b.1 in
       let k = nodes_alike g names valid v r.0 h node in
       let one : r.1.kind ≡ k.0 = some_to (λ x. x.kind ≡ k.0) (slice_get vs r.0) r.1 r.2 k.2 in
-      let same : k.0 ≡ kind = sym one ∙ equal_to r.1.kind kind b.0 in
+      let same : k.0 ≡ kind = sym one ∙ eqb-true r.1.kind kind b.0 in
       subst (λ (j : ℕ). HasKind vs j v) same k.1
 
   module _ (jobs : List Job) (barred : List ℕ) (w : Window) (kind m : ℕ) (lo : w.from ≤ m) (hi : m < w.to) where
@@ -223,7 +222,7 @@ module _ (g : ResourceGraph) (names : List (List ℕ)) (valid : IsValidGraph g n
     own_part v own is free = elim (eqb_tells own kind) [
       | inl same ↦ (
           let one = one_sum kind weight vs (λ u. nat_eq u v) v (subst (λ (k : ℕ). HasKind vs k v) same.1 is)
-          (equal_from v v refl) in
+          (eq-eqb v v refl) in
           let e : one_if (own == kind) ≡ 1 = ap one_if same.0 in
           omega (arith, one, free, e))
       | inr differ ↦ (let e : one_if (own == kind) ≡ 0 = ap one_if differ.0 in omega (arith, e))
@@ -248,9 +247,9 @@ module _ (g : ResourceGraph) (names : List (List ℕ)) (valid : IsValidGraph g n
     -- a vertex and what is below it weigh no more than what is at or below it
     vertex_and_below : (v : ℕ) → v < length vs → sum (λ u. nat_eq u v) + sum (λ u. is_below vs u v) ≤ sum (under v)
     vertex_and_below v lt = parts_sum kind weight vs (λ u. nat_eq u v) (λ u. is_below vs u v) (under v)
-        (λ u l e. subst (λ (x : ℕ). IsTrue (is_at_or_below vs x v)) (sym (equal_to u v e)) (below_self vs first v lt))
+        (λ u l e. subst (λ (x : ℕ). IsTrue (is_at_or_below vs x v)) (sym (eqb-true u v e)) (below_self vs first v lt))
         (λ u l h. (below_to vs first u v h).0)
-        (λ u l e h. (below_to vs first u v h).1 (equal_to u v e))
+        (λ u l e h. (below_to vs first u v h).1 (eqb-true u v e))
 
     -- vertices of the scope of which P holds have so much in their subtrees
     abbrev Covered : (ℕ → Type 0) → Scope → ℕ → Type 0
@@ -336,7 +335,7 @@ module _ (g : ResourceGraph) (names : List (List ℕ)) (valid : IsValidGraph g n
         is_node_kind vs kind ≡ b →
         one_if b ≤ sum (λ u. nat_eq u v)
     node_part v node clear true t =
-        let one = one_sum kind weight vs (λ u. nat_eq u v) v (node_alike kind v t node) (equal_from v v refl) in
+        let one = one_sum kind weight vs (λ u. nat_eq u v) v (node_alike kind v t node) (eq-eqb v v refl) in
         let free = open_free v (node_plain v node) clear in
         omega (arith, one, free)
     node_part v node clear false t = omega arith

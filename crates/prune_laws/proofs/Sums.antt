@@ -5,8 +5,8 @@ use Rattle.std.proofs.Common.{true≢false}
 use Rattle.std.specs.List.{sum_by, enumerate_from}
 use Rattle.std.specs.Option.{IsSomeAnd}
 use Rattle.std.proofs.lemmas.List.Sums.{sum_by-cons}
+use Rattle.std.proofs.lemmas.Bool.{eq-eqb}
 use Rattle.flux_defs.specs.declared.vertices.Vertex.{Vertex}
-use Rattle.graph_laws.proofs.Containment.{equal_from}
 
 -- what the vertices of a kind in a set weigh together
 module _ (kind : ℕ) (weight : ℕ → ℕ) where
@@ -77,7 +77,7 @@ module _ (kind : ℕ) (weight : ℕ → ℕ) where
       let same : y ≡ x = cc in
       let place : at + 0 ≡ at = omega arith in
       let k : y.kind ≡ kind = ap (λ z. z.kind) same ∙ is in
-      let one = weighs_one (y.kind == kind) (set at) (weight at) (equal_from y.kind kind k)
+      let one = weighs_one (y.kind == kind) (set at) (weight at) (eq-eqb y.kind kind k)
       (subst (λ (n : ℕ). IsTrue (set n)) place h) in
       subst (λ (n : ℕ). weight n ≤ sum_from set at (y ∷ ys)) (sym place) (omega (arith, one, from_next set at y ys))
   one_from set at (y ∷ ys) (suc i) x e is h =

@@ -1,13 +1,13 @@
 -- What a claim gives.
 use Rattle.std.proofs.Common.{◌≡◌, ℕ, ◌+◌, ◌-◌, ◌<◌, ◌≤◌, ◌==◌, true, false, List, [], ◌∷◌, length, inl, inr, refl, sym}
 use Rattle.std.proofs.Common.{◌∙◌, ap, arith, true≢false}
-use Rattle.std.proofs.lemmas.Bool.{false_from_ne_true, or_cases, or_left, or_right}
+use Rattle.std.proofs.lemmas.Bool.{false_from_ne_true, or_cases, or_left, or_right, eqb-true, eq-eqb}
 use Rattle.flux_defs.specs.declared.vertices.Vertex.{Vertex}
 use Rattle.flux_defs.specs.declared.claims.Claim.{Claim}
 use Rattle.flux_defs.specs.declared.claims.Claim.TheVariants.{Take, Hold, Pass}
 use Rattle.flux_defs.specs.Graph.{is_at_or_below}
 use Rattle.flux_defs.specs.Jobs.{vertex_of, holds_over}
-use Rattle.graph_laws.proofs.Containment.{ParentsFirst, below_le, equal_to, equal_from}
+use Rattle.graph_laws.proofs.Containment.{ParentsFirst, below_le}
 use Rattle.resource_graph.specs.Tables.{IsPast}
 use Rattle.idset_text.specs.Idsets.{ids_from}
 use Rattle.resource_set_r.specs.Rows.{is_given_by, given_by}
@@ -18,7 +18,7 @@ module _ (vertices : List Vertex) (first : ParentsFirst vertices) where
   given_later : (c : Claim) (w : ℕ) → is_given_by vertices c w ≡ true → vertex_of c ≤ w
   given_later c w h =
       elim (or_cases (vertex_of c == w) (holds_over vertices w c) h) [
-        | inl same ↦ (let e : vertex_of c ≡ w = equal_to (vertex_of c) w same in omega arith)
+        | inl same ↦ (let e : vertex_of c ≡ w = eqb-true (vertex_of c) w same in omega arith)
         | inr held ↦ by c held
       ]
     where
@@ -49,7 +49,7 @@ module _ (vertices : List Vertex) (first : ParentsFirst vertices) where
       given_range (Hold v) after (omega (arith, past.later)) past.within
       (λ w lo hi. or_right (v == w) (is_at_or_below vertices w v) (past.covered w lo hi))
       (λ w lo hi h. elim (or_cases (v == w) (is_at_or_below vertices w v) h) [
-        | inl same ↦ (let e : v ≡ w = equal_to v w same in omega (arith, past.later))
+        | inl same ↦ (let e : v ≡ w = eqb-true v w same in omega (arith, past.later))
         | inr held ↦ (let lt : w < after = past.whole w hi held in omega arith)
       ])
 
@@ -59,9 +59,9 @@ module _ (vertices : List Vertex) (first : ParentsFirst vertices) where
       let v = vertex_of c in
       let e : v + 1 - v ≡ 1 = omega arith in
       given_range c (v + 1) (omega arith)
-      (omega arith) (λ w lo hi. or_left (v == w) (holds_over vertices w c) (equal_from v w (omega arith)))
+      (omega arith) (λ w lo hi. or_left (v == w) (holds_over vertices w c) (eq-eqb v w (omega arith)))
       (λ w lo hi h. elim (or_cases (v == w) (holds_over vertices w c) h) [
-        | inl same ↦ (let e : v ≡ w = equal_to v w same in omega arith)
+        | inl same ↦ (let e : v ≡ w = eqb-true v w same in omega arith)
         | inr held ↦ true≢false (sym held ∙ none w)
       ]) ∙ ap (λ n. ids_from n v) e
 

@@ -5,11 +5,10 @@ use Rattle.std.proofs.Common.{if◌then◌else◌, IsUtf8, IsTrue, IfSome, slice
 use Rattle.std.proofs.Common.{is_some, true≢false, inl, inr}
 use Rattle.std.specs.List.{AllByRecursion, find, list_all}
 use Rattle.std.specs.Option.{option_map_or}
-use Rattle.std.proofs.lemmas.Bool.{and_parts, cases_eq, cases_lt}
+use Rattle.std.proofs.lemmas.Bool.{and_parts, cases_eq, cases_lt, eq-eqb}
 use Rattle.std.proofs.lemmas.Option.{slice_get-get_or}
 use Rattle.std.proofs.lemmas.Str.{IsUtf8-from_ascii}
 use Rattle.flux_defs.specs.declared.limits.TheConstants.{NO_ID}
-use Rattle.graph_laws.proofs.Containment.{equal_from}
 use Rattle.flux_defs.specs.declared.vertices.Vertex.{Vertex}
 use Rattle.flux_defs.specs.Graph.{is_at_or_below}
 use Rattle.resource_graph.specs.NamedGraph.{NamedGraph}
@@ -163,7 +162,7 @@ host_named g rank n named names lt is = by (node_with g.resources.vertices rank)
     p v = option_map_or (λ r. r == rank) (rank_at g.resources.vertices v) false
 
     passes : p n ≡ true
-    passes = ap (λ o. option_map_or (λ r. r == rank) o false) is ∙ equal_from rank rank refl
+    passes = ap (λ o. option_map_or (λ r. r == rank) o false) is ∙ eq-eqb rank rank refl
 
     at : (v : ℕ) → v < length g.names → IsTrue (is_host_name (name_at g v))
     at v within =

@@ -4,15 +4,14 @@ use Rattle.std.proofs.Common.{inl, inr, refl, sym, ◌∙◌, ap, subst, arith, 
 use Rattle.std.specs.Prelude.{slice_get, is_some, codes, IsSome}
 use Rattle.std.specs.Option.{IsSomeAnd, option_map_or}
 use Rattle.std.specs.Str.{bytes_eq}
-use Rattle.std.proofs.lemmas.Bool.{cases_lt, cases_eq, false_from_ne_true, and_parts, and_from}
+use Rattle.std.proofs.lemmas.Bool.{cases_lt, cases_eq, false_from_ne_true, and_parts, and_from, eqb-true, eq-eqb}
 use Rattle.std.proofs.lemmas.Option.{slice_get_within, slice_get_past}
 use Rattle.std.proofs.lemmas.Slice.Eq.{bytes_eq-Decides}
 use Rattle.flux_defs.specs.declared.vertices.Vertex.{Vertex}
 use Rattle.flux_defs.specs.Graph.{ResourceGraph, parent_of, is_at_or_below, IsNode}
 use Rattle.flux_defs.specs.ValidGraph.{IsValidGraph, HasRank}
 use Rattle.graph_laws.proofs.Containment.{ParentsFirst, above_is_chain, up, up-None, steps_of}
-use Rattle.graph_laws.proofs.Containment.{below_le, below_from, equal_to}
-use Rattle.graph_laws.proofs.Containment.{equal_from}
+use Rattle.graph_laws.proofs.Containment.{below_le, below_from}
 use Rattle.graph_laws.proofs.Preorder.{parents_first}
 use Rattle.resource_graph.specs.Tables.{IsPast, IsNodeOf, IsNamedKind}
 use Rattle.resource_graph.specs.Finds.{IsFirstOf}
@@ -142,7 +141,7 @@ module _ (g : ResourceGraph) (names : List (List ℕ)) (valid : IsValidGraph g n
       ranks : (n : ℕ) (o : Option ℕ) →
           rank_at g.vertices n ≡ o → option_map_or (λ r. r == rank) o false ≡ true → rank_at g.vertices n ≡ Some rank
       ranks n None e t = absurd (true≢false (sym t))
-      ranks n (Some r) e t = e ∙ ap Some (equal_to r rank t)
+      ranks n (Some r) e t = e ∙ ap Some (eqb-true r rank t)
 
       by : (o : Option ℕ) → node_above g.vertices v ≡ o →
           option_map_or (λ r. r == rank) (option_and_then (rank_at g.vertices) o) false ≡ true →
@@ -168,7 +167,7 @@ module _ (g : ResourceGraph) (names : List (List ℕ)) (valid : IsValidGraph g n
     in_rank_inside v lo hi =
         let above : node_above g.vertices v ≡ Some n = node_above_is v n node_here (past.covered v lo hi) in
         ap (λ o. option_map_or (λ r. r == rank) (option_and_then (rank_at g.vertices) o) false) above
-        ∙ ap (λ o. option_map_or (λ r. r == rank) o false) rank_here ∙ equal_from rank rank refl
+        ∙ ap (λ o. option_map_or (λ r. r == rank) o false) rank_here ∙ eq-eqb rank rank refl
 
     in_range : (v : ℕ) → is_in_rank g.vertices rank v ≡ true → (n ≤ v) × (v < after)
     in_range v h =
@@ -189,7 +188,7 @@ module _ (g : ResourceGraph) (names : List (List ℕ)) (valid : IsValidGraph g n
   of_rank : (rank m : ℕ) (o : Option ℕ) →
       rank_at g.vertices m ≡ o → option_map_or (λ r. r == rank) o false ≡ true → rank_at g.vertices m ≡ Some rank
   of_rank rank m None e t = absurd (true≢false (sym t))
-  of_rank rank m (Some r) e t = e ∙ ap Some (equal_to r rank t)
+  of_rank rank m (Some r) e t = e ∙ ap Some (eqb-true r rank t)
 
   -- the node of a rank
   pub node_with_found : (rank n : ℕ) → HasRank g rank n → node_with g.vertices rank ≡ Some n
@@ -199,7 +198,7 @@ module _ (g : ResourceGraph) (names : List (List ℕ)) (valid : IsValidGraph g n
       let within = slice_get_within g.vertices n at.0 at.1 in
       find_only (λ v. option_map_or (λ r. r == rank) (rank_at g.vertices v) false)
       (length g.vertices) 0 n (omega arith) (omega (arith, within))
-      (ap (λ o. option_map_or (λ r. r == rank) o false) is ∙ equal_from rank rank refl)
+      (ap (λ o. option_map_or (λ r. r == rank) o false) is ∙ eq-eqb rank rank refl)
       (λ m lo hi h. valid.ranks m n rank
       (rank_has g.vertices g rank m refl (of_rank rank m (rank_at g.vertices m) refl h)) has)
 

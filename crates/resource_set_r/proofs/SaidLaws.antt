@@ -6,7 +6,7 @@ use Rattle.std.specs.Prelude.{slice_get}
 use Rattle.std.specs.List.{Contains, filter_map, flat_map}
 use Rattle.std.specs.Option.{option_map_or, IsSomeAnd}
 use Rattle.std.specs.Str.{bytes_eq}
-use Rattle.std.proofs.lemmas.Bool.{or_cases, or_left, or_right}
+use Rattle.std.proofs.lemmas.Bool.{or_cases, or_left, or_right, eqb-true, eq-eqb}
 use Rattle.std.proofs.lemmas.Option.{slice_get_within}
 use Rattle.std.proofs.lemmas.Slice.Eq.{bytes_eq-Decides}
 use Rattle.flux_defs.specs.declared.vertices.Vertex.{Vertex}
@@ -15,7 +15,7 @@ use Rattle.flux_defs.specs.declared.claims.Claim.TheVariants.{Take, Hold, Pass}
 use Rattle.flux_defs.specs.Graph.{ResourceGraph, is_at_or_below, IsNode}
 use Rattle.flux_defs.specs.Jobs.{vertex_of, holds_over, is_on_or_below}
 use Rattle.flux_defs.specs.ValidGraph.{IsValidGraph, HasType, HasId, HasRank}
-use Rattle.graph_laws.proofs.Containment.{ParentsFirst, below_self, above_is_chain, equal_to, equal_from}
+use Rattle.graph_laws.proofs.Containment.{ParentsFirst, below_self, above_is_chain}
 use Rattle.graph_laws.proofs.Preorder.{parents_first}
 use Rattle.resource_graph.specs.Finds.{IsFirstOf}
 use Rattle.resource_graph.proofs.Values.{value_of}
@@ -79,7 +79,7 @@ module _ (g : ResourceGraph) (names : List (List ℕ)) (valid : IsValidGraph g n
   shared_by c v n lt at t =
       elim (or_cases (vertex_of c == v) (holds_over g.vertices v c) t) [
         | inl same ↦ or_left (is_on_or_below g.vertices n c) (holds_over g.vertices n c)
-            (subst (λ (u : ℕ). is_at_or_below g.vertices u n ≡ true) (sym (equal_to (vertex_of c) v same)) at)
+            (subst (λ (u : ℕ). is_at_or_below g.vertices u n ≡ true) (sym (eqb-true (vertex_of c) v same)) at)
         | inr held ↦ by c held
       ]
     where
@@ -124,7 +124,7 @@ module _ (g : ResourceGraph) (names : List (List ℕ)) (valid : IsValidGraph g n
       let node = node_of_rank rank n has in
       elim (or_cases (is_on_or_below g.vertices n c.0) (holds_over g.vertices n c.0) c.2) [
         | inl on ↦ in_ranks claims rank n (vertex_of c.0) c.0 has on c.1 (or_left (vertex_of c.0 == vertex_of c.0)
-            (holds_over g.vertices (vertex_of c.0) c.0) (equal_from (vertex_of c.0) (vertex_of c.0) refl))
+            (holds_over g.vertices (vertex_of c.0) c.0) (eq-eqb (vertex_of c.0) (vertex_of c.0) refl))
         | inr over ↦ in_ranks claims rank n n c.0 has (below_self g.vertices first n node.2) c.1
             (or_right (vertex_of c.0 == n) (holds_over g.vertices n c.0) over)
       ]
@@ -144,7 +144,7 @@ module _ (g : ResourceGraph) (names : List (List ℕ)) (valid : IsValidGraph g n
       at : (x : Vertex) (o : Option ℕ) → type_called g name ≡ o →
           option_map_or (λ k. x.kind == k) o false ≡ true → slice_get g.kinds x.kind ≡ Some name
       at x None e t = absurd (true≢false (sym t))
-      at x (Some k) e t = ap (slice_get g.kinds) (equal_to x.kind k t) ∙ named k e
+      at x (Some k) e t = ap (slice_get g.kinds) (eqb-true x.kind k t) ∙ named k e
 
       by : (o : Option Vertex) → option_map_or (λ x. option_map_or (λ k. x.kind == k) (type_called g name) false)
           o false ≡ true → IsSomeAnd o (λ x. slice_get g.kinds x.kind ≡ Some name)
@@ -156,7 +156,7 @@ module _ (g : ResourceGraph) (names : List (List ℕ)) (valid : IsValidGraph g n
       let x = value_of (slice_get g.vertices v) (λ x. slice_get g.kinds x.kind ≡ Some name) h in
       let called : type_called g name ≡ Some x.0.kind = type_called_found g names valid name (Some x.0.kind) x.2 in
       ap (λ o. option_map_or (λ y. option_map_or (λ k. y.kind == k) (type_called g name) false) o false) x.1
-      ∙ ap (λ o. option_map_or (λ k. x.0.kind == k) o false) called ∙ equal_from x.0.kind x.0.kind refl
+      ∙ ap (λ o. option_map_or (λ k. x.0.kind == k) o false) called ∙ eq-eqb x.0.kind x.0.kind refl
 
   of_id : (name : List ℕ) (v id : ℕ) →
       id_of_type g.vertices (type_called g name) v ≡ Some id → HasType g name v × HasId g id v
@@ -211,7 +211,7 @@ module _ (g : ResourceGraph) (names : List (List ℕ)) (valid : IsValidGraph g n
       let lt = below_within g names valid v n node.2 child.inside in
       let c = of_any (λ c. is_given_by g.vertices c v) claims child.is_given in
       let inside : is_in_rank g.vertices rank v ≡ true = ap (λ o. option_map_or (λ r. r == rank) o false)
-      (rank_above_is rank n v child.node child.inside) ∙ equal_from rank rank refl in
+      (rank_above_is rank n v child.node child.inside) ∙ eq-eqb rank rank refl in
       let stands = in_filter (is_in_rank g.vertices rank) v
       (given g.vertices claims) (in_given g.vertices claims v c.0 lt c.1 c.2) inside in
       contains_stands id (ids_among g.vertices kind part) (in_rising id (filter_map (id_of_type g.vertices kind) part)

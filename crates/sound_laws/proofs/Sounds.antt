@@ -3,7 +3,7 @@ use Rattle.std.proofs.Common.{◌≡◌, ◌≢◌, ℕ, ◌+◌, ◌-◌, ◌<�
 use Rattle.std.proofs.Common.{not, ◌&&◌, List, [], ◌∷◌, ◌++◌, filter, ◌⊎◌, inl, inr, refl, sym, ◌∙◌, ap, subst, arith}
 use Rattle.std.proofs.Common.{IsTrue, true≢false, Contains}
 use Rattle.std.specs.List.{AllByRecursion, list_any, sum_by}
-use Rattle.std.proofs.lemmas.Bool.{and_parts, and_from, or_left}
+use Rattle.std.proofs.lemmas.Bool.{and_parts, and_from, or_left, eq-eqb, ne_eqb}
 use Rattle.std.proofs.lemmas.Bool.Decides.{nat_tests, eqb_tells}
 use Rattle.std.proofs.lemmas.List.Sums.{sum_by-cons, sum_by_push}
 use Rattle.flux_defs.specs.declared.vertices.Vertex.{Vertex}
@@ -17,19 +17,19 @@ use Rattle.flux_defs.specs.Closed.{Scene, is_closed, is_touched, is_withheld, ha
 use Rattle.flux_defs.specs.Free.{taken_at}
 use Rattle.flux_defs.specs.Available.{IsAvailable}
 use Rattle.flux_defs.specs.Sound.{AreSeparate, AreAllSeparate, KeepApart, AllKeepApart, IsSound}
-use Rattle.graph_laws.proofs.Containment.{not_to, unequal_from, equal_from}
+use Rattle.graph_laws.proofs.Containment.{not_to}
 use Rattle.sound_laws.proofs.Members.{each_member, any_member}
 use Rattle.list_laws.proofs.Lists.{all_append, all_filter, all_contained}
 use Rattle.sound_laws.proofs.Had.{IsHad}
 
 module _ (vertices : List Vertex) where
   take_elsewhere : (v : ℕ) (c : Claim) → vertex_of c ≢ v → take_of v c ≡ 0
-  take_elsewhere v (Take u q) ne = ap (λ b. if b then q else 0) (unequal_from u v ne)
+  take_elsewhere v (Take u q) ne = ap (λ b. if b then q else 0) (ne_eqb u v ne)
   take_elsewhere v (Hold u) ne = refl
   take_elsewhere v (Pass u) ne = refl
 
   take_here : (u v q : ℕ) → u ≡ v → take_of v (Take u q) ≡ q
-  take_here u v q e = ap (λ b. if b then q else 0) (equal_from u v e)
+  take_here u v q e = ap (λ b. if b then q else 0) (eq-eqb u v e)
 
   takes_elsewhere : (v : ℕ) (c : Claim) (cs : List Claim) →
       vertex_of c ≡ v → AllByRecursion (AreSeparate vertices c) cs → sum_by (take_of v) cs ≡ 0

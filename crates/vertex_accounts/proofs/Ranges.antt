@@ -3,7 +3,7 @@ use Rattle.std.proofs.Common.{◌≡◌, ℕ, zero, suc, ◌+◌, ◌<◌, ◌�
 use Rattle.std.proofs.Common.{List, [], ◌∷◌, length, take, Some, slice_get, inl, inr, refl, ◌∙◌, ap, arith, IsTrue}
 use Rattle.std.specs.List.{sum_by, enumerate_from}
 use Rattle.std.specs.Option.{option_map_or}
-use Rattle.std.proofs.lemmas.Bool.{and_parts, and_from}
+use Rattle.std.proofs.lemmas.Bool.{and_parts, and_from, false_from_ne_true}
 use Rattle.std.proofs.lemmas.Bool.Decides.{nat_tests, leb_tells}
 use Rattle.std.proofs.lemmas.List.Sums.{sum_by-cons}
 use Rattle.std.proofs.Math.Bool.{and-false}
@@ -11,7 +11,7 @@ use Rattle.std.proofs.lemmas.Option.{slice_get_within}
 use Rattle.flux_defs.specs.declared.vertices.Vertex.{Vertex}
 use Rattle.flux_defs.specs.Graph.{ResourceGraph, is_at_or_below, size_of}
 use Rattle.flux_defs.specs.ValidGraph.{StandsInPreorder}
-use Rattle.list_laws.proofs.Tests.{same_tests, false_from}
+use Rattle.list_laws.proofs.Tests.{same_tests}
 use Rattle.graph_laws.proofs.Containment.{below_le}
 use Rattle.graph_laws.proofs.Preorder.{parents_first}
 use Rattle.resource_graph.specs.Tables.{IsPast}
@@ -136,5 +136,5 @@ module _ (g : ResourceGraph) (o : StandsInPreorder g) (kind v : ℕ) where
       by_none false b n e = refl
 
       none : (u : ℕ) → u < length g.vertices → is_at_or_below g.vertices u v ≡ false
-      none u lt = false_from (is_at_or_below g.vertices u v)
+      none u lt = false_from_ne_true (is_at_or_below g.vertices u v)
           (λ h. (let le : v ≤ u = below_le g.vertices (parents_first g o) u v h in omega arith))
