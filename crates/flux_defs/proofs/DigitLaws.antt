@@ -5,10 +5,11 @@ use Rattle.std.proofs.lemmas.Bool.{cases_lt}
 use Rattle.std.proofs.lemmas.Bool.Decides.{leb_tells}
 use Rattle.flux_defs.specs.Digits.{digits_within, dig}
 
-if_le : {A : Type 0} {a b : ℕ} (x y : A) → a ≤ b → cond (nat_le a b) x y ≡ x
+-- a test of two numbers, and what it chooses
+pub if_le : {A : Type 0} {a b : ℕ} (x y : A) → a ≤ b → cond (nat_le a b) x y ≡ x
 if_le {a} {b} x y h = elim (leb_tells a b) [ inl t ↦ rw t.0 refl | inr f ↦ absurd (omega (arith, f.1)) ]
 
-if_gt : {A : Type 0} {a b : ℕ} (x y : A) → b < a → cond (nat_le a b) x y ≡ y
+pub if_gt : {A : Type 0} {a b : ℕ} (x y : A) → b < a → cond (nat_le a b) x y ≡ y
 if_gt {a} {b} x y h = elim (leb_tells a b) [ inl t ↦ absurd (omega (arith, t.1)) | inr f ↦ rw f.0 refl ]
 
 -- a number of more than one digit has one more than its half

@@ -2,7 +2,7 @@
 use Rattle.std.proofs.Common.{◌≡◌, ℕ, zero, suc, ◌<◌, ◌≤◌, nat_le, List, [], ◌∷◌, length, refl, sym, ◌∙◌, ap, arith}
 use Rattle.std.proofs.Common.{cond, inl, inr, slice_set, insert, remove, get_or}
 use Rattle.std.proofs.lemmas.Bool.{cases_lt}
-use Rattle.planner_points.proofs.Ends.{if_le, if_gt}
+use Rattle.flux_defs.proofs.DigitLaws.{if_le, if_gt}
 use Rattle.planner_min_tree.specs.declared.points.Point.{Point}
 use Rattle.planner_min_tree.specs.declared.marking.Mark.{Mark}
 use Rattle.planner_min_tree.specs.Points.{count_before}

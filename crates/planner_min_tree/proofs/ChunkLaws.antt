@@ -2,9 +2,9 @@
 use Rattle.std.proofs.Common.{◌≡◌, ℕ, zero, suc, ◌<◌, ◌≤◌, List, [], ◌∷◌, ◌++◌, length, refl, sym, ◌∙◌, ap, arith}
 use Rattle.std.proofs.Common.{append-nil, inl, inr, Some, slice_get}
 use Rattle.std.proofs.lemmas.Bool.{cases_lt}
+use Rattle.flux_defs.proofs.DigitLaws.{if_le, if_gt}
 use Rattle.balanced_tree.specs.declared.edits.Edit.{Edit}
 use Rattle.balanced_tree.specs.Edits.{edited, made}
-use Rattle.planner_points.proofs.Ends.{if_le, if_gt}
 use Rattle.planner_min_tree.specs.declared.points.Point.{Point}
 use Rattle.planner_min_tree.specs.declared.marking.Mark.{Mark}
 use Rattle.planner_min_tree.specs.declared.marking.Change.{Change}

@@ -4,6 +4,7 @@ use Rattle.std.proofs.Common.{inl, inr}
 use Rattle.std.proofs.lemmas.Bool.{cases_lt}
 use Rattle.std.proofs.lemmas.List.Sums.{sum_by-cons, sum_by-append}
 use Rattle.flux_defs.specs.declared.claims.Window.{Window}
+use Rattle.flux_defs.proofs.DigitLaws.{if_le, if_gt}
 use Rattle.planner_points.specs.declared.spans.Span.{Span}
 use Rattle.planner_points.specs.Spans.{span_of, used_at, is_in, HasRoom}
 use Rattle.planner_min_tree.specs.declared.points.Point.{Point}
@@ -13,7 +14,6 @@ use Rattle.planner_min_tree.specs.Marks.{ends_at, taken_at, given_at, starts_at,
 use Rattle.planner_min_tree.proofs.Sums.{total_append, now_at, not_yet_at, past_at, at_none, each_of, each_append}
 use Rattle.planner_min_tree.proofs.Sums.{each_front, each_back}
 use Rattle.planner_points.proofs.Starts.{in_yes, in_early, in_late}
-use Rattle.planner_points.proofs.Ends.{if_le, if_gt}
 use Rattle.planner_min_tree.specs.Chunks.{Each}
 
 abbrev point_at : (Point → ℕ) → ℕ → List Point → ℕ

@@ -4,9 +4,9 @@ use Rattle.std.proofs.Common.{None, Option, refl}
 use Rattle.std.specs.Prelude.{IfSome}
 use Rattle.std.proofs.lemmas.Bool.{cases_lt}
 use Rattle.flux_defs.specs.declared.claims.Window.{Window}
+use Rattle.flux_defs.proofs.DigitLaws.{if_le, if_gt}
 use Rattle.planner_points.specs.declared.spans.Span.{Span}
 use Rattle.planner_points.specs.Spans.{HasRoom, IsLastBelow}
-use Rattle.planner_points.proofs.Ends.{if_le, if_gt}
 use Rattle.planner_min_tree.specs.declared.points.Point.{Point}
 use Rattle.planner_min_tree.specs.Chunks.{Each}
 use Rattle.planner_min_tree.specs.Points.{past, value_at, low_to, low_end}

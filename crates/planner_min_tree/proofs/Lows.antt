@@ -4,7 +4,7 @@ use Rattle.std.proofs.Common.{◌⊎◌, inl, inr, subst, arith}
 use Rattle.std.specs.Prelude.{Option, IfSome, IfNone}
 use Rattle.std.specs.Option.{option_or}
 use Rattle.std.proofs.lemmas.Bool.{cases_lt}
-use Rattle.planner_points.proofs.Ends.{if_le, if_gt}
+use Rattle.flux_defs.proofs.DigitLaws.{if_le, if_gt}
 use Rattle.planner_min_tree.specs.declared.points.Point.{Point}
 use Rattle.planner_min_tree.specs.Points.{latest_of, need_of, past, after, Runs, lowest, low_to, low_end, last_rise}
 use Rattle.planner_min_tree.proofs.Dips.{runs_lowest}

@@ -2,9 +2,9 @@
 use Rattle.std.proofs.Common.{◌≡◌, ℕ, zero, suc, ◌+◌, ◌<◌, ◌≤◌, List, [], ◌∷◌, length, refl, sym, ◌∙◌, ap, arith, ◌⊎◌}
 use Rattle.std.proofs.Common.{inl, inr, Some, None, slice_get}
 use Rattle.std.proofs.lemmas.Bool.{cases_lt}
+use Rattle.flux_defs.proofs.DigitLaws.{if_le, if_gt}
 use Rattle.planner_points.specs.declared.spans.Span.{Span}
 use Rattle.planner_points.specs.Spans.{IsEnd, IsNextEnd}
-use Rattle.planner_points.proofs.Ends.{if_le, if_gt}
 use Rattle.planner_min_tree.specs.declared.points.Point.{Point}
 use Rattle.planner_min_tree.specs.Points.{count_before, first_from}
 use Rattle.planner_min_tree.specs.Marks.{IsRising, Tallies, when_at, ends_at, starts_at, stops_at}

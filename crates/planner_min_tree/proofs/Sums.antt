@@ -2,7 +2,7 @@
 use Rattle.std.proofs.Common.{◌≡◌, ℕ, zero, suc, ◌+◌, ◌<◌, nat_le, List, [], ◌∷◌, ◌++◌, refl, sym, ◌∙◌, arith, cond}
 use Rattle.std.proofs.Common.{inl, inr}
 use Rattle.std.proofs.lemmas.Bool.{cases_lt}
-use Rattle.planner_points.proofs.Ends.{if_le, if_gt}
+use Rattle.flux_defs.proofs.DigitLaws.{if_le, if_gt}
 use Rattle.planner_min_tree.specs.Marks.{summed, when_at, at}
 use Rattle.planner_min_tree.specs.Chunks.{Each}
 

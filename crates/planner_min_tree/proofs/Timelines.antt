@@ -7,7 +7,6 @@ use Rattle.flux_defs.specs.Digits.{dig}
 use Rattle.balanced_tree.specs.declared.edits.Edit.{Edit}
 use Rattle.balanced_tree.specs.declared.edits.Edit.TheVariants.{Cut}
 use Rattle.balanced_tree.specs.Edits.{edited, made}
-use Rattle.planner_points.proofs.Ends.{if_le, if_gt}
 use Rattle.planner_min_tree.specs.declared.points.Point.{Point}
 use Rattle.planner_min_tree.specs.declared.marking.Mark.{Mark}
 use Rattle.planner_min_tree.specs.declared.marking.Change.{Change}
@@ -18,7 +17,7 @@ use Rattle.planner_min_tree.specs.Marks.{added, fresh, lessened, marked, unmarke
 use Rattle.planner_min_tree.proofs.TwoSides.{flat_append}
 use Rattle.planner_min_tree.proofs.ChunkLaws.{changed_left, changed_right, latest_more, some_more, change_fills}
 use Rattle.planner_min_tree.proofs.PlanFacts.{low_height}
-use Rattle.flux_defs.proofs.DigitLaws.{dig_mono}
+use Rattle.flux_defs.proofs.DigitLaws.{dig_mono, if_le, if_gt}
 
 -- points with a time later than 0 are some
 some_late : (t : ℕ) (ps : List Point) → 0 < t → t ≤ latest_of ps → 0 < length ps

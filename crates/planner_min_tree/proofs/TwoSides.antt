@@ -3,7 +3,7 @@ use Rattle.std.proofs.Common.{◌≡◌, ℕ, suc, ◌+◌, ◌-◌, ◌^◌, �
 use Rattle.std.specs.Prelude.{Option, IfSome, IfNone}
 use Rattle.std.proofs.Common.{sym, ◌∙◌, ap, subst, arith, append_assoc, inl, inr}
 use Rattle.std.proofs.lemmas.Bool.{cases_lt}
-use Rattle.planner_points.proofs.Ends.{if_le, if_gt}
+use Rattle.flux_defs.proofs.DigitLaws.{if_le, if_gt}
 use Rattle.planner_min_tree.specs.declared.points.Point.{Point}
 use Rattle.planner_min_tree.specs.Points.{latest_of, need_of, rest_of, after, Runs, lowest_before, lowest_from}
 use Rattle.planner_min_tree.specs.Points.{lowest_in, first_from, top_of, highest, value_at, first_rise, rise_after}

@@ -5,9 +5,9 @@ use Rattle.std.proofs.lemmas.Bool.{cases_lt}
 use Rattle.planner_points.proofs.Starts.{in_yes, in_early, in_late}
 use Rattle.std.proofs.lemmas.List.Sums.{sum_by-cons}
 use Rattle.flux_defs.specs.declared.claims.Window.{Window}
+use Rattle.flux_defs.proofs.DigitLaws.{if_le, if_gt}
 use Rattle.planner_points.specs.declared.spans.Span.{Span}
 use Rattle.planner_points.specs.Spans.{used_at, free_at, is_in, IsLeastFree}
-use Rattle.planner_points.proofs.Ends.{if_le, if_gt}
 use Rattle.planner_min_tree.specs.declared.points.Point.{Point}
 use Rattle.planner_min_tree.specs.Points.{past, Runs, value_at, lowest_before, lowest_in}
 use Rattle.planner_min_tree.specs.Marks.{IsRising, Tallies}

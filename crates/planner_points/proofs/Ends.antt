@@ -1,20 +1,12 @@
 -- The next start or end of spans, span by span.
-use Rattle.std.proofs.Common.{◌≡◌, ℕ, ◌<◌, ◌≤◌, min, nat_le, List, ◌∷◌, refl, sym, subst, arith, cond, ◌⊎◌, inl, inr}
+use Rattle.std.proofs.Common.{◌≡◌, ℕ, ◌<◌, ◌≤◌, min, List, ◌∷◌, refl, sym, subst, arith, ◌⊎◌, inl, inr}
 use Rattle.std.proofs.Common.{Option, Some, None}
 use Rattle.std.specs.Prelude.{MatchOption}
 use Rattle.std.proofs.lemmas.Bool.{cases_lt}
-use Rattle.std.proofs.lemmas.Bool.Decides.{leb_tells}
+use Rattle.flux_defs.proofs.DigitLaws.{if_le, if_gt}
 use Rattle.planner_points.specs.declared.spans.Span.{Span}
 use Rattle.planner_points.specs.Spans.{IsEnd, IsNextEnd}
 use Rattle.planner_points.specs.Lists.{sooner}
-
--- a test of two numbers, and what it chooses
-module _ {A : Type 0} where
-  pub if_le : {a b : ℕ} (x y : A) → a ≤ b → cond (nat_le a b) x y ≡ x
-  if_le {a} {b} x y h = elim (leb_tells a b) [ inl t ↦ rw t.0 refl | inr f ↦ absurd (omega (arith, f.1)) ]
-
-  pub if_gt : {a b : ℕ} (x y : A) → b < a → cond (nat_le a b) x y ≡ y
-  if_gt {a} {b} x y h = elim (leb_tells a b) [ inl t ↦ absurd (omega (arith, t.1)) | inr f ↦ rw f.0 refl ]
 
 -- the answer is the least later moment with the fact, and none where there is no such moment
 abbrev IsNextOf : (ℕ → Type 0) → ℕ → Option ℕ → Type 0
