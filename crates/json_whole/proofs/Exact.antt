@@ -100,9 +100,10 @@ written_by : (n w z g : Bool) (r : List ℕ) →
     → Written r (cond (not n) r (cond w r (cond z (take (digit_count r) r) (cond g r (listed r)))))
 written_by false w z g r en ew ez eg h = inr (h, λ number. let no : true ≡ false = sym number ∙ en in absurd (cc))
 written_by true true z g r en ew ez eg h = inr (h, λ number. whole_exact r number ew)
-written_by true false true g r en ew ez eg h = inr
-    (run_take (digit_count r) r h,
-    λ number. whole_exact _ number ((and_parts (is_whole (take (digit_count r) r)) _ ez).0))
+written_by true false true g r en ew ez eg h = inr (
+  run_take (digit_count r) r h,
+  λ number. whole_exact _ number ((and_parts (is_whole (take (digit_count r) r)) _ ez).0),
+)
 written_by true false false true r en ew ez eg h = inr (h, λ number. negative_exact r eg)
 written_by true false false false r en ew ez eg h = inl refl
 
