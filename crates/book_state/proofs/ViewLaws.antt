@@ -24,7 +24,7 @@ use Rattle.book_state.specs.Books.{graph_of, vertices_of, rules_of, accounts_of,
 use Rattle.book_state.specs.Books.{StandsFor, IsBook, MayAdd, cost_of, change_cost_of}
 use Rattle.flux_defs.specs.Closed.{no_bars}
 use Rattle.flux_defs.specs.Available.{IsAvailable}
-use Rattle.resource_graph.proofs.Values.{value_of}
+use Rattle.list_laws.proofs.Values.{value_of}
 use Rattle.book_laws.specs.Amounts.{TakesFromPool}
 use Rattle.book_laws.specs.TotalLaws.{AreFair}
 use Rattle.book_laws.proofs.Adding.{fair_added}

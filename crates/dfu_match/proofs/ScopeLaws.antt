@@ -17,7 +17,7 @@ use Rattle.flux_defs.specs.Lowest.{CanServe}
 use Rattle.graph_laws.proofs.Containment.{below_le, below_from, below_to}
 use Rattle.graph_laws.proofs.Preorder.{parents_first}
 use Rattle.resource_graph.specs.Tables.{IsPast, IsNamedKind}
-use Rattle.resource_graph.proofs.Values.{value_of, from_value}
+use Rattle.list_laws.proofs.Values.{value_of, from_value}
 use Rattle.match_laws.proofs.Walk.{NoneBetween}
 use Rattle.match_laws.proofs.NeedLists.{server}
 use Rattle.prune_laws.proofs.Demanded.{any_item, in_graph}

@@ -24,7 +24,7 @@ use Rattle.resource_graph.specs.declared.graph.Texts.{Texts}
 use Rattle.graph_build.specs.declared.arrange.KindNumbering.{KindNumbering}
 use Rattle.resource_graph.proofs.ChainLaws.{no_vertex, parent_read}
 use Rattle.graph_build.proofs.ValidLaws.{rooted_of_faultless, valid_of_faultless}
-use Rattle.resource_graph.proofs.Values.{from_value}
+use Rattle.list_laws.proofs.Values.{from_value}
 use Rattle.graph_build.proofs.ArrangeLaws.{index_of, index_at, index_is, parent_index}
 
 module _ (kinds : List (List ℕ)) (names : List (List ℕ)) (vertices : List Vertex)

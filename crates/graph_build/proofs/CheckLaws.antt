@@ -11,7 +11,7 @@ use Rattle.resource_graph.specs.Finds.{IsFirstOf}
 use Rattle.resource_graph.specs.Preorder.{plain}
 use Rattle.resource_graph.proofs.ChainLaws.{parent_read, parent_at, no_vertex}
 use Rattle.resource_graph.proofs.Finds.{Passes, finds_position, finds_same}
-use Rattle.resource_graph.proofs.Values.{from_value, value_of}
+use Rattle.list_laws.proofs.Values.{from_value, value_of}
 
 module _ (kinds : List (List ℕ)) (vertices : List Vertex) where
   pub parent_to : (v : ℕ) → Passes (has_parent_from (length vertices)) vertices v →

@@ -14,7 +14,7 @@ use Rattle.resource_graph.specs.Finds.{IsFirstOf}
 use Rattle.resource_graph.proofs.ChainLaws.{chains_agree, chain_short}
 use Rattle.graph_build.proofs.ClimbLaws.{climb-None, climb-climb, chain_ends, chain_goes_on}
 use Rattle.resource_graph.proofs.Finds.{Passes, finds_position, finds_same}
-use Rattle.resource_graph.proofs.Values.{value_of, from_value}
+use Rattle.list_laws.proofs.Values.{value_of, from_value}
 
 -- past its end a chain doesn't grow
 chain_stops : (vertices : List Vertex) (m k : ℕ) (o : Option ℕ) → climb vertices m o ≡ None → m ≤ k →

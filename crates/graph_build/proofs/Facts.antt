@@ -12,7 +12,7 @@ use Rattle.flux_defs.specs.declared.limits.TheConstants.{MOST_VERTICES, MOST_TYP
 use Rattle.flux_defs.specs.Graph.{ResourceGraph, parent_of, is_below}
 use Rattle.flux_defs.specs.ValidGraph.{IsDevice}
 use Rattle.resource_graph.specs.Finds.{Nowhere}
-use Rattle.resource_graph.proofs.Values.{value_of, from_value}
+use Rattle.list_laws.proofs.Values.{value_of, from_value}
 use Rattle.graph_build.specs.Faults.{IsNodeType, HasUnknownParent, HasUnknownKind, IsRoot, IsSecondRoot, NeverEnds}
 use Rattle.graph_build.specs.Faults.{IsDeep, IsNestedInKind, IsReserved}
 use Rattle.graph_build.specs.Faults.{IsPoolWithChild, IsSized, IsLarge, IsHoused, HasNoId, HasDoubleId, HasDoubleName}

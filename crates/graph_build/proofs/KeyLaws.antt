@@ -30,7 +30,7 @@ use Rattle.resource_graph.proofs.Finds.{finds_same}
 use Rattle.graph_build.proofs.OwnLaws.{type_within, device_within}
 use Rattle.resource_graph.proofs.TableLaws.{push_cases}
 use Rattle.graph_build.proofs.Facts.{node_tested}
-use Rattle.resource_graph.proofs.Values.{value_of, at_value, from_value}
+use Rattle.list_laws.proofs.Values.{value_of, at_value, from_value}
 
 -- one index more
 pub each_more : {X : Type 0} (Is : ℕ → X → Type 0) (v : ℕ) (list grown : List X) (x : X) → HasEach Is v list →

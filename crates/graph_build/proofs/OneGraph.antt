@@ -17,7 +17,7 @@ use Rattle.graph_build.specs.declared.raw.RawVertex.{RawVertex}
 use Rattle.graph_build.proofs.ArrangeLaws.{index_at, index_in, index_past, same_index, number_of, parent_back}
 use Rattle.graph_build.proofs.ArrangeLaws.{parent_forth, parent_index}
 use Rattle.resource_graph.proofs.ChainLaws.{no_vertex}
-use Rattle.resource_graph.proofs.Values.{value_of, at_value}
+use Rattle.list_laws.proofs.Values.{value_of, at_value}
 
 -- lists with the same items
 pub same_items : {A : Type 0} (xs ys : List A) → ((k : ℕ) → slice_get xs k ≡ slice_get ys k) → xs ≡ ys

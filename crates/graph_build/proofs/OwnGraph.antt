@@ -25,7 +25,7 @@ use Rattle.graph_build.specs.OwnList.{own_vertex, own_list_from, own_list}
 use Rattle.graph_build.specs.declared.raw.RawVertex.{RawVertex}
 use Rattle.resource_graph.proofs.ChainLaws.{no_vertex, parent_read}
 use Rattle.graph_build.proofs.Facts.{node_test, node_tested}
-use Rattle.resource_graph.proofs.Values.{value_of, at_value, from_value}
+use Rattle.list_laws.proofs.Values.{value_of, at_value, from_value}
 use Rattle.resource_graph.proofs.Queries.{parents_known, chains_short}
 use Rattle.graph_build.proofs.OneGraph.{same_items}
 

@@ -12,7 +12,7 @@ use Rattle.flux_defs.specs.ValidGraph.{HasType, IsDevice}
 use Rattle.graph_build.specs.Faults.{IsNestedInKind, IsPoolWithChild, IsLoose}
 use Rattle.graph_build.specs.Checks.{graph_in}
 use Rattle.resource_graph.proofs.ChainLaws.{no_vertex}
-use Rattle.resource_graph.proofs.Values.{from_value, at_value, fact_within}
+use Rattle.list_laws.proofs.Values.{from_value, at_value, fact_within}
 
 -- a fact on the vertex that was read
 pub fact_here : (vertices : List Vertex) (v : ℕ) (P : Vertex → Type 0) → v < length vertices →

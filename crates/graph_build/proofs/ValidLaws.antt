@@ -20,7 +20,7 @@ use Rattle.resource_graph.specs.Chains.{chain_of}
 use Rattle.graph_build.specs.Orders.{IsPreorderOf, IsRooted}
 use Rattle.graph_build.specs.Faults.{IsNodeType, HasDoubleName}
 use Rattle.graph_build.specs.Raw.{IsArranged, IsRenumbered, KindsApart, is_node_of, some_ranked, nodes_among, rank_of}
-use Rattle.resource_graph.proofs.Values.{value_of, at_value, from_value}
+use Rattle.list_laws.proofs.Values.{value_of, at_value, from_value}
 use Rattle.graph_build.proofs.Facts.{Facts, node_test, node_tested}
 use Rattle.graph_build.proofs.ArrangeLaws.{index_of, index_at, index_in, same_index, number_of, both_of, same_below}
 use Rattle.graph_build.proofs.ArrangeLaws.{same_chain_length, parent_back, preorder_arranged}

@@ -15,7 +15,7 @@ use Rattle.graph_build.specs.Raw.{IsBuiltFrom, IsRenumbered, shape_of, rank_of, 
 use Rattle.graph_build.specs.declared.raw.RawVertex.{RawVertex}
 use Rattle.graph_build.proofs.ArrangeLaws.{index_at, index_in}
 use Rattle.resource_graph.proofs.ChainLaws.{no_vertex}
-use Rattle.resource_graph.proofs.Values.{value_of}
+use Rattle.list_laws.proofs.Values.{value_of}
 use Rattle.graph_json.specs.Fields.{is_unit}
 use Rattle.text_forms.specs.Names.{is_name}
 use Rattle.graph_json.specs.Nodes.{FileNode}

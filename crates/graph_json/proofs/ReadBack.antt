@@ -27,7 +27,7 @@ use Rattle.resource_graph.proofs.ChainLaws.{no_vertex, parent_read}
 use Rattle.graph_build.proofs.OneGraph.{same_items}
 use Rattle.graph_build.proofs.OwnGraph.{built_from_itself, own_faultless, own_at}
 use Rattle.resource_graph.proofs.Queries.{parents_known}
-use Rattle.resource_graph.proofs.Values.{value_of}
+use Rattle.list_laws.proofs.Values.{value_of}
 use Rattle.graph_json.specs.Nodes.{FileNode}
 use Rattle.graph_json.specs.Edges.{FileEdge, counted, is_among, is_wrong, IsWrongEdge, parent_of}
 use Rattle.text_table.specs.Tables.{number_of}

@@ -13,7 +13,7 @@ use Rattle.flux_defs.specs.declared.limits.TheConstants.{GREATEST_NUMBER}
 use Rattle.flux_defs.specs.declared.vertices.Vertex.{Vertex}
 use Rattle.flux_defs.specs.Graph.{ResourceGraph, parent_of, chain, is_at_or_below, is_below, is_pool_kind, is_pool}
 use Rattle.flux_defs.specs.ValidGraph.{IsDevice, HasType}
-use Rattle.resource_graph.proofs.Values.{value_of, at_value, from_value}
+use Rattle.list_laws.proofs.Values.{value_of, at_value, from_value}
 use Rattle.resource_graph.specs.Finds.{Nowhere}
 use Rattle.graph_laws.proofs.Containment.{ParentsFirst, up, up-None, steps_of, below_parent, below_from, below_to}
 use Rattle.graph_laws.proofs.Containment.{parent_below}

@@ -32,6 +32,7 @@ use Rattle.flux_laws.proofs.Groups.{AreDisjoint, IsOfPicks, IsRootOf, picks_disj
 use Rattle.flux_laws.proofs.Groups.{piece_vertex}
 use Rattle.flux_laws.proofs.Valid.{nodes_alike, none_nested}
 use Rattle.flux_laws.proofs.Rows.{fits_list, valid_to_row}
+use Rattle.list_laws.proofs.Values.{at_value, from_value, value_of}
 use Rattle.prune_filters.specs.Demands.{one_if, is_node_kind, demand, row_demand, needs_demand, capped}
 use Rattle.prune_laws.specs.PruneLaws.{scene, TooLittleServesNone, TooLittleFitsNone}
 use Rattle.prune_laws.proofs.Sums.{set_sum, parts_sum, part_sum, one_sum}
@@ -115,17 +116,6 @@ any_item test (x ∷ xs) h =
       | inr later ↦ (let r = any_item test xs later in (suc r.0, r.1, r.2, r.3))
     ]
 
-some_from : (P : Vertex → Type 0) (o : Option Vertex) (x : Vertex) → o ≡ Some x → P x → IsSomeAnd o P
-some_from P o x e p = subst (λ (y : Option Vertex). IsSomeAnd y P) (sym e) p
-
-some_to : (P : Vertex → Type 0) (o : Option Vertex) (x : Vertex) → o ≡ Some x → IsSomeAnd o P → P x
-some_to P o x e h = subst (λ (y : Option Vertex). IsSomeAnd y P) e h
-
--- the item there is
-the_item : (P : Vertex → Type 0) (o : Option Vertex) → IsSomeAnd o P → (x : Vertex) × (o ≡ Some x)
-the_item P None h = elim h [ ]
-the_item P (Some x) h = (x, refl)
-
 pub in_graph : (vertices : List Vertex) (scope : Scope) (v : ℕ) → IsIn vertices scope v → v < length vertices
 in_graph vertices Everywhere v h = h
 in_graph vertices (Beneath u) v h = h.0
@@ -150,11 +140,11 @@ module _ (g : ResourceGraph) (names : List (List ℕ)) (valid : IsValidGraph g n
   -- nodes are no pools
   node_plain : (v : ℕ) → IsNode vs v → is_pool vs v ≡ false
   node_plain v h =
-      let y = the_item (λ x. is_some x.rank ≡ true) (slice_get vs v) h in
+      let y = value_of (slice_get vs v) (λ x. is_some x.rank ≡ true) h in
       let type = (valid.nodes v y.0 y.1).0 h in
-      let named = some_to (λ x. slice_get g.kinds x.kind ≡ Some (Rattle.std.specs.Prelude.codes "node"))
-      (slice_get vs v) y.0 y.1 type in
-      pool_of y.0.kind v (some_from (λ x. x.kind ≡ y.0.kind) (slice_get vs v) y.0 y.1 refl)
+      let named = at_value (slice_get vs v)
+      (λ x. slice_get g.kinds x.kind ≡ Some (Rattle.std.specs.Prelude.codes "node")) y.0 y.1 type in
+      pool_of y.0.kind v (from_value (slice_get vs v) (λ x. x.kind ≡ y.0.kind) y.0 y.1 refl)
       ∙ false_from_ne_true (is_pool_kind vs y.0.kind) (λ t. other y.0.kind named
       (any_item (λ x. (x.kind == y.0.kind) && not (x.size == 1)) vs t))
     where
@@ -163,8 +153,9 @@ module _ (g : ResourceGraph) (names : List (List ℕ)) (valid : IsValidGraph g n
       other k named r =
           let b = and_parts (r.1.kind == k) (not (r.1.size == 1)) r.3 in
           let is : r.1.kind ≡ k = eqb-true r.1.kind k b.0 in
-          let type = some_from (λ x. slice_get g.kinds x.kind ≡ Some (Rattle.std.specs.Prelude.codes "node"))
-          (slice_get vs r.0) r.1 r.2 (ap (slice_get g.kinds) is ∙ named) in
+          let type = from_value (slice_get vs r.0)
+          (λ x. slice_get g.kinds x.kind ≡ Some (Rattle.std.specs.Prelude.codes "node")) r.1 r.2
+          (ap (slice_get g.kinds) is ∙ named) in
           let node = (valid.nodes r.0 r.1 r.2).1 type in
           not_to (r.1.size == 1) b.1 (eq-eqb r.1.size 1 (valid.sizes.whole r.0 r.1 r.2 (inl node)))
 
@@ -173,9 +164,9 @@ module _ (g : ResourceGraph) (names : List (List ℕ)) (valid : IsValidGraph g n
   node_alike kind v t h =
       let r = any_item (λ x. (x.kind == kind) && is_some x.rank) vs t in
       let b = and_parts (r.1.kind == kind) (is_some r.1.rank) r.3 in
-      let node = some_from (λ x. is_some x.rank ≡ true) (slice_get vs r.0) r.1 r.2 b.1 in
+      let node = from_value (slice_get vs r.0) (λ x. is_some x.rank ≡ true) r.1 r.2 b.1 in
       let k = nodes_alike g names valid v r.0 h node in
-      let one : r.1.kind ≡ k.0 = some_to (λ x. x.kind ≡ k.0) (slice_get vs r.0) r.1 r.2 k.2 in
+      let one : r.1.kind ≡ k.0 = at_value (slice_get vs r.0) (λ x. x.kind ≡ k.0) r.1 r.2 k.2 in
       let same : k.0 ≡ kind = sym one ∙ eqb-true r.1.kind kind b.0 in
       subst (λ (j : ℕ). HasKind vs j v) same k.1
 

@@ -8,7 +8,7 @@ use Rattle.std.proofs.lemmas.Bool.{both_ways, ltb-true, ltb-false}
 use Rattle.std.proofs.lemmas.List.Sums.{fails_before_first, passes_at_first}
 use Rattle.std.proofs.lemmas.Option.{slice_get_within, get_or_from_slice_get}
 use Rattle.resource_graph.specs.Finds.{IsFirstOf}
-use Rattle.resource_graph.proofs.Values.{value_of, from_value}
+use Rattle.list_laws.proofs.Values.{value_of, from_value}
 
 -- the test is true of the item at the index
 abbrev pub Passes : {X : Type 0} → (X → Bool) → List X → ℕ → Type 0

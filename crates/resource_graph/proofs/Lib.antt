@@ -1,4 +1,3 @@
-pub mod Values
 pub mod NestLaws
 pub mod Finds
 pub mod Queries

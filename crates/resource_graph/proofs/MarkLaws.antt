@@ -6,7 +6,7 @@ use Rattle.std.proofs.lemmas.Bool.{cases_lt, cases_eq}
 use Rattle.std.proofs.lemmas.List.{get_or-set_same, get_or-set_other, length-set}
 use Rattle.std.proofs.lemmas.Nat.{mul-add-lt, same_from_place}
 use Rattle.std.proofs.lemmas.Option.{slice_get-get_or}
-use Rattle.resource_graph.proofs.Values.{fact_within}
+use Rattle.list_laws.proofs.Values.{fact_within}
 use Rattle.flux_defs.specs.declared.vertices.Vertex.{Vertex}
 use Rattle.flux_defs.specs.Graph.{parent_of, is_at_or_below, is_below, HasKind}
 use Rattle.graph_laws.proofs.Containment.{ParentsFirst, below_le, below_from, below_to, below_parent, below_trans}

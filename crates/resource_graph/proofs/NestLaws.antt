@@ -13,7 +13,7 @@ use Rattle.flux_defs.specs.Graph.{HasKind, Contains}
 use Rattle.list_laws.proofs.Tests.{same_tests}
 use Rattle.resource_graph.specs.Preorder.{KnowsKinds}
 use Rattle.resource_graph.specs.Tables.{has_kind, contains_kind}
-use Rattle.resource_graph.proofs.Values.{value_of}
+use Rattle.list_laws.proofs.Values.{value_of}
 
 -- an index that passes a test of all indices, and the converse
 any_index : (test : ℕ → Bool) (count v : ℕ) →

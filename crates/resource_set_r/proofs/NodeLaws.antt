@@ -15,7 +15,7 @@ use Rattle.graph_laws.proofs.Containment.{below_le, below_from}
 use Rattle.graph_laws.proofs.Preorder.{parents_first}
 use Rattle.resource_graph.specs.Tables.{IsPast, IsNodeOf, IsNamedKind}
 use Rattle.resource_graph.specs.Finds.{IsFirstOf}
-use Rattle.resource_graph.proofs.Values.{value_of, from_value}
+use Rattle.list_laws.proofs.Values.{value_of, from_value}
 use Rattle.resource_graph.proofs.Finds.{Passes, finds_position}
 use Rattle.resource_set_r.specs.Rows.{node_above, rank_above, is_in_rank, node_with, type_called}
 use Rattle.resource_graph.specs.Tables.{rank_at}

@@ -18,7 +18,7 @@ use Rattle.flux_defs.specs.ValidGraph.{IsValidGraph, HasType, HasId, HasRank}
 use Rattle.graph_laws.proofs.Containment.{ParentsFirst, below_self, above_is_chain}
 use Rattle.graph_laws.proofs.Preorder.{parents_first}
 use Rattle.resource_graph.specs.Finds.{IsFirstOf}
-use Rattle.resource_graph.proofs.Values.{value_of}
+use Rattle.list_laws.proofs.Values.{value_of}
 use Rattle.resource_graph.proofs.Finds.{Passes, finds_position}
 use Rattle.resource_set_r.specs.Rows.{numbers, is_given_by, given_by, given, node_above, rank_above}
 use Rattle.resource_graph.specs.Tables.{rank_at}
