@@ -28,7 +28,8 @@ use Rattle.sound_laws.proofs.Sounds.{takes_one}
 use Rattle.book_laws.specs.Amounts.{live_sum, use_of, TakesFromPool}
 use Rattle.book_laws.specs.TotalLaws.{AreFair}
 use Rattle.book_laws.proofs.Sums.{cond_none, live_none, live_cons, live_append, live_push}
-use Rattle.book_laws.proofs.Sums.{live_unless, live_either, sum_same, sum_unless}
+use Rattle.flux_laws.proofs.Live.{live_either}
+use Rattle.book_laws.proofs.Sums.{live_unless, sum_same, sum_unless}
 use Rattle.book_laws.proofs.Within.{closed_is, use_uncovered}
 
 module _ (g : ResourceGraph) (o : StandsInPreorder g) where

@@ -18,7 +18,7 @@ use Rattle.flux_defs.specs.Available.{is_available_at, IsAvailable}
 use Rattle.list_laws.proofs.Tests.{same_tests}
 use Rattle.graph_laws.proofs.Containment.{ParentsFirst}
 use Rattle.book_laws.specs.Amounts.{live_sum, is_hold, hold_of, holds_along, claim_within}
-use Rattle.book_laws.proofs.Sums.{live_along, live_either}
+use Rattle.flux_laws.proofs.Live.{live_along, live_either}
 use Rattle.book_laws.proofs.Within.{closed_is}
 use Rattle.book_laws.proofs.GroupedLaws.{counted_some, counted_none}
 use Rattle.book_laws.proofs.Closing.{hold_over, nothing_along}

@@ -14,7 +14,7 @@ use Rattle.flux_defs.specs.Jobs.{is_live, some_live_claim, SomeMoment, holds_ove
 use Rattle.flux_defs.specs.Closed.{no_bars, is_closed}
 use Rattle.graph_laws.proofs.Containment.{at_or_below-opens}
 use Rattle.book_laws.specs.Amounts.{is_hold, holds_along}
-use Rattle.book_laws.proofs.Sums.{live_along, live_either}
+use Rattle.flux_laws.proofs.Live.{live_along, live_either}
 use Rattle.book_laws.proofs.Within.{closed_is}
 
 -- a claim that holds a vertex of a chain

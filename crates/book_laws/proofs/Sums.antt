@@ -145,32 +145,3 @@ live_where test f k h jobs m some =
     by_life : (b : Bool) (job : Job) → IsTrue (b && list_any test job.claims) → k ≤ cond b (sum_by f job.claims) 0
     by_life true job e = sum_where test f k h job.claims e
     by_life false job e = absurd (true≢false (sym e))
-
-pub any_along : {X : Type 0} (s t : X → Bool) →
-    ((x : X) → IsTrue (s x) → IsTrue (t x)) → (xs : List X) → IsTrue (list_any s xs) → IsTrue (list_any t xs)
-any_along s t h [] some = some
-any_along s t h (x ∷ xs) some = elim (or_cases (s x) (list_any s xs) some) [
-  | inl now ↦ or_left (t x) (list_any t xs) (h x now)
-  | inr later ↦ or_right (t x) (list_any t xs) (any_along s t h xs later)
-]
-
--- a live claim that passes one test passes another
-pub live_along : (s t : Claim → Bool) → ((c : Claim) → IsTrue (s c) → IsTrue (t c)) →
-    (jobs : List Job) (m : ℕ) → IsTrue (some_live_claim jobs m s) → IsTrue (some_live_claim jobs m t)
-live_along s t h jobs m some =
-    any_along (λ job. is_live m job && list_any s job.claims) (λ job. is_live m job && list_any t job.claims)
-    (λ job both. (let b = and_parts (is_live m job) (list_any s job.claims) both in
-    and_from _ _ b.0 (any_along s t h job.claims b.1))) jobs some
-
--- a live claim that passes a test passes one of two others
-pub live_either : (s a b : Claim → Bool) → ((c : Claim) → IsTrue (s c) → IsTrue (a c) ⊎ IsTrue (b c)) →
-    (jobs : List Job) (m : ℕ) → IsTrue (some_live_claim jobs m s) →
-    IsTrue (some_live_claim jobs m a) ⊎ IsTrue (some_live_claim jobs m b)
-live_either s a b h jobs m some =
-    any_either (λ job. is_live m job && list_any s job.claims)
-    (λ job. is_live m job && list_any a job.claims) (λ job. is_live m job && list_any b job.claims)
-    (λ job both. (let p = and_parts (is_live m job) (list_any s job.claims) both in
-    elim (any_either s a b h job.claims p.1) [
-      | inl x ↦ inl (and_from (is_live m job) (list_any a job.claims) p.0 x)
-      | inr y ↦ inr (and_from (is_live m job) (list_any b job.claims) p.0 y)
-    ])) jobs some

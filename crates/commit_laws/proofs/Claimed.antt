@@ -8,16 +8,13 @@ use Rattle.flux_defs.specs.declared.requests.Need.{Need, Vert', Pool, Spread', R
 use Rattle.flux_defs.specs.Graph.{Scope, Everywhere, Beneath, IsIn}
 use Rattle.flux_defs.specs.Jobs.{vertex_of}
 use Rattle.flux_defs.specs.Fits.{Pick, Pieces, Piece, FitsRow, Fits}
+use Rattle.graph_laws.proofs.Containment.{in_graph}
 use Rattle.list_laws.proofs.Lists.{all_append}
 
 module _ (vertices : List Vertex) (ok : Claim → Type 0) where
   -- the claim is available, and on a vertex of the graph
   abbrev pub IsClaimed : Claim → Type 0
   IsClaimed c = ok c × (vertex_of c < length vertices)
-
-  in_graph : (scope : Scope) (v : ℕ) → IsIn vertices scope v → v < length vertices
-  in_graph Everywhere v h = h
-  in_graph (Beneath u) v h = h.0
 
   one : (c : Claim) (cs : List Claim) → cs ≡ c ∷ [] → IsClaimed c → AllByRecursion IsClaimed cs
   one c cs e h = subst (AllByRecursion IsClaimed) (sym e) (h, tt)
@@ -34,14 +31,14 @@ module _ (vertices : List Vertex) (ok : Claim → Type 0) where
     piece_claimed : (scope : Scope) (need : Need) (v q : ℕ) (cs : List Claim) →
         Piece vertices ok scope need v q cs → AllByRecursion IsClaimed cs
     piece_claimed scope (Vert' kind count true m needs) v q cs p =
-        one (Hold v) cs p.3.0 (p.3.1, in_graph scope v p.1)
+        one (Hold v) cs p.3.0 (p.3.1, in_graph vertices scope v p.1)
     piece_claimed scope (Vert' kind count false m needs) v q cs p =
         subst (AllByRecursion IsClaimed) (sym p.3.1)
-        ((p.3.2, in_graph scope v p.1), row_claimed 1 (Beneath v) needs p.3.0 p.3.3)
-    piece_claimed scope (Pool kind quantity) v q cs p = one (Take v q) cs p.2 (p.3, in_graph scope v p.0)
+        ((p.3.2, in_graph vertices scope v p.1), row_claimed 1 (Beneath v) needs p.3.0 p.3.3)
+    piece_claimed scope (Pool kind quantity) v q cs p = one (Take v q) cs p.2 (p.3, in_graph vertices scope v p.0)
     piece_claimed scope (Spread' count m needs) v q cs p =
         subst (AllByRecursion IsClaimed) (sym p.2.1)
-        ((p.2.2, in_graph scope v p.0), row_claimed q (Beneath v) needs p.2.0 p.2.3)
+        ((p.2.2, in_graph vertices scope v p.0), row_claimed q (Beneath v) needs p.2.0 p.2.3)
 
     row_claimed : {m : _} (k : ℕ) (scope : Scope) (row : Row_of-Need m) (cs : List Claim) →
         FitsRow vertices ok k scope row cs → AllByRecursion IsClaimed cs

@@ -17,6 +17,7 @@ use Rattle.flux_defs.specs.Available.{is_available_at, IsAvailable}
 use Rattle.flux_defs.specs.Overtaken.{conflicts}
 use Rattle.commit_laws.proofs.MoreJobs.{with_bars, or_along, had_along, Eases, eased, lives_with}
 use Rattle.commit_laws.proofs.MoreJobs.{live_append, taken_append, none_taken}
+use Rattle.list_laws.proofs.Lists.{any_along}
 use Rattle.list_laws.proofs.Tests.{not_along}
 
 -- bars close what they closed before: a is closed by jobs now, c by jobs before, b by bars
@@ -72,14 +73,6 @@ IsInTheWay vertices w claim job =
 -- none of the jobs is in the way
 abbrev pub NoneInTheWay : List Vertex → Window → Claim → List Job → Type 0
 NoneInTheWay vertices w claim jobs = AllByRecursion (λ job. IsInTheWay vertices w claim job → ⊥) jobs
-
-any_along : (test way : Claim → Bool) → ((x : Claim) → IsTrue (test x) → IsTrue (way x)) → (claims : List Claim) →
-    IsTrue (list_any test claims) → IsTrue (list_any way claims)
-any_along test way f [] h = h
-any_along test way f (x ∷ xs) h = elim (or_cases (test x) (list_any test xs) h) [
-  | inl a ↦ or_left (way x) (list_any way xs) (f x a)
-  | inr b ↦ or_right (way x) (list_any way xs) (any_along test way f xs b)
-]
 
 -- a job that is live at a moment of the window overlaps it
 overlaps : (m : ℕ) (w : Window) (job : Job) → w.from ≤ m → m < w.to → IsTrue (is_live m job) →

@@ -20,6 +20,7 @@ use Rattle.flux_defs.specs.Available.{is_available_at, IsAvailable}
 use Rattle.graph_laws.proofs.Containment.{ParentsFirst, not_to, up, up-None, steps_of, below_trans}
 use Rattle.graph_laws.proofs.Containment.{above_is_chain}
 use Rattle.graph_laws.proofs.Preorder.{has_parent}
+use Rattle.flux_laws.proofs.Live.{live_either}
 use Rattle.list_laws.proofs.Tests.{not_along}
 
 -- what the ask meets with these jobs
@@ -103,37 +104,6 @@ module _ (vertices : List Vertex) (jobs extra : List Job) where
   available_back barred w c a m lo hi =
       eased vertices (jobs ++ extra) jobs barred barred m c (eases_back barred m (vertex_of c)) (a m lo hi)
 
--- a claim that passes one test passes one of two others
-some_either : (a b c : Claim → Bool) → ((x : Claim) → IsTrue (a x) → IsTrue (b x) ⊎ IsTrue (c x)) →
-    (claims : List Claim) → IsTrue (list_any a claims) → IsTrue (list_any b claims) ⊎ IsTrue (list_any c claims)
-some_either a b c f [] h = inl h
-some_either a b c f (x ∷ xs) h = elim (or_cases (a x) (list_any a xs) h) [
-  | inl here ↦ elim (f x here) [
-    | inl y ↦ inl (or_left (b x) (list_any b xs) y)
-    | inr z ↦ inr (or_left (c x) (list_any c xs) z)
-  ]
-  | inr later ↦ elim (some_either a b c f xs later) [
-    | inl y ↦ inl (or_right (b x) (list_any b xs) y)
-    | inr z ↦ inr (or_right (c x) (list_any c xs) z)
-  ]
-]
-
-module _ (m : ℕ) (a b c : Claim → Bool) (f : (x : Claim) → IsTrue (a x) → IsTrue (b x) ⊎ IsTrue (c x)) where
-  live_either : (jobs : List Job) → IsTrue (some_live_claim jobs m a) →
-      IsTrue (some_live_claim jobs m b) ⊎ IsTrue (some_live_claim jobs m c)
-  live_either [] h = inl h
-  live_either (job ∷ jobs) h = elim (or_cases (lives_with m a job) (some_live_claim jobs m a) h) [
-    | inl here ↦ (let k = and_parts (is_live m job) (list_any a job.claims) here in
-        elim (some_either a b c f job.claims k.1) [
-          | inl y ↦ inl (or_left (lives_with m b job) (some_live_claim jobs m b) (and_from _ _ k.0 y))
-          | inr z ↦ inr (or_left (lives_with m c job) (some_live_claim jobs m c) (and_from _ _ k.0 z))
-        ])
-    | inr later ↦ elim (live_either jobs later) [
-      | inl y ↦ inl (or_right (lives_with m b job) (some_live_claim jobs m b) y)
-      | inr z ↦ inr (or_right (lives_with m c job) (some_live_claim jobs m c) z)
-    ]
-  ]
-
 -- where no live claim passes the test, and a claim that doesn't takes nothing, nothing is taken
 module _ (m v : ℕ) (test : Claim → Bool) (none : (x : Claim) → (IsTrue (test x) → ⊥) → take_of v x ≡ 0) where
   claims_take_none : (claims : List Claim) → (IsTrue (list_any test claims) → ⊥) → sum_by (take_of v) claims ≡ 0
@@ -202,7 +172,7 @@ module _ (vertices : List Vertex) (first : ParentsFirst vertices) where
 
       none_over : IsTrue (some_live_claim jobs m (holds_over vertices u)) → ⊥
       none_over k =
-          elim (live_either m (holds_over vertices u) (holds_over vertices v) (is_on_or_below vertices v) hold_over jobs
+          elim (live_either (holds_over vertices u) (holds_over vertices v) (is_on_or_below vertices v) hold_over jobs m
           k) [
             | inl x ↦ no_hold x
             | inr y ↦ no_claim y
@@ -210,8 +180,8 @@ module _ (vertices : List Vertex) (first : ParentsFirst vertices) where
 
       none_on : IsTrue (some_live_claim jobs m (is_on_or_below vertices u)) → ⊥
       none_on k =
-          elim (live_either m (is_on_or_below vertices u) (is_on_or_below vertices v) (is_on_or_below vertices v)
-          (λ x h. inl (on_below x h)) jobs k) [ inl x ↦ no_claim x | inr y ↦ no_claim y ]
+          elim (live_either (is_on_or_below vertices u) (is_on_or_below vertices v) (is_on_or_below vertices v)
+          (λ x h. inl (on_below x h)) jobs m k) [ inl x ↦ no_claim x | inr y ↦ no_claim y ]
 
       eases_below : Eases vertices before jobs barred barred m u
       eases_below = record {

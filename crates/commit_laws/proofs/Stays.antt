@@ -10,7 +10,7 @@ use Rattle.flux_defs.specs.Needs.{amount_of}
 use Rattle.flux_defs.specs.Jobs.{vertex_of}
 use Rattle.flux_defs.specs.Fits.{Pick, Pieces, Piece, FitsRow}
 use Rattle.flux_defs.specs.Lowest.{FillsFrom, CanServe, LowestPiece, LowestRow, Lowest}
-use Rattle.graph_laws.proofs.Containment.{ParentsFirst, below_self, below_trans, below_to}
+use Rattle.graph_laws.proofs.Containment.{ParentsFirst, in_graph, below_self, below_trans, below_to}
 use Rattle.flux_laws.proofs.FitLaws.{lowest_row_fits}
 use Rattle.match_laws.proofs.MoreAvailable.{piece_more, pieces_map}
 
@@ -84,10 +84,6 @@ module _ (vertices : List Vertex) (first : ParentsFirst vertices) (ok less free 
     (back : (c : Claim) → less c → ok c) (join : (c : Claim) → free c → ok c → less c)
     (opens : (v : ℕ) → v < length vertices → less (Hold v) → (c : Claim) → vertex_of c < length vertices →
     IsTrue (is_at_or_below vertices (vertex_of c) v) → ok c → less c) where
-  in_graph : (scope : Scope) (v : ℕ) → IsIn vertices scope v → v < length vertices
-  in_graph Everywhere v h = h
-  in_graph (Beneath u) v h = h.0
-
   can_back : (scope : Scope) (need : Need) (v q : ℕ) → CanServe vertices less scope need v q →
       CanServe vertices ok scope need v q
   can_back scope need v q c = (c.0, piece_more vertices less ok back scope need v q c.0 c.1)
@@ -99,7 +95,7 @@ module _ (vertices : List Vertex) (first : ParentsFirst vertices) (ok less free 
     piece_stays scope (Vert' kind count true m needs) v q claims all can low =
         let p = can.1 in
         let a = subst (AllByRecursion free) low all in
-        let lt = in_graph scope v p.1 in
+        let lt = in_graph vertices scope v p.1 in
         let held = join (Hold v) a.0 p.3.1 in
         let inner = row_within vertices first ok less v (opens v lt held) v (below_self vertices first v lt) 1 needs
         p.3.2.0 p.3.2.1 in

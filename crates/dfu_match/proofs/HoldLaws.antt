@@ -13,7 +13,7 @@ use Rattle.flux_defs.specs.Graph.{parent_of, is_at_or_below}
 use Rattle.flux_defs.specs.Jobs.{is_live, some_live_claim, holds_over, is_on_or_below}
 use Rattle.flux_defs.specs.Closed.{Scene, is_touched, IsClosedIn, IsTouchedIn}
 use Rattle.flux_defs.specs.Available.{IsAvailable}
-use Rattle.list_laws.proofs.Lists.{any_either}
+use Rattle.flux_laws.proofs.Live.{live_either}
 use Rattle.graph_laws.proofs.Containment.{ParentsFirst, up, up-None, steps_of, at_or_below, below_self, below_parent}
 use Rattle.graph_laws.proofs.Containment.{below_trans, not_to}
 use Rattle.graph_laws.proofs.Preorder.{has_parent}
@@ -25,22 +25,6 @@ pub above_inside : (vertices : List Vertex) →
     ParentsFirst vertices → (v p : ℕ) → parent_of vertices v ≡ Some p → p < length vertices
 above_inside vertices first v p e = let below = first v p e in
     let within = has_parent vertices v p e in omega (arith, below, within)
-
-live_either : (f g h : Claim → Bool) → ((c : Claim) → IsTrue (f c) → IsTrue (g c) ⊎ IsTrue (h c)) →
-    (jobs : List Job) (m : ℕ) → IsTrue (some_live_claim jobs m f) →
-    IsTrue (some_live_claim jobs m g) ⊎ IsTrue (some_live_claim jobs m h)
-live_either f g h step jobs m =
-    any_either (λ job. is_live m job && list_any f job.claims)
-    (λ job. is_live m job && list_any g job.claims) (λ job. is_live m job && list_any h job.claims) by_job jobs
-  where
-    by_job : (job : Job) → IsTrue (is_live m job && list_any f job.claims) →
-        IsTrue (is_live m job && list_any g job.claims) ⊎ IsTrue (is_live m job && list_any h job.claims)
-    by_job job t =
-        let b = and_parts (is_live m job) (list_any f job.claims) t in
-        elim (any_either f g h step job.claims b.1) [
-          | inl a ↦ inl (and_from _ _ b.0 a)
-          | inr c ↦ inr (and_from _ _ b.0 c)
-        ]
 
 -- a vertex is passed where it isn't closed
 pub passes : (scene : Scene) (w : Window) (v : ℕ) (hold closed : Bool) → hold ≡ false →

@@ -14,13 +14,14 @@ use Rattle.flux_defs.specs.Graph.{ResourceGraph, Scope, Everywhere, Beneath, IsI
 use Rattle.flux_defs.specs.ValidGraph.{IsValidGraph, HasType}
 use Rattle.flux_defs.specs.Needs.{IsOfNeed}
 use Rattle.flux_defs.specs.Lowest.{CanServe}
-use Rattle.graph_laws.proofs.Containment.{below_le, below_from, below_to}
+use Rattle.graph_laws.proofs.Containment.{in_graph, below_le, below_from, below_to}
 use Rattle.graph_laws.proofs.Preorder.{parents_first}
 use Rattle.resource_graph.specs.Tables.{IsPast, IsNamedKind}
 use Rattle.list_laws.proofs.Values.{value_of, from_value}
 use Rattle.match_laws.proofs.Walk.{NoneBetween}
 use Rattle.match_laws.proofs.NeedLists.{server}
-use Rattle.prune_laws.proofs.Demanded.{any_item, in_graph}
+use Rattle.flux_laws.proofs.Valid.{is_node_type}
+use Rattle.prune_laws.proofs.Demanded.{any_item}
 use Rattle.dfu_match.specs.Searches.{Covers, IsKindOfNeed}
 use Rattle.dfu_match.specs.Tables.{IsNodesKind}
 use Rattle.dfu_match.specs.Walks.{ServesNone}
@@ -59,15 +60,6 @@ module _ (g : ResourceGraph) (names : List (List ℕ)) (valid : IsValidGraph g n
   kind_from k name None e h = elim h [ ]
   kind_from k name (Some y) e h = ap (slice_get g.kinds) h ∙ e
 
-  node_to : (v : ℕ) → IsNode g.vertices v → HasType g (codes "node") v
-  node_to v h = at_vertex (slice_get g.vertices v) refl h
-    where
-      at_vertex : (x : Option Vertex) → slice_get g.vertices v ≡ x →
-          IsSomeAnd x (λ y. Rattle.std.specs.Prelude.is_some y.rank ≡ Rattle.std.specs.Prelude.true) →
-          HasType g (codes "node") v
-      at_vertex None e k = elim k [ ]
-      at_vertex (Some y) e k = (valid.nodes v y e).0 h
-
   node_from : (v : ℕ) → HasType g (codes "node") v → IsNode g.vertices v
   node_from v h = at_vertex (slice_get g.vertices v) refl h
     where
@@ -80,7 +72,7 @@ module _ (g : ResourceGraph) (names : List (List ℕ)) (valid : IsValidGraph g n
   pub node_kind : (k : ℕ) → slice_get g.kinds k ≡ Some (codes "node") → (v : ℕ) →
       (IsNode g.vertices v ↔ HasKind g.vertices k v)
   node_kind k e v = (
-    λ h. kind_to k (codes "node") (slice_get g.vertices v) e (node_to v h),
+    λ h. kind_to k (codes "node") (slice_get g.vertices v) e (is_node_type g names valid v h),
     λ h. node_from v (kind_from k (codes "node") (slice_get g.vertices v) e h),
   )
 
@@ -88,7 +80,7 @@ module _ (g : ResourceGraph) (names : List (List ℕ)) (valid : IsValidGraph g n
   pub alike_node : (u v kind : ℕ) → HasKind g.vertices kind v → IsNode g.vertices v → HasKind g.vertices kind u →
       IsNode g.vertices u
   alike_node u v kind is node there =
-      (node_kind kind (named (slice_get g.vertices v) is (node_to v node)) u).1 there
+      (node_kind kind (named (slice_get g.vertices v) is (is_node_type g names valid v node)) u).1 there
     where
       named : (x : Option Vertex) → IsSomeAnd x (λ y. y.kind ≡ kind) →
           IsSomeAnd x (λ y. slice_get g.kinds y.kind ≡ Some (codes "node")) →
@@ -98,7 +90,7 @@ module _ (g : ResourceGraph) (names : List (List ℕ)) (valid : IsValidGraph g n
 
   -- and there are none where no type is
   pub no_node : ((k : ℕ) → slice_get g.kinds k ≢ Some (codes "node")) → (v : ℕ) → IsNode g.vertices v → ⊥
-  no_node never v h = at_vertex (slice_get g.vertices v) (node_to v h)
+  no_node never v h = at_vertex (slice_get g.vertices v) (is_node_type g names valid v h)
     where
       at_vertex : (x : Option Vertex) → IsSomeAnd x (λ y. slice_get g.kinds y.kind ≡ Some (codes "node")) → ⊥
       at_vertex None k = elim k [ ]

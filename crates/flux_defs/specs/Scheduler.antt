@@ -79,20 +79,27 @@ phase_at m job = if nat_lt m job.start then Planned else if nat_lt m job.end the
 abbrev pub info_at : ℕ → Job → Reply
 info_at m job = reply.Info (phase_at m job) job.start job.end
 
+-- the answer to an ask for a job: the first of three whose fact refuses each start, or as `by_starts` says
+abbrev pub AnswersJob : {X : Type 0} → Setting → State → ℕ → Ask → X → X → X → (X → Type 0) → X → Type 0
+AnswersJob g s id ask known unsatisfiable too_long by_starts =
+    Where (Contains s.used id) known
+    (Unless (IsSatisfiable g.graph.vertices ask) unsatisfiable
+    (Unless (CountsWithin g.horizon ask s.moment) too_long by_starts))
+
+-- the reply to an ask for a job
+abbrev pub JobReplies : Setting → State → ℕ → Ask → (Reply → Type 0) → Reply → Type 0
+JobReplies g s id ask = AnswersJob g s id ask reply.Exists reply.Unsatisfiable reply.TooLong
+
 -- the reply to a command in a state: the first refusal whose fact holds, or what stands after them
 abbrev pub Replies : Setting → State → Command → Reply → Type 0
 Replies g s (command.Allocate id ask) =
-    Where (Contains s.used id) reply.Exists
-    (Unless (IsSatisfiable g.graph.vertices ask) reply.Unsatisfiable
-    (Unless (CountsWithin g.horizon ask s.moment) reply.TooLong
+    JobReplies g s id ask
     (Unless (SomeFit g.graph.vertices s.jobs ask (window_of g.horizon ask s.moment)) reply.Busy
-    (AcceptedOrFull g s id ask s.moment))))
+    (AcceptedOrFull g s id ask s.moment))
 Replies g s (command.Reserve id ask) =
-    Where (Contains s.used id) reply.Exists
-    (Unless (IsSatisfiable g.graph.vertices ask) reply.Unsatisfiable
-    (Unless (CountsWithin g.horizon ask s.moment) reply.TooLong
+    JobReplies g s id ask
     (Unless ((t : ℕ) × (s.moment ≤ t) × IsStart g.graph.vertices s.jobs g.horizon ask t) reply.NoStart
-    (λ r. (t : ℕ) × IsEarliest g.graph.vertices s.jobs g.horizon ask s.moment t × AcceptedOrFull g s id ask t r))))
+    (λ r. (t : ℕ) × IsEarliest g.graph.vertices s.jobs g.horizon ask s.moment t × AcceptedOrFull g s id ask t r))
 Replies g s (command.Satisfy ask) =
     Unless (IsSatisfiable g.graph.vertices ask) reply.Unsatisfiable (λ r. r ≡ reply.Satisfiable)
 Replies g s (command.Cancel id) = Unless (IsSome (job_with id s.jobs)) reply.Absent (λ r. r ≡ reply.Cancelled)

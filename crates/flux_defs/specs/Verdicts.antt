@@ -10,8 +10,8 @@ use Rattle.flux_defs.specs.declared.journal.Reply.{Reply}
 use Rattle.flux_defs.specs.declared.journal.Reply.TheVariants as reply
 use Rattle.flux_defs.specs.declared.verdicts.Verdict.{Verdict}
 use Rattle.flux_defs.specs.declared.verdicts.Verdict.TheVariants.{Found, NoFit, Unsat, Sat, Long, Known}
-use Rattle.flux_defs.specs.Asks.{window_of, CountsWithin, SomeFit, IsLowestFirst, IsStart, IsEarliest, IsSatisfiable}
-use Rattle.flux_defs.specs.Scheduler.{Setting, State, Where, Unless, accepted_reply}
+use Rattle.flux_defs.specs.Asks.{window_of, SomeFit, IsLowestFirst, IsStart, IsEarliest, IsSatisfiable}
+use Rattle.flux_defs.specs.Scheduler.{Setting, State, Where, Unless, AnswersJob, accepted_reply}
 
 -- a command that is searched for: an allocate, a reserve or a satisfy
 abbrev pub IsSearchable : Command → Type 0
@@ -39,9 +39,7 @@ FindsEarliest g s ask =
 
 -- what is found of an ask for a job of this id, by what is found at the starts that it may have
 abbrev pub FindsJob : Setting → State → ℕ → Ask → (Verdict → Type 0) → Verdict → Type 0
-FindsJob g s id ask AtStarts =
-    Where (Contains s.used id) Known
-    (Unless (IsSatisfiable g.graph.vertices ask) Unsat (Unless (CountsWithin g.horizon ask s.moment) Long AtStarts))
+FindsJob g s id ask = AnswersJob g s id ask Known Unsat Long
 
 -- what a search of the state finds of a command
 abbrev pub Finds : Setting → State → Command → Verdict → Type 0

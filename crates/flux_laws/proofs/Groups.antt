@@ -14,7 +14,7 @@ use Rattle.flux_defs.specs.Jobs.{vertex_of, holds_over}
 use Rattle.flux_defs.specs.Fits.{Pick, NoneFor, AreDistinct, Pieces, Piece, FitsRow}
 use Rattle.flux_defs.specs.Sound.{AreSeparate, AreAllSeparate}
 use Rattle.graph_laws.proofs.Containment.{ParentsFirst, above_is_chain, below_trans, below_le, below_self}
-use Rattle.graph_laws.proofs.Containment.{below_from, below_to}
+use Rattle.graph_laws.proofs.Containment.{in_graph, below_from, below_to}
 use Rattle.list_laws.proofs.Lists.{all_append, all_along}
 
 same_kind : (k j : ℕ) (x : Option Vertex) → IsSomeAnd x (λ y. y.kind ≡ k) → IsSomeAnd x (λ y. y.kind ≡ j) → k ≡ j
@@ -131,10 +131,6 @@ module _ (vertices : List Vertex) (first : ParentsFirst vertices) (unnested : No
       above (Pass t) v u lo ne le h = true≢false (sym h)
       above (Hold t) v u lo ne le h = let d : t ≤ v = below_le vertices first v t h in omega arith
 
-  in_graph : (scope : Scope) (v : ℕ) → IsIn vertices scope v → v < length vertices
-  in_graph Everywhere v h = h
-  in_graph (Beneath u) v h = h.0
-
   -- a claim under a vertex of the scope, of which P holds
   abbrev pub RootedIn : Scope → (ℕ → Type 0) → Claim → Type 0
   RootedIn scope P c = (u : ℕ) × (P u × IsIn vertices scope u) × Under u c
@@ -208,14 +204,15 @@ module _ (vertices : List Vertex) (first : ParentsFirst vertices) (unnested : No
     mutual
       pub piece_apart : (scope : Scope) (need : Need) → IsValidNeed vertices need → (v q : ℕ) (cs : List Claim) →
           Piece vertices ok scope need v q cs → IsPieceOf v cs
-      piece_apart scope (Vert' kind count true m needs) s v q cs p = one v (Hold v) cs refl p.3.0 (in_graph scope v p.1)
+      piece_apart scope (Vert' kind count true m needs) s v q cs p =
+          one v (Hold v) cs refl p.3.0 (in_graph vertices scope v p.1)
       piece_apart scope (Vert' kind count false m needs) s v q cs p =
           let r = row_apart 1 (Beneath v) needs s.2 p.3.0 p.3.3 in passed v p.3.0 cs (IsRootOf needs) p.3.1
-          (in_graph scope v p.1) r.0 r.1
-      piece_apart scope (Pool kind quantity) s v q cs p = one v (Take v q) cs refl p.2 (in_graph scope v p.0)
+          (in_graph vertices scope v p.1) r.0 r.1
+      piece_apart scope (Pool kind quantity) s v q cs p = one v (Take v q) cs refl p.2 (in_graph vertices scope v p.0)
       piece_apart scope (Spread' count m needs) s v q cs p =
           let r = row_apart q (Beneath v) needs s.3 p.2.0 p.2.3 in passed v p.2.0 cs (IsRootOf needs) p.2.1
-          (in_graph scope v p.0) r.0 r.1
+          (in_graph vertices scope v p.0) r.0 r.1
 
       -- the claims of a fit are separate, and each is under a vertex of one of the needs
       pub row_apart : {m : _} (k : ℕ) (scope : Scope) (row : Row_of-Need m) → AreValidRow vertices row →

@@ -7,4 +7,5 @@ pub mod Takes
 pub mod Groups
 pub mod Determined
 pub mod Valid
+pub mod Live
 pub mod Aside

@@ -19,7 +19,7 @@ module _ (g : ResourceGraph) (names : List (List ℕ)) (valid : IsValidGraph g n
   kind_named None name h = elim h [ ]
   kind_named (Some y) name h = (y.kind, refl, h)
 
-  is_node_type : (v : ℕ) → IsNode g.vertices v → HasType g (codes "node") v
+  pub is_node_type : (v : ℕ) → IsNode g.vertices v → HasType g (codes "node") v
   is_node_type v h =
       let x = there (λ y. is_some y.rank ≡ true) (slice_get g.vertices v) h in
       (valid.nodes v x.0 x.1).0 h

@@ -12,7 +12,7 @@ use Rattle.flux_defs.specs.declared.limits.TheConstants.{GREATEST_NUMBER}
 use Rattle.flux_defs.specs.declared.vertices.Vertex.{Vertex}
 use Rattle.flux_defs.specs.Graph.{ResourceGraph, parent_of, chain, IsNode}
 use Rattle.flux_defs.specs.ValidGraph.{IsValidGraph}
-use Rattle.graph_laws.proofs.Containment.{ParentsFirst}
+use Rattle.graph_laws.proofs.Containment.{ParentsFirst, chain_none}
 use Rattle.graph_laws.proofs.Preorder.{parents_first}
 use Rattle.resource_graph.specs.NamedGraph.{NamedGraph, IsWhole}
 use Rattle.graph_build.specs.Orders.{IsOrderOf}
@@ -30,10 +30,6 @@ use Rattle.resource_graph.proofs.Queries.{parents_known, chains_short}
 use Rattle.graph_build.proofs.OneGraph.{same_items}
 
 -- ---- nothing is wrong with a valid graph
-
-chain_none : (vertices : List Vertex) (most : ℕ) → length (chain vertices most None) ≤ 0
-chain_none vertices zero = omega arith
-chain_none vertices (suc most) = omega arith
 
 chain_falls : (vertices : List Vertex) → ParentsFirst vertices → (most v : ℕ) →
     length (chain vertices most (Some v)) ≤ suc v

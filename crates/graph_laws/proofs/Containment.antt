@@ -3,7 +3,8 @@ use Rattle.std.proofs.Common.{◌≡◌, ◌≢◌, ℕ, zero, suc, ◌+◌, ◌
 use Rattle.std.proofs.Common.{length, Option, Some, None, ◌⊎◌, inl, inr, refl, sym, ◌∙◌, ap, arith, IsTrue, true≢false}
 use Rattle.std.proofs.lemmas.Bool.{cases_lt, and_parts, and_from, or_cases, or_left, or_right, eqb-true, eq-eqb}
 use Rattle.flux_defs.specs.declared.vertices.Vertex.{Vertex}
-use Rattle.flux_defs.specs.Graph.{parent_of, has_on_chain, is_at_or_below, is_below}
+use Rattle.flux_defs.specs.Graph.{Scope, Everywhere, Beneath, IsIn, parent_of, chain, has_on_chain, is_at_or_below}
+use Rattle.flux_defs.specs.Graph.{is_below}
 
 pub not_from : (b : Bool) → (IsTrue b → ⊥) → IsTrue (not b)
 not_from true h = absurd (h refl)
@@ -25,6 +26,16 @@ pub at_or_below-opens : (vertices : List Vertex) (v u : ℕ) →
     is_at_or_below vertices v u ≡ has_on_chain vertices (length vertices) (Some v) u
 unfolding is_at_or_below
 at_or_below-opens vertices v u = refl
+
+-- what is in a scope is in the graph
+pub in_graph : (vertices : List Vertex) (scope : Scope) (v : ℕ) → IsIn vertices scope v → v < length vertices
+in_graph vertices Everywhere v h = h
+in_graph vertices (Beneath u) v h = h.0
+
+-- nothing is on the chain of no vertex
+pub chain_none : (vertices : List Vertex) (most : ℕ) → length (chain vertices most None) ≤ 0
+chain_none vertices zero = omega arith
+chain_none vertices (suc most) = omega arith
 
 module _ (vertices : List Vertex) where
   -- the vertex so many steps up

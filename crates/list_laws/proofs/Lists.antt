@@ -92,6 +92,15 @@ any_either s a b h (x ∷ xs) some = elim (or_cases (s x) (list_any s xs) some) 
   ]
 ]
 
+-- an item that passes one test passes another
+pub any_along : {X : Type 0} (s t : X → Bool) → ((x : X) → IsTrue (s x) → IsTrue (t x)) →
+    (xs : List X) → IsTrue (list_any s xs) → IsTrue (list_any t xs)
+any_along s t h [] some = some
+any_along s t h (x ∷ xs) some = elim (or_cases (s x) (list_any s xs) some) [
+  | inl now ↦ or_left (t x) (list_any t xs) (h x now)
+  | inr later ↦ or_right (t x) (list_any t xs) (any_along s t h xs later)
+]
+
 -- the rest of a list from an index on begins with the element there
 pub drop_here : {X : Type 0} (xs : List X) (k : ℕ) (x : X) → slice_get xs k ≡ Some x → drop k xs ≡ x ∷ drop (k + 1) xs
 drop_here [] k x e = absurd (cc)

@@ -1,5 +1,5 @@
 -- Laws of tests.
-use Rattle.std.proofs.Common.{◌≡◌, ℕ, ◌<◌, Bool, true, false, not, refl, sym, arith, IsTrue, true≢false}
+use Rattle.std.proofs.Common.{◌≡◌, ℕ, ◌<◌, ◌≤◌, cond, Bool, true, false, not, refl, sym, arith, IsTrue, true≢false}
 use Rattle.std.proofs.lemmas.Bool.Decides.{nat_tests}
 use Rattle.std.specs.Ordering.{nat_cmp}
 use Rattle.std.specs.declared.cmp.Ordering.TheVariants.{Less}
@@ -15,6 +15,11 @@ pub not_along : (a b : Bool) → (IsTrue a → IsTrue b) → IsTrue (not b) → 
 not_along false b f h = refl
 not_along true true f h = absurd (true≢false (sym h))
 not_along true false f h = absurd (true≢false (sym (f refl)))
+
+-- what passes a test counts once, and what fails it not at all
+pub one_at_most : (b : Bool) → cond b 1 0 ≤ 1
+one_at_most true = omega arith
+one_at_most false = omega arith
 
 -- a lesser number compares as less, and only such a one
 pub below_is_less : (x y : ℕ) → x < y → nat_cmp x y ≡ Less

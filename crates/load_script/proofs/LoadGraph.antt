@@ -16,7 +16,7 @@ use Rattle.flux_defs.specs.ValidGraph.{IsDevice, HasType}
 use Rattle.list_laws.proofs.Values.{value_of, at_value, from_value}
 use Rattle.resource_graph.specs.Finds.{Nowhere}
 use Rattle.graph_laws.proofs.Containment.{ParentsFirst, up, up-None, steps_of, below_parent, below_from, below_to}
-use Rattle.graph_laws.proofs.Containment.{parent_below}
+use Rattle.graph_laws.proofs.Containment.{chain_none, parent_below}
 use Rattle.graph_build.specs.declared.raw.RawVertex.{RawVertex}
 use Rattle.graph_build.specs.Faults.{IsNodeType, HasDoubleId, HasDoubleName, HasBadRank}
 use Rattle.graph_build.specs.Raw.{shape_of, raw_graph, raw_names, KindsApart}
@@ -286,10 +286,6 @@ first v p e = (over v p e).2.before
 
 -- ---- lines of parents
 
-chain_none : (most : ℕ) → length (chain shapes most None) ≤ 0
-chain_none zero = omega arith
-chain_none (suc most) = omega arith
-
 -- a line has no more vertices than its first one's kind and one
 depth : (most v : ℕ) (x : Vertex) → slice_get shapes v ≡ Some x → length (chain shapes most (Some v)) ≤ suc x.kind
 depth zero v x there = omega arith
@@ -297,7 +293,7 @@ depth (suc most) v x there = by (parent_of shapes v) refl (depth most)
   where
     by : (o : Option ℕ) → parent_of shapes v ≡ o → ((p : ℕ) (y : Vertex) → slice_get shapes p ≡ Some y →
         length (chain shapes most (Some p)) ≤ suc y.kind) → suc (length (chain shapes most o)) ≤ suc x.kind
-    by None e upper = let none = chain_none most in omega (arith, none)
+    by None e upper = let none = chain_none shapes most in omega (arith, none)
     by (Some p) e upper =
         let o = over_by v p x (told v x there) (sym (parent_read v x there) ∙ e) in
         let low = o.low in
@@ -633,7 +629,7 @@ chain_falls (suc most) v = by (parent_of shapes v) refl (chain_falls most)
   where
     by : (o : Option ℕ) → parent_of shapes v ≡ o → ((p : ℕ) → length (chain shapes most (Some p)) ≤ suc p) →
         suc (length (chain shapes most o)) ≤ suc v
-    by None e rest = let none = chain_none most in omega (arith, none)
+    by None e rest = let none = chain_none shapes most in omega (arith, none)
     by (Some p) e rest = let less = first v p e in let short = rest p in omega (arith, less, short)
 
 root_is : (v : ℕ) → v < length shapes → parent_of shapes v ≡ None → v ≡ 0

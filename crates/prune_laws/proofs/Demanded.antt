@@ -26,7 +26,7 @@ use Rattle.flux_defs.specs.Needs.{amount_of, IsOfNeed, HasNoSpread, HaveNoSpread
 use Rattle.flux_defs.specs.Needs.{AreValidRow}
 use Rattle.flux_defs.specs.Fits.{Pick, served, AreDistinct, Pieces, Piece, Fits, FitsRow}
 use Rattle.graph_laws.proofs.Containment.{below_trans, below_le, below_parent, below_self, below_from, below_to}
-use Rattle.graph_laws.proofs.Containment.{not_to}
+use Rattle.graph_laws.proofs.Containment.{in_graph, not_to}
 use Rattle.graph_laws.proofs.Preorder.{parents_first}
 use Rattle.flux_laws.proofs.Groups.{AreDisjoint, IsOfPicks, IsRootOf, picks_disjoint, siblings_disjoint}
 use Rattle.flux_laws.proofs.Groups.{piece_vertex}
@@ -115,10 +115,6 @@ any_item test (x ∷ xs) h =
       | inl here ↦ (0, x, refl, here)
       | inr later ↦ (let r = any_item test xs later in (suc r.0, r.1, r.2, r.3))
     ]
-
-pub in_graph : (vertices : List Vertex) (scope : Scope) (v : ℕ) → IsIn vertices scope v → v < length vertices
-in_graph vertices Everywhere v h = h
-in_graph vertices (Beneath u) v h = h.0
 
 pub amount_some : (vertices : List Vertex) (need : Need) → IsValidNeed vertices need → 1 ≤ amount_of need
 amount_some vertices (Vert' kind count hold m needs) v = v.0

@@ -12,6 +12,7 @@ use Rattle.std.proofs.Math.Seq.{drop-cons}
 use Rattle.json_whole.specs.Values.{view, items_view}
 use Rattle.serde_json.specs.Data.{item}
 use Rattle.json.specs.declared.value.Value.{Value}
+use Rattle.list_laws.proofs.Tests.{one_at_most}
 use Rattle.idset_text.specs.declared.idsets.Range.{Range}
 use Rattle.idset_text.specs.declared.hostlists.Hosts.{Hosts}
 use Rattle.idset_text.specs.Idsets.{ids_from, ids_of, is_within}
@@ -54,10 +55,6 @@ joined_read all hosts (Err m) = refl
 covers_more : (x : Range) (xs : List Range) (rank : ℕ) →
     covers (x ∷ xs) rank ≡ cond (is_within x rank) 1 0 + covers xs rank
 covers_more x xs rank = sum_by-cons (λ range. cond (is_within range rank) 1 0) x xs
-
-one_at_most : (b : Bool) → cond b 1 0 ≤ 1
-one_at_most true = omega arith
-one_at_most false = omega arith
 
 -- ranges that all begin above a rank don't have it
 none_cover : (ranges : List Range) (rank : ℕ) →

@@ -27,7 +27,7 @@ use Rattle.flux_defs.specs.Free.{taken_at}
 use Rattle.flux_defs.specs.Available.{is_available_at, IsAvailable}
 use Rattle.flux_defs.specs.Asks.{window_of, CountsWithin, scene_of, IsLowestFirst}
 use Rattle.flux_defs.specs.Scheduler.{Setting, State, IsProper, IsAcceptedAs, AcceptedOrFull, Replies, accepted_reply}
-use Rattle.flux_defs.specs.Scheduler.{job_with, info_at}
+use Rattle.flux_defs.specs.Scheduler.{JobReplies, job_with, info_at}
 use Rattle.flux_defs.specs.Sound.{AreAllSeparate}
 use Rattle.flux_laws.proofs.Aside.{separate_fits}
 use Rattle.flux_laws.proofs.Determined.{lowest_fits}
@@ -38,7 +38,7 @@ use Rattle.book_laws.specs.Amounts.{TakesFromPool}
 use Rattle.book_state.proofs.BookLaws.{stood}
 use Rattle.sched_core.specs.Courses.{IsBookAt}
 use Rattle.sched_core.specs.Answered.{MayFollow, HasRoom}
-use Rattle.sched_core.proofs.Decided.{JobReplies, NowGiven, StartGiven}
+use Rattle.sched_core.proofs.Decided.{NowGiven, StartGiven}
 use Rattle.sched_core.proofs.JobLaws.{fresh_row}
 use Rattle.sched_core.proofs.OnVertices.{fits_on}
 use Rattle.list_laws.proofs.Lists.{all_along}

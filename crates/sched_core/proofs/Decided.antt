@@ -6,7 +6,8 @@ use Rattle.flux_defs.specs.declared.journal.Command.TheVariants as command
 use Rattle.flux_defs.specs.declared.journal.Reply.{Reply}
 use Rattle.flux_defs.specs.declared.journal.Reply.TheVariants as reply
 use Rattle.flux_defs.specs.Asks.{window_of, CountsWithin, SomeFit, IsLowestFirst, IsStart, IsEarliest, IsSatisfiable}
-use Rattle.flux_defs.specs.Scheduler.{Setting, State, Where, Unless, Replies, AcceptedOrFull, accepted_reply}
+use Rattle.flux_defs.specs.Scheduler.{Setting, State, Where, Unless, JobReplies, Replies, AcceptedOrFull}
+use Rattle.flux_defs.specs.Scheduler.{accepted_reply}
 use Rattle.flux_defs.specs.declared.verdicts.Verdict.{Verdict}
 use Rattle.flux_defs.specs.declared.verdicts.Verdict.TheVariants.{Found}
 use Rattle.flux_defs.specs.Verdicts.{FindsNow, FindsEarliest, FindsJob, YieldsJob, job_of}
@@ -50,16 +51,10 @@ module _ (g : Setting) (s : State) (id : ℕ) (ask : Ask) where
   by : (none : Reply) (v w : Verdict) (r : Reply) → v ≡ w → Answers g s id ask none v r → Answers g s id ask none w r
   by none v w r e h = subst (λ (x : Verdict). Answers g s id ask none x r) e h
 
-  -- the reply to an ask for a job: a refusal that stands before the look for a start, or what is given after it
-  abbrev pub JobReplies : (Reply → Type 0) → Reply → Type 0
-  JobReplies Given =
-      Where (Contains s.used id) reply.Exists
-      (Unless (IsSatisfiable g.graph.vertices ask) reply.Unsatisfiable
-      (Unless (CountsWithin g.horizon ask s.moment) reply.TooLong Given))
-
   -- what is given of a verdict is the reply, where it is by what was found at the starts
   job_decided : (AtStarts : Verdict → Type 0) (none : Reply) (Given : Reply → Type 0) (v : Verdict) (r : Reply) →
-      (AtStarts v → Given r) → FindsJob g s id ask AtStarts v → Answers g s id ask none v r → JobReplies Given r
+      (AtStarts v → Given r) → FindsJob g s id ask AtStarts v → Answers g s id ask none v r →
+      JobReplies g s id ask Given r
   job_decided AtStarts none Given v r given (inl (used, e)) h = inl (used, by none v _ r e h)
   job_decided AtStarts none Given v r given (inr (n, inl (un, e))) h = inr (n, inl (un, by none v _ r e h))
   job_decided AtStarts none Given v r given (inr (n, inr (sat, inl (long, e)))) h =

@@ -11,7 +11,7 @@ use Rattle.flux_defs.specs.Jobs.{vertex_of}
 use Rattle.flux_defs.specs.Fits.{Pick, Pieces, Piece, FitsRow, Fits}
 use Rattle.flux_laws.proofs.Rows.{fits_list}
 use Rattle.list_laws.proofs.Lists.{all_append}
-use Rattle.prune_laws.proofs.Demanded.{in_graph}
+use Rattle.graph_laws.proofs.Containment.{in_graph}
 
 module _ (vertices : List Vertex) (ok : Claim → Type 0) where
   abbrev IsOn : Claim → Type 0

@@ -13,6 +13,7 @@ use Rattle.flux_defs.specs.Graph.{ResourceGraph}
 use Rattle.flux_defs.specs.ValidGraph.{StandsInPreorder}
 use Rattle.flux_defs.specs.Jobs.{is_live, take_of}
 use Rattle.list_laws.proofs.Lists.{all_append}
+use Rattle.list_laws.proofs.Tests.{one_at_most}
 use Rattle.planner_points.specs.declared.spans.Span.{Span}
 use Rattle.planner_points.specs.Spans.{span_of, free_at}
 use Rattle.book_laws.specs.Amounts.{live_sum, is_hold, hold_of, part_within, use_of}
@@ -51,10 +52,6 @@ live_few f h jobs m =
     by_life true job = few_sum f h job.claims
     by_life false job = omega arith
 
-small : (b : Bool) → cond b 1 0 ≤ 1
-small true = omega arith
-small false = omega arith
-
 take_used : (vertices : List Vertex) (v : ℕ) (c : Claim) → take_of v c ≤ use_of vertices v c
 take_used vertices v (Take u q) = omega arith
 take_used vertices v (Hold u) = omega arith
@@ -64,9 +61,9 @@ take_used vertices v (Pass u) = omega arith
 pub fits_all : (g : ResourceGraph) → StandsInPreorder g →
     (jobs : List Job) → AreFair g.vertices jobs → count_claims jobs ≤ most_claims → (q : Quantity) (v m : ℕ) →
     live_sum (amount_in g.vertices q v) jobs m ≤ total_in g.vertices q v
-fits_all g o jobs fair few Holds v m = let le = live_few (hold_of v) (λ c. small (is_hold v c)) jobs m in
+fits_all g o jobs fair few Holds v m = let le = live_few (hold_of v) (λ c. one_at_most (is_hold v c)) jobs m in
     omega (arith, le, few)
-fits_all g o jobs fair few Claims v m = let le = live_few (claim_count g.vertices v) (λ c. small _) jobs m in
+fits_all g o jobs fair few Claims v m = let le = live_few (claim_count g.vertices v) (λ c. one_at_most _) jobs m in
     omega (arith, le, few)
 fits_all g o jobs fair few Takes v m =
     let le = live_most (take_of v) (use_of g.vertices v) jobs m (take_used g.vertices v) in

@@ -16,7 +16,8 @@ use Rattle.planner_points.specs.Spans.{free_at, IsLeastFree}
 use Rattle.book_laws.specs.Amounts.{live_sum, is_hold, hold_of, claim_within, part_of, part_within}
 use Rattle.book_laws.specs.Grouped.{grouped}
 use Rattle.book_laws.proofs.GroupedLaws.{used_grouped}
-use Rattle.book_laws.proofs.Sums.{live_add, live_along, live_either, live_most, live_none, live_unless}
+use Rattle.flux_laws.proofs.Live.{live_along, live_either}
+use Rattle.book_laws.proofs.Sums.{live_add, live_most, live_none, live_unless}
 use Rattle.book_laws.proofs.Views.{NeverClosed}
 use Rattle.book_laws.proofs.Within.{closed_is}
 use Rattle.vertex_planners.specs.Counting.{counts_at}
