@@ -82,6 +82,11 @@ reach_later w other sooner later le reach = ((let a = reach.0 in omega (arith, a
 pub reach_all : (w : Window) (until : ℕ) → w.from ≤ until → w.from < w.to → ReachesOver w until w
 reach_all w until le opens = (le, omega arith, opens)
 
+-- what is so over all windows that reach over it is so over the window, where the moment fell from its start
+pub over_own : (w : Window) (until : ℕ) → FallsWithin w w.from until → w.from < w.to → (P : Window → Type 0) →
+    ((other : Window) → ReachesOver w until other → P other) → P w
+over_own w until falls opens P all = all w (reach_all w until (falls.1 (omega arith)) opens)
+
 -- falling twice
 pub falls_twice : (w : Window) (a b c : ℕ) → FallsWithin w a b → FallsWithin w b c → FallsWithin w a c
 falls_twice w a b c f g = (let x = f.0 in let y = g.0 in omega (arith, x, y), λ le. g.1 (f.1 le))

@@ -1,11 +1,13 @@
 -- Later windows that a search's answer also holds for.
-use Rattle.std.specs.Prelude.{ℕ, ◌<◌, ◌≤◌, List}
+use Rattle.std.specs.Prelude.{ℕ, ◌<◌, ◌≤◌, List, Option, IfSome}
 use Rattle.flux_defs.specs.declared.vertices.Vertex.{Vertex}
 use Rattle.flux_defs.specs.declared.claims.Claim.{Claim}
+use Rattle.flux_defs.specs.declared.claims.Job.{Job}
 use Rattle.flux_defs.specs.declared.claims.Window.{Window}
 use Rattle.flux_defs.specs.declared.requests.Need.{Need}
 use Rattle.flux_defs.specs.Graph.{Scope}
 use Rattle.flux_defs.specs.Lowest.{CanServe}
+use Rattle.dfu_match.specs.Searches.{open_to}
 
 -- the other window, which isn't empty, begins at `until` or before and ends no sooner than this one: it has each moment
 -- of this one from `until` on
@@ -19,6 +21,13 @@ FallsWithin w old new = (new ≤ old) × (w.from ≤ old → w.from ≤ new)
 -- the vertex serves no more than n of the need, wherever it is looked for
 abbrev pub ServesAtMost : List Vertex → (Claim → Type 0) → Need → ℕ → ℕ → Type 0
 ServesAtMost vertices ok need v n = (scope : Scope) (q : ℕ) → n < q → CanServe vertices ok scope need v q → ⊥
+
+-- so much of the need the vertex serves at most over each window that reaches over w from a moment on, whatever jobs
+-- the view stands for
+abbrev pub AreMostServed : List Vertex → (List Job → Type 0) → List ℕ → Window → ℕ → Need → ℕ → Option ℕ → Type 0
+AreMostServed vertices stands barred w until need v most =
+    (jobs : List Job) → stands jobs → (other : Window) → ReachesOver w until other →
+    IfSome most (ServesAtMost vertices (open_to vertices jobs barred other) need v)
 
 -- nothing of this kind is so over a window that reaches over w from a moment on, which isn't before its start; where
 -- it is the start itself, nothing is said

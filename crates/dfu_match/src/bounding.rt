@@ -1,16 +1,11 @@
 //! How much a vertex serves at most over later windows too, by the totals that are kept there.
-ghost use Rattle.std.specs.Prelude.{◌≡◌, ℕ, ◌+◌, ◌-◌, ◌*◌, ◌<◌, ◌≤◌, length, List, IfSome};
+ghost use Rattle.std.specs.Prelude.{◌≡◌, ℕ, ◌+◌, ◌-◌, ◌*◌, ◌<◌, ◌≤◌, length};
 ghost use Rattle.std.specs.Option.{option_map_or};
-ghost use Rattle.flux_defs.specs.declared.vertices.Vertex.{Vertex};
-ghost use Rattle.flux_defs.specs.declared.claims.Claim.{Claim};
-ghost use Rattle.flux_defs.specs.declared.claims.Job.{Job};
-ghost use Rattle.flux_defs.specs.declared.claims.Window.{Window};
 ghost use Rattle.flux_defs.specs.Graph.{Scope};
 ghost use Rattle.flux_defs.specs.Needs.{IsValidNeed};
-ghost use Rattle.dfu_match.specs.Searches.{open_to};
 ghost use Rattle.dfu_match.specs.Tables.{all_of, needs_all, StandsAt};
 ghost use Rattle.dfu_match.specs.Pairs.{AreLooks};
-ghost use Rattle.dfu_match.specs.Reaches.{FallsWithin, ReachesOver, ServesAtMost};
+ghost use Rattle.dfu_match.specs.Reaches.{AreMostServed, FallsWithin};
 
 use crate::demanding::{Kinds, demand_of};
 use crate::search::Search;
@@ -39,11 +34,8 @@ pub(crate) fn most_served<F: FreeView, L: Ledger>(
     requires stands { StandsAt (needs_all s.now.needs.now) s.now.wanted.now index need.now }
     requires vertex { vertex < length s.now.graph.now.resources.vertices }
     requires valid { IsValidNeed s.now.graph.now.resources.vertices need.now }
-    ensures most { (jobs : List Job) → F.stands_for s.now.view.now jobs → (w : Window) →
-        ReachesOver s.now.window until.new w →
-        (let vs : List Vertex = s.now.graph.now.resources.vertices in
-        let ok : Claim → Type 0 = open_to vs jobs s.now.barred.now w in
-        IfSome result (ServesAtMost vs ok need.now vertex)) }
+    ensures most { AreMostServed s.now.graph.now.resources.vertices (F.stands_for s.now.view.now) s.now.barred.now
+        s.now.window until.new need.now vertex result }
     ensures falls { FallsWithin s.now.window until.old until.new }
     ensures work { (times : ℕ) → AreLooks times need.now →
         steps.new ≤ steps.old + (times - 1) * ((length (all_of need.now) + 1) * F.cost s.now.view.now) }
@@ -70,11 +62,8 @@ fn most_copies<F: FreeView, L: Ledger>(
     requires stands { StandsAt (needs_all s.now.needs.now) s.now.wanted.now index need.now }
     requires vertex { vertex < length s.now.graph.now.resources.vertices }
     requires valid { IsValidNeed s.now.graph.now.resources.vertices need.now }
-    ensures most { (jobs : List Job) → F.stands_for s.now.view.now jobs → (w : Window) →
-        ReachesOver s.now.window until.new w →
-        (let vs : List Vertex = s.now.graph.now.resources.vertices in
-        let ok : Claim → Type 0 = open_to vs jobs s.now.barred.now w in
-        IfSome result (ServesAtMost vs ok need.now vertex)) }
+    ensures most { AreMostServed s.now.graph.now.resources.vertices (F.stands_for s.now.view.now) s.now.barred.now
+        s.now.window until.new need.now vertex result }
     ensures falls { FallsWithin s.now.window until.old until.new }
     ensures work { steps.new ≤ steps.old + (length (all_of need.now) + 1) * F.cost s.now.view.now }
 {

@@ -17,7 +17,7 @@ ghost use Rattle.std.specs.List.{AllByRecursion};
 
 use crate::scopes::{kind_of, span_of};
 use crate::search::{Search, admits, free};
-use crate::walking::{index_after, index_within, next_open};
+use crate::walking::{index_after, index_within, next_open_until};
 use flux_defs::{FreeView, List, Need, Steps};
 use std::sync::ledger::Ledger;
 
@@ -57,7 +57,9 @@ fn reach<F: FreeView, L: Ledger>(
     let mut reached = 0;
     let mut at = span.from;
     while reached < most {
-        let Some(vertex) = next_open(s, need, index, kind, at, span.to, steps) else {
+        let mut until = s.window.from;
+        let Some(vertex) = next_open_until(s, need, index, kind, at, span.to, &mut until, steps)
+        else {
             return reached;
         };
         reached += u128::from(serves(s, need, index, vertex, most - reached, steps));

@@ -191,45 +191,6 @@ pub(crate) fn next_open_until<F: FreeView, L: Ledger>(
     }
 }
 
-/// The least vertex of the need's kind from `from` on and before `to` that lies in no subtree which is short for the
-/// need. Those passed over can't serve it.
-pub(crate) fn next_open<F: FreeView, L: Ledger>(
-    s: &Search<F>,
-    need: &Need,
-    index: usize,
-    kind: u32,
-    from: u32,
-    to: u32,
-    steps: &mut Steps<L>,
-) -> Option<u32>
-    requires stands { StandsAt (needs_all s.now.needs.now) s.now.wanted.now index need.now }
-    requires valid { IsValidNeed s.now.graph.now.resources.vertices need.now }
-    requires of_kind { IsKindOfNeed s.now.graph.now.resources.vertices need.now (Some kind) }
-    requires within { to ≤ length s.now.graph.now.resources.vertices }
-    ensures of_kind { IfSome result (λ vertex. HasKind s.now.graph.now.resources.vertices kind vertex
-        × (from ≤ vertex) × (vertex < to)) }
-    ensures skipped { (jobs : List Job) → F.stands_for s.now.view.now jobs →
-        (let vs : List Vertex = s.now.graph.now.resources.vertices in
-        let ok : Claim → Type 0 = open_to vs jobs s.now.barred.now s.now.window in
-        MatchOption result (ServesNone vs ok need.now from to) (ServesNone vs ok need.now from)) }
-    ensures clear { (jobs : List Job) → F.stands_for s.now.view.now jobs →
-        (let vs : List Vertex = s.now.graph.now.resources.vertices in
-        let keeps : ℕ → ℕ → Type 0 = asked_totals s.now.wanted.now (F.keeps s.now.view.now) in
-        IsClearBefore vs jobs s.now.window keeps need.now from to →
-        IfSome result (IsClear vs jobs s.now.window keeps need.now)) }
-    ensures work { (jobs : List Job) → F.stands_for s.now.view.now jobs → (place : ℕ) →
-        (let vs : List Vertex = s.now.graph.now.resources.vertices in
-        let keeps : ℕ → ℕ → Type 0 = asked_totals s.now.wanted.now (F.keeps s.now.view.now) in
-        let all : List Need = needs_all s.now.needs.now in
-        let taken : ℕ → Type 0 = TakesEach (HasEachOpen vs jobs s.now.window keeps all)
-        (length (all_of need.now) * F.cost s.now.view.now) steps.old steps.new place (place + 1) from in
-        IsPlaceOf all place need.now → IsClearBefore vs jobs s.now.window keeps need.now from to →
-        MatchOption result (taken to) (λ vertex. taken (vertex + 1))) }
-{
-    let mut until = s.window.from;
-    next_open_until(s, need, index, kind, from, to, &mut until, steps)
-}
-
 /// The index after those of the need and of those within it.
 pub(crate) fn index_after<F: FreeView>(s: &Search<F>, need: &Need, index: usize) -> usize
     requires stands { StandsAt (needs_all s.now.needs.now) s.now.wanted.now index need.now }

@@ -9,7 +9,7 @@ use Rattle.flux_defs.specs.declared.claims.Window.{Window}
 use Rattle.flux_defs.specs.Graph.{ResourceGraph, chain, parent_of}
 use Rattle.flux_defs.specs.ValidGraph.{StandsInPreorder}
 use Rattle.flux_defs.specs.Jobs.{some_live_claim, SomeMoment}
-use Rattle.flux_defs.specs.Closed.{no_bars, is_closed}
+use Rattle.flux_defs.specs.Closed.{no_bars, is_closed, IsClosedOver}
 use Rattle.flux_defs.specs.Free.{total_at, IsTotalOver, IsTooLittle, IsTooLittleAt}
 use Rattle.graph_laws.proofs.Preorder.{parents_first}
 use Rattle.planner_points.specs.declared.spans.Span.{Span}
@@ -108,12 +108,6 @@ closed_moment_is vertices jobs w v (Some m) (lo, hi, h) = (
       (there (along_at jobs vertices (length vertices) (Some v)) m h)),
 )
 
--- whether there is such a moment
-pub some_moment : (w : Window) (P : ℕ → Type 0) (found : Option ℕ) (b : Bool) → b ≡ is_some found →
-    IsMomentOrNone w P found → (IsTrue b ↔ SomeMoment w P)
-some_moment w P None b e none = (λ t. absurd (true≢false (sym t ∙ e)), λ s. absurd (none s))
-some_moment w P (Some m) b e (lo, hi, p) = (λ t. (m, lo, hi, p), λ s. e)
-
 -- none is told under a premise too
 pub none_if : (A : Type 0) (w : Window) (P : ℕ → Type 0) (found : Option ℕ) → IsMomentOrNone w P found →
     MatchOption found (A → SomeMoment w P → ⊥) (λ m. (w.from ≤ m) × (m < w.to) × P m)
@@ -175,3 +169,10 @@ module _ (g : ResourceGraph) (o : StandsInPreorder g) (jobs : List Job) (fair : 
       IsMomentOrNone w (IsTooLittleAt g.vertices jobs v kind amount) found
   closed_or_enough inside w amount some room None never = enough_left inside w amount never room
   closed_or_enough inside w amount some room (Some m) (lo, hi, closed) = (lo, hi, closed_little m amount some closed)
+
+-- a vertex is closed over the window exactly where a moment was found at which it is
+pub closed_told : (vertices : List Vertex) (jobs : List Job) (w : Window) (v : ℕ) (found : Option ℕ) (closed : Bool) →
+    closed ≡ is_some found → IsMomentOrNone w (λ m. IsTrue (is_closed (no_bars vertices jobs) m v)) found →
+    (IsTrue closed ↔ IsClosedOver vertices jobs w v)
+closed_told vertices jobs w v None closed is never = (λ t. absurd (true≢false (sym t ∙ is)), λ s. absurd (never s))
+closed_told vertices jobs w v (Some m) closed is (lo, hi, p) = (λ t. (m, lo, hi, p), λ s. is)

@@ -176,30 +176,6 @@ impl<P: Planner + Drop> Accounts<P> {
         }
     }
 
-    /// Whether a job holds the vertex, whose item this is, or one above it at some moment of the window.
-    fn closed_at<L: Ledger>(
-        &self,
-        graph: &Graph,
-        item: &Item<P>,
-        vertex: u32,
-        window: Window,
-        steps: &mut Steps<L>,
-    ) -> bool
-        requires graph { AreAccountsOf graph.now.resources.vertices self.now }
-        requires item { slice_get (items_of self.now.planners) vertex ≡ Some item.now }
-        requires window { window.from < window.to }
-        requires inside { vertex < length graph.now.resources.vertices }
-        ensures answer { (jobs : List Job) →
-            AreAccounts P.total_of P.stands_for graph.now.resources.vertices jobs self.now →
-            (IsTrue result ↔ IsClosedOver graph.now.resources.vertices jobs window vertex) }
-        ensures counted { steps.old ≤ steps.new }
-        ensures work { (most_looks : ℕ) → CostWithin P.look_cost most_looks (items_of self.now.planners) →
-            steps.new ≤ steps.old + rest_most (length graph.now.resources.vertices) most_looks }
-    {
-        self.closed_moment(graph, item, vertex, window, steps)
-            .is_some()
-    }
-
     /// Whether a job holds the vertex or one above it at some moment of the window.
     pub fn closed_over<L: Ledger>(
         &self,
@@ -219,7 +195,8 @@ impl<P: Planner + Drop> Accounts<P> {
             steps.new ≤ steps.old + closed_most (length graph.now.resources.vertices) most_looks }
     {
         let item = self.planners.at(vertex, steps);
-        self.closed_at(graph, item, vertex, window, steps)
+        self.closed_moment(graph, item, vertex, window, steps)
+            .is_some()
     }
 
     /// Whether a job has a claim on the vertex or below it at some moment of the window.
@@ -267,7 +244,10 @@ impl<P: Planner + Drop> Accounts<P> {
             steps.new ≤ steps.old + (closed_most (length graph.now.resources.vertices) most_looks + most_looks) }
     {
         let item = self.planners.at(vertex, steps);
-        if self.closed_at(graph, item, vertex, window, steps) {
+        let closed = self
+            .closed_moment(graph, item, vertex, window, steps)
+            .is_some();
+        if closed {
             return 0;
         }
         if is_pool_vertex(graph, vertex) {
@@ -397,7 +377,10 @@ impl<P: Planner + Drop> Accounts<P> {
         if least == 0 {
             return 0;
         }
-        if self.closed_at(graph, item, vertex, window, steps) {
+        let closed = self
+            .closed_moment(graph, item, vertex, window, steps)
+            .is_some();
+        if closed {
             return 0;
         }
         least

@@ -15,6 +15,7 @@ use Rattle.match_laws.proofs.ViewLaws.{available_take}
 use Rattle.match_laws.proofs.Sizes.{size_Vert, size_Spread, size_item}
 use Rattle.prune_laws.proofs.Demanded.{amount_some}
 use Rattle.dfu_match.specs.Searches.{open_to, meets, scope_of}
+use Rattle.dfu_match.proofs.ReachLaws.{over_own}
 use Rattle.dfu_match.proofs.ScopeLaws.{none_before, none_skipped, none_after, none_at_all, found}
 use Rattle.dfu_match.specs.Tables.{needs_all}
 use Rattle.dfu_match.proofs.TableLaws as tables
@@ -232,8 +233,8 @@ reach-loop-reached-init g t c =
           clear;
     }
 
-pub reach-returns-in_default-next_open-clause-greatest : goal.reach-returns-in_default-next_open-clause-greatest
-reach-returns-in_default-next_open-clause-greatest g t c = λ jobs stands.
+pub reach-returns-in_default-next_open_until-clause-greatest : goal.reach-returns-in_default-next_open_until-clause-greatest
+reach-returns-in_default-next_open_until-clause-greatest g t c = λ jobs stands.
     let vs = c.args.s.now.graph.now.resources.vertices in
     let ok : Claim → Type 0 = open_to vs jobs c.args.s.now.barred.now c.args.s.now.window in
     let scope = scope_of c.args.scope in
@@ -241,7 +242,8 @@ reach-returns-in_default-next_open-clause-greatest g t c = λ jobs stands.
     greatest_along _ _ c.args.most c.loop-reached.reached (group_from vs ok scope need) (group_to vs ok scope need)
     (reached_end _ (serves_less vs ok (takes_less _ _) scope need) c.args.most c.loop-reached.at c.loop-reached.reached
     (none_after vs ok scope need c.span_of-span.result.from c.loop-reached.at c.span_of-span.result.to
-    c.span_of-span.ensures.covers (c.in_default-next_open.ensures.skipped jobs stands))
+    c.span_of-span.ensures.covers (over_own c.args.s.now.window c.in_default-next_open_until.new.until c.in_default-next_open_until.ensures.falls
+    c.args.s.now.opens _ (c.in_default-next_open_until.ensures.skipped jobs stands)))
     (c.loop-reached.invariant.reached jobs stands))
 
 pub reach-loop-reached-preserved : goal.reach-loop-reached-preserved
@@ -250,9 +252,9 @@ reach-loop-reached-preserved g t c =
     let graph = s.graph.now in
     let vs = graph.resources.vertices in
     let need = c.args.need.now in
-    let v = c.in-Some-next_open.vertex in
+    let v = c.in-Some-next_open_until.vertex in
     let of_kind = rw c.in-Some.is at c.kind_of.ensures in
-    let next = rw c.in-Some-next_open.is at c.next_open.ensures.of_kind in
+    let next = rw c.in-Some-next_open_until.is at c.next_open_until.ensures.of_kind in
     let low = next.1 in
     let past = c.past-at.ensures in
     let later = past.later in
@@ -276,7 +278,8 @@ reach-loop-reached-preserved g t c =
           (reached_over _ (serves_less vs ok (takes_less _ _) scope need) c.args.most c.loop-reached.at
           v c.loop-reached.reached low
           (none_skipped vs ok scope need c.loop-reached.at v
-          (rw c.in-Some-next_open.is at (c.next_open.ensures.skipped jobs stands)))
+          (rw c.in-Some-next_open_until.is at (over_own s.window c.next_open_until.new.until
+          c.next_open_until.ensures.falls s.opens _ (c.next_open_until.ensures.skipped jobs stands))))
           (c.loop-reached.invariant.reached jobs stands))
           (rw c.from-reached.ensures (c.serves.ensures.greatest jobs stands scope is.1)));
       walked = λ jobs stands place at clear.
@@ -284,18 +287,18 @@ reach-loop-reached-preserved g t c =
           let all = needs_all s.needs.now in
           let cost = g.F.FreeView.cost s.view.now in
           let before = c.loop-reached.invariant.walked jobs stands place at clear in
-          let alone = rw c.in-Some-next_open.is at (c.next_open.ensures.clear jobs stands before.clear) in
-          let walk = rw c.in-Some-next_open.is at (c.next_open.ensures.work jobs stands place at before.clear) in
+          let alone = rw c.in-Some-next_open_until.is at (c.next_open_until.ensures.clear jobs stands before.clear) in
+          let walk = rw c.in-Some-next_open_until.is at (c.next_open_until.ensures.work jobs stands place at before.clear) in
           steps.walked_next graph.resources graph.names c.is_valid.ensures.valid jobs s.window keeps all need place
           ((length all + 2) * cost) c.args.scope (length (all_of need) * cost) (2 * cost) c.args.steps.now
-          c.loop-reached.steps c.next_open.new.steps c.serves.new.steps c.span_of-span.result.from c.loop-reached.at
+          c.loop-reached.steps c.next_open_until.new.steps c.serves.new.steps c.span_of-span.result.from c.loop-reached.at
           c.span_of-span.result.to v c.past-at.result c.span_of-span.ensures.span c.span_of-span.ensures.within at
           (steps.look_costs (length (all_of need)) (length all) cost (tables.place_few all place need at)) before low
           next.2 alone past walk (c.serves.ensures.work jobs stands place c.past-at.result at alone past);
     }
 
-pub reach-returns-in_default-next_open-clause-work : goal.reach-returns-in_default-next_open-clause-work
-reach-returns-in_default-next_open-clause-work g t c = λ jobs stands place from to at clear span.
+pub reach-returns-in_default-next_open_until-clause-work : goal.reach-returns-in_default-next_open_until-clause-work
+reach-returns-in_default-next_open_until-clause-work g t c = λ jobs stands place from to at clear span.
     let s = c.args.s.now in
     let graph = s.graph.now in
     let need = c.args.need.now in
@@ -305,12 +308,12 @@ reach-returns-in_default-next_open-clause-work g t c = λ jobs stands place from
     let same = span_same graph.resources graph.names c.is_valid.ensures.valid c.args.scope from to
     c.span_of-span.result.from c.span_of-span.result.to span c.span_of-span.ensures.span in
     let before = c.loop-reached.invariant.walked jobs stands place at clear in
-    let walk = c.in_default-next_open.ensures.work jobs stands place at before.clear in
+    let walk = c.in_default-next_open_until.ensures.work jobs stands place at before.clear in
     let enough = steps.look_costs (length (all_of need)) (length all) cost (tables.place_few all place need at) in
     rw (same.0, same.1) (steps.walked_none graph.resources graph.names c.is_valid.ensures.valid jobs s.window keeps
     all need place
     ((length all + 2) * cost) (length (all_of need) * cost) c.args.steps.now c.loop-reached.steps
-    c.next_open.new.steps c.span_of-span.result.from c.loop-reached.at c.span_of-span.result.to
+    c.next_open_until.new.steps c.span_of-span.result.from c.loop-reached.at c.span_of-span.result.to
     (omega (arith, enough)) before walk)
 
 pub reach-returns-clause-work : goal.reach-returns-clause-work

@@ -5,18 +5,20 @@ use Rattle.vertex_planners.specs.Lists.{items_of}
 use Rattle.vertex_accounts.specs.declared.quantities.Quantity.TheVariants.{Takes}
 use Rattle.vertex_accounts.specs.Books.{counted_of}
 use Rattle.vertex_accounts.proofs.AskingLaws.{place_in}
+use Rattle.vertex_accounts.proofs.LittleLaws.{closed_told}
 use Rattle.vertex_accounts.proofs.books.Accounts.free_over.Goals as goal
 
-pub returns-then-closed_at-clause-answer : goal.returns-then-closed_at-clause-answer
-returns-then-closed_at-clause-answer g c = λ jobs is.
+pub returns-then-closed-clause-answer : goal.returns-then-closed-clause-answer
+returns-then-closed-clause-answer g c = λ jobs is.
     free_closed c.args.graph.now.resources.vertices jobs c.args.window c.args.vertex
-    ((c.closed_at.ensures.answer jobs is).0 c.if-closed_at.true)
+    ((closed_told c.args.graph.now.resources.vertices jobs c.args.window c.args.vertex c.closed_moment.result
+    c.is_some-closed.result c.is_some-closed.ensures (c.closed_moment.ensures.answer jobs is)).0 c.if-closed.true)
 
-pub returns-then-closed_at-clause-work : goal.returns-then-closed_at-clause-work
-returns-then-closed_at-clause-work g c = λ n looks.
+pub returns-then-closed-clause-work : goal.returns-then-closed-clause-work
+returns-then-closed-clause-work g c = λ n looks.
     let up = c.at-item.ensures.work in
     let len = ap (λ (k : ℕ). 2 * dig (k + 1)) c.requires.graph.len in
-    let rest = c.closed_at.ensures.work n looks in
+    let rest = c.closed_moment.ensures.work n looks in
     omega (arith, up, len, rest)
 
 pub least_in-requires-clause-place : goal.least_in-requires-clause-place
@@ -28,7 +30,8 @@ pub returns-then-is_pool_vertex-clause-answer : goal.returns-then-is_pool_vertex
 returns-then-is_pool_vertex-clause-answer g c = λ jobs is.
     let vertices = c.args.graph.now.resources.vertices in
     free_pool vertices jobs c.args.window c.args.vertex c.least_in.result
-    (λ s. true≢false (sym ((c.closed_at.ensures.answer jobs is).1 s) ∙ c.if-closed_at.false))
+    (λ s. true≢false (sym ((closed_told c.args.graph.now.resources.vertices jobs c.args.window c.args.vertex c.closed_moment.result
+    c.is_some-closed.result c.is_some-closed.ensures (c.closed_moment.ensures.answer jobs is)).1 s) ∙ c.if-closed.false))
     (sym c.is_pool_vertex.ensures ∙ c.if-is_pool_vertex.true)
     (c.least_in.ensures.least vertices jobs Takes is is.graph.counts.takes)
 
@@ -36,19 +39,20 @@ pub returns-then-is_pool_vertex-clause-work : goal.returns-then-is_pool_vertex-c
 returns-then-is_pool_vertex-clause-work g c = λ n looks.
     let up = c.at-item.ensures.work in
     let len = ap (λ (k : ℕ). 2 * dig (k + 1)) c.requires.graph.len in
-    let rest = c.closed_at.ensures.work n looks in
+    let rest = c.closed_moment.ensures.work n looks in
     let look = c.least_in.ensures.work n looks in
     omega (arith, up, len, rest, look)
 
 pub returns-clause-answer : goal.returns-clause-answer
 returns-clause-answer g c = λ jobs is.
     free_plain c.args.graph.now.resources.vertices jobs c.args.window c.args.vertex
-    (λ s. true≢false (sym ((c.closed_at.ensures.answer jobs is).1 s) ∙ c.if-closed_at.false))
+    (λ s. true≢false (sym ((closed_told c.args.graph.now.resources.vertices jobs c.args.window c.args.vertex c.closed_moment.result
+    c.is_some-closed.result c.is_some-closed.ensures (c.closed_moment.ensures.answer jobs is)).1 s) ∙ c.if-closed.false))
     (sym c.is_pool_vertex.ensures ∙ c.if-is_pool_vertex.false) c.requires.window
 
 pub returns-clause-work : goal.returns-clause-work
 returns-clause-work g c = λ n looks.
     let up = c.at-item.ensures.work in
     let len = ap (λ (k : ℕ). 2 * dig (k + 1)) c.requires.graph.len in
-    let rest = c.closed_at.ensures.work n looks in
+    let rest = c.closed_moment.ensures.work n looks in
     omega (arith, up, len, rest)
