@@ -1,5 +1,5 @@
 -- Moments at which a vertex is held or closed, and at which its total of a type is too little.
-use Rattle.std.proofs.Common.{◌≡◌, ℕ, ◌+◌, ◌-◌, ◌<◌, ◌≤◌, ◌↔◌, Bool, is_some, List, length, Option, Some}
+use Rattle.std.proofs.Common.{◌≡◌, ℕ, ◌+◌, ◌-◌, ◌<◌, ◌≤◌, ◌↔◌, Bool, false, is_some, List, length, Option, Some}
 use Rattle.std.proofs.Common.{None, MatchOption, inl, inr}
 use Rattle.std.proofs.Common.{refl, sym, ◌∙◌, subst, arith, IsTrue, true≢false}
 use Rattle.std.proofs.lemmas.Bool.{cases_Bool}
@@ -176,3 +176,9 @@ pub closed_told : (vertices : List Vertex) (jobs : List Job) (w : Window) (v : �
     (IsTrue closed ↔ IsClosedOver vertices jobs w v)
 closed_told vertices jobs w v None closed is never = (λ t. absurd (true≢false (sym t ∙ is)), λ s. absurd (never s))
 closed_told vertices jobs w v (Some m) closed is (lo, hi, p) = (λ t. (m, lo, hi, p), λ s. is)
+
+pub never_closed : (vertices : List Vertex) (jobs : List Job) (w : Window) (v : ℕ) (found : Option ℕ) (closed : Bool) →
+    closed ≡ is_some found → closed ≡ false →
+    IsMomentOrNone w (λ m. IsTrue (is_closed (no_bars vertices jobs) m v)) found → NeverClosed vertices jobs w v
+never_closed vertices jobs w v found closed is open' told =
+    λ s. true≢false (sym ((closed_told vertices jobs w v found closed is told).1 s) ∙ open')

@@ -233,7 +233,8 @@ reach-loop-reached-init g t c =
           clear;
     }
 
-pub reach-returns-in_default-next_open_until-clause-greatest : goal.reach-returns-in_default-next_open_until-clause-greatest
+pub reach-returns-in_default-next_open_until-clause-greatest :
+    goal.reach-returns-in_default-next_open_until-clause-greatest
 reach-returns-in_default-next_open_until-clause-greatest g t c = λ jobs stands.
     let vs = c.args.s.now.graph.now.resources.vertices in
     let ok : Claim → Type 0 = open_to vs jobs c.args.s.now.barred.now c.args.s.now.window in
@@ -242,8 +243,8 @@ reach-returns-in_default-next_open_until-clause-greatest g t c = λ jobs stands.
     greatest_along _ _ c.args.most c.loop-reached.reached (group_from vs ok scope need) (group_to vs ok scope need)
     (reached_end _ (serves_less vs ok (takes_less _ _) scope need) c.args.most c.loop-reached.at c.loop-reached.reached
     (none_after vs ok scope need c.span_of-span.result.from c.loop-reached.at c.span_of-span.result.to
-    c.span_of-span.ensures.covers (over_own c.args.s.now.window c.in_default-next_open_until.new.until c.in_default-next_open_until.ensures.falls
-    c.args.s.now.opens _ (c.in_default-next_open_until.ensures.skipped jobs stands)))
+    c.span_of-span.ensures.covers (over_own c.args.s.now.window c.in_default-next_open_until.new.until
+    c.in_default-next_open_until.ensures.falls c.args.s.now.opens _ (c.in_default-next_open_until.ensures.skipped jobs stands)))
     (c.loop-reached.invariant.reached jobs stands))
 
 pub reach-loop-reached-preserved : goal.reach-loop-reached-preserved
@@ -288,10 +289,12 @@ reach-loop-reached-preserved g t c =
           let cost = g.F.FreeView.cost s.view.now in
           let before = c.loop-reached.invariant.walked jobs stands place at clear in
           let alone = rw c.in-Some-next_open_until.is at (c.next_open_until.ensures.clear jobs stands before.clear) in
-          let walk = rw c.in-Some-next_open_until.is at (c.next_open_until.ensures.work jobs stands place at before.clear) in
+          let walk = rw c.in-Some-next_open_until.is at
+          (c.next_open_until.ensures.work jobs stands place at before.clear) in
           steps.walked_next graph.resources graph.names c.is_valid.ensures.valid jobs s.window keeps all need place
           ((length all + 2) * cost) c.args.scope (length (all_of need) * cost) (2 * cost) c.args.steps.now
-          c.loop-reached.steps c.next_open_until.new.steps c.serves.new.steps c.span_of-span.result.from c.loop-reached.at
+          c.loop-reached.steps c.next_open_until.new.steps c.serves.new.steps c.span_of-span.result.from
+          c.loop-reached.at
           c.span_of-span.result.to v c.past-at.result c.span_of-span.ensures.span c.span_of-span.ensures.within at
           (steps.look_costs (length (all_of need)) (length all) cost (tables.place_few all place need at)) before low
           next.2 alone past walk (c.serves.ensures.work jobs stands place c.past-at.result at alone past);

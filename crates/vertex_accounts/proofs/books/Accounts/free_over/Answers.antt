@@ -1,11 +1,11 @@
-use Rattle.std.proofs.Common.{sym, ◌∙◌, ap, arith, true≢false, ℕ, ◌+◌, ◌*◌}
+use Rattle.std.proofs.Common.{sym, ◌∙◌, ap, arith, ℕ, ◌+◌, ◌*◌}
 use Rattle.flux_defs.specs.Digits.{dig}
 use Rattle.book_laws.proofs.Views.{free_closed, free_pool, free_plain}
 use Rattle.vertex_planners.specs.Lists.{items_of}
 use Rattle.vertex_accounts.specs.declared.quantities.Quantity.TheVariants.{Takes}
 use Rattle.vertex_accounts.specs.Books.{counted_of}
 use Rattle.vertex_accounts.proofs.AskingLaws.{place_in}
-use Rattle.vertex_accounts.proofs.LittleLaws.{closed_told}
+use Rattle.vertex_accounts.proofs.LittleLaws.{closed_told, never_closed}
 use Rattle.vertex_accounts.proofs.books.Accounts.free_over.Goals as goal
 
 pub returns-then-closed-clause-answer : goal.returns-then-closed-clause-answer
@@ -30,8 +30,8 @@ pub returns-then-is_pool_vertex-clause-answer : goal.returns-then-is_pool_vertex
 returns-then-is_pool_vertex-clause-answer g c = λ jobs is.
     let vertices = c.args.graph.now.resources.vertices in
     free_pool vertices jobs c.args.window c.args.vertex c.least_in.result
-    (λ s. true≢false (sym ((closed_told c.args.graph.now.resources.vertices jobs c.args.window c.args.vertex c.closed_moment.result
-    c.is_some-closed.result c.is_some-closed.ensures (c.closed_moment.ensures.answer jobs is)).1 s) ∙ c.if-closed.false))
+    (never_closed vertices jobs c.args.window c.args.vertex c.closed_moment.result c.is_some-closed.result
+    c.is_some-closed.ensures c.if-closed.false (c.closed_moment.ensures.answer jobs is))
     (sym c.is_pool_vertex.ensures ∙ c.if-is_pool_vertex.true)
     (c.least_in.ensures.least vertices jobs Takes is is.graph.counts.takes)
 
@@ -45,9 +45,10 @@ returns-then-is_pool_vertex-clause-work g c = λ n looks.
 
 pub returns-clause-answer : goal.returns-clause-answer
 returns-clause-answer g c = λ jobs is.
-    free_plain c.args.graph.now.resources.vertices jobs c.args.window c.args.vertex
-    (λ s. true≢false (sym ((closed_told c.args.graph.now.resources.vertices jobs c.args.window c.args.vertex c.closed_moment.result
-    c.is_some-closed.result c.is_some-closed.ensures (c.closed_moment.ensures.answer jobs is)).1 s) ∙ c.if-closed.false))
+    let vertices = c.args.graph.now.resources.vertices in
+    free_plain vertices jobs c.args.window c.args.vertex
+    (never_closed vertices jobs c.args.window c.args.vertex c.closed_moment.result c.is_some-closed.result
+    c.is_some-closed.ensures c.if-closed.false (c.closed_moment.ensures.answer jobs is))
     (sym c.is_pool_vertex.ensures ∙ c.if-is_pool_vertex.false) c.requires.window
 
 pub returns-clause-work : goal.returns-clause-work

@@ -1,4 +1,4 @@
-use Rattle.std.proofs.Common.{sym, ◌∙◌, subst, true≢false}
+use Rattle.std.proofs.Common.{subst}
 use Rattle.list_laws.proofs.Lists.{get_some}
 use Rattle.book_laws.specs.Amounts.{capacity}
 use Rattle.graph_laws.proofs.Preorder.{parents_first}
@@ -10,7 +10,7 @@ use Rattle.vertex_accounts.specs.Quantities.{part_count}
 use Rattle.book_laws.specs.Grouped.{grouped}
 use Rattle.vertex_accounts.proofs.OwnLaws.{counts_all}
 use Rattle.vertex_accounts.proofs.AskingLaws.{units_as, place_in}
-use Rattle.vertex_accounts.proofs.LittleLaws.{closed_told, nothing_left}
+use Rattle.vertex_accounts.proofs.LittleLaws.{closed_told, never_closed, nothing_left}
 use Rattle.vertex_accounts.proofs.books.Accounts.least_total.Goals as goal
 
 pub least_in-least-requires-clause-place : goal.least_in-least-requires-clause-place
@@ -42,8 +42,8 @@ returns-clause-answer g c = λ kind jobs at is.
     let least = units_as (λ total spans. IsLeastFree total spans c.args.window c.least_in-least.result) vertices jobs
     kind c.args.vertex q units (c.least_in-least.ensures.least vertices jobs q is of) in
     let never : NeverClosed vertices jobs c.args.window c.args.vertex =
-    λ s. true≢false (sym ((closed_told c.args.graph.now.resources.vertices jobs c.args.window c.args.vertex c.closed_moment.result
-    c.is_some-closed.result c.is_some-closed.ensures (c.closed_moment.ensures.answer jobs is)).1 s) ∙ c.if-closed.false) in
+    never_closed vertices jobs c.args.window c.args.vertex c.closed_moment.result c.is_some-closed.result
+    c.is_some-closed.ensures c.if-closed.false (c.closed_moment.ensures.answer jobs is) in
     left_in_total c.args.graph.now.resources c.is_valid.ensures.valid.preorder jobs c.args.window kind c.args.vertex
     c.least_in-least.result is.fair never
     (counts_all vertices (parents_first c.args.graph.now.resources c.is_valid.ensures.valid.preorder)
