@@ -26,10 +26,11 @@ use Rattle.dfu_match.specs.Pairs.{Pair, HasEachOpen, IsOpenFor, IsClear, IsClear
 use Rattle.dfu_match.specs.Pairs.{IsPlaceOf, IsPlaceOfAll, IsSpanOf, AreLooks, AreLooksAll, TakesEach, asked_totals}
 use Rattle.dfu_match.specs.Pairs.{count_among}
 use Rattle.dfu_match.proofs.DemandLaws.{all_Vert, all_Spread, all_next}
-use Rattle.dfu_match.proofs.CountLaws.{each_at, plain_copy, valid_copy, valid_inside}
+use Rattle.dfu_match.proofs.CountLaws.{each_at, item_split, plain_copy, valid_copy, valid_inside}
 use Rattle.dfu_match.proofs.PairLaws.{count_here, count_most, count_split, count_within, takes_none, takes_one}
 use Rattle.dfu_match.proofs.PairLaws.{takes_split, takes_upto, takes_visit, takes_within}
-use Rattle.dfu_match.proofs.TableLaws.{all_some, place_Spread, place_Vert, place_there, taken_few}
+use Rattle.dfu_match.proofs.TableLaws.{all_some, place_Spread, place_Vert, place_first, place_from, place_there}
+use Rattle.dfu_match.proofs.TableLaws.{taken_few}
 use Rattle.dfu_match.proofs.OpenLaws.{clear_Spread, clear_Vert, clear_next, clear_start, past_within}
 
 -- a look at one vertex, with the demands asked_totals on the way to it, costs no more than that of all needs
@@ -141,6 +142,23 @@ module _ (each : List Pair → Type 0) where
       takes_within each steps steps old new place (place + length (needs_all (take i needs))) from to place
       (place + length (needs_all needs)) from to (omega arith) (omega arith) (omega (arith, few)) (omega arith)
       (omega arith) t
+
+  -- one need more of a list, and no further: its steps are some of those of all of the list
+  pub listed_over : (IsOpen : Need → Type 0) (all items : List Need) (i : ℕ) (need : Need) → i < length items →
+      need ≡ get_or items i need → (steps old mid new place from to times : ℕ) → IsPlaceOfAll all place items →
+      AllByRecursion IsOpen items → AreLooksAll times items →
+      TakesEach each steps old mid place (place + length (needs_all (take i items))) from to →
+      ((at : ℕ) → IsPlaceOf all at need → IsOpen need → AreLooks times need →
+      TakesEach each steps mid new at (at + length (all_of need)) from to) →
+      TakesEach each steps old new place (place + length (needs_all items)) from to
+  listed_over IsOpen all items i need lt is steps old mid new place from to times here open' look taken more =
+      let split = item_split items i need lt is in
+      let rest = drop (i + 1) items in
+      let at = place + length (needs_all (take i items)) in
+      listed_end steps old new place from to items (i + 1)
+      (listed_next steps old mid new place from to items rest i need lt is taken
+      (more at (place_first all at (drop i items) rest need split (place_from all i place items here))
+      (each_at IsOpen items i need rest split open') (looks_at times items i need rest split look)))
 
 -- the vertex, asked_totals after those above it
 pub own_clear : (vertices : List Vertex) (jobs : List Job) (w : Window) (keeps : ℕ → ℕ → Type 0) (need : Need)

@@ -744,53 +744,29 @@ write_group-returns-in_err-served-clause-work g t c = λ jobs stands place from 
 
 pub write_needs-returns-in_err-filled-clause-work : goal.write_needs-returns-in_err-filled-clause-work
 write_needs-returns-in_err-filled-clause-work g t c =
-    let items : List Need = c.items-need-items.result.now in
-    let i = c.loop-need.need-index in
-    let need = c.need-item.result in
-    let split : drop i items ≡ need ∷ drop (i + 1) items = counts.item_split items i need c.loop-need-test.true
-    c.need-item.is in
+    let s = c.args.s.now in
+    let all = needs_all s.needs.now in
     rw (← c.items-need-items.ensures) (λ jobs stands place from to times here clear span look.
-    steps.listed_end _ (times * ((length
-    (needs_all c.args.s.now.needs.now) + 2) * g.F.FreeView.cost c.args.s.now.view.now))
-    c.args.steps.now c.write_group.new.steps place from to items (i + 1)
-    (let all = needs_all c.args.s.now.needs.now in
-    let each = times * ((length all + 2) * g.F.FreeView.cost c.args.s.now.view.now) in
-    let keeps = asked_totals c.args.s.now.wanted.now (g.F.FreeView.keeps c.args.s.now.view.now) in
-    let before = length (needs_all (take i items)) in
-    let place' = tables.place_first all (place + before) (drop i items) (drop (i + 1) items) need split
-    (tables.place_from all i place items here) in
-    let scope = counts.each_at (IsClearScope c.args.s.now.graph.now.resources.vertices jobs c.args.s.now.window
-    keeps c.args.scope) items i need (drop (i + 1) items) split clear in
-    steps.listed_next _ each c.args.steps.now c.loop-need.steps c.write_group.new.steps place from to items
-    (drop (i + 1) items) i need c.loop-need-test.true c.need-item.is
+    steps.listed_over _ (IsClearScope s.graph.now.resources.vertices jobs s.window
+    (asked_totals s.wanted.now (g.F.FreeView.keeps s.view.now)) c.args.scope) all c.items-need-items.result.now
+    c.loop-need.need-index c.need-item.result c.loop-need-test.true c.need-item.is
+    (times * ((length all + 2) * g.F.FreeView.cost s.view.now)) c.args.steps.now c.loop-need.steps
+    c.write_group.new.steps place from to times here clear look
     (c.loop-need.invariant.taken jobs stands place from to times here clear span look)
-    (c.write_group.ensures.work jobs stands (place + before) from to times place' scope span
-    (steps.looks_at times items i need (drop (i + 1) items) split look))))
+    (λ at there open' few. c.write_group.ensures.work jobs stands at from to times there open' span few))
 
 pub write_needs-returns-then-not-filled-clause-work : goal.write_needs-returns-then-not-filled-clause-work
 write_needs-returns-then-not-filled-clause-work g t c =
-    let items : List Need = c.items-need-items.result.now in
-    let i = c.loop-need.need-index in
-    let need = c.need-item.result in
-    let split : drop i items ≡ need ∷ drop (i + 1) items = counts.item_split items i need c.loop-need-test.true
-    c.need-item.is in
+    let s = c.args.s.now in
+    let all = needs_all s.needs.now in
     rw (← c.items-need-items.ensures) (λ jobs stands place from to times here clear span look.
-    steps.listed_end _ (times * ((length
-    (needs_all c.args.s.now.needs.now) + 2) * g.F.FreeView.cost c.args.s.now.view.now))
-    c.args.steps.now c.write_group.new.steps place from to items (i + 1)
-    (let all = needs_all c.args.s.now.needs.now in
-    let each = times * ((length all + 2) * g.F.FreeView.cost c.args.s.now.view.now) in
-    let keeps = asked_totals c.args.s.now.wanted.now (g.F.FreeView.keeps c.args.s.now.view.now) in
-    let before = length (needs_all (take i items)) in
-    let place' = tables.place_first all (place + before) (drop i items) (drop (i + 1) items) need split
-    (tables.place_from all i place items here) in
-    let scope = counts.each_at (IsClearScope c.args.s.now.graph.now.resources.vertices jobs c.args.s.now.window
-    keeps c.args.scope) items i need (drop (i + 1) items) split clear in
-    steps.listed_next _ each c.args.steps.now c.loop-need.steps c.write_group.new.steps place from to items
-    (drop (i + 1) items) i need c.loop-need-test.true c.need-item.is
+    steps.listed_over _ (IsClearScope s.graph.now.resources.vertices jobs s.window
+    (asked_totals s.wanted.now (g.F.FreeView.keeps s.view.now)) c.args.scope) all c.items-need-items.result.now
+    c.loop-need.need-index c.need-item.result c.loop-need-test.true c.need-item.is
+    (times * ((length all + 2) * g.F.FreeView.cost s.view.now)) c.args.steps.now c.loop-need.steps
+    c.write_group.new.steps place from to times here clear look
     (c.loop-need.invariant.taken jobs stands place from to times here clear span look)
-    (c.write_group.ensures.work jobs stands (place + before) from to times place' scope span
-    (steps.looks_at times items i need (drop (i + 1) items) split look))))
+    (λ at there open' few. c.write_group.ensures.work jobs stands at from to times there open' span few))
 
 pub write_needs-returns-clause-work : goal.write_needs-returns-clause-work
 write_needs-returns-clause-work g t c =
