@@ -79,7 +79,8 @@ phase_at m job = if nat_lt m job.start then Planned else if nat_lt m job.end the
 abbrev pub info_at : ℕ → Job → Reply
 info_at m job = reply.Info (phase_at m job) job.start job.end
 
--- the answer to an ask for a job: the first of three whose fact refuses each start, or as `by_starts` says
+-- the answer to an ask for a job: `known` where the id was accepted before, `unsatisfiable` where no claims would fit
+-- the graph without jobs, `too_long` where the window at the present moment doesn't count, and else as `by_starts` says
 abbrev pub AnswersJob : {X : Type 0} → Setting → State → ℕ → Ask → X → X → X → (X → Type 0) → X → Type 0
 AnswersJob g s id ask known unsatisfiable too_long by_starts =
     Where (Contains s.used id) known
