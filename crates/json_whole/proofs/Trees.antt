@@ -1,5 +1,5 @@
 -- The data of a tree whose numbers are whole is what serde_json's reading says, and has no float.
-use Rattle.std.proofs.Common.{◌≡◌, ℕ, List, true, false, ◌||◌, Option, Some, None, option_map, refl, sym}
+use Rattle.std.proofs.Common.{◌≡◌, ℕ, List, true, false, Option, Some, None, option_map, refl, sym}
 use Rattle.std.proofs.Common.{true≢false}
 use Rattle.std.proofs.Common.{not}
 use Rattle.std.specs.Prelude.{IsTrue}

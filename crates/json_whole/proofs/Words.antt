@@ -1,6 +1,6 @@
 -- Where the number at the front of a run ends does not depend on what stands behind the run.
 use Rattle.std.proofs.Common.{◌≡◌, ◌≤◌, ℕ, ◌+◌, ◌-◌, List, [], ◌∷◌, ◌++◌, length, length-append, take, drop, subst}
-use Rattle.std.proofs.Common.{Bool, true, false, cond, ◌||◌, ◌&&◌, ◌==◌, Option, Some, None, option_map}
+use Rattle.std.proofs.Common.{Bool, true, false, cond, ◌||◌, ◌==◌, Option, Some, None, option_map}
 use Rattle.std.proofs.Common.{option_and_then, refl, sym, ap, ◌∙◌, arith, ne_eqb}
 use Rattle.std.specs.Prelude.{IfSome}
 use Rattle.std.specs.List.{prefix_len, list_all}

@@ -8,6 +8,7 @@ ghost use Rattle.json_whole.specs.Stays.{Stays, ItemsStay, MembersStay};
 
 use crate::runs::{Form, first_run, form_of, is_whole};
 use json::{Reader, Token, Value};
+use std::alloc::{AllocError, AllocFailed};
 
 /// Why no tree was read.
 #[derive(Clone, Copy, Debug, PartialEq, Eq)]
@@ -16,6 +17,28 @@ pub enum TreeFault {
     Other,
     /// No memory is left.
     Memory,
+}
+
+impl From<AllocError> for TreeFault {
+    ghost use Rattle.std.specs.Prelude.{◌≡◌};
+    ghost use Rattle.json_whole.specs.declared.parsing.TreeFault.TheVariants.{Memory};
+
+    ghost from_gives = { λ _ e. e ≡ Memory };
+
+    fn from(_: AllocError) -> TreeFault {
+        TreeFault::Memory
+    }
+}
+
+impl<T: Drop> From<AllocFailed<T>> for TreeFault {
+    ghost use Rattle.std.specs.Prelude.{◌≡◌};
+    ghost use Rattle.json_whole.specs.declared.parsing.TreeFault.TheVariants.{Memory};
+
+    ghost from_gives = { λ _ e. e ≡ Memory };
+
+    fn from(_: AllocFailed<T>) -> TreeFault {
+        TreeFault::Memory
+    }
 }
 
 /// The values of the lists and the members of the objects that are still read, those of an inner one behind those of
@@ -38,26 +61,14 @@ fn stays(number: &str) -> bool
     run.len() == number.len() && form_of(run) == Form::Same
 }
 
-/// Adds to a list.
-pub fn add<T: Drop>(list: &mut Vec<T>, item: T) -> Result<(), TreeFault>
-    ensures { OnOk result (list.new.items ≡ list.old.items ++ item ∷ []) }
-{
-    match list.push(item) {
-        Ok(()) => Ok(()),
-        Err(_) => Err(TreeFault::Memory),
-    }
-}
-
 /// Takes what stands from a place on.
 fn take_from<T: Drop>(list: &mut Vec<T>, from: usize) -> Result<Vec<T>, TreeFault>
     requires { from ≤ vec_len list.old }
     ensures kept { OnOk result (list.new.items ≡ take from list.old.items) }
     ensures taken { IfOk result (λ taken. taken.items ≡ drop from list.old.items) }
 {
-    match list.split_off(from) {
-        Ok(taken) => Ok(taken),
-        Err(_) => Err(TreeFault::Memory),
-    }
+    let taken = list.split_off(from)?;
+    Ok(taken)
 }
 
 /// The next value of the reader. Arrays and objects may nest `depth` deep.
@@ -102,6 +113,7 @@ pub fn read_one<'a>(
     }
 }
 
+/// The values of an array whose bracket the reader has passed, up to the one that closes it.
 #[cycle(tree)]
 #[inline(never)]
 fn read_items<'a>(
@@ -119,11 +131,12 @@ fn read_items<'a>(
     let from = unfinished.items.len();
     'items: while !reader.take_end_array() {
         let item = read_one(reader, depth, unfinished)?;
-        add(&mut unfinished.items, item)?;
+        unfinished.items.push(item)?;
     }
     take_from(&mut unfinished.items, from)
 }
 
+/// The members of an object whose brace the reader has passed, up to the one that closes it.
 #[cycle(tree)]
 #[inline(never)]
 fn read_members<'a>(
@@ -146,7 +159,7 @@ fn read_members<'a>(
             Err(_) => return Err(TreeFault::Other),
         };
         let member = read_one(reader, depth, unfinished)?;
-        add(&mut unfinished.members, (key, member))?;
+        unfinished.members.push((key, member))?;
     }
     take_from(&mut unfinished.members, from)
 }

@@ -6,7 +6,7 @@ ghost use Rattle.json_whole.specs.Plain.{plain_of};
 ghost use Rattle.json_whole.specs.Values.{view};
 ghost use Rattle.json_whole.specs.Whole.{json_in, value_of};
 
-use crate::parsing::{TreeFault, Unfinished, add, read_one};
+use crate::parsing::{TreeFault, Unfinished, read_one};
 use crate::plain_form::plain_if_other;
 use flux_defs::Text;
 use json::{Error, Reader, Scratch, Value};
@@ -165,7 +165,7 @@ fn read_other<'a, 'b: 'a>(
         return Err(ValueFault::Memory);
     };
     let at = others.len();
-    if add(others, (text, Scratch::new(alloc))).is_err() {
+    if others.push((text, Scratch::new(alloc))).is_err() {
         return Err(ValueFault::Memory);
     }
     let (text, scratch) = &mut others[at];

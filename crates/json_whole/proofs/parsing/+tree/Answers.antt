@@ -76,9 +76,9 @@ read_items-items-preserved t c =
     let r = c.read_one.new.reader in
     let from = c.len-from.result in
     let was = l.unfinished.items.items in
-    let now = c.add.new.list.items in
+    let now = c.push.new.self.items in
     let less : length r < length l.reader = rw (← going.1) done.shorter in
-    let grown : now ≡ was ++ v ∷ [] = c.in_ok-add.ensures ∙ ap (λ vs. vs ++ v ∷ []) done.items in
+    let grown : now ≡ was ++ v ∷ [] = c.in_ok-push.ensures.items ∙ ap (λ vs. vs ++ v ∷ []) done.items in
     let back = grown_back from was now v l.invariant.5 grown in
     let turn =
     items_more p n l.reader r (value_view v) (omega (arith, l.invariant.1)) going.0 (rw (← going.1) done.ok) in (
@@ -117,11 +117,11 @@ read_members-members-preserved t c =
     let r = c.read_one.new.reader in
     let from = c.len-from.result in
     let was = l.unfinished.members.items in
-    let now = c.add.new.list.items in
+    let now = c.push.new.self.items in
     let m : Bor (List ℕ) × Value Global = (c.in-Ok-Some.key, v) in
     let less = read_key-shorter l.reader (Some k) s key in
     let lesser = done.shorter in
-    let grown : now ≡ was ++ m ∷ [] = c.in_ok-add.ensures ∙ ap (λ ms. ms ++ m ∷ []) done.members in
+    let grown : now ≡ was ++ m ∷ [] = c.in_ok-push.ensures.items ∙ ap (λ ms. ms ++ m ∷ []) done.members in
     let back = grown_back from was now m l.invariant.5 grown in
     let turn = members_more p n k l.reader s r (value_view v) (omega (arith, l.invariant.1)) key done.ok in (
       n - 1,
