@@ -6,13 +6,14 @@ ghost use Rattle.turn_table.specs.Seats.{share};
 ghost use Rattle.commit_book.specs.Books.{book_setting, IsSeatOf};
 
 use crate::calls::{Source, committed, decided, searched};
-use crate::scenes::{command_in, core_over, two_nodes};
+use crate::scenes::{command_in, core_over};
 use commit_book::{Book, BookSeat};
 use flux_defs::{Command, List, Text};
 use fluxion_lines::history_text;
 use overtaken_check::Cause;
 use resource_graph::Graph;
 use sched_core::{Commit, Core, is_searched_for};
+use small_graphs::{TWO_NODES, shared_graph};
 use std::alloc::{AllocError, Global};
 use std::sync::Wait;
 
@@ -191,7 +192,7 @@ fn play_at<R: Wait>(
 /// # Errors
 /// No memory is left for the graph or the book.
 pub fn play<R: Wait>(rt: &R, alloc: Global) -> Result<Option<Played>, AllocError> {
-    let graph = two_nodes(alloc)?;
+    let graph = shared_graph(alloc, TWO_NODES)?;
     let (book, seat) = Book::new(alloc, core_over(alloc, &graph)?)?;
     Ok(play_at(rt, alloc, &graph, book, seat))
 }

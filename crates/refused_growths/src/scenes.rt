@@ -5,29 +5,16 @@ ghost use Rattle.flux_defs.specs.Scheduler.{IsProper};
 
 use flux_defs::{Command, Limits};
 use fluxion_lines::{Form, read_lines};
-use graph_json::read_graph;
 use prune_filters::Rules;
 use resource_graph::Graph;
 use sched_core::Core;
 use std::alloc::{AllocError, Global};
 use std::sync::Arc;
 
-/// A cluster over two nodes of four cores each.
-const TWO_NODES: &str =
-    r#"{"graph":{"nodes":[{"id":"c","metadata":{"type":"cluster","id":0}},{"id":"n0","metadata":{"type":"node","id":0}},{"id":"n0.0","metadata":{"type":"core","id":0}},{"id":"n0.1","metadata":{"type":"core","id":1}},{"id":"n0.2","metadata":{"type":"core","id":2}},{"id":"n0.3","metadata":{"type":"core","id":3}},{"id":"n1","metadata":{"type":"node","id":1}},{"id":"n1.0","metadata":{"type":"core","id":0}},{"id":"n1.1","metadata":{"type":"core","id":1}},{"id":"n1.2","metadata":{"type":"core","id":2}},{"id":"n1.3","metadata":{"type":"core","id":3}}],"edges":[{"source":"c","target":"n0"},{"source":"n0","target":"n0.0"},{"source":"n0","target":"n0.1"},{"source":"n0","target":"n0.2"},{"source":"n0","target":"n0.3"},{"source":"c","target":"n1"},{"source":"n1","target":"n1.0"},{"source":"n1","target":"n1.1"},{"source":"n1","target":"n1.2"},{"source":"n1","target":"n1.3"}]}}"#;
-
 /// The second at which time ends, and how many claims all accepted jobs may have.
 const HORIZON: u64 = 1_000;
 
 const MOST_CLAIMS: u64 = 1_000;
-
-/// The graph of two nodes.
-pub fn two_nodes(alloc: Global) -> Result<Arc<Graph, Global>, AllocError> {
-    match read_graph(alloc, TWO_NODES.as_bytes()) {
-        Ok(graph) => Ok(Arc::new(alloc, graph)?),
-        Err(_) => Err(AllocError),
-    }
-}
 
 /// A scheduler over the graph.
 pub fn core_over(alloc: Global, graph: &Arc<Graph, Global>) -> Result<Core, AllocError>

@@ -1,10 +1,10 @@
 //! Runs of the program with two clients that are kept at places, so that what each tells and what is written is known.
 //! The lists of filters change nothing.
 use crate::gates::{Step, Telling, Turnstile, go, keep};
-use crate::plays::TWO_NODES;
 use flux_defs::{List, Text};
 use flux_io::{SureFiles, SureSink, SureSource};
 use fluxion_shell::{code, run};
+use small_graphs::TWO_NODES;
 use std::alloc::{AllocError, Global};
 use std::process::Abort;
 use std::sync::Wait;

@@ -2,11 +2,12 @@
 ghost use Rattle.std.specs.Prelude.{◌≡◌, ◌<◌};
 ghost use Rattle.std.specs.Arc.{arc_value};
 
-use crate::plays::{core_over, played, two_nodes};
+use crate::plays::{core_over, played};
 use flux_defs::OpenGate;
 use fluxion_lines::history_text;
 use resource_graph::Graph;
 use sched_core::Core;
+use small_graphs::{TWO_NODES, shared_graph};
 use std::alloc::{AllocError, Global};
 use std::sync::Arc;
 use std::test::Fail;
@@ -69,7 +70,7 @@ fn replayed(alloc: Global, graph: &Arc<Graph, Global>, core: &Core) -> Result<Co
 #[test]
 fn eight_clients_write_what_one_thread_writes(rt: HostRuntime) -> Result<(), Fail> {
     let alloc = rt.alloc();
-    let graph = two_nodes(alloc)?;
+    let graph = shared_graph(alloc, TWO_NODES)?;
     let input = all_lines(alloc)?;
     let together = played(&rt, alloc, &graph, input.as_bytes(), &OpenGate)?;
     let alone = replayed(alloc, &graph, &together.core)?;

@@ -1,9 +1,9 @@
 //! Runs of the job of two nodes for an hour: each call of the files, of the input and of the output fails in turn, and
 //! the graph file ends at each of its bytes.
-use crate::graphs::TWO_NODES;
 use flux_defs::{List, OpenGate, Text};
 use flux_io::{MemFiles, MemSink, MemSource};
 use fluxion_shell::{Status, code, fault_line, run};
+use small_graphs::TWO_NODES;
 use std::alloc::{AllocError, Global};
 use std::process::Abort;
 use std::sync::Wait;

@@ -1,10 +1,10 @@
 //! Worked rows of the limits on an input.
 ghost use Rattle.std.specs.Prelude.{◌<◌, ◌^◌};
 
-use crate::graphs::two_nodes;
 use flux_defs::Limits;
 use fluxion_lines::{Form, InputFault, Over, read_lines};
 use resource_graph::Graph;
+use small_graphs::{TWO_NODES, graph_of};
 use std::alloc::{AllocError, Global};
 use std::test::Fail;
 
@@ -84,7 +84,7 @@ fn passed(alloc: Global, graph: &Graph, limits: &Limits, bytes: &[u8]) -> Result
 #[test]
 fn the_first_limit_passed_is_told(rt: HostRuntime) -> Result<(), Fail> {
     let alloc = rt.alloc();
-    let graph = two_nodes(alloc)?;
+    let graph = graph_of(alloc, TWO_NODES)?;
     for Row(most, bytes, wanted) in &ROWS {
         let told = passed(alloc, &graph, &limits(*most, 20), bytes)?;
         assert_eq!(rt; told, *wanted, "{most} lines");
@@ -168,7 +168,7 @@ fn input_of(alloc: Global, lines: &[&str]) -> Result<Vec<u8>, AllocError> {
 #[test]
 fn barred_nodes_are_limited(rt: HostRuntime) -> Result<(), Fail> {
     let alloc = rt.alloc();
-    let graph = two_nodes(alloc)?;
+    let graph = graph_of(alloc, TWO_NODES)?;
     for BarredRow(most, lines, wanted) in &BARRED_ROWS {
         let input = input_of(alloc, lines)?;
         let told = passed(alloc, &graph, &limits(*most, 500), input.as_slice())?;

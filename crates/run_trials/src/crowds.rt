@@ -1,13 +1,13 @@
 //! Runs with several clients, which hand in their lines beside each other. What a run writes has to be the text of one
 //! history; here a plain player of one thread makes that text, by the order that the column LINE of what was written
 //! names.
-use crate::graphs::{TWO_NODES, two_nodes};
 use flux_defs::{Limits, List, OpenGate, Text};
 use flux_io::{SureFiles, SureSink, SureSource};
 use fluxion_lines::{Form, Input, history_text, read_lines};
 use fluxion_shell::{code, run};
 use prune_filters::Rules;
 use sched_core::{Core, play};
+use small_graphs::{TWO_NODES, graph_of};
 use std::alloc::{AllocError, Global};
 use std::process::Abort;
 use std::sync::{Arc, Wait};
@@ -108,7 +108,7 @@ fn renumbered(alloc: Global, output: &[&[u8]]) -> Result<Vec<u8>, AllocError> {
 
 /// What a plain player answers to an input, line by line.
 fn plain(alloc: Global, input: &[u8]) -> Result<Text, Fail> {
-    let graph = two_nodes(alloc)?;
+    let graph = graph_of(alloc, TWO_NODES)?;
     let Ok(Input { clients, lines }) = read_lines(
         alloc,
         &graph,

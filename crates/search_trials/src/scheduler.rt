@@ -3,12 +3,12 @@ ghost use Rattle.std.specs.Prelude.{◌≡◌, IfOk};
 ghost use Rattle.std.specs.Arc.{arc_value};
 ghost use Rattle.flux_defs.specs.Needs.{IsProperAsk};
 
-use crate::graphs::two_nodes;
 use flux_defs::{Ask, Claim, ClientLine, Command, Entry, Line, Reply};
 use jobspec_canon::read_canon;
 use prune_filters::Rules;
 use resource_graph::Graph;
 use sched_core::{Core, play, play_client};
+use small_graphs::{TWO_NODES, shared_graph};
 use std::alloc::Global;
 use std::sync::Arc;
 use std::test::Fail;
@@ -80,7 +80,7 @@ fn is_full(entry: Option<&Entry>) -> bool {
 #[test]
 fn the_sixth_claim_is_too_many(rt: HostRuntime) -> Result<(), Fail> {
     let alloc = rt.alloc();
-    let graph = Arc::new(alloc, two_nodes(alloc)?)?;
+    let graph = shared_graph(alloc, TWO_NODES)?;
     let mut core = narrow(alloc, &graph)?;
     let first = allocate(&mut core, &graph, 1, slot(alloc, &graph, 4)?)?;
     let second = allocate(&mut core, &graph, 2, slot(alloc, &graph, 1)?)?;
@@ -93,7 +93,7 @@ fn the_sixth_claim_is_too_many(rt: HostRuntime) -> Result<(), Fail> {
 
 /// The present moments after two lines of two clients, and after one line more.
 fn moments(alloc: Global) -> Result<(u64, u64, usize), Fail> {
-    let graph = Arc::new(alloc, two_nodes(alloc)?)?;
+    let graph = shared_graph(alloc, TWO_NODES)?;
     let mut core = narrow(alloc, &graph)?;
     let first = ClientLine {
         client: 0,

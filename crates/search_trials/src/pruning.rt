@@ -1,13 +1,11 @@
 //! Lines answered with rules of pruning filters that the program isn't asked for: rules change how far a search looks,
 //! and never what it finds.
-ghost use Rattle.std.specs.Prelude.{◌<◌};
-
-use crate::graphs::TWO_NODES;
 use flux_defs::{Limits, Text};
 use fluxion_lines::{Form, Input, history_text, read_lines};
-use graph_json::read_graph;
 use prune_filters::Rules;
 use sched_core::{Core, play};
+use seeded_numbers::Seed;
+use small_graphs::{TWO_NODES, shared_graph};
 use std::alloc::Global;
 use std::sync::Arc;
 use std::test::Fail;
@@ -18,10 +16,7 @@ const RACK: &str =
 
 /// The lines that answer an input over a graph, with these rules.
 fn answered(alloc: Global, graph: &str, rules: &str, input: &[u8]) -> Result<Text, Fail> {
-    let Ok(graph) = read_graph(alloc, graph.as_bytes()) else {
-        return Err(Fail::from("no graph"));
-    };
-    let graph = Arc::new(alloc, graph)?;
+    let graph = shared_graph(alloc, graph)?;
     let Ok(rules) = Rules::read(alloc, rules.as_bytes()) else {
         return Err(Fail::from("no rules"));
     };
@@ -145,37 +140,26 @@ fn copies_within_a_rack_may_share_a_node(rt: HostRuntime) -> Result<(), Fail> {
     Ok(())
 }
 
-/// The next of numbers that are the same in each run, less than `end`.
-fn below(state: &mut u64, end: u64) -> u64
-    ensures { 0 < end → result < end }
-{
-    *state = state
-        .wrapping_mul(6364136223846793005)
-        .wrapping_add(1442695040888963407);
-    (*state >> 33) % end.max(1)
-}
-
 /// Lines of jobs of many shapes, with the present moment going on and jobs that are given back.
-fn random_lines(alloc: Global, seed: u64) -> Result<Vec<u8>, Fail> {
-    let mut state = seed;
+fn random_lines(alloc: Global, mut seed: Seed) -> Result<Vec<u8>, Fail> {
     let mut moment = 0_u64;
     let mut out = Vec::new(alloc);
     for job in 0..60 {
-        let inner = slots(alloc, below(&mut state, 2) + 1, below(&mut state, 2) + 1)?;
-        let shape = match below(&mut state, 4) {
+        let inner = slots(alloc, seed.below(2) + 1, seed.below(2) + 1)?;
+        let shape = match seed.below(4) {
             0 => within(alloc, "rack", 1, &inner)?,
-            1 => within(alloc, "node", below(&mut state, 2) + 1, &inner)?,
+            1 => within(alloc, "node", seed.below(2) + 1, &inner)?,
             _ => inner,
         };
-        let duration = 10 * below(&mut state, 8) + 10;
-        match below(&mut state, 8) {
+        let duration = 10 * seed.below(8) + 10;
+        match seed.below(8) {
             0 => {
-                moment = moment.saturating_add(below(&mut state, 20));
+                moment = moment.saturating_add(seed.below(20));
                 let line = format!(in alloc; "a advance {moment}\n")?;
                 out.extend_from_slice(line.as_bytes())?;
             }
             1 => {
-                let gone = below(&mut state, job);
+                let gone = seed.below(job);
                 let line = format!(in alloc; "a cancel {gone}\n")?;
                 out.extend_from_slice(line.as_bytes())?;
             }
@@ -191,7 +175,7 @@ fn rules_change_no_answer(rt: HostRuntime) -> Result<(), Fail> {
     let alloc = rt.alloc();
     for graph in [TWO_NODES, RACK] {
         for seed in 1..4 {
-            let lines = random_lines(alloc, seed)?;
+            let lines = random_lines(alloc, Seed::of(seed))?;
             let plain = answered(alloc, graph, "x:y", lines.as_slice())?;
             for rules in ["ALL:core", "ALL:node", "ALL:core,cluster:node", "rack:node"] {
                 let text = answered(alloc, graph, rules, lines.as_slice())?;

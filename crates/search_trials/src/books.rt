@@ -1,19 +1,18 @@
 //! Books of jobs: what no clause says is that the calls succeed with ample memory.
 ghost use Rattle.std.specs.Prelude.{◌≡◌, ◌<◌};
 
-use crate::graphs::two_nodes;
 use book_state::BookState;
 use flux_defs::{FreeView, Steps};
 use prune_filters::Rules;
+use small_graphs::{TWO_NODES, shared_graph};
 use std::alloc::Global;
 use std::marker::Brand;
-use std::sync::Arc;
 use std::sync::ledger::{Blank, Ledger};
 use std::test::Fail;
 
 /// A book of two nodes, at second 5.
 fn book(alloc: Global) -> Result<BookState, Fail> {
-    let graph = Arc::new(alloc, two_nodes(alloc)?)?;
+    let graph = shared_graph(alloc, TWO_NODES)?;
     let Ok(rules) = Rules::read(alloc, b"ALL:core") else {
         return Err(Fail::from("no rules"));
     };

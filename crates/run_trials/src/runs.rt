@@ -1,10 +1,10 @@
 //! Runs of the program over objects in memory of which a call fails, a line that is too long for a row, and the numbers
 //! of all statuses.
-use crate::graphs::TWO_NODES;
 use flux_defs::{List, OpenGate, Text};
 use flux_io::{MemFiles, MemSink, MemSource};
 use fluxion_shell::{Limited, Status, Which, code, fault_line, run};
 use graph_json::ReadFault;
+use small_graphs::TWO_NODES;
 use std::alloc::{AllocError, Global};
 use std::process::Abort;
 use std::sync::Wait;

@@ -1,8 +1,8 @@
 //! Jobspecs of version 1 over a graph of two nodes of four cores: the program has no word for that form yet.
-use crate::graphs::two_nodes;
 use jobspec_v1::{SpecFault, read_v1};
 use json_fields::field_word;
 use resource_graph::Graph;
+use small_graphs::{TWO_NODES, graph_of};
 use std::alloc::Global;
 use std::test::Fail;
 
@@ -108,7 +108,7 @@ fn is_refused(alloc: Global, graph: &Graph, row: Refused) -> bool {
 
 #[test]
 fn the_first_fault_is_told(rt: HostRuntime) -> Result<(), Fail> {
-    let graph = two_nodes(rt.alloc())?;
+    let graph = graph_of(rt.alloc(), TWO_NODES)?;
     for row in REFUSED {
         assert!(rt; is_refused(rt.alloc(), &graph, row), "{}", row.0);
     }
@@ -149,7 +149,7 @@ fn is_read(alloc: Global, graph: &Graph, row: Read) -> bool {
 
 #[test]
 fn the_four_forms_are_read(rt: HostRuntime) -> Result<(), Fail> {
-    let graph = two_nodes(rt.alloc())?;
+    let graph = graph_of(rt.alloc(), TWO_NODES)?;
     for row in READ {
         assert!(rt; is_read(rt.alloc(), &graph, row), "{}", row.0);
     }

@@ -1,7 +1,5 @@
 //! What a graph answers.
-use graph_json::read_graph;
-use resource_graph::Graph;
-use std::alloc::Global;
+use small_graphs::graph_of;
 use std::test::Fail;
 
 /// Two nodes with memory and cores and one without, their cluster behind the first of them. A core has a rank.
@@ -11,13 +9,6 @@ const THREE_NODES: &str =
 /// Two nodes with ranks.
 const RANKED_NODES: &str =
     r#"{"graph":{"nodes":[{"id":0,"metadata":{"type":"cluster","name":"cluster0"}},{"id":1,"metadata":{"type":"node","name":"node0","rank":7}},{"id":2,"metadata":{"type":"node","name":"node1","rank":0}}],"edges":[{"source":0,"target":1},{"source":0,"target":2}]}}"#;
-
-fn graph_of(alloc: Global, text: &str) -> Result<Graph, Fail> {
-    match read_graph(alloc, text.as_bytes()) {
-        Ok(graph) => Ok(graph),
-        Err(_) => Err(Fail::from("no graph")),
-    }
-}
 
 /// By vertex: its name, the number past it, and the node that it is or lies below.
 const VERTICES: [(&[u8], u32, Option<u32>); 8] = [
