@@ -1,17 +1,14 @@
-//! Plays histories of the scheduler: some whose answers are known, and random ones beside plain answers. A candidate is
-//! searched at one place and committed at a later one; and events of several clients happen in any order. It writes
-//! what came, and how many answers differ. The numbers are the same in each run, by a fixed seed.
+//! Plays histories of the scheduler in which a candidate is searched at one place and committed at a later one: some
+//! whose answers are known, and random ones beside plain answers. It writes what came, and how many replies and causes
+//! differ. The numbers are the same in each run, by a fixed seed.
 #![tactic(auto)]
 
 ghost use Rattle.std.specs.Prelude.{◌≡◌, ◌<◌};
 
 mod commits;
-mod events;
-mod lines;
 mod overtaking;
 mod places;
 mod rows;
-mod scenes;
 
 use flux_defs::Steps;
 use std::alloc::{AllocError, Global};
@@ -27,8 +24,6 @@ struct Answers {
     known: String,
     gone: Option<usize>,
     places: places::Counts,
-    two: ([bool; 8], String),
-    events: events::Counts,
 }
 
 fn played<L: Ledger>(alloc: Global, blank: Blank) -> Result<Answers, AllocError>
@@ -43,8 +38,6 @@ fn played<L: Ledger>(alloc: Global, blank: Blank) -> Result<Answers, AllocError>
         known: rows::known(alloc, &mut steps)?,
         gone: rows::first_gone(alloc, &mut steps)?,
         places: places::compared(alloc, &mut steps)?,
-        two: events::of_two(alloc)?,
-        events: events::compared(alloc)?,
     })
 }
 
@@ -70,17 +63,6 @@ fn main(rt: HostRuntime) -> io::Result<()> {
     println!(rt;
         "{} pairs of places: {} replies and {} causes differ; more than 40 of each outcome: {enough}",
         places.pairs, places.replies, places.causes
-    )?;
-    let (answers, history) = told.two;
-    println!(rt; "events of two clients are open: {answers:?}")?;
-    print!(rt; "{history}")?;
-    let events = told.events;
-    let enough = events.open > 5_000 && events.closed > 5_000 && events.overtaken > 200;
-    println!(rt;
-        "{} events of four clients: {} answers and {} histories differ; many were open, many were not, many were overtaken: {enough}",
-        events.open.wrapping_add(events.closed),
-        events.answers,
-        events.histories
     )?;
     Ok(())
 }

@@ -3,14 +3,16 @@
 ghost use Rattle.std.specs.Prelude.{◌≡◌, [], IfOk};
 ghost use Rattle.std.specs.Arc.{arc_value};
 ghost use Rattle.sched_core.specs.Played.{AreProper};
+ghost use Rattle.interleave_law.specs.Machines.{HasProperLines};
 
-use crate::lines::{ONE_CORE, random_line, spec};
-use crate::scenes::{Bounds, TWO_NODES, WITH_MEMORY, core_over, graph_of, lines_in, script_in};
-use flux_defs::{ClientLine, Event, List, Script};
+use flux_defs::{ClientLine, Event, Limits, List, Script};
+use fluxion_lines::{Form, read_input};
+use history_scenes::{Bounds, ONE_CORE, core_over, lines_in, random_line, spec};
 use interleave_law::Machine;
 use resource_graph::Graph;
 use sched_core::{Core, is_searched_for};
 use seeded_numbers::Seed;
+use small_graphs::{TWO_NODES, WITH_MEMORY, shared_graph};
 use std::alloc::{AllocError, Global};
 use std::sync::Arc;
 
@@ -177,6 +179,22 @@ fn random_input(alloc: Global, seed: &mut Seed) -> Result<String, AllocError> {
     Ok(text)
 }
 
+/// The lines of an input, client by client.
+fn script_in(alloc: Global, graph: &Graph, text: &str) -> Result<Script, AllocError>
+    ensures { IfOk result (HasProperLines graph.now.resources.vertices) }
+{
+    match read_input(
+        alloc,
+        graph,
+        Form::Rfc14,
+        text.as_bytes(),
+        &Limits::shipped(),
+    ) {
+        Ok(script) => Ok(script),
+        Err(_) => Err(AllocError),
+    }
+}
+
 /// The machine of an input, on a scheduler without an entry.
 fn machine_of(
     alloc: Global,
@@ -252,7 +270,7 @@ fn run(
 
 /// What comes of all lists of events.
 pub fn compared(alloc: Global) -> Result<Counts, AllocError> {
-    let graph = graph_of(alloc, WITH_MEMORY)?;
+    let graph = shared_graph(alloc, WITH_MEMORY)?;
     let mut seed = Seed::of(30);
     let mut counts = Counts {
         open: 0,
@@ -281,7 +299,7 @@ const OF_TWO: [Event; 8] = [
 
 /// Whether each of these events is open, and the replies, each with its client and line.
 pub fn of_two(alloc: Global) -> Result<([bool; 8], String), AllocError> {
-    let graph = graph_of(alloc, TWO_NODES)?;
+    let graph = shared_graph(alloc, TWO_NODES)?;
     let core = spec(alloc, ONE_CORE, 10, "")?;
     let input = format!(in alloc; "a allocate 1 {core}\nb allocate 2 {core}\n")?;
     let mut machine = machine_of(alloc, &graph, input.as_str())?;

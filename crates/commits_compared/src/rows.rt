@@ -3,12 +3,12 @@ ghost use Rattle.std.specs.Prelude.{IsTrue, All, ◌<◌, length};
 ghost use Rattle.flux_defs.specs.Jobs.{vertex_of};
 
 use crate::commits::{Parts, last_reply, tried};
-use crate::lines::{ON_SECOND, ONE_CORE, ONE_WHOLE, TWO_WHOLE, spec};
-use crate::scenes::{Bounds, TWO_NODES, graph_of};
 use candidate_check::still_free;
 use flux_defs::{Claim, Job, List, Steps, Window};
+use history_scenes::{Bounds, ON_SECOND, ONE_CORE, ONE_WHOLE, TWO_WHOLE, spec};
 use plain_jobs::PlainJobs;
 use resource_graph::Graph;
+use small_graphs::{TWO_NODES, shared_graph};
 use std::alloc::{AllocError, Global};
 use std::sync::Arc;
 use std::sync::ledger::Ledger;
@@ -53,7 +53,7 @@ fn between(alloc: Global) -> Result<[String; 5], AllocError> {
 
 /// A job has both nodes for 100 seconds; a whole node is searched for, and something happens before the commit.
 pub fn overtaken<L: Ledger>(alloc: Global, steps: &mut Steps<L>) -> Result<String, AllocError> {
-    let graph = graph_of(alloc, TWO_NODES)?;
+    let graph = shared_graph(alloc, TWO_NODES)?;
     let (both, one) = (
         spec(alloc, TWO_WHOLE, 100, "")?,
         spec(alloc, ONE_WHOLE, 10, "")?,
@@ -74,7 +74,7 @@ pub fn overtaken<L: Ledger>(alloc: Global, steps: &mut Steps<L>) -> Result<Strin
 
 /// A search doesn't look at the room for claims.
 pub fn full<L: Ledger>(alloc: Global, steps: &mut Steps<L>) -> Result<String, AllocError> {
-    let graph = graph_of(alloc, TWO_NODES)?;
+    let graph = shared_graph(alloc, TWO_NODES)?;
     let (whole, core) = (
         spec(alloc, ONE_WHOLE, 10, "")?,
         spec(alloc, ONE_CORE, 10, "")?,
@@ -95,7 +95,7 @@ pub fn full<L: Ledger>(alloc: Global, steps: &mut Steps<L>) -> Result<String, Al
 
 /// The id of a cancelled job is known.
 pub fn known<L: Ledger>(alloc: Global, steps: &mut Steps<L>) -> Result<String, AllocError> {
-    let graph = graph_of(alloc, TWO_NODES)?;
+    let graph = shared_graph(alloc, TWO_NODES)?;
     let core = spec(alloc, ONE_CORE, 10, "")?;
     let front = format!(in alloc; "a allocate 1 {core}\na cancel 1\n")?;
     let asked = format!(in alloc; "b allocate 1 {core}\n")?;
@@ -119,7 +119,7 @@ pub fn first_gone<L: Ledger>(
     alloc: Global,
     steps: &mut Steps<L>,
 ) -> Result<Option<usize>, AllocError> {
-    let graph = graph_of(alloc, TWO_NODES)?;
+    let graph = shared_graph(alloc, TWO_NODES)?;
     let job = Job {
         id: 1,
         start: 0,

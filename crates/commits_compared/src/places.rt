@@ -1,13 +1,13 @@
 //! Random histories: for each pair of places, a search at the first and a commit at the second, beside a fresh decision
 //! there and the causes of a plain walk.
 use crate::commits::{Outcome, Parts, after, last_reply, tried};
-use crate::lines::{random_ask, random_line};
-use crate::scenes::{Bounds, WITH_MEMORY, graph_of};
 use flux_defs::Steps;
+use history_scenes::{Bounds, random_ask, random_line};
 use overtaken_check::Cause;
 use resource_graph::Graph;
 use sched_core::Core;
 use seeded_numbers::Seed;
+use small_graphs::{WITH_MEMORY, shared_graph};
 use std::alloc::{AllocError, Global};
 use std::sync::Arc;
 use std::sync::ledger::Ledger;
@@ -116,7 +116,7 @@ fn random_lines(alloc: Global, seed: &mut Seed) -> Result<Vec<String>, AllocErro
 
 /// What comes of all histories.
 pub fn compared<L: Ledger>(alloc: Global, steps: &mut Steps<L>) -> Result<Counts, AllocError> {
-    let graph = graph_of(alloc, WITH_MEMORY)?;
+    let graph = shared_graph(alloc, WITH_MEMORY)?;
     let mut counts = Counts {
         pairs: 0,
         replies: 0,

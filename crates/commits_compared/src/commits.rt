@@ -6,8 +6,8 @@ ghost use Rattle.flux_defs.specs.Verdicts.{IsSearchable};
 ghost use Rattle.sched_core.specs.Candidates.{IsFor};
 
 use crate::overtaking;
-use crate::scenes::{Bounds, core_over, lines_in};
 use flux_defs::{ClientLine, Command, Steps};
+use history_scenes::{Bounds, core_over, lines_in};
 use overtaken_check::Cause;
 use resource_graph::Graph;
 use sched_core::{Candidate, Commit, Core, is_searched_for, play};
