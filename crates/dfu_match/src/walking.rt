@@ -93,7 +93,7 @@ fn own_short<F: FreeView, L: Ledger>(
 }
 
 /// The uppermost of the vertex and those above it, from `low` on, that is short for the need, as `own_short` tells it.
-/// It looks from the top.
+/// It looks from the top, and at none where there is no table.
 #[cycle(tops)]
 fn top_short<F: FreeView, L: Ledger>(
     s: &Search<F>,
@@ -126,6 +126,9 @@ fn top_short<F: FreeView, L: Ledger>(
         TakesEach (HasEachOpen vs jobs s.now.window keeps all)
         (length (all_of need.now) * F.cost s.now.view.now) steps.old steps.new place (place + 1) low (vertex + 1)) }
 {
+    if s.wanted.len() <= index {
+        return None;
+    }
     s.graph.is_valid();
     match parent_from(s.graph, vertex, low) {
         None => own_short(s, need, index, vertex, until, steps),

@@ -6,8 +6,9 @@ use Rattle.graph_laws.proofs.Preorder.{parents_first}
 use Rattle.dfu_match.specs.Pairs.{asked_totals}
 use Rattle.dfu_match.specs.Tables.{all_of, needs_all}
 use Rattle.dfu_match.proofs.OpenLaws.{clear_alone, clear_child, clear_parent, clear_upto, open_here}
-use Rattle.dfu_match.proofs.PairLaws.{takes_upto, takes_within}
+use Rattle.dfu_match.proofs.PairLaws.{takes_none, takes_upto, takes_within}
 use Rattle.dfu_match.proofs.StepLaws.{own_clear, own_takes}
+use Rattle.dfu_match.proofs.TableLaws.{none_past}
 use Rattle.dfu_match.proofs.walking.+tops.Goals as goal
 
 some_along : (P Q : ℕ → Type 0) → ((x : ℕ) → P x → Q x) → (o : Option ℕ) → IfSome o P → IfSome o Q
@@ -25,6 +26,18 @@ top_short-requires g t c κs within =
         (search rules, (c.requires.stands, (omega (arith, lt, c.requires.vertex), c.in-Some.ensures.1))),
       ),
     )
+
+pub returns-then-s-index-clause-clear : goal.returns-then-s-index-clause-clear
+returns-then-s-index-clause-clear g t c = λ jobs stands u low high above is.
+    let s = c.args.s.now in
+    is.1.0.0 (none_past (needs_all s.needs.now) s.wanted.now c.args.index c.args.need.now c.if-s-index.true s.whole
+    c.requires.stands)
+
+pub returns-then-s-index-clause-work : goal.returns-then-s-index-clause-work
+returns-then-s-index-clause-work g t c = λ jobs stands place at before.
+    let s = c.args.s.now in
+    takes_none _ (length (all_of c.args.need.now) * g.F.FreeView.cost s.view.now) c.args.steps.now place (place + 1)
+    c.args.low (c.args.vertex + 1)
 
 pub returns-in-None-clause-above : goal.returns-in-None-clause-above
 returns-in-None-clause-above g t c =
