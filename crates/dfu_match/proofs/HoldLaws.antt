@@ -13,6 +13,7 @@ use Rattle.flux_defs.specs.Graph.{parent_of, is_at_or_below}
 use Rattle.flux_defs.specs.Jobs.{is_live, some_live_claim, holds_over, is_on_or_below}
 use Rattle.flux_defs.specs.Closed.{Scene, is_touched, IsClosedIn, IsTouchedIn}
 use Rattle.flux_defs.specs.Available.{IsAvailable}
+use Rattle.list_laws.proofs.Lists.{any_either}
 use Rattle.flux_laws.proofs.Live.{live_either}
 use Rattle.graph_laws.proofs.Containment.{ParentsFirst, up, up-None, steps_of, at_or_below, below_self, below_parent}
 use Rattle.graph_laws.proofs.Containment.{below_trans, not_to}

@@ -243,7 +243,7 @@ reach-returns-in_default-next_open_until-clause-greatest g t c = λ jobs stands.
     greatest_along _ _ c.args.most c.loop-reached.reached (group_from vs ok scope need) (group_to vs ok scope need)
     (reached_end _ (serves_less vs ok (takes_less _ _) scope need) c.args.most c.loop-reached.at c.loop-reached.reached
     (none_after vs ok scope need c.span_of-span.result.from c.loop-reached.at c.span_of-span.result.to
-    c.span_of-span.ensures.covers (over_own c.args.s.now.window c.in_default-next_open_until.new.until
+    c.span_of-span.ensures.covers (over_own c.args.s.now.window c.next_open_until.new.until
     c.in_default-next_open_until.ensures.falls c.args.s.now.opens _
     (c.in_default-next_open_until.ensures.skipped jobs stands)))
     (c.loop-reached.invariant.reached jobs stands))
