@@ -20,7 +20,8 @@ use Rattle.graph_laws.proofs.Containment.{below_trans, above_is_chain}
 use Rattle.graph_laws.proofs.Preorder.{parents_first}
 use Rattle.book_laws.specs.Amounts.{live_sum, kind_sum, capacity, part_within, use_of}
 use Rattle.book_laws.specs.Amounts.{AreWithinSizes, TakesFromPool}
-use Rattle.book_laws.proofs.Sums.{cond_none, live_none, live_most, live_along, live_swap, live_unless, cond_add}
+use Rattle.flux_laws.proofs.Live.{live_along}
+use Rattle.book_laws.proofs.Sums.{cond_none, live_none, live_most, live_swap, live_unless, cond_add}
 use Rattle.book_laws.proofs.Sums.{sum_none, sum_add}
 use Rattle.book_laws.proofs.Within.{closed_is, adds_up}
 
