@@ -1,6 +1,5 @@
-//! Trials of runs: the program is run over objects in memory of which a call fails, and with clients on threads; what
-//! it is given and gives passes through shared types and streams, which are called here with ample memory, real files
-//! and pipes too. What comes from bytes and goes to bytes is a worked row (`worked_rows`).
+//! Trials of runs: the program is run over objects in memory of which a call fails, and with clients on threads. What
+//! comes from bytes and goes to bytes is a worked row (`worked_rows`).
 #![tactic(auto)]
 
 #[cfg(test)]
@@ -9,7 +8,3 @@ mod crowds;
 mod faults;
 #[cfg(test)]
 mod runs;
-#[cfg(test)]
-mod shared_types;
-#[cfg(test)]
-mod streams;
