@@ -7,7 +7,7 @@ ghost use Rattle.sched_core.specs.Candidates.{IsFor};
 
 use crate::overtaking;
 use flux_defs::{ClientLine, Command, Steps};
-use history_scenes::{Bounds, core_over, lines_in};
+use history_scenes::{Bounds, Unmade, core_over, line_in, lines_in};
 use overtaken_check::Cause;
 use resource_graph::Graph;
 use sched_core::{Candidate, Commit, Core, is_searched_for, play};
@@ -18,9 +18,9 @@ use std::sync::ledger::Ledger;
 /// Lines that are played before a search, the line that is searched for, and lines that are played before the commit.
 #[derive(Clone, Copy)]
 pub struct Parts<'a> {
-    pub front: &'a str,
-    pub asked: &'a str,
-    pub later: &'a str,
+    pub front: &'a [u8],
+    pub asked: &'a [u8],
+    pub later: &'a [u8],
 }
 
 /// What came of the search and of the commit: the verdict as a text, by what the commit says that the candidate is
@@ -34,29 +34,13 @@ pub struct Outcome {
     pub core: Core,
 }
 
-/// The first line of an input.
-fn line_in(alloc: Global, graph: &Graph, text: &str) -> Result<ClientLine, AllocError>
-    ensures proper { IfOk result (λ line. IsProper graph.now.resources.vertices line.command) }
-{
-    let lines = lines_in(alloc, graph, text)?;
-    let Some(found) = lines.get(0) else {
-        return Err(AllocError);
-    };
-    let command = found.command.copy(alloc)?;
-    Ok(ClientLine {
-        client: found.client,
-        line: found.line,
-        command,
-    })
-}
-
 /// A scheduler that has played the lines of an input.
 pub fn after(
     alloc: Global,
     graph: &Arc<Graph, Global>,
     bounds: Bounds,
-    text: &str,
-) -> Result<Core, AllocError>
+    text: &[u8],
+) -> Result<Core, Unmade>
     ensures { IfOk result (λ core. core.setting.graph ≡ (arc_value graph.now).resources) }
 {
     let mut core = core_over(alloc, graph, bounds)?;
@@ -129,7 +113,7 @@ pub fn tried<L: Ledger>(
     bounds: Bounds,
     parts: Parts<'_>,
     steps: &mut Steps<L>,
-) -> Result<Outcome, AllocError> {
+) -> Result<Outcome, Unmade> {
     let mut core = after(alloc, graph, bounds, parts.front)?;
     let ClientLine {
         client,
@@ -137,7 +121,7 @@ pub fn tried<L: Ledger>(
         command,
     } = line_in(alloc, graph, parts.asked)?;
     if !is_searched_for(&command) {
-        return Err(AllocError);
+        return Err(Unmade::Line);
     }
     let candidate = search(&core, command, steps)?;
     let later = lines_in(alloc, graph, parts.later)?;

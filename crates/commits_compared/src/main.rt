@@ -11,7 +11,8 @@ mod places;
 mod rows;
 
 use flux_defs::Steps;
-use std::alloc::{AllocError, Global};
+use history_scenes::Unmade;
+use std::alloc::Global;
 use std::io;
 use std::marker::Brand;
 use std::sync::ledger::{Blank, Ledger};
@@ -26,7 +27,7 @@ struct Answers {
     places: places::Counts,
 }
 
-fn played<L: Ledger>(alloc: Global, blank: Blank) -> Result<Answers, AllocError>
+fn played<L: Ledger>(alloc: Global, blank: Blank) -> Result<Answers, Unmade>
     requires name { blank.name ≡ L.name }
     requires parts { blank.parts ≡ L.parts }
     requires some { 0 < blank.parts }
@@ -42,8 +43,9 @@ fn played<L: Ledger>(alloc: Global, blank: Blank) -> Result<Answers, AllocError>
 }
 
 fn main(rt: HostRuntime) -> io::Result<()> {
-    let Ok(told) = played::<Brand>(rt.alloc(), Blank::new(1)) else {
-        return println!(rt; "no memory");
+    let told = match played::<Brand>(rt.alloc(), Blank::new(1)) {
+        Ok(told) => told,
+        Err(why) => return println!(rt; "not played: {why:?}"),
     };
     println!(rt; "a search, what another client does, and a commit:")?;
     print!(rt; "{}", told.overtaken)?;

@@ -1,9 +1,10 @@
 //! Random histories: for each pair of places, a search at the first and a commit at the second, beside a fresh decision
 //! there and the causes of a plain walk.
 use crate::commits::{Outcome, Parts, after, last_reply, tried};
-use flux_defs::Steps;
-use history_scenes::{Bounds, random_ask, random_line};
+use flux_defs::{Steps, Text};
+use history_scenes::{Bounds, Unmade};
 use overtaken_check::Cause;
+use random_lines::{random_ask, random_line};
 use resource_graph::Graph;
 use sched_core::Core;
 use seeded_numbers::Seed;
@@ -11,6 +12,7 @@ use small_graphs::{WITH_MEMORY, shared_graph};
 use std::alloc::{AllocError, Global};
 use std::sync::Arc;
 use std::sync::ledger::Ledger;
+use text_forms::push_bytes;
 
 /// How many histories, and how many lines of each.
 const HISTORIES: u64 = 200;
@@ -37,11 +39,11 @@ pub struct Counts {
 }
 
 /// The lines from one index on and before another, as an input.
-fn joined(alloc: Global, lines: &[String], from: usize, to: usize) -> Result<String, AllocError> {
-    let mut text = String::new(alloc);
+fn joined(alloc: Global, lines: &[Text], from: usize, to: usize) -> Result<Vec<u8>, AllocError> {
+    let mut text = Vec::new(alloc);
     for (at, line) in lines.iter().enumerate() {
         if at >= from && at < to {
-            text.push_str(line.as_str())?;
+            push_bytes(&mut text, line.bytes())?;
         }
     }
     Ok(text)
@@ -81,22 +83,22 @@ fn count(
 fn try_line<L: Ledger>(
     alloc: Global,
     graph: &Arc<Graph, Global>,
-    lines: &[String],
-    asked: &str,
+    lines: &[Text],
+    asked: &[u8],
     counts: &mut Counts,
     steps: &mut Steps<L>,
-) -> Result<(), AllocError> {
+) -> Result<(), Unmade> {
     for to in 0..=LINES {
         let mut whole = joined(alloc, lines, 0, to)?;
-        whole.push_str(asked)?;
-        let fresh = after(alloc, graph, BOUNDS, whole.as_str())?;
+        push_bytes(&mut whole, asked)?;
+        let fresh = after(alloc, graph, BOUNDS, whole.as_slice())?;
         for from in 0..=to {
             let front = joined(alloc, lines, 0, from)?;
             let later = joined(alloc, lines, from, to)?;
             let parts = Parts {
-                front: front.as_str(),
+                front: front.as_slice(),
                 asked,
-                later: later.as_str(),
+                later: later.as_slice(),
             };
             let outcome = tried(alloc, graph, BOUNDS, parts, steps)?;
             count(alloc, counts, &outcome, &fresh)?;
@@ -106,7 +108,7 @@ fn try_line<L: Ledger>(
 }
 
 /// Random lines.
-fn random_lines(alloc: Global, seed: &mut Seed) -> Result<Vec<String>, AllocError> {
+fn random_lines(alloc: Global, seed: &mut Seed) -> Result<Vec<Text>, AllocError> {
     let mut lines = Vec::new(alloc);
     for _ in 0..LINES {
         lines.push(random_line(alloc, seed, 0)?)?;
@@ -115,7 +117,7 @@ fn random_lines(alloc: Global, seed: &mut Seed) -> Result<Vec<String>, AllocErro
 }
 
 /// What comes of all histories.
-pub fn compared<L: Ledger>(alloc: Global, steps: &mut Steps<L>) -> Result<Counts, AllocError> {
+pub fn compared<L: Ledger>(alloc: Global, steps: &mut Steps<L>) -> Result<Counts, Unmade> {
     let graph = shared_graph(alloc, WITH_MEMORY)?;
     let mut counts = Counts {
         pairs: 0,
@@ -134,7 +136,7 @@ pub fn compared<L: Ledger>(alloc: Global, steps: &mut Steps<L>) -> Result<Counts
             alloc,
             &graph,
             lines.as_slice(),
-            asked.as_str(),
+            asked.bytes(),
             &mut counts,
             steps,
         )?;

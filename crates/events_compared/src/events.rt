@@ -6,15 +6,17 @@ ghost use Rattle.sched_core.specs.Played.{AreProper};
 ghost use Rattle.interleave_law.specs.Machines.{HasProperLines};
 
 use flux_defs::{ClientLine, Event, Limits, List, Script};
-use fluxion_lines::{Form, read_input};
-use history_scenes::{Bounds, ONE_CORE, core_over, lines_in, random_line, spec};
+use fluxion_lines::{Form, InputFault, read_input};
+use history_scenes::{Bounds, Unmade, core_over, lines_in};
 use interleave_law::Machine;
+use random_lines::{ONE_CORE, line_with, random_line, spec};
 use resource_graph::Graph;
 use sched_core::{Core, is_searched_for};
 use seeded_numbers::Seed;
 use small_graphs::{TWO_NODES, WITH_MEMORY, shared_graph};
 use std::alloc::{AllocError, Global};
 use std::sync::Arc;
+use text_forms::push_bytes;
 
 /// How many lists of events, of how many events each; how many clients, and how many lines of each.
 const RUNS: u64 = 200;
@@ -169,41 +171,32 @@ fn random_event(seed: &mut Seed) -> Event {
 }
 
 /// Random lines of all clients, in turn.
-fn random_input(alloc: Global, seed: &mut Seed) -> Result<String, AllocError> {
-    let mut text = String::new(alloc);
+fn random_input(alloc: Global, seed: &mut Seed) -> Result<Vec<u8>, AllocError> {
+    let mut text = Vec::new(alloc);
     for _ in 0..ROUNDS {
         for client in 0..CLIENTS {
-            text.push_str(random_line(alloc, seed, client)?.as_str())?;
+            push_bytes(&mut text, random_line(alloc, seed, client)?.bytes())?;
         }
     }
     Ok(text)
 }
 
 /// The lines of an input, client by client.
-fn script_in(alloc: Global, graph: &Graph, text: &str) -> Result<Script, AllocError>
+fn script_in(alloc: Global, graph: &Graph, text: &[u8]) -> Result<Script, InputFault>
     ensures { IfOk result (HasProperLines graph.now.resources.vertices) }
 {
-    match read_input(
-        alloc,
-        graph,
-        Form::Rfc14,
-        text.as_bytes(),
-        &Limits::shipped(),
-    ) {
-        Ok(script) => Ok(script),
-        Err(_) => Err(AllocError),
-    }
+    read_input(alloc, graph, Form::Rfc14, text, &Limits::shipped())
 }
 
 /// The machine of an input, on a scheduler without an entry.
 fn machine_of(
     alloc: Global,
     graph: &Arc<Graph, Global>,
-    input: &str,
-) -> Result<Machine, AllocError> {
+    input: &[u8],
+) -> Result<Machine, Unmade> {
     let core = core_over(alloc, graph, BOUNDS)?;
     let script = script_in(alloc, graph, input)?;
-    Machine::new(alloc, core, script)
+    Ok(Machine::new(alloc, core, script)?)
 }
 
 /// The lines of a history, decided in its order by another scheduler.
@@ -212,21 +205,21 @@ fn replayed(
     graph: &Arc<Graph, Global>,
     lines: &List<ClientLine>,
     core: &Core,
-) -> Result<Core, AllocError>
+) -> Result<Core, Unmade>
     requires { AreProper (arc_value graph.now).resources.vertices lines.now }
 {
     let mut again = core_over(alloc, graph, BOUNDS)?;
     for at in 0..core.len() {
         let Some(entry) = core.entry(at) else {
-            return Err(AllocError);
+            return Err(Unmade::Line);
         };
         let Some(line) = lines.get((entry.line as usize).saturating_sub(1)) else {
-            return Err(AllocError);
+            return Err(Unmade::Line);
         };
         let command = line.command.copy(alloc)?;
         match again.decide(line.client, line.line, command) {
             Ok(_) => {}
-            Err((_, fault)) => return Err(fault),
+            Err((_, fault)) => return Err(Unmade::from(fault)),
         }
     }
     Ok(again)
@@ -247,10 +240,10 @@ fn run(
     graph: &Arc<Graph, Global>,
     seed: &mut Seed,
     counts: &mut Counts,
-) -> Result<(), AllocError> {
+) -> Result<(), Unmade> {
     let input = random_input(alloc, seed)?;
-    let mut machine = machine_of(alloc, graph, input.as_str())?;
-    let script = script_in(alloc, graph, input.as_str())?;
+    let mut machine = machine_of(alloc, graph, input.as_slice())?;
+    let script = script_in(alloc, graph, input.as_slice())?;
     let first = Account {
         done: 0,
         stage: Stage::Idle,
@@ -260,7 +253,7 @@ fn run(
         let event = random_event(seed);
         play(&mut machine, &script, &mut accounts, event, counts)?;
     }
-    let lines = lines_in(alloc, graph, input.as_str())?;
+    let lines = lines_in(alloc, graph, input.as_slice())?;
     let again = replayed(alloc, graph, &lines, machine.core())?;
     if history(alloc, machine.core())? != history(alloc, &again)? {
         counts.histories = counts.histories.wrapping_add(1);
@@ -269,7 +262,7 @@ fn run(
 }
 
 /// What comes of all lists of events.
-pub fn compared(alloc: Global) -> Result<Counts, AllocError> {
+pub fn compared(alloc: Global) -> Result<Counts, Unmade> {
     let graph = shared_graph(alloc, WITH_MEMORY)?;
     let mut seed = Seed::of(30);
     let mut counts = Counts {
@@ -298,11 +291,12 @@ const OF_TWO: [Event; 8] = [
 ];
 
 /// Whether each of these events is open, and the replies, each with its client and line.
-pub fn of_two(alloc: Global) -> Result<([bool; 8], String), AllocError> {
+pub fn of_two(alloc: Global) -> Result<([bool; 8], String), Unmade> {
     let graph = shared_graph(alloc, TWO_NODES)?;
-    let core = spec(alloc, ONE_CORE, 10, "")?;
-    let input = format!(in alloc; "a allocate 1 {core}\nb allocate 2 {core}\n")?;
-    let mut machine = machine_of(alloc, &graph, input.as_str())?;
+    let core = spec(alloc, ONE_CORE, 10, b"")?;
+    let mut input = line_with(alloc, b"a allocate 1 ", &core)?.into_vec();
+    push_bytes(&mut input, line_with(alloc, b"b allocate 2 ", &core)?.bytes())?;
+    let mut machine = machine_of(alloc, &graph, input.as_slice())?;
     let mut answers = [false; 8];
     for (at, event) in OF_TWO.iter().enumerate() {
         answers[at] = machine.step(*event)?;

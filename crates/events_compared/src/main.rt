@@ -5,7 +5,8 @@
 
 mod events;
 
-use std::alloc::{AllocError, Global};
+use history_scenes::Unmade;
+use std::alloc::Global;
 use std::io;
 
 /// What came of all.
@@ -15,7 +16,7 @@ struct Answers {
     events: events::Counts,
 }
 
-fn played(alloc: Global) -> Result<Answers, AllocError> {
+fn played(alloc: Global) -> Result<Answers, Unmade> {
     Ok(Answers {
         two: events::of_two(alloc)?,
         events: events::compared(alloc)?,
@@ -23,8 +24,9 @@ fn played(alloc: Global) -> Result<Answers, AllocError> {
 }
 
 fn main(rt: HostRuntime) -> io::Result<()> {
-    let Ok(told) = played(rt.alloc()) else {
-        return println!(rt; "no memory");
+    let told = match played(rt.alloc()) {
+        Ok(told) => told,
+        Err(why) => return println!(rt; "not played: {why:?}"),
     };
     let (answers, history) = told.two;
     println!(rt; "events of two clients are open: {answers:?}")?;

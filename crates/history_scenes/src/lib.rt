@@ -1,9 +1,9 @@
-//! What programs begin with that play histories: a scheduler over a graph, the lines of an input, and lines of commands
-//! as texts, random ones too.
+//! What programs begin with that play histories: a scheduler over a graph, the lines of an input, and why one of these
+//! could not be made.
 #![tactic(auto)]
 
-pub mod lines;
-pub mod scenes;
+mod scenes;
+mod unmade;
 
-pub use lines::{ON_SECOND, ONE_CORE, ONE_WHOLE, TWO_WHOLE, random_ask, random_line, spec};
-pub use scenes::{Bounds, core_over, lines_in};
+pub use scenes::{Bounds, core_over, line_in, lines_in};
+pub use unmade::Unmade;

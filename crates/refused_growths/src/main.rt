@@ -6,7 +6,6 @@
 
 mod calls;
 mod plays;
-mod scenes;
 
 use plays::{Played, play};
 use std::io;

@@ -6,10 +6,10 @@ ghost use Rattle.turn_table.specs.Seats.{share};
 ghost use Rattle.commit_book.specs.Books.{book_setting, IsSeatOf};
 
 use crate::calls::{Source, committed, decided, searched};
-use crate::scenes::{command_in, core_over};
 use commit_book::{Book, BookSeat};
 use flux_defs::{Command, List, Text};
 use fluxion_lines::history_text;
+use history_scenes::{Bounds, Unmade, core_over, line_in};
 use overtaken_check::Cause;
 use resource_graph::Graph;
 use sched_core::{Commit, Core, is_searched_for};
@@ -42,6 +42,12 @@ const FOURTH: &str = "a cancel 1";
 
 const FIFTH: &str = asked!("a reserve 4", "2", "5");
 
+/// The second at which time ends, and how many claims all accepted jobs may have.
+const BOUNDS: Bounds = Bounds {
+    horizon: 1_000,
+    claims: 1_000,
+};
+
 /// What came of the lines: by what the third was overtaken, the answers, and whether each call that found no memory
 /// left the book as it was.
 #[derive(Drop)]
@@ -60,10 +66,14 @@ fn of_first(line: u32) -> Source {
 fn command_of(alloc: Global, graph: &Graph, line: &str) -> Option<Command>
     ensures { IfSome result (IsProper graph.now.resources.vertices) }
 {
-    if let Ok(command) = command_in(alloc, graph, line) {
-        return Some(command);
+    let line = line.as_bytes();
+    if let Ok(first) = line_in(alloc, graph, line) {
+        return Some(first.command);
     }
-    command_in(alloc, graph, line).ok()
+    match line_in(alloc, graph, line) {
+        Ok(first) => Some(first.command),
+        Err(_) => None,
+    }
 }
 
 /// Searches for what a line asks, and commits what was found; nothing overtakes it.
@@ -191,8 +201,8 @@ fn play_at<R: Wait>(
 ///
 /// # Errors
 /// No memory is left for the graph or the book.
-pub fn play<R: Wait>(rt: &R, alloc: Global) -> Result<Option<Played>, AllocError> {
+pub fn play<R: Wait>(rt: &R, alloc: Global) -> Result<Option<Played>, Unmade> {
     let graph = shared_graph(alloc, TWO_NODES)?;
-    let (book, seat) = Book::new(alloc, core_over(alloc, &graph)?)?;
+    let (book, seat) = Book::new(alloc, core_over(alloc, &graph, BOUNDS)?)?;
     Ok(play_at(rt, alloc, &graph, book, seat))
 }

@@ -6,28 +6,21 @@ ghost use Rattle.flux_defs.specs.Scheduler.{IsProper};
 ghost use Rattle.turn_table.specs.declared.view.TheConstants.{ALL_SHARES};
 ghost use Rattle.one_history.specs.Together.{NumbersApart};
 
-use flux_defs::{Gate, Limits, Script};
+use flux_defs::{Gate, Limits, SHIPPED, Script};
 use fluxion_lines::{Form, read_input};
+use history_scenes::{Bounds, core_over};
 use one_history::{Played, play_script};
-use prune_filters::Rules;
 use resource_graph::Graph;
-use sched_core::Core;
 use std::alloc::Global;
 use std::sync::{Arc, Wait};
 use std::test::Fail;
 use std::thread::Threads;
 
-/// A scheduler over the graph.
-pub(crate) fn core_over(alloc: Global, graph: &Arc<Graph, Global>) -> Result<Core, Fail>
-    ensures graph { IfOk result (λ core. core.setting.graph ≡ (arc_value graph.now).resources) }
-    ensures new { IfOk result (λ core. core.journal ≡ []) }
-{
-    let Ok(rules) = Rules::read(alloc, b"ALL:core") else {
-        return Err(Fail::from("no rules"));
-    };
-    let claims = Limits::shipped().claims;
-    Ok(Core::new(alloc, Arc::try_clone(graph)?, rules, 1_000, claims)?)
-}
+/// The second at which time ends, and how many claims all accepted jobs may have.
+pub(crate) const BOUNDS: Bounds = Bounds {
+    horizon: 1_000,
+    claims: SHIPPED.claims,
+};
 
 /// The script of an input.
 fn script_of(alloc: Global, graph: &Graph, input: &[u8]) -> Result<Script, Fail>
@@ -36,10 +29,7 @@ fn script_of(alloc: Global, graph: &Graph, input: &[u8]) -> Result<Script, Fail>
         (λ lines. AllByRecursion (λ l. IsProper graph.now.resources.vertices l.command) lines) script.lines) }
     ensures apart { IfOk result (λ script. NumbersApart script) }
 {
-    match read_input(alloc, graph, Form::Rfc14, input, &Limits::shipped()) {
-        Ok(script) => Ok(script),
-        Err(_) => Err(Fail::from("no script")),
-    }
+    Ok(read_input(alloc, graph, Form::Rfc14, input, &Limits::shipped())?)
 }
 
 /// Plays an input, a thread a client.
@@ -52,7 +42,7 @@ pub(crate) fn played<R: Threads + Wait + Sync, G: Gate + Sync>(
 ) -> Result<Played, Fail>
     ensures { IfOk result (λ played. played.core.setting.graph ≡ (arc_value graph.now).resources) }
 {
-    let core = core_over(alloc, graph)?;
+    let core = core_over(alloc, graph, BOUNDS)?;
     let script = script_of(alloc, graph, input)?;
     Ok(play_script(rt, alloc, core, script, gate)?)
 }

@@ -2,9 +2,10 @@
 ghost use Rattle.std.specs.Prelude.{◌≡◌, ◌<◌};
 ghost use Rattle.std.specs.Arc.{arc_value};
 
-use crate::plays::{core_over, played};
+use crate::plays::{BOUNDS, played};
 use flux_defs::OpenGate;
 use fluxion_lines::history_text;
+use history_scenes::core_over;
 use resource_graph::Graph;
 use sched_core::Core;
 use small_graphs::{TWO_NODES, shared_graph};
@@ -53,7 +54,7 @@ fn replayed(alloc: Global, graph: &Arc<Graph, Global>, core: &Core) -> Result<Co
     requires { core.now.setting.graph ≡ (arc_value graph.now).resources }
 {
     core.is_sound();
-    let mut again = core_over(alloc, graph)?;
+    let mut again = core_over(alloc, graph, BOUNDS)?;
     for at in 0..core.len() {
         let Some(entry) = core.entry(at) else {
             return Err(Fail::from("no entry"));
