@@ -70,7 +70,7 @@ pub fn lines_in(alloc: Global, graph: &Graph, text: &[u8]) -> Result<List<Client
 pub fn line_in(alloc: Global, graph: &Graph, text: &[u8]) -> Result<ClientLine, Unmade>
     ensures line { IfOk result (λ line. slice_get (numbered_lines graph.now form.Rfc14 text.now) 0 ≡ Some line) }
     ensures proper { IfOk result (λ line. IsProper graph.now.resources.vertices line.command) }
-    ensures none { result ≡ Err unmade.Line → numbered_lines graph.now form.Rfc14 text.now ≡ [] }
+    ensures none { result ≡ Err unmade.Line → slice_get (numbered_lines graph.now form.Rfc14 text.now) 0 ≡ None }
 {
     let lines = lines_in(alloc, graph, text)?;
     let Some(found) = lines.get(0) else {
