@@ -112,10 +112,7 @@ fn are_within(graph: &Graph, claims: &[Claim]) -> bool
 }
 
 /// The first claim that isn't free while a job holds the first core.
-pub fn first_gone<L: Ledger>(
-    alloc: Global,
-    steps: &mut Steps<L>,
-) -> Result<Option<usize>, Unmade> {
+pub fn first_gone<L: Ledger>(alloc: Global, steps: &mut Steps<L>) -> Result<Option<usize>, Unmade> {
     let graph = shared_graph(alloc, TWO_NODES)?;
     let job = Job {
         id: 1,

@@ -189,11 +189,7 @@ fn script_in(alloc: Global, graph: &Graph, text: &[u8]) -> Result<Script, InputF
 }
 
 /// The machine of an input, on a scheduler without an entry.
-fn machine_of(
-    alloc: Global,
-    graph: &Arc<Graph, Global>,
-    input: &[u8],
-) -> Result<Machine, Unmade> {
+fn machine_of(alloc: Global, graph: &Arc<Graph, Global>, input: &[u8]) -> Result<Machine, Unmade> {
     let core = core_over(alloc, graph, BOUNDS)?;
     let script = script_in(alloc, graph, input)?;
     Ok(Machine::new(alloc, core, script)?)
@@ -295,7 +291,10 @@ pub fn of_two(alloc: Global) -> Result<([bool; 8], String), Unmade> {
     let graph = shared_graph(alloc, TWO_NODES)?;
     let core = spec(alloc, ONE_CORE, 10, b"")?;
     let mut input = line_with(alloc, b"a allocate 1 ", &core)?.into_vec();
-    push_bytes(&mut input, line_with(alloc, b"b allocate 2 ", &core)?.bytes())?;
+    push_bytes(
+        &mut input,
+        line_with(alloc, b"b allocate 2 ", &core)?.bytes(),
+    )?;
     let mut machine = machine_of(alloc, &graph, input.as_slice())?;
     let mut answers = [false; 8];
     for (at, event) in OF_TWO.iter().enumerate() {

@@ -3,4 +3,6 @@
 
 mod lines;
 
-pub use lines::{ON_SECOND, ONE_CORE, ONE_WHOLE, TWO_WHOLE, line_with, random_ask, random_line, spec};
+pub use lines::{
+    ON_SECOND, ONE_CORE, ONE_WHOLE, TWO_WHOLE, line_with, random_ask, random_line, spec,
+};

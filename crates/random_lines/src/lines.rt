@@ -105,13 +105,7 @@ fn numbered(alloc: Global, client: u64, verb: &[u8], number: u64) -> Result<Text
 }
 
 /// The same, with a job and its jobspec behind the verb.
-fn asked(
-    alloc: Global,
-    client: u64,
-    verb: &[u8],
-    job: u64,
-    spec: &Text,
-) -> Result<Text, AllocError>
+fn asked(alloc: Global, client: u64, verb: &[u8], job: u64, spec: &Text) -> Result<Text, AllocError>
     ensures { IfOk result (λ line. line ≡ line_of client verb.now (decimal job ++ codes " " ++ spec.now)) }
 {
     let mut words = Vec::new(alloc);
