@@ -5,6 +5,6 @@
 #[cfg(test)]
 mod crowds;
 #[cfg(test)]
-mod faults;
+mod running;
 #[cfg(test)]
 mod runs;

@@ -2,42 +2,37 @@
 use prune_filters::{FilterFault, Rules};
 use std::test::Fail;
 
+/// Types above and below, and whether the rules `ALL:core,cluster:node` keep the totals of the one below the other.
+const KEPT: [(&[u8], &[u8], bool); 4] = [
+    (b"rack", b"core", true),
+    (b"cluster", b"node", true),
+    (b"rack", b"node", false),
+    (b"cluster", b"gpu", false),
+];
+
 #[test]
 fn rules_are_read(rt: HostRuntime) -> Result<(), Fail> {
-    let Ok(rules) = Rules::read(rt.alloc(), b"ALL:core,cluster:node") else {
-        assert!(rt; false);
-        return Ok(());
-    };
-    assert!(rt; rules.keeps(b"rack", b"core"));
-    assert!(rt; rules.keeps(b"cluster", b"node"));
-    assert!(rt; !rules.keeps(b"rack", b"node"));
-    assert!(rt; !rules.keeps(b"cluster", b"gpu"));
+    let rules = Rules::read(rt.alloc(), b"ALL:core,cluster:node")?;
+    for (high, low, kept) in KEPT {
+        assert_eq!(rt; rules.keeps(high, low), kept);
+    }
     Ok(())
 }
 
-fn fault(rt: &HostRuntime, text: &[u8]) -> Option<FilterFault> {
-    match Rules::read(rt.alloc(), text) {
-        Ok(_) => None,
-        Err(fault) => Some(fault),
-    }
-}
+/// Texts that are no rules, and where the first item begins that is none.
+const BROKEN: [(&[u8], usize); 6] = [
+    (b"core", 0),
+    (b"", 0),
+    (b"ALL:core,", 9),
+    (b"ALL:core,rack:,node", 9),
+    (b"rack:node:core", 0),
+    (b"rack: node", 0),
+];
 
 #[test]
-fn the_first_broken_item_is_told(rt: HostRuntime) -> Result<(), Fail> {
-    assert_eq!(rt; fault(&rt, b"core"), Some(FilterFault::Form { at: 0 }));
-    assert_eq!(rt; fault(&rt, b""), Some(FilterFault::Form { at: 0 }));
-    assert_eq!(rt; fault(&rt, b"ALL:core,"), Some(FilterFault::Form { at: 9 }));
-    assert_eq!(rt;
-        fault(&rt, b"ALL:core,rack:,node"),
-        Some(FilterFault::Form { at: 9 })
-    );
-    assert_eq!(rt;
-        fault(&rt, b"rack:node:core"),
-        Some(FilterFault::Form { at: 0 })
-    );
-    assert_eq!(rt;
-        fault(&rt, b"rack: node"),
-        Some(FilterFault::Form { at: 0 })
-    );
-    Ok(())
+fn the_first_broken_item_is_told(rt: HostRuntime) {
+    for (text, at) in BROKEN {
+        let fault = Rules::read(rt.alloc(), text).err();
+        assert_eq!(rt; fault, Some(FilterFault::Form { at }));
+    }
 }

@@ -1,125 +1,133 @@
-//! Calls of the scheduler that the program doesn't make: with few claims, and a line at a time.
+//! The scheduler of one thread with fewer claims than the program gives it, and lines of one client alone.
 ghost use Rattle.std.specs.Prelude.{◌≡◌, IfOk};
 ghost use Rattle.std.specs.Arc.{arc_value};
-ghost use Rattle.flux_defs.specs.Needs.{IsProperAsk};
 
-use flux_defs::{Ask, Claim, ClientLine, Command, Entry, Line, Reply};
-use jobspec_canon::read_canon;
+use flux_defs::{Claim, Command, Entry, Limits, Line, List, Reply, Text};
+use fluxion_lines::{Form, history_text, read_lines};
 use prune_filters::Rules;
 use resource_graph::Graph;
 use sched_core::{Core, play, play_client};
 use small_graphs::{TWO_NODES, shared_graph};
-use std::alloc::Global;
+use std::alloc::{AllocError, Global};
 use std::sync::Arc;
 use std::test::Fail;
+use text_forms::{push_bytes, push_decimal};
 
-const FOUR_CORES: [Claim; 5] = [
-    Claim::Pass { vertex: 1 },
-    Claim::Hold { vertex: 2 },
-    Claim::Hold { vertex: 3 },
-    Claim::Hold { vertex: 4 },
-    Claim::Hold { vertex: 5 },
-];
+/// Two lines of one client: asks for four cores and for one, each for a minute. The first job has five claims.
+const TWO_ASKS: &[u8] =
+    b"a allocate 1 {\"version\":1,\"resources\":[{\"type\":\"slot\",\"count\":1,\"label\":\"a\",\"with\":[{\"type\":\"core\",\"count\":4}]}],\"tasks\":[{\"command\":[\"app\"],\"slot\":\"a\",\"count\":{\"total\":1}}],\"attributes\":{\"system\":{\"duration\":60}}}\na allocate 2 {\"version\":1,\"resources\":[{\"type\":\"slot\",\"count\":1,\"label\":\"a\",\"with\":[{\"type\":\"core\",\"count\":1}]}],\"tasks\":[{\"command\":[\"app\"],\"slot\":\"a\",\"count\":{\"total\":1}}],\"attributes\":{\"system\":{\"duration\":60}}}\n";
 
-/// One slot of so many cores for 60 seconds.
-fn slot(alloc: Global, graph: &Graph, cores: u64) -> Result<Ask, Fail>
-    ensures { IfOk result (IsProperAsk graph.now.resources.vertices) }
-{
-    let spec = format!(in alloc;
-        "{{\"version\":1,\"resources\":[{{\"type\":\"slot\",\"count\":1,\"label\":\"a\",\"with\":[{{\"type\":\"core\",\"count\":{cores}}}]}}],\"tasks\":[{{\"command\":[\"app\"],\"slot\":\"a\",\"count\":{{\"total\":1}}}}],\"attributes\":{{\"system\":{{\"duration\":60}}}}}}"
-    )?;
-    match read_canon(alloc, graph, spec.as_bytes()) {
-        Ok(ask) => Ok(ask),
-        Err(_) => Err(Fail::from("no jobspec")),
+/// What has to be told of them: the claims of the second would be too many.
+const ONE_ALLOCATED: &[u8] =
+    b"second 0, 2 entries\nsecond 9, 3 entries\npass 1\nhold 2\nhold 3\nhold 4\nhold 5\n0 1 a allocated 1 0 {\"execution\":{\"R_lite\":[{\"children\":{\"core\":\"0-3\"},\"rank\":\"0\"}],\"expiration\":60,\"nodelist\":[\"node0\"],\"starttime\":0},\"version\":1}\n1 2 a full\n2 3 a now 9\n";
+
+/// A line of each of two clients; and what has to be told of them.
+const OF_TWO: &[u8] = b"a advance 7\nb cancel 1\n";
+
+const BOTH_PLAYED: &[u8] =
+    b"second 7, 2 entries\nsecond 9, 3 entries\n0 1 a now 7\n1 2 b absent\n2 3 a now 9\n";
+
+/// Tells of a scheduler its present moment, and how many entries it has.
+fn tell_moment(core: &Core, told: &mut Vec<u8>) -> Result<(), AllocError> {
+    push_bytes(told, b"second ")?;
+    push_decimal(told, core.now())?;
+    push_bytes(told, b", ")?;
+    push_decimal(told, core.len())?;
+    push_bytes(told, b" entries\n")
+}
+
+/// Tells a claim, a line each.
+fn tell_claim(claim: Claim, told: &mut Vec<u8>) -> Result<(), AllocError> {
+    let word = match claim {
+        Claim::Take { .. } => b"take ".as_slice(),
+        Claim::Hold { .. } => b"hold ".as_slice(),
+        Claim::Pass { .. } => b"pass ".as_slice(),
+    };
+    push_bytes(told, word)?;
+    push_decimal(told, claim.vertex() as u64)?;
+    push_bytes(told, b"\n")
+}
+
+/// Tells the claims of a job that starts at once; nothing of another entry.
+fn tell_claims(entry: Option<&Entry>, told: &mut Vec<u8>) -> Result<(), AllocError> {
+    if let Some(entry) = entry {
+        if let Reply::Allocated(job) = &entry.reply {
+            for claim in job.claims.items() {
+                tell_claim(*claim, told)?;
+            }
+        }
     }
+    Ok(())
 }
 
 /// A scheduler over the graph that accepts 5 claims in all.
-fn narrow(alloc: Global, graph: &Arc<Graph, Global>) -> Result<Core, Fail>
-    ensures { IfOk result (λ core. core.setting.graph ≡ (arc_value graph.now).resources) }
+fn narrow(alloc: Global, graph: Arc<Graph, Global>) -> Result<Core, AllocError>
+    ensures { IfOk result (λ core. core.setting.graph ≡ (arc_value graph).resources) }
 {
-    let Ok(rules) = Rules::read(alloc, b"ALL:core") else {
-        return Err(Fail::from("no rules"));
-    };
-    let core = Core::new(alloc, Arc::try_clone(graph)?, rules, 1000, 5)?;
-    Ok(core)
+    match Rules::read(alloc, b"ALL:core") {
+        Ok(rules) => Core::new(alloc, graph, rules, 1000, 5),
+        Err(_) => Err(AllocError),
+    }
 }
 
-/// Decides an allocate.
-fn allocate(core: &mut Core, graph: &Graph, job: u64, ask: Ask) -> Result<u64, Fail>
+/// Plays the lines of an input.
+fn play_input(
+    alloc: Global,
+    graph: &Graph,
+    core: &mut Core,
+    input: &[u8],
+) -> Result<List<Text>, AllocError>
     requires graph { core.old.setting.graph ≡ graph.now.resources }
-    requires proper { IsProperAsk graph.now.resources.vertices ask }
-    ensures { core.new.setting.graph ≡ graph.now.resources }
 {
-    match core.decide(0, 1, Command::Allocate { job, ask }) {
-        Ok(at) => Ok(at),
-        Err(_) => Err(Fail::from("out of memory")),
+    match read_lines(alloc, graph, Form::Rfc14, input, &Limits::shipped()) {
+        Ok(read) => {
+            play(core, read.lines.into_vec())?;
+            Ok(read.clients)
+        }
+        Err(_) => Err(AllocError),
     }
 }
 
-/// Whether the entry accepted a job from second 0 to 60 with these claims.
-fn is_allocated(entry: Option<&Entry>, claims: &[Claim]) -> bool {
-    match entry {
-        Some(entry) => match &entry.reply {
-            Reply::Allocated(job) => {
-                job.start == 0 && job.end == 60 && job.claims.items() == claims
-            }
-            _ => false,
-        },
-        None => false,
-    }
-}
-
-fn is_full(entry: Option<&Entry>) -> bool {
-    match entry {
-        Some(entry) => matches!(&entry.reply, Reply::Full),
-        None => false,
-    }
-}
-
-#[test]
-fn the_sixth_claim_is_too_many(rt: HostRuntime) -> Result<(), Fail> {
-    let alloc = rt.alloc();
-    let graph = shared_graph(alloc, TWO_NODES)?;
-    let mut core = narrow(alloc, &graph)?;
-    let first = allocate(&mut core, &graph, 1, slot(alloc, &graph, 4)?)?;
-    let second = allocate(&mut core, &graph, 2, slot(alloc, &graph, 1)?)?;
-    assert!(rt; is_allocated(core.entry(first), FOUR_CORES.as_slice()));
-    assert!(rt; is_full(core.entry(second)));
-    assert_eq!(rt; core.len(), 2);
+/// Plays one line more, of the first client alone.
+fn play_line(alloc: Global, core: &mut Core) -> Result<(), AllocError> {
+    let last = Line {
+        line: 3,
+        command: Command::Advance { to: 9 },
+    };
+    play_client(core, 0, vec![in alloc; last]?)?;
     core.is_sound();
     Ok(())
 }
 
-/// The present moments after two lines of two clients, and after one line more.
-fn moments(alloc: Global) -> Result<(u64, u64, usize), Fail> {
+/// What is told of a scheduler over the graph when it has played an input, and when it has played one line more; and
+/// what it answers.
+fn tell(alloc: Global, graph: &Graph, core: &mut Core, input: &[u8]) -> Result<Vec<u8>, AllocError>
+    requires graph { core.old.setting.graph ≡ graph.now.resources }
+{
+    let clients = play_input(alloc, graph, core, input)?;
+    let mut told = Vec::new(alloc);
+    tell_moment(core, &mut told)?;
+    play_line(alloc, core)?;
+    tell_moment(core, &mut told)?;
+    tell_claims(core.entry(0), &mut told)?;
+    let text = history_text(alloc, graph, &clients, core.entries())?;
+    push_bytes(&mut told, text.bytes())?;
+    Ok(told)
+}
+
+/// The same of a scheduler over two nodes that accepts 5 claims in all.
+fn played(alloc: Global, input: &[u8]) -> Result<Vec<u8>, AllocError> {
     let graph = shared_graph(alloc, TWO_NODES)?;
-    let mut core = narrow(alloc, &graph)?;
-    let first = ClientLine {
-        client: 0,
-        line: 1,
-        command: Command::Advance { to: 7 },
-    };
-    let second = ClientLine {
-        client: 1,
-        line: 2,
-        command: Command::Cancel { job: 1 },
-    };
-    play(&mut core, vec![in alloc; first, second]?)?;
-    let moment = core.now();
-    let third = Line {
-        line: 3,
-        command: Command::Advance { to: 9 },
-    };
-    play_client(&mut core, 0, vec![in alloc; third]?)?;
-    Ok((moment, core.now(), core.entries().len() as usize))
+    match narrow(alloc, Arc::try_clone(&graph)?) {
+        Ok(mut core) => tell(alloc, &graph, &mut core, input),
+        Err(fault) => Err(fault),
+    }
 }
 
 #[test]
 fn lines_are_played(rt: HostRuntime) -> Result<(), Fail> {
-    let told = moments(rt.alloc())?;
-    assert_eq!(rt; told.0, 7);
-    assert_eq!(rt; told.1, 9);
-    assert_eq!(rt; told.2, 3);
+    for (input, wanted) in [(TWO_ASKS, ONE_ALLOCATED), (OF_TWO, BOTH_PLAYED)] {
+        assert_eq!(rt; played(rt.alloc(), input)?.as_slice(), wanted);
+    }
     Ok(())
 }
