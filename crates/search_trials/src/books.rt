@@ -4,10 +4,13 @@ ghost use Rattle.std.specs.Prelude.{◌≡◌, ◌<◌};
 use book_state::BookState;
 use flux_defs::{FreeView, Steps};
 use prune_filters::Rules;
+use resource_graph::Graph;
 use small_graphs::{TWO_NODES, shared_graph};
 use std::alloc::{AllocError, Global};
 use std::marker::Brand;
+use std::sync::Arc;
 use std::sync::ledger::{Blank, Ledger};
+use std::test::Fail;
 
 /// Whether the book has no row for the id, and no later point.
 fn is_empty<L: Ledger>(book: &BookState, id: u64, blank: Blank) -> bool
@@ -19,36 +22,28 @@ fn is_empty<L: Ledger>(book: &BookState, id: u64, blank: Blank) -> bool
     book.find(id, &mut steps).is_none() && book.next_point(0, &mut steps).is_none()
 }
 
-/// A book of two nodes.
-fn book(alloc: Global) -> Result<BookState, AllocError> {
-    match (
-        shared_graph(alloc, TWO_NODES),
-        Rules::read(alloc, b"ALL:core"),
-    ) {
-        (Ok(graph), Ok(rules)) => BookState::new(alloc, graph, rules, 1000),
-        _ => Err(AllocError),
+/// A book over the graph.
+fn book(alloc: Global, graph: Arc<Graph, Global>) -> Result<BookState, AllocError> {
+    match Rules::read(alloc, b"ALL:core") {
+        Ok(rules) => BookState::new(alloc, graph, rules, 1000),
+        Err(_) => Err(AllocError),
     }
 }
 
-/// The same book at second 5.
-fn later(book: &BookState) -> Result<BookState, AllocError> {
-    match book.share() {
-        Ok(same) => same.after_advance(5),
-        Err(fault) => Err(fault),
-    }
+/// The moment of the same book at second 5, and whether it is empty.
+fn told_of(book: &BookState) -> Result<(u64, bool), AllocError> {
+    let later = book.share()?.after_advance(5)?;
+    Ok((later.now(), is_empty::<Brand>(&later, 7, Blank::new(1))))
 }
 
-/// The moment of the later book, and whether it is empty.
-fn told(alloc: Global) -> Option<(u64, bool)> {
-    if let Ok(book) = book(alloc) {
-        if let Ok(later) = later(&book) {
-            return Some((later.now(), is_empty::<Brand>(&later, 7, Blank::new(1))));
-        }
-    }
-    None
+/// The same of a book of two nodes.
+fn told(alloc: Global) -> Result<(u64, bool), Fail> {
+    let book = book(alloc, shared_graph(alloc, TWO_NODES)?)?;
+    Ok(told_of(&book)?)
 }
 
 #[test]
-fn a_book_without_jobs(rt: HostRuntime) {
-    assert_eq!(rt; told(rt.alloc()), Some((5, true)));
+fn a_book_without_jobs(rt: HostRuntime) -> Result<(), Fail> {
+    assert_eq!(rt; told(rt.alloc())?, (5, true));
+    Ok(())
 }

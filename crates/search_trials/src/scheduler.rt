@@ -116,12 +116,10 @@ fn tell(alloc: Global, graph: &Graph, core: &mut Core, input: &[u8]) -> Result<V
 }
 
 /// The same of a scheduler over two nodes that accepts 5 claims in all.
-fn played(alloc: Global, input: &[u8]) -> Result<Vec<u8>, AllocError> {
+fn played(alloc: Global, input: &[u8]) -> Result<Vec<u8>, Fail> {
     let graph = shared_graph(alloc, TWO_NODES)?;
-    match narrow(alloc, Arc::try_clone(&graph)?) {
-        Ok(mut core) => tell(alloc, &graph, &mut core, input),
-        Err(fault) => Err(fault),
-    }
+    let mut core = narrow(alloc, Arc::try_clone(&graph)?)?;
+    Ok(tell(alloc, &graph, &mut core, input)?)
 }
 
 #[test]
