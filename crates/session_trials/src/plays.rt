@@ -29,7 +29,10 @@ fn script_of(alloc: Global, graph: &Graph, input: &[u8]) -> Result<Script, Fail>
         (λ lines. AllByRecursion (λ l. IsProper graph.now.resources.vertices l.command) lines) script.lines) }
     ensures apart { IfOk result (λ script. NumbersApart script) }
 {
-    Ok(read_input(alloc, graph, Form::Rfc14, input, &Limits::shipped())?)
+    match read_input(alloc, graph, Form::Rfc14, input, &Limits::shipped()) {
+        Ok(script) => Ok(script),
+        Err(_) => Err(Fail::from("no script")),
+    }
 }
 
 /// Plays an input, a thread a client.
