@@ -6,9 +6,9 @@ ghost use Rattle.std.specs.Arc.{arc_value};
 ghost use Rattle.sched_core.specs.Played.{AreProper};
 
 use crate::running::{Given, end_of};
-use flux_defs::{ClientLine, Limits, List, Text};
+use flux_defs::{ClientLine, Limits, List, SHIPPED, Text};
 use fluxion_lines::{Form, history_text, line_feeds, read_lines};
-use prune_filters::Rules;
+use history_scenes::{Bounds, core_over};
 use resource_graph::Graph;
 use sched_core::Core;
 use small_graphs::{TWO_NODES, shared_graph};
@@ -17,8 +17,11 @@ use std::sync::Arc;
 use std::test::Fail;
 use text_forms::number_in;
 
-/// The horizon without an option.
-const HORIZON: u64 = 315_360_000;
+/// The horizon without an option, and the most claims of all accepted jobs.
+const BOUNDS: Bounds = Bounds {
+    horizon: 315_360_000,
+    claims: SHIPPED.claims,
+};
 
 /// A jobspec for one core of a slot, and one for a node of its own.
 const CORE: &str =
@@ -66,9 +69,7 @@ fn decided(
 ) -> Result<Core, Fail>
     requires { AreProper (arc_value graph.now).resources.vertices lines.now }
 {
-    let rules = Rules::read(alloc, b"ALL:core")?;
-    let claims = Limits::shipped().claims;
-    let mut core = Core::new(alloc, Arc::try_clone(graph)?, rules, HORIZON, claims)?;
+    let mut core = core_over(alloc, graph, BOUNDS)?;
     for number in order {
         let Some(line) = lines.get((*number as usize).saturating_sub(1)) else {
             return Err(Fail::from("no line"));

@@ -168,49 +168,34 @@ fn a_long_line_is_past_a_limit(rt: HostRuntime) -> Result<(), Fail> {
     Ok(())
 }
 
-/// Past a limit.
-fn past(which: Which, found: u64) -> Status {
-    Status::Limit(Limited { which, found })
-}
-
 #[test]
 fn each_status_has_its_number(rt: HostRuntime) -> Result<(), Fail> {
-    for (status, number, line) in [
-        (Status::Ok, 0, ""),
+    let alloc = rt.alloc();
+    for (which, found, line) in [
         (
-            Status::Usage,
-            2,
-            "usage: fluxion serve GRAPH [--horizon N] [--filters LIST] [--jobspec FORM] | fluxion graph GRAPH | fluxion load N\n",
-        ),
-        (
-            Status::Graph(ReadFault::NotJson),
-            3,
-            "fluxion: graph: json\n",
-        ),
-        (Status::Read, 4, READ),
-        (Status::Write, 5, WRITE),
-        (Status::Memory, 6, "fluxion: out of memory\n"),
-        (
-            past(Which::GraphBytes, 268_435_457),
-            7,
+            Which::GraphBytes,
+            268_435_457,
             "fluxion: limit: graph-bytes 268435457\n",
         ),
         (
-            past(Which::InputBytes, 268_435_457),
-            7,
+            Which::InputBytes,
+            268_435_457,
             "fluxion: limit: input-bytes 268435457\n",
         ),
-        (
-            past(Which::Lines, 262_145),
-            7,
-            "fluxion: limit: lines 262145\n",
-        ),
-        (past(Which::Clients, 65), 7, "fluxion: limit: clients 65\n"),
-        (past(Which::Barred, 2), 7, "fluxion: limit: barred 2\n"),
-        (Status::NoGraphFile, 8, "fluxion: no such file\n"),
+        (Which::Lines, 262_145, "fluxion: limit: lines 262145\n"),
+        (Which::Clients, 65, "fluxion: limit: clients 65\n"),
+        (Which::Barred, 2, "fluxion: limit: barred 2\n"),
     ] {
-        let found = fault_line(rt.alloc(), &status)?;
-        assert_eq!(rt; (code(&status), found.bytes()), (number, line.as_bytes()));
+        let status = Status::Limit(Limited { which, found });
+        assert_eq!(rt; fault_line(alloc, &status)?.bytes(), line.as_bytes());
+        assert_eq!(rt; code(&status), 7);
     }
+    assert_eq!(rt; code(&Status::Ok), 0);
+    assert_eq!(rt; code(&Status::Usage), 2);
+    assert_eq!(rt; code(&Status::Graph(ReadFault::NotJson)), 3);
+    assert_eq!(rt; code(&Status::Read), 4);
+    assert_eq!(rt; code(&Status::Write), 5);
+    assert_eq!(rt; code(&Status::Memory), 6);
+    assert_eq!(rt; code(&Status::NoGraphFile), 8);
     Ok(())
 }
