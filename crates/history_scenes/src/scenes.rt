@@ -3,10 +3,13 @@ ghost use Rattle.std.specs.Prelude.{◌≡◌, ◌⊎◌, List, None, Some, [], 
 ghost use Rattle.std.specs.Arc.{arc_value};
 ghost use Rattle.flux_defs.specs.Scheduler.{IsProper};
 ghost use Rattle.flux_defs.specs.declared.limits.TheConstants.{SHIPPED};
+ghost use Rattle.graph_json.specs.declared.faults.ReadFault.{ReadFault};
+ghost use Rattle.prune_filters.specs.declared.rules.FilterFault.{FilterFault};
 ghost use Rattle.prune_filters.specs.declared.rules.Rule.{Rule};
 ghost use Rattle.prune_filters.specs.Filters.{AreRulesOf, IsFaultOf};
 ghost use Rattle.fluxion_lines.specs.declared.commands.Form.TheVariants as form;
 ghost use Rattle.fluxion_lines.specs.declared.input.Over.{Over};
+ghost use Rattle.fluxion_lines.specs.declared.input.InputFault.{InputFault};
 ghost use Rattle.fluxion_lines.specs.declared.input.InputFault.TheVariants as fault;
 ghost use Rattle.fluxion_lines.specs.Inputs.{numbered_lines, over_in};
 ghost use Rattle.sched_core.specs.Courses.{empty_course};
@@ -71,6 +74,10 @@ pub fn line_in(alloc: Global, graph: &Graph, text: &[u8]) -> Result<ClientLine, 
     ensures line { IfOk result (λ line. slice_get (numbered_lines graph.now form.Rfc14 text.now) 0 ≡ Some line) }
     ensures proper { IfOk result (λ line. IsProper graph.now.resources.vertices line.command) }
     ensures none { result ≡ Err unmade.Line → slice_get (numbered_lines graph.now form.Rfc14 text.now) 0 ≡ None }
+    ensures graph { (why : ReadFault) → result ≡ Err (unmade.Graph why) → ⊥ }
+    ensures rules { (why : FilterFault) → result ≡ Err (unmade.Rules why) → ⊥ }
+    ensures over { (why : InputFault) → result ≡ Err (unmade.Input why) → (why ≡ fault.Memory) ⊎ ((over : Over)
+        × (why ≡ fault.Over over) × (over_in SHIPPED graph.now form.Rfc14 text.now ≡ Some over)) }
 {
     let lines = lines_in(alloc, graph, text)?;
     let Some(found) = lines.get(0) else {
