@@ -1,5 +1,5 @@
-//! Runs of the program over objects in memory: each call of the files, of the input and of the output fails in turn, the
-//! graph file ends at each of its bytes, and a line is too long for a row; and the numbers and lines of all statuses.
+//! Runs of the program over objects in memory: each call of the files, of the input and of the output fails in turn,
+//! the graph file ends at each of its bytes, and a line is too long for a row; and the numbers of all statuses.
 use crate::running::{Given, end_of};
 use fluxion_shell::{Limited, Status, Which, code, fault_line};
 use graph_json::ReadFault;

@@ -15,8 +15,8 @@ decide-requires c =
     let there : slice_get c.args.lines.now at ≡ Some line = sym c.in-Some.ensures.value in
     let proper =
     all_at (λ (l : ClientLine). IsProper graph.vertices l.command) c.args.lines.now at line c.requires there in
-    let copied = subst (λ (k : Command). IsProper graph.vertices k) (sym c.in_ok-command.ensures) proper in
+    let kept = subst (λ (k : Command). IsProper graph.vertices k) (sym c.in_ok-command.ensures) proper in
     record {
       proper =
-          subst (λ (g : ResourceGraph). IsProper g.vertices c.in_ok-command.command) (sym c.loop-number.invariant) copied;
+          subst (λ (g : ResourceGraph). IsProper g.vertices c.in_ok-command.command) (sym c.loop-number.invariant) kept;
     }
