@@ -1,15 +1,10 @@
 -- Lists of values that grow at their end, and what is taken of a list.
 use Rattle.std.proofs.Common.{◌≡◌, ◌≤◌, ℕ, List, [], ◌∷◌, ◌++◌, length, take, drop, ◌∙◌, ap, arith}
-use Rattle.std.specs.Prelude.{IfOk, Result, Ok, Err}
 use Rattle.std.specs.Borrow.{Bor}
 use Rattle.std.proofs.lemmas.List.{drop-append-le, take-append-le, length-append}
 use Rattle.json.specs.Value.{value_view, items_view, members_view}
 use Rattle.json.specs.declared.value.Value.{Value}
 use Rattle.json_whole.specs.Stays.{Stays, ItemsStay, MembersStay}
-
-pub if_ok : {A E : Type 0} {P Q : A → Type 0} (r : Result A E) → IfOk r P → ((a : A) → P a → Q a) → IfOk r Q
-if_ok (Ok a) p f = f a p
-if_ok (Err e) p f = tt
 
 -- of a list that grew by one, from the place on
 module _ {A : Type 0} (from : ℕ) (was : List A) (now : List A) (x : A) (within : from ≤ length was)

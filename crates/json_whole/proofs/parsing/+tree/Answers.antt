@@ -11,7 +11,8 @@ use Rattle.json.proofs.Grammar.{items_end, items_more, members_end, members_more
 use Rattle.json.proofs.Trees.{items_before, members_before, items_before-no_items, members_before-no_members}
 use Rattle.json.proofs.Trees.{one_more_item, one_more_member, view-Array, view-Object}
 use Rattle.json_whole.specs.Stays.{ItemsStay, MembersStay}
-use Rattle.json_whole.proofs.Growing.{if_ok, grown_back, grown_front, grown_within, items_stay, members_stay}
+use Rattle.std.proofs.lemmas.Result.{IfOk-weaker}
+use Rattle.json_whole.proofs.Growing.{grown_back, grown_front, grown_within, items_stay, members_stay}
 use Rattle.json_whole.proofs.parsing.+tree.Goals as goal
 
 pub read_one-returns-in-String-clause-ok : goal.read_one-returns-in-String-clause-ok
@@ -100,9 +101,10 @@ read_items-returns-clause-ok t c =
     let n = l.invariant.0 in
     let r = c.take_end_array.new.self in
     let found = drop c.len-from.result l.unfinished.items.items in
-    if_ok c.take_from.result c.take_from.ensures.taken (λ list taken. l.invariant.2
+    IfOk-weaker c.take_from.result _ _ (λ list taken. l.invariant.2
     ∙ ap (parse_map (items_before found)) (items_end p n l.reader r l.invariant.1 (grind arith))
     ∙ ap (λ js. Some (js, r)) (items_before-no_items found ∙ ap items_view (sym taken)))
+    c.take_from.ensures.taken
 
 pub read_members-members-preserved : goal.read_members-members-preserved
 read_members-members-preserved t c =
@@ -143,6 +145,7 @@ read_members-returns-clause-ok t c =
     let r = c.next_key.new.self in
     let found = drop c.len-from.result l.unfinished.members.items in
     let closed : read_key l.reader ≡ Some (None, r) = grind arith in
-    if_ok c.take_from.result c.take_from.ensures.taken (λ list taken. l.invariant.2
+    IfOk-weaker c.take_from.result _ _ (λ list taken. l.invariant.2
     ∙ ap (parse_map (members_before found)) (members_end p n l.reader r l.invariant.1 closed)
     ∙ ap (λ ms. Some (ms, r)) (members_before-no_members found ∙ ap members_view (sym taken)))
+    c.take_from.ensures.taken
