@@ -13,8 +13,9 @@ ghost use Rattle.fluxion_lines.specs.Commands.{ask_alone, number_alone, made, co
 use crate::reasons::spec_reason;
 use crate::words::{first_word, skipped};
 use flux_defs::{Ask, Command, Text};
-use jobspec_canon::read_canon;
-use jobspec_v1::{SpecFault, read_v1};
+use jobspec_canon::read_canon_in;
+use jobspec_v1::{SpecFault, read_v1_in};
+use json_whole::Room;
 use resource_graph::Graph;
 use std::alloc::{AllocError, Global};
 use text_forms::number_in;
@@ -104,28 +105,35 @@ fn invalid(alloc: Global, why: &[u8]) -> Result<Command, AllocError>
 }
 
 /// The ask of a jobspec in its form, or its first fault.
-fn read_spec(alloc: Global, graph: &Graph, form: Form, spec: &[u8]) -> Result<Ask, SpecFault>
+fn read_spec<'b>(
+    alloc: Global,
+    graph: &Graph,
+    form: Form,
+    spec: &'b [u8],
+    room: &mut Room<'b>,
+) -> Result<Ask, SpecFault>
     ensures ask { IfOk result (λ ask. spec_of graph.now form spec.now ≡ Ok ask) }
     ensures proper { IfOk result (IsProperAsk graph.now.resources.vertices) }
     ensures told { IfErr result (IsFirstFault (spec_of graph.now form spec.now)) }
 {
     match form {
-        Form::V1 => read_v1(alloc, graph, spec),
-        Form::Rfc14 => read_canon(alloc, graph, spec),
+        Form::V1 => read_v1_in(alloc, graph, spec, room),
+        Form::Rfc14 => read_canon_in(alloc, graph, spec, room),
     }
 }
 
 /// The ask of a jobspec, or why it has none.
-fn asked(
+fn asked<'b>(
     alloc: Global,
     graph: &Graph,
     form: Form,
-    spec: &[u8],
+    spec: &'b [u8],
+    room: &mut Room<'b>,
 ) -> Result<Result<Ask, Text>, AllocError>
     ensures read { IfOk result (λ read. read ≡ asked graph.now form spec.now) }
     ensures proper { IfOk result (λ read. IfOk read (IsProperAsk graph.now.resources.vertices)) }
 {
-    match read_spec(alloc, graph, form, spec) {
+    match read_spec(alloc, graph, form, spec, room) {
         Ok(ask) => Ok(Ok(ask)),
         Err(SpecFault::Memory) => Err(AllocError),
         Err(fault) => Ok(Err(spec_reason(alloc, &fault)?)),
@@ -140,11 +148,12 @@ fn refused<T>(alloc: Global, why: &[u8]) -> Result<Result<T, Text>, AllocError>
 }
 
 /// A job and the ask of its jobspec, or why there is none.
-fn job_and_ask(
+fn job_and_ask<'b>(
     alloc: Global,
     graph: &Graph,
     form: Form,
-    words: &[u8],
+    words: &'b [u8],
+    room: &mut Room<'b>,
 ) -> Result<Result<(u64, Ask), Text>, AllocError>
     ensures read { IfOk result (λ read. read ≡ job_and_ask graph.now form words.now) }
     ensures proper { IfOk result (λ read. IfOk read (λ p. IsProperAsk graph.now.resources.vertices p.1)) }
@@ -157,18 +166,19 @@ fn job_and_ask(
     let Some(job) = number_in(word) else {
         return refused(alloc, b"job");
     };
-    match asked(alloc, graph, form, spec)? {
+    match asked(alloc, graph, form, spec, room)? {
         Ok(ask) => Ok(Ok((job, ask))),
         Err(why) => Ok(Err(why)),
     }
 }
 
 /// The ask of the one jobspec, or why there is none.
-fn ask_alone(
+fn ask_alone<'b>(
     alloc: Global,
     graph: &Graph,
     form: Form,
-    words: &[u8],
+    words: &'b [u8],
+    room: &mut Room<'b>,
 ) -> Result<Result<Ask, Text>, AllocError>
     ensures read { IfOk result (λ read. read ≡ ask_alone graph.now form words.now) }
     ensures proper { IfOk result (λ read. IfOk read (IsProperAsk graph.now.resources.vertices)) }
@@ -177,7 +187,7 @@ fn ask_alone(
     if spec.is_empty() {
         return refused(alloc, b"words");
     }
-    asked(alloc, graph, form, spec)
+    asked(alloc, graph, form, spec, room)
 }
 
 /// The one number, or why there is none.
@@ -194,31 +204,49 @@ fn number_alone(alloc: Global, fault: &[u8], words: &[u8]) -> Result<Result<u64,
     }
 }
 
-fn allocate(alloc: Global, graph: &Graph, form: Form, words: &[u8]) -> Result<Command, AllocError>
+fn allocate<'b>(
+    alloc: Global,
+    graph: &Graph,
+    form: Form,
+    words: &'b [u8],
+    room: &mut Room<'b>,
+) -> Result<Command, AllocError>
     ensures command { IfOk result (λ c. c ≡ command_by graph.now form Verb.Allocate words.now) }
     ensures proper { IfOk result (IsProper graph.now.resources.vertices) }
 {
-    match job_and_ask(alloc, graph, form, words)? {
+    match job_and_ask(alloc, graph, form, words, room)? {
         Ok((job, ask)) => Ok(Command::Allocate { job, ask }),
         Err(why) => Ok(Command::Invalid { why }),
     }
 }
 
-fn reserve(alloc: Global, graph: &Graph, form: Form, words: &[u8]) -> Result<Command, AllocError>
+fn reserve<'b>(
+    alloc: Global,
+    graph: &Graph,
+    form: Form,
+    words: &'b [u8],
+    room: &mut Room<'b>,
+) -> Result<Command, AllocError>
     ensures command { IfOk result (λ c. c ≡ command_by graph.now form Verb.Reserve words.now) }
     ensures proper { IfOk result (IsProper graph.now.resources.vertices) }
 {
-    match job_and_ask(alloc, graph, form, words)? {
+    match job_and_ask(alloc, graph, form, words, room)? {
         Ok((job, ask)) => Ok(Command::Reserve { job, ask }),
         Err(why) => Ok(Command::Invalid { why }),
     }
 }
 
-fn satisfy(alloc: Global, graph: &Graph, form: Form, words: &[u8]) -> Result<Command, AllocError>
+fn satisfy<'b>(
+    alloc: Global,
+    graph: &Graph,
+    form: Form,
+    words: &'b [u8],
+    room: &mut Room<'b>,
+) -> Result<Command, AllocError>
     ensures command { IfOk result (λ c. c ≡ command_by graph.now form Verb.Satisfy words.now) }
     ensures proper { IfOk result (IsProper graph.now.resources.vertices) }
 {
-    match ask_alone(alloc, graph, form, words)? {
+    match ask_alone(alloc, graph, form, words, room)? {
         Ok(ask) => Ok(Command::Satisfy { ask }),
         Err(why) => Ok(Command::Invalid { why }),
     }
@@ -255,32 +283,35 @@ fn advance(alloc: Global, words: &[u8]) -> Result<Command, AllocError>
 }
 
 /// What the words behind a verb command.
-fn command_by(
+fn command_by<'b>(
     alloc: Global,
     graph: &Graph,
     form: Form,
     verb: Verb,
-    words: &[u8],
+    words: &'b [u8],
+    room: &mut Room<'b>,
 ) -> Result<Command, AllocError>
     ensures command { IfOk result (λ c. c ≡ command_by graph.now form verb words.now) }
     ensures proper { IfOk result (IsProper graph.now.resources.vertices) }
 {
     match verb {
-        Verb::Allocate => allocate(alloc, graph, form, words),
-        Verb::Reserve => reserve(alloc, graph, form, words),
-        Verb::Satisfy => satisfy(alloc, graph, form, words),
+        Verb::Allocate => allocate(alloc, graph, form, words, room),
+        Verb::Reserve => reserve(alloc, graph, form, words, room),
+        Verb::Satisfy => satisfy(alloc, graph, form, words, room),
         Verb::Cancel => cancel(alloc, words),
         Verb::Info => info(alloc, words),
         Verb::Advance => advance(alloc, words),
     }
 }
 
-/// What a line commands: the client's name, a verb, and the verb's words, each behind one space or more.
-pub(crate) fn command_of(
+/// What a line commands: the client's name, a verb, and the verb's words, each behind one space or more. Its jobspec is
+/// read by way of the room.
+pub(crate) fn command_of<'b>(
     alloc: Global,
     graph: &Graph,
     form: Form,
-    line: &[u8],
+    line: &'b [u8],
+    room: &mut Room<'b>,
 ) -> Result<Command, AllocError>
     ensures command { IfOk result (λ c. c ≡ command_of graph.now form line.now) }
     ensures proper { IfOk result (IsProper graph.now.resources.vertices) }
@@ -291,7 +322,7 @@ pub(crate) fn command_of(
     }
     let (word, words) = first_word(rest);
     match verb_of(word) {
-        Some(verb) => command_by(alloc, graph, form, verb, words),
+        Some(verb) => command_by(alloc, graph, form, verb, words, room),
         None => invalid(alloc, b"command"),
     }
 }

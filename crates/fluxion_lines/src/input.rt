@@ -12,6 +12,7 @@ ghost use Rattle.fluxion_lines.specs.Inputs.{over_bars, over_in};
 use crate::commands::{Form, bars_of_command, client_of, command_of};
 use crate::lines::{cut_line, without_return};
 use flux_defs::{ClientLine, Command, Limits, List, Text};
+use json_whole::Room;
 use resource_graph::Graph;
 use std::alloc::{AllocError, AllocFailed, Global};
 use text_forms::push;
@@ -97,14 +98,15 @@ fn over_size(limits: &Limits, at: u64, bytes: usize, clients: usize) -> Option<O
 
 /// The line of a number, from its bytes; the table of clients gains its client. A jobspec is read only where the line
 /// is past no limit that its text tells.
-fn read_line(
+fn read_line<'b>(
     alloc: Global,
     graph: &Graph,
     form: Form,
     limits: &Limits,
     at: u64,
-    raw: &[u8],
+    raw: &'b [u8],
     table: &mut TextTable,
+    room: &mut Room<'b>,
 ) -> Result<ClientLine, InputFault>
     requires lines { limits.now.lines < 2 ^ 32 }
     requires clients { limits.now.clients < 2 ^ 32 }
@@ -120,7 +122,7 @@ fn read_line(
     if let Some(over) = over_size(limits, at, raw.len(), table.len()) {
         return Err(InputFault::Over(over));
     }
-    let command = command_of(alloc, graph, form, text)?;
+    let command = command_of(alloc, graph, form, text, room)?;
     Ok(ClientLine {
         client: client as u32,
         line: at as u32,
@@ -164,13 +166,14 @@ pub fn read_lines(
         × (fault ≡ InputFault.Over over) × (over_in limits.now graph.now form bytes.now ≡ Some over))) }
 {
     let mut table = TextTable::new(alloc);
+    let mut room = Room::new(alloc);
     let mut lines = Vec::new(alloc);
     let mut bars = 0;
     let mut rest = bytes;
     'lines: while !rest.is_empty() {
         let (raw, more) = cut_line(rest);
         let at = lines.len() as u64 + 1;
-        let line = match read_line(alloc, graph, form, limits, at, raw, &mut table) {
+        let line = match read_line(alloc, graph, form, limits, at, raw, &mut table, &mut room) {
             Ok(line) => line,
             Err(fault) => return Err(fault),
         };

@@ -44,7 +44,21 @@ pub fn read_canon(alloc: Global, graph: &Graph, bytes: &[u8]) -> Result<Ask, Spe
         (λ fault. (v1 : Ask) → v1_of graph.now bytes.now ≡ Ok v1 → fault ≡ SpecFault.Memory) }
 {
     let mut room = Room::new(alloc);
-    match read_bytes(alloc, bytes, &mut room) {
+    read_canon_in(alloc, graph, bytes, &mut room)
+}
+
+/// The same by way of a room that is kept from text to text.
+pub fn read_canon_in<'b>(
+    alloc: Global,
+    graph: &Graph,
+    bytes: &'b [u8],
+    room: &mut Room<'b>,
+) -> Result<Ask, SpecFault>
+    ensures ask { IfOk result (λ ask. canon_of graph.now bytes.now ≡ Ok ask) }
+    ensures proper { IfOk result (IsProperAsk graph.now.resources.vertices) }
+    ensures told { IfErr result (IsFirstFault (canon_of graph.now bytes.now)) }
+{
+    match read_bytes(alloc, bytes, room) {
         Ok(value) => canon_in(alloc, graph, &value),
         Err(ValueFault::NotJson) => Err(SpecFault::NotJson),
         Err(ValueFault::Memory) => Err(SpecFault::Memory),

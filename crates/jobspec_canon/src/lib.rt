@@ -3,4 +3,4 @@
 
 mod canonical;
 
-pub use canonical::read_canon;
+pub use canonical::{read_canon, read_canon_in};

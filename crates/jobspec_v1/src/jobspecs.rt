@@ -179,7 +179,21 @@ pub fn read_v1(alloc: Global, graph: &Graph, bytes: &[u8]) -> Result<Ask, SpecFa
     ensures told { IfErr result (IsFirstFault (v1_of graph.now bytes.now)) }
 {
     let mut room = Room::new(alloc);
-    match read_bytes(alloc, bytes, &mut room) {
+    read_v1_in(alloc, graph, bytes, &mut room)
+}
+
+/// The same by way of a room that is kept from text to text.
+pub fn read_v1_in<'b>(
+    alloc: Global,
+    graph: &Graph,
+    bytes: &'b [u8],
+    room: &mut Room<'b>,
+) -> Result<Ask, SpecFault>
+    ensures ask { IfOk result (λ ask. v1_of graph.now bytes.now ≡ Ok ask) }
+    ensures proper { IfOk result (IsProperAsk graph.now.resources.vertices) }
+    ensures told { IfErr result (IsFirstFault (v1_of graph.now bytes.now)) }
+{
+    match read_bytes(alloc, bytes, room) {
         Ok(value) => v1_in(alloc, graph, &value),
         Err(ValueFault::NotJson) => Err(SpecFault::NotJson),
         Err(ValueFault::Memory) => Err(SpecFault::Memory),

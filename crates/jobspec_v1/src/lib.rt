@@ -11,4 +11,4 @@ pub mod requests;
 pub mod tasks;
 
 pub use faults::SpecFault;
-pub use jobspecs::read_v1;
+pub use jobspecs::{read_v1, read_v1_in};

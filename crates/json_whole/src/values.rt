@@ -105,7 +105,7 @@ pub fn read_value<'a>(
 }
 
 /// What a value borrows beside its text: room for texts with escapes, and the plain form where that is another text.
-/// What was read by way of it stays until it is dropped.
+/// What was read by way of it stays until it is lent to the next read, so one room serves many texts in turn.
 #[derive(Drop)]
 pub struct Room<'b> {
     scratch: Scratch,
@@ -184,6 +184,7 @@ pub fn read_bytes<'a, 'b: 'a>(
     ensures not_json { IsErrOf result ValueFault.NotJson → value_of bytes.now ≡ None }
 {
     let Room { scratch, others } = room;
+    others.clear();
     match read_as_it_stands(alloc, bytes, scratch) {
         Ok(value) => Ok(value),
         Err(TreeFault::Memory) => Err(ValueFault::Memory),

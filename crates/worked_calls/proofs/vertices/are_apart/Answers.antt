@@ -3,7 +3,7 @@ use Rattle.std.proofs.Common.{below_more, true≢false}
 use Rattle.std.specs.Prelude.{slice_get, IsSome}
 use Rattle.std.proofs.lemmas.Bool.{cases_order}
 use Rattle.std.proofs.lemmas.Option.{slice_get_within}
-use Rattle.text_trials.proofs.graph_lists.are_apart.Goals as goal
+use Rattle.worked_calls.proofs.vertices.are_apart.Goals as goal
 
 there : (kinds : List (List ℕ)) (k : ℕ) → IsSome (slice_get kinds k) → k < length kinds
 there kinds k some = go (slice_get kinds k) refl some

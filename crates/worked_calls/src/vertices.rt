@@ -1,10 +1,8 @@
 //! Lists of vertices that come from no file: their faults.
-//!
-//! A list is a text: a vertex a line, each of them its type, its name, the index of its parent and its size, with `-`
-//! for none. A type that isn't among `TYPES` is a kind past the last.
 ghost use Rattle.std.specs.Prelude.{IsTrue};
 ghost use Rattle.graph_build.specs.Raw.{KindsApart};
 
+use crate::words::{with_number, word};
 use flux_defs::{List, Text};
 use graph_build::{GraphFault, RawVertex, build};
 use resource_graph::graph::index_of_text;
@@ -36,6 +34,8 @@ fn types(alloc: Global) -> Result<List<Text>, AllocError> {
     Ok(List::of_vec(kinds))
 }
 
+/// A vertex from its type, its name, the index of its parent and its size, with `-` for none. A type that isn't among
+/// `TYPES` is a kind past the last.
 fn vertex_of(alloc: Global, kinds: &[Text], line: &[u8]) -> Result<RawVertex, AllocError> {
     let mut words = line.split(|byte| *byte == b' ');
     let kind = index_of_text(kinds, words.next().unwrap_or(b"")).unwrap_or(kinds.len());
@@ -57,53 +57,26 @@ fn vertex_of(alloc: Global, kinds: &[Text], line: &[u8]) -> Result<RawVertex, Al
 
 fn vertices_of(alloc: Global, kinds: &[Text], lines: &[u8]) -> Result<List<RawVertex>, AllocError> {
     let mut raw = Vec::new(alloc);
-    for line in lines.split(|byte| *byte == b'\n') {
+    for line in lines.split(|byte| *byte == b'|') {
         raw.push(vertex_of(alloc, kinds, line)?)?;
     }
     Ok(List::of_vec(raw))
 }
 
-/// The fault of a list.
-fn fault_of(alloc: Global, lines: &[u8]) -> Option<GraphFault> {
-    let Ok(kinds) = types(alloc) else {
-        return None;
-    };
-    let Ok(raw) = vertices_of(alloc, kinds.items(), lines) else {
-        return None;
-    };
+/// The first fault of a list.
+pub(crate) fn fault(alloc: Global, text: &[u8]) -> Result<Vec<u8>, AllocError> {
+    let kinds = types(alloc)?;
+    let raw = vertices_of(alloc, kinds.items(), text)?;
     if !are_apart(kinds.items()) {
-        return None;
+        return word(alloc, b"equal types");
     }
-    build(alloc, kinds, raw).err()
-}
-
-/// A list and its fault, which a later vertex has too.
-const REFUSED: [(&[u8], GraphFault); 4] = [
-    (
-        b"cluster cluster0 -\nnode node0 9\nnode node1 3",
-        GraphFault::UnknownParent { vertex: 1 },
-    ),
-    (
-        b"cluster cluster0 -\nchassis c0 0\nchassis c1 0",
-        GraphFault::UnknownKind { vertex: 1 },
-    ),
-    (
-        b"cluster cluster0 -\nmemory memory0 0 70368744177664\nmemory memory1 0 70368744177665\n\
-memory memory2 0 70368744177666",
-        GraphFault::Large { vertex: 2 },
-    ),
-    // the size is looked at before the id that the core lacks
-    (
-        b"cluster cluster0 -\nnode node0 0\ncore core0 1\nmemory memory0 0 70368744177665",
-        GraphFault::Large { vertex: 3 },
-    ),
-];
-
-#[test]
-fn refused(rt: HostRuntime) {
-    let mut at = 0u32;
-    for (lines, fault) in REFUSED {
-        assert_eq!(rt; fault_of(rt.alloc(), lines), Some(fault), "at {at}");
-        at = at.saturating_add(1);
+    match build(alloc, kinds, raw) {
+        Err(GraphFault::UnknownParent { vertex }) => {
+            with_number(alloc, b"parent", u64::from(vertex))
+        }
+        Err(GraphFault::UnknownKind { vertex }) => with_number(alloc, b"kind", u64::from(vertex)),
+        Err(GraphFault::Large { vertex }) => with_number(alloc, b"large", u64::from(vertex)),
+        Err(_) => word(alloc, b"another fault"),
+        Ok(_) => word(alloc, b"a graph"),
     }
 }
