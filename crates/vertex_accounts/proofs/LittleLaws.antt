@@ -1,14 +1,17 @@
 -- Moments at which a vertex is held or closed, and at which its total of a type is too little.
-use Rattle.std.proofs.Common.{◌≡◌, ℕ, ◌+◌, ◌-◌, ◌<◌, ◌≤◌, ◌↔◌, Bool, false, is_some, List, length, Option, Some}
+use Rattle.std.proofs.Common.{◌≡◌, ℕ, zero, suc, ◌+◌, ◌-◌, ◌<◌, ◌≤◌, ◌↔◌, Bool, false, ◌||◌, ◌&&◌, is_some, List, [], ◌∷◌}
+use Rattle.std.proofs.Common.{length, Option, Some}
 use Rattle.std.proofs.Common.{None, MatchOption, inl, inr}
 use Rattle.std.proofs.Common.{refl, sym, ◌∙◌, subst, arith, IsTrue, true≢false}
 use Rattle.std.proofs.lemmas.Bool.{cases_Bool}
 use Rattle.flux_defs.specs.declared.vertices.Vertex.{Vertex}
+use Rattle.std.specs.List.{AllByRecursion, list_any}
+use Rattle.flux_defs.specs.declared.claims.Claim.{Claim}
 use Rattle.flux_defs.specs.declared.claims.Job.{Job}
 use Rattle.flux_defs.specs.declared.claims.Window.{Window}
 use Rattle.flux_defs.specs.Graph.{ResourceGraph, chain, parent_of}
 use Rattle.flux_defs.specs.ValidGraph.{StandsInPreorder}
-use Rattle.flux_defs.specs.Jobs.{some_live_claim, SomeMoment}
+use Rattle.flux_defs.specs.Jobs.{is_live, some_live_claim, SomeMoment}
 use Rattle.flux_defs.specs.Closed.{no_bars, is_closed, IsClosedOver}
 use Rattle.flux_defs.specs.Free.{total_at, IsTotalOver, IsTooLittle, IsTooLittleAt}
 use Rattle.graph_laws.proofs.Preorder.{parents_first}
@@ -25,6 +28,7 @@ use Rattle.book_laws.proofs.Views.{NeverClosed, left_in_total}
 use Rattle.vertex_accounts.specs.declared.quantities.Quantity.TheVariants.{Holds}
 use Rattle.vertex_accounts.specs.Quantities.{amount_in, total_in, part_count, most_claims}
 use Rattle.vertex_accounts.specs.Moments.{IsMomentOrNone}
+use Rattle.vertex_accounts.specs.Books.{HoldsNoParent, HoldNoParents}
 use Rattle.vertex_accounts.proofs.AskingLaws.{BelowOrNone, held_is, held_here, held_above}
 use Rattle.vertex_accounts.proofs.OwnLaws.{counts_all, part_less}
 
@@ -95,6 +99,53 @@ module _ (jobs : List Job) (w : Window) (vertices : List Vertex) (most v : ℕ) 
         (λ s. never (m, lo, hi, here (held_at jobs v) m s))).0
         (there (along_at jobs vertices (most - 1) above) m h)),
   )
+
+-- neither of two tests passes
+neither : (a b : Bool) → a ≡ false → b ≡ false → (a || b) ≡ false
+neither a b ea eb = subst (λ x. (x || b) ≡ false) (sym ea) eb
+
+not_both : (a b : Bool) → b ≡ false → (a && b) ≡ false
+not_both a b e = elim (cases_Bool a) [
+  | inl so ↦ subst (λ x. (x && b) ≡ false) (sym so) e
+  | inr never ↦ subst (λ x. (x && b) ≡ false) (sym never) refl
+]
+
+module _ (vertices : List Vertex) (m : ℕ) where
+  -- a claim that holds no vertex that contains another holds none above a vertex
+  holds_none : (c : Claim) → HoldsNoParent vertices c → (most : ℕ) (from : Option ℕ) →
+      ((v : ℕ) → from ≡ Some v → (u : ℕ) × (parent_of vertices u ≡ Some v)) →
+      holds_along (chain vertices most from) c ≡ false
+  holds_none c free zero from up = refl
+  holds_none c free (suc most) None up = refl
+  holds_none c free (suc most) (Some v) up =
+      let (u, parent) = up v refl in
+      neither (is_hold v c) (holds_along (chain vertices most (parent_of vertices v)) c) (free u v parent)
+      (holds_none c free most (parent_of vertices v) (λ w e. (v, e)))
+
+  claims_none : (cs : List Claim) → AllByRecursion (HoldsNoParent vertices) cs → (most : ℕ) (from : Option ℕ) →
+      ((v : ℕ) → from ≡ Some v → (u : ℕ) × (parent_of vertices u ≡ Some v)) →
+      list_any (holds_along (chain vertices most from)) cs ≡ false
+  claims_none [] free most from up = refl
+  claims_none (c ∷ cs) free most from up =
+      neither (holds_along (chain vertices most from) c) (list_any (holds_along (chain vertices most from)) cs)
+      (holds_none c free.0 most from up) (claims_none cs free.1 most from up)
+
+  -- where no job holds a vertex that contains another none is held above a vertex
+  pub jobs_none : (jobs : List Job) → HoldNoParents vertices jobs → (most : ℕ) (from : Option ℕ) →
+      ((v : ℕ) → from ≡ Some v → (u : ℕ) × (parent_of vertices u ≡ Some v)) →
+      some_live_claim jobs m (holds_along (chain vertices most from)) ≡ false
+  jobs_none [] free most from up = refl
+  jobs_none (job ∷ jobs) free most from up =
+      neither (is_live m job && list_any (holds_along (chain vertices most from)) job.claims)
+      (some_live_claim jobs m (holds_along (chain vertices most from)))
+      (not_both (is_live m job) (list_any (holds_along (chain vertices most from)) job.claims)
+      (claims_none job.claims free.0 most from up)) (jobs_none jobs free.1 most from up)
+
+-- nor is one closed then by what is held above it
+pub above_none : (vertices : List Vertex) (jobs : List Job) (w : Window) (v most : ℕ) → HoldNoParents vertices jobs →
+    IsMomentOrNone w (along_at jobs vertices most (parent_of vertices v)) None
+above_none vertices jobs w v most free = λ (m, lo, hi, h).
+    true≢false (sym h ∙ jobs_none vertices m jobs free most (parent_of vertices v) (λ u e. (v, e)))
 
 -- closed is held along the chain
 pub closed_moment_is : (vertices : List Vertex) (jobs : List Job) (w : Window) (v : ℕ) (found : Option ℕ) →

@@ -1,11 +1,14 @@
 -- Which jobs a book of accounts stands for.
-use Rattle.std.specs.Prelude.{◌≡◌, ℕ, ◌<◌, List, length, Some, slice_get}
+use Rattle.std.specs.Prelude.{◌≡◌, ℕ, ◌<◌, false, List, length, Some, slice_get}
 use Rattle.std.specs.List.{AllByRecursion}
 use Rattle.std.specs.Arc.{arc_value}
 use Rattle.flux_defs.specs.declared.vertices.Vertex.{Vertex}
+use Rattle.flux_defs.specs.declared.claims.Claim.{Claim}
 use Rattle.flux_defs.specs.declared.claims.Job.{Job}
+use Rattle.flux_defs.specs.Graph.{parent_of}
 use Rattle.flux_defs.specs.Jobs.{vertex_of}
 use Rattle.planner_points.specs.declared.spans.Span.{Span}
+use Rattle.book_laws.specs.Amounts.{is_hold}
 use Rattle.book_laws.specs.Grouped.{AreKept, times_of, count_claims}
 use Rattle.book_laws.specs.TotalLaws.{AreFair}
 use Rattle.vertex_planners.specs.Lists.{items_of, AreWide, at_place}
@@ -49,13 +52,22 @@ pub record IsOnGraph (vertices : List Vertex) (job : Job) : Type 0 where
   pub begins : job.start < job.end
   pub on_vertices : AllByRecursion (λ c. vertex_of c < length vertices) job.claims
 
--- the planners have what the claims of the jobs amount to, the planner of times has the time of each, and their claims
--- are counted
+-- the claim holds no vertex that contains another
+abbrev pub HoldsNoParent : List Vertex → Claim → Type 0
+HoldsNoParent vertices c = (u v : ℕ) → parent_of vertices u ≡ Some v → is_hold v c ≡ false
+
+-- no job holds a vertex that contains another
+abbrev pub HoldNoParents : List Vertex → List Job → Type 0
+HoldNoParents vertices jobs = AllByRecursion (λ job. AllByRecursion (HoldsNoParent vertices) job.claims) jobs
+
+-- the planners have what the claims of the jobs amount to, the planner of times has the time of each, their claims are
+-- counted, and it is noted where one may hold a vertex that contains another
 pub record AreAccounts {P : Type 0} (total_of : P → ℕ)
     (stands_for : P → List Span → Type 0) (vertices : List Vertex) (jobs : List Job) (book : Accounts P) : Type 0 where
   pub graph : AreAccountsOf vertices book
   pub kept : AreAllKept total_of stands_for vertices jobs (arc_value book.counted) (items_of book.planners)
   pub times : stands_for book.times (times_of jobs)
   pub count : book.count ≡ count_claims jobs
+  pub parents : book.holds_parents ≡ false → HoldNoParents vertices jobs
   pub fair : AreFair vertices jobs
   pub on_graph : AllByRecursion (IsOnGraph vertices) jobs

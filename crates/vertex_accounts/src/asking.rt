@@ -163,6 +163,9 @@ impl<P: Planner + Drop> Accounts<P> {
         match self.below_in(item, vertex, HOLDS, window, u64::MAX, steps) {
             Some(moment) => Some(moment),
             None => {
+                if !self.holds_parents {
+                    return None;
+                }
                 let vertices = graph.vertices().items();
                 let above = parent_in(vertices, vertex);
                 self.held_up(

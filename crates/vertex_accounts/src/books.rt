@@ -6,14 +6,16 @@ use std::sync::Arc;
 use vertex_planners::VertexPlanners;
 
 /// What jobs have of a graph over time: at each vertex a planner of holds, of claims and of takes side by side, and of
-/// the units of each type of which totals are kept; the times of the jobs, and how many claims they have. No accounts
-/// change: a call that changes something gives new ones, which share what stays.
+/// the units of each type of which totals are kept; the times of the jobs, how many claims they have, and whether a job
+/// may hold a vertex with others below it. No accounts change: a call that changes something gives new ones, which share
+/// what stays.
 #[derive(Drop)]
 pub struct Accounts<P: Planner + Drop> {
     pub(crate) counted: Arc<Counted, Global>,
     pub(crate) planners: VertexPlanners<P>,
     pub(crate) times: P,
     pub(crate) count: u64,
+    pub(crate) holds_parents: bool,
 }
 
 impl<P: Planner + Drop> Accounts<P> {

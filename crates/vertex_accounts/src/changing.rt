@@ -1,16 +1,17 @@
 //! Accounts of one job more, and of one less.
-ghost use Rattle.std.specs.Prelude.{◌≡◌, ℕ, ◌+◌, ◌*◌, ◌<◌, ◌≤◌, List, [], ◌∷◌, ◌++◌, length, IfOk};
+ghost use Rattle.std.specs.Prelude.{◌≡◌, ℕ, ◌+◌, ◌*◌, ◌<◌, ◌≤◌, List, [], ◌∷◌, ◌++◌, length, false, IfOk};
 ghost use Rattle.flux_defs.specs.declared.claims.Job.{Job};
 ghost use Rattle.book_laws.specs.TotalLaws.{AreFair};
 ghost use Rattle.planner_points.specs.Work.{renew_cost};
 ghost use Rattle.vertex_planners.specs.Lists.{items_of};
 ghost use Rattle.vertex_planners.specs.Work.{CostWithin};
-ghost use Rattle.vertex_accounts.specs.Books.{IsOnGraph, AreAccounts, HasTotals, types_of};
+ghost use Rattle.std.specs.List.{AllByRecursion};
+ghost use Rattle.vertex_accounts.specs.Books.{IsOnGraph, HoldsNoParent, AreAccounts, HasTotals, types_of};
 ghost use Rattle.vertex_accounts.specs.Costs.{accounts_most};
 
 use crate::books::Accounts;
 use crate::counted::rows_of;
-use flux_defs::{Job, Steps, Window};
+use flux_defs::{Claim, Job, Steps, Window};
 use planner_points::{Planner, renewed_with, renewed_without};
 use resource_graph::Graph;
 use std::alloc::{AllocError, Global};
@@ -57,12 +58,22 @@ impl<P: Planner + Drop> Accounts<P> {
         let rows = rows_of(alloc, graph, quantities, claims)?;
         let planners = self.planners.gained(alloc, moment, window, rows, steps)?;
         let times = renewed_with(&self.times, alloc, moment, window, 0, steps)?;
+        let holds_parents = self.holding(graph, claims);
         Ok(Accounts {
             counted: Arc::try_clone(&self.counted)?,
             planners,
             times,
             count,
+            holds_parents,
         })
+    }
+
+    /// Whether a job may hold a vertex with others below it, where one of these claims comes to the others.
+    fn holding(&self, graph: &Graph, claims: &[Claim]) -> bool
+        ensures { result ≡ false → (self.now.holds_parents ≡ false)
+            × AllByRecursion (HoldsNoParent graph.now.resources.vertices) claims.now }
+    {
+        self.holds_parents || hold_parents(graph, claims)
     }
 
     /// The accounts of one job less. The planners that change are made ready before for questions from that second on.
@@ -102,6 +113,30 @@ impl<P: Planner + Drop> Accounts<P> {
             planners,
             times,
             count,
+            holds_parents: self.holds_parents,
         })
     }
+}
+
+/// Whether the claim holds a vertex with others below it.
+fn holds_parent(graph: &Graph, claim: &Claim) -> bool
+    ensures { result ≡ false → HoldsNoParent graph.now.resources.vertices claim.now }
+{
+    graph.is_valid();
+    match claim {
+        Claim::Hold { vertex } => *vertex >= graph.len() || graph.past(*vertex) - *vertex > 1,
+        Claim::Take { .. } | Claim::Pass { .. } => false,
+    }
+}
+
+/// Whether one of the claims holds a vertex with others below it.
+fn hold_parents(graph: &Graph, claims: &[Claim]) -> bool
+    ensures { result ≡ false → AllByRecursion (HoldsNoParent graph.now.resources.vertices) claims.now }
+{
+    for at in 0..claims.len() {
+        if holds_parent(graph, &claims[at]) {
+            return true;
+        }
+    }
+    false
 }

@@ -65,6 +65,7 @@ impl<P: Planner + Drop> Accounts<P> {
             planners,
             times,
             count: 0,
+            holds_parents: false,
         })
     }
 }

@@ -1,4 +1,4 @@
-use Rattle.std.proofs.Common.{◌-◌, ◌*◌, ◌≤◌, ◌∷◌, ℕ, List, length, ◌∙◌, ap, subst, arith}
+use Rattle.std.proofs.Common.{refl, ◌-◌, ◌*◌, ◌≤◌, ◌∷◌, ℕ, List, length, ◌∙◌, ap, subst, arith}
 use Rattle.std.specs.List.{sum_by}
 use Rattle.flux_defs.specs.declared.claims.Claim.{Claim}
 use Rattle.book_laws.specs.Grouped.{times_of}
@@ -51,12 +51,13 @@ returns-clause-accounts g c = λ before after is.
       planners = c.in_ok-planners.planners;
       times = c.in_ok-times.times;
       count = c.args.self.now.count - c.len.result;
+      holds_parents = c.args.self.now.holds_parents;
     })
     c.in_ok-try_clone.ensures c.in_ok-planners.ensures.len wide before after
     (left_kept g.P.Planner.total_of g.P.Planner.stands_for vertices before job after
     (counted_of c.args.self.now) (places_of c.in_ok-rows.rows) numbers (items_of c.args.self.now.planners) new
     c.in_ok-planners.ensures.len is.graph.places wide c.in_ok-planners.ensures.loses)
-    c.in_ok-times.ensures.spans (ap (λ n. c.args.self.now.count - n) c.len.ensures) is
+    c.in_ok-times.ensures.spans (ap (λ n. c.args.self.now.count - n) c.len.ensures) refl is
 
 pub returns-in_err-planners-clause-work : goal.returns-in_err-planners-clause-work
 returns-in_err-planners-clause-work g c = λ most within.
