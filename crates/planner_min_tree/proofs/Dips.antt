@@ -1,6 +1,6 @@
 -- What two lists of points, one after the other, do to a number.
-use Rattle.std.proofs.Common.{◌≡◌, ℕ, suc, ◌+◌, ◌-◌, ◌^◌, ◌<◌, ◌≤◌, min, max, List, [], ◌∷◌, ◌++◌, length, Some}
-use Rattle.std.proofs.Common.{None, refl, sym, ◌∙◌, ap, arith, inl, inr, get_or, take, drop}
+use Rattle.std.proofs.Common.{◌≡◌, ℕ, suc, ◌+◌, ◌-◌, ◌^◌, ◌<◌, ◌≤◌, min, max, List, [], ◌∷◌, ◌++◌, Some}
+use Rattle.std.proofs.Common.{None, refl, sym, ◌∙◌, ap, arith, inl, inr}
 use Rattle.std.specs.Prelude.{Option, IfNone}
 use Rattle.std.proofs.lemmas.Bool.{cases_lt}
 use Rattle.flux_defs.proofs.DigitLaws.{if_le, if_gt}
@@ -185,19 +185,6 @@ in_both from to (p ∷ xs) ys x a b r =
       | inr le ↦ if_le {a = p.time} {b = from} _ _ le ∙ in_both from to xs ys (past p x) (omega arith) (omega arith) r.2
           ∙ ap (λ n. min n (lowest_before to ys (after (p ∷ xs) x))) (sym (if_le {a = p.time} {b = from} _ _ le))
     ]
-
--- a list is its first item and the rest
-pub opened : (ps : List Point) (z : Point) → 1 ≤ length ps →
-    (get_or ps 0 z ∷ []) ++ take (length ps - 1) (drop 1 ps) ≡ ps
-opened [] z h = absurd (omega arith)
-opened (p ∷ ps) z h = ap (λ l. p ∷ l) (take_all ps)
-  where
-    take_all : (ps : List Point) → take (length (p ∷ ps) - 1) ps ≡ ps
-    take_all ps = let e : length (p ∷ ps) - 1 ≡ length ps = omega arith in ap (λ n. take n ps) e ∙ all ps
-      where
-        all : (ps : List Point) → take (length ps) ps ≡ ps
-        all [] = refl
-        all (q ∷ ps) = ap (λ l. q ∷ l) (all ps)
 
 -- where it is highest, by its dip
 pub runs_highest : (xs : List Point) (x : ℕ) → Runs xs x → highest xs x ≡ x - need_of xs + top_of xs

@@ -12,3 +12,4 @@ pub mod Rises
 pub mod Timelines
 pub mod Lows
 pub mod LowEnds
+pub mod Levels

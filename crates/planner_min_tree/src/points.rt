@@ -126,14 +126,11 @@ impl Dip {
 pub fn dip_of(points: &[Point]) -> Result<Dip, AllocError>
     ensures { IfOk result (λ dip. dip ≡ dip_of points.now) }
 {
-    match points {
-        [] => Ok(Dip::nothing()),
-        [point, rest @ ..] => {
-            let rest = dip_of(rest)?;
-            let all = point.dip().then(rest)?;
-            Ok(all)
-        }
+    let mut all = Dip::nothing();
+    for point in points {
+        all = all.then(point.dip())?;
     }
+    Ok(all)
 }
 
 /// How many points are before the moment.
@@ -305,17 +302,18 @@ pub fn low_end(points: &[Point], to: u64, quantity: u64, free: u64) -> Option<u6
     requires { Runs points.now free }
     ensures { result ≡ low_end to quantity points.now free }
 {
-    match points {
-        [] => low_to(to, quantity, free),
-        [point, rest @ ..] => {
-            if point.time < to {
-                let later = low_end(rest, to, quantity, point.past(free));
-                later.or(low_to(point.time, quantity, free))
-            } else {
-                low_to(to, quantity, free)
-            }
+    let mut level = free;
+    let mut last = None;
+    for point in points {
+        if point.time >= to {
+            return low_to(to, quantity, level).or(last);
         }
+        if level < quantity {
+            last = Some(point.time);
+        }
+        level = point.past(level);
     }
+    low_to(to, quantity, level).or(last)
 }
 
 /// The time of the last point before which less than so much is free.
@@ -323,11 +321,13 @@ pub fn last_rise(points: &[Point], quantity: u64, free: u64) -> Option<u64>
     requires { Runs points.now free }
     ensures { result ≡ last_rise quantity points.now free }
 {
-    match points {
-        [] => None,
-        [point, rest @ ..] => {
-            let later = last_rise(rest, quantity, point.past(free));
-            later.or(low_to(point.time, quantity, free))
+    let mut level = free;
+    let mut last = None;
+    for point in points {
+        if level < quantity {
+            last = Some(point.time);
         }
+        level = point.past(level);
     }
+    last
 }
