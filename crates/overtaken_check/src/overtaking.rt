@@ -125,6 +125,9 @@ fn found_overtaken<F: FreeView, L: Ledger>(
         (IsWhy graph.now.resources.vertices (window_of horizon ask.now start) claims.now last journal.now place) }
     ensures work { steps.new ≤ steps.old + 2 * F.cost view.now * length claims.now + 3 * scan_most journal.now place }
 {
+    if place >= journal.len() {
+        return None;
+    }
     match hindered(journal, place, moment, last, steps) {
         Some(cause) => Some(cause),
         None => {
