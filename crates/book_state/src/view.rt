@@ -115,10 +115,14 @@ impl BookState {
         &self.kept.accounts
     }
 
-    /// Whether the rules keep a total of the type at the vertex.
+    /// Whether the rules keep a total of the type at the vertex. Where the accounts keep none of the type, the vertex
+    /// isn't looked up.
     fn keeps_total(&self, vertex: u32, kind: u32) -> bool
         ensures { IsTrue result ↔ IsTotalKept self.now vertex kind }
     {
+        if !self.accounts().keeps(kind) {
+            return false;
+        }
         match self.graph().vertices().get(vertex as usize) {
             Some(found) => return self.kept.filtered.keeps(found.kind, kind),
             None => return false,

@@ -19,13 +19,20 @@ pub struct Accounts<P: Planner + Drop> {
 }
 
 impl<P: Planner + Drop> Accounts<P> {
-    ghost use Rattle.std.specs.Prelude.{◌≡◌};
-    ghost use Rattle.vertex_accounts.specs.Books.{counted_of};
+    ghost use Rattle.std.specs.Prelude.{◌≡◌, ◌↔◌, IsTrue};
+    ghost use Rattle.vertex_accounts.specs.Books.{counted_of, HasTotals};
 
     /// What is counted at each place.
     pub(crate) fn counted(&self) -> &Counted
         ensures { result.now ≡ counted_of self.now }
     {
         &self.counted
+    }
+
+    /// Whether totals of the type are kept.
+    pub fn keeps(&self, kind: u32) -> bool
+        ensures { IsTrue result ↔ HasTotals self.now kind }
+    {
+        self.counted().place_of(kind).is_some()
     }
 }
