@@ -1,6 +1,6 @@
 -- Sums over claims, and along chains of parents.
 use Rattle.std.proofs.Common.{◌≡◌, ◌≢◌, ℕ, zero, suc, ◌+◌, ◌-◌, ◌<◌, ◌==◌, nat_eq, Bool, true, false, ◌||◌, ◌&&◌}
-use Rattle.std.proofs.Common.{nat_lt, cond, List, [], ◌∷◌, length, take, get_or, Option, Some, None, IfSome, inl, inr}
+use Rattle.std.proofs.Common.{nat_lt, cond, List, ◌∷◌, length, take, get_or, Option, Some, None, IfSome, inl, inr}
 use Rattle.std.proofs.Common.{refl, sym, ◌∙◌, ap, subst, arith}
 use Rattle.std.specs.List.{AllByRecursion, sum_by}
 use Rattle.std.proofs.lemmas.Bool.Decides.{eqb_tells}

@@ -1,7 +1,7 @@
 -- The numbers of one vertex, taken off place by place.
 use Rattle.std.proofs.Common.{◌≡◌, ℕ, zero, suc, ◌+◌, ◌<◌, ◌≤◌, cond, is_some, List, [], ◌∷◌, ◌++◌, length}
 use Rattle.std.proofs.Common.{length-append, unwrap_or, Option, Some, None, IsSome, true≢false, slice_get, inl, inr}
-use Rattle.std.proofs.Common.{refl, sym, ◌∙◌, ap, subst, arith}
+use Rattle.std.proofs.Common.{◌⊎◌, IfSome, IfNone, refl, sym, ◌∙◌, ap, subst, arith}
 use Rattle.std.specs.Prelude.{slice_set}
 use Rattle.std.proofs.lemmas.Bool.Decides.{eqb_tells}
 use Rattle.std.proofs.lemmas.List.Sums.{sum_by-cons, sum_by-append, sum_by-set}
@@ -9,7 +9,12 @@ use Rattle.std.proofs.lemmas.Option.{get_or_from_slice_get, slice_get_within}
 use Rattle.list_laws.proofs.Lists.{get_old, get_last, get_set, get_beside, set_length}
 use Rattle.vertex_planners.specs.declared.amounts.Amounts.{Amounts}
 use Rattle.vertex_planners.specs.Numbers.{kept_at, count_of, IsTaken}
-use Rattle.vertex_planners.specs.Rows.{count_all, some_one, count_some, IsRow}
+use Rattle.vertex_planners.specs.Rows.{count_all, some_one, count_some, IsRow, IsLeft, HasNoneLeft}
+
+-- the places before this one have no numbers
+abbrev pub HasNoneBefore : ℕ → List Amounts → Type 0
+HasNoneBefore i places = (k : ℕ) (amounts : Amounts) →
+    k < i → slice_get places k ≡ Some amounts → (v : ℕ) → kept_at amounts v ≡ None
 
 -- the numbers of the first i places are taken off
 pub record TakenSoFar (old now : List Amounts) (v i : ℕ) (row : List ℕ) : Type 0 where
@@ -108,3 +113,35 @@ all_taken old now v i row so_far all = record {
   less = λ (k, amounts, at, some).
       so_far.less k amounts (let lt = slice_get_within old k amounts at in omega (arith, lt, all)) at some;
 }
+
+-- the last vertex so far, and that of the next place
+module _ (places : List Amounts) (i : ℕ) (amounts : Amounts) (at : slice_get places i ≡ Some amounts)
+    (last here : Option ℕ) where
+  pub left_later : (next : Option ℕ) → IfSome last (IsLeft places) → IfSome here (λ v. IsSome (kept_at amounts v)) →
+      IfSome next (λ v. (last ≡ Some v) ⊎ (here ≡ Some v)) → IfSome next (IsLeft places)
+  left_later None so_far some one = tt
+  left_later (Some v) so_far some one = elim one [
+    | inl e ↦ subst (λ (o : Option ℕ). IfSome o (IsLeft places)) e so_far
+    | inr e ↦ (i, amounts, at, subst (λ (o : Option ℕ). IfSome o (λ u. IsSome (kept_at amounts u))) e some)
+  ]
+
+  pub none_later : (next : Option ℕ) → IfNone last (HasNoneBefore i places) →
+      IfNone here ((v : ℕ) → kept_at amounts v ≡ None) →
+      IfNone next ((last ≡ None) × (here ≡ None)) → IfNone next (HasNoneBefore (i + 1) places)
+  none_later (Some v) so_far none both = tt
+  none_later None so_far none both = λ k a lt there v. elim (eqb_tells k i) [
+    | inl same ↦ (
+        let one : Some amounts ≡ Some a = sym at ∙ (ap (slice_get places) (sym same.1) ∙ there) in
+        let is : amounts ≡ a = cc in
+        let gone = subst (λ (o : Option ℕ). IfNone o ((u : ℕ) → kept_at amounts u ≡ None)) both.1 none in
+        subst (λ (x : Amounts). kept_at x v ≡ None) is (gone v))
+    | inr differ ↦
+        (let before = subst (λ (o : Option ℕ). IfNone o (HasNoneBefore i places)) both.0 so_far in
+        before k a (let ne = differ.1 in omega (arith, lt, ne)) there v)
+  ]
+
+pub none_of_all : (places : List Amounts) (i : ℕ) (last : Option ℕ) → length places ≤ i →
+    IfNone last (HasNoneBefore i places) → IfNone last (HasNoneLeft places)
+none_of_all places i (Some v) all none = tt
+none_of_all places i None all none = λ v k amounts at.
+    none k amounts (let lt = slice_get_within places k amounts at in omega (arith, lt, all)) at v

@@ -1,3 +1,4 @@
+pub mod RisingNumbers
 pub mod Numbers
 pub mod Rows
 pub mod Lists

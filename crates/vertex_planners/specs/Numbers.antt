@@ -1,12 +1,11 @@
 -- Numbers by vertices.
 use Rattle.std.specs.Prelude.{◌≡◌, ◌≢◌, ℕ, ◌+◌, ◌<◌, if◌then◌else◌, Option, None, is_some, unwrap_or, IsSome, length}
-use Rattle.std.specs.Ordering.{nat_cmp}
-use Rattle.std.specs.BTreeMap.{get}
 use Rattle.vertex_planners.specs.declared.amounts.Amounts.{Amounts}
+use Rattle.vertex_planners.specs.RisingNumbers.{kept_in}
 
 -- the number that is kept for a vertex
 abbrev pub kept_at : Amounts → ℕ → Option ℕ
-kept_at amounts v = get nat_cmp amounts.map v
+kept_at amounts v = kept_in amounts.numbers.items v
 
 -- the vertex's number: the one that is kept, and else 0
 abbrev pub amount_at : Amounts → ℕ → ℕ
@@ -14,7 +13,7 @@ amount_at amounts v = unwrap_or (kept_at amounts v) 0
 
 -- for how many vertices a number is kept
 abbrev pub count_of : Amounts → ℕ
-count_of amounts = length amounts.map.entries
+count_of amounts = length amounts.numbers.items
 
 -- numbers are kept for vertices before this one alone
 abbrev pub HasKeysBelow : ℕ → Amounts → Type 0

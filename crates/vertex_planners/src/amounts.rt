@@ -1,29 +1,30 @@
 //! Numbers by vertices.
-ghost use Rattle.std.specs.Prelude.{◌≡◌, ℕ, ◌+◌, ◌<◌, ◌≤◌, ◌==◌, if◌then◌else◌, length, List, Option, Some, None};
-ghost use Rattle.std.specs.Prelude.{IfSome, IfNone, OnErr, OnOk, IsSome};
-ghost use Rattle.flux_defs.specs.Graph.{chain, has_on_chain, is_at_or_below, parent_of};
-ghost use Rattle.graph_laws.proofs.Containment.{ParentsFirst};
-ghost use Rattle.vertex_planners.specs.Numbers.{kept_at, amount_at, count_of, HasKeysBelow, IsTaken};
+ghost use Rattle.vertex_planners.specs.RisingNumbers.{Rises, Rises-prop};
 
-use flux_defs::Vertex;
+use crate::numbers::{Number, find};
 use std::alloc::{AllocError, Global};
-use std::collections::BTreeMap;
 
-/// A number for each vertex, 0 for most: the others are kept by the vertex's number.
+/// A number for each vertex, 0 for most: the others stand in a list, by rising vertices.
 #[derive(Drop)]
 pub struct Amounts {
-    pub(crate) map: BTreeMap<u32, u64>,
+    pub(crate) numbers: Vec<Number>,
+    ghost rising: { Rises 0 numbers.items } by { Rises-prop 0 numbers.items },
 }
 
 impl Amounts {
+    ghost use Rattle.std.specs.Prelude.{◌≡◌, ℕ, ◌+◌, ◌<◌, ◌≤◌, ◌==◌, if◌then◌else◌, None};
+    ghost use Rattle.std.specs.Prelude.{IfSome, IfNone, OnErr, OnOk, IsSome};
+    ghost use Rattle.vertex_planners.specs.Numbers.{kept_at, amount_at, count_of, HasKeysBelow, IsTaken};
+
     /// 0 for each vertex. It takes no memory.
+    #[tactic(auto, unfolding(crate::specs::RisingNumbers::kept_in))]
     pub fn new(alloc: Global) -> Amounts
         ensures zero { (v : ℕ) → amount_at result v ≡ 0 }
         ensures keys { (most : ℕ) → HasKeysBelow most result }
         ensures count { count_of result ≡ 0 }
     {
         Amounts {
-            map: BTreeMap::new(alloc),
+            numbers: Vec::new(alloc),
         }
     }
 
@@ -36,23 +37,34 @@ impl Amounts {
         ensures keys { (most : ℕ) → vertex < most → HasKeysBelow most self.old → HasKeysBelow most self.new }
         ensures count { count_of self.new ≤ count_of self.old + 1 }
     {
-        let old = self.map.get(&vertex).copied().unwrap_or(0);
-        let Some(sum) = old.checked_add(more) else {
-            return Err(AllocError);
-        };
-        match self.map.insert(vertex, sum) {
-            Ok(_) => Ok(()),
-            Err(_) => Err(AllocError),
+        match find(self.numbers.as_slice(), vertex) {
+            Ok(place) => {
+                let Some(amount) = self.numbers[place].amount.checked_add(more) else {
+                    return Err(AllocError);
+                };
+                self.numbers[place] = Number { vertex, amount };
+                Ok(())
+            }
+            Err(place) => {
+                let number = Number {
+                    vertex,
+                    amount: more,
+                };
+                match self.numbers.insert(place, number) {
+                    Ok(()) => Ok(()),
+                    Err(_) => Err(AllocError),
+                }
+            }
         }
     }
 
-    /// A vertex for which a number is kept; `None` exactly where there is none.
-    pub(crate) fn first(&self) -> Option<u32>
+    /// The last vertex for which a number is kept; `None` exactly where there is none.
+    pub(crate) fn last(&self) -> Option<u32>
         ensures some { IfSome result (λ v. IsSome (kept_at self.now v)) }
         ensures none { IfNone result ((v : ℕ) → kept_at self.now v ≡ None) }
     {
-        match self.map.first_key_value() {
-            Some((vertex, _)) => return Some(*vertex),
+        match self.numbers.as_slice().last() {
+            Some(number) => return Some(number.vertex),
             None => return None,
         }
     }
@@ -61,6 +73,9 @@ impl Amounts {
     pub(crate) fn take(&mut self, vertex: u32) -> u64
         ensures { IsTaken self.old self.new vertex result }
     {
-        self.map.remove(&vertex).unwrap_or(0)
+        match find(self.numbers.as_slice(), vertex) {
+            Ok(place) => self.numbers.remove(place).amount,
+            Err(_) => 0,
+        }
     }
 }

@@ -4,6 +4,7 @@
 mod amounts;
 mod items;
 mod measures;
+mod numbers;
 mod planners;
 mod rows;
 

@@ -1,6 +1,6 @@
 //! Numbers by places and vertices.
 ghost use Rattle.std.specs.Prelude.{◌≡◌, ℕ, ◌+◌, ◌<◌, ◌≤◌, List, [], ◌∷◌, ◌++◌, length, Option, Some, None, IfSome};
-ghost use Rattle.std.specs.Prelude.{IfNone, IfOk, OnOk, OnErr, IsSome, slice_get};
+ghost use Rattle.std.specs.Prelude.{IfNone, IfOk, OnOk, OnErr, IsSome, slice_get, ◌⊎◌};
 ghost use Rattle.vertex_planners.specs.Rows.{places_of, count_all, IsLeft, HasNoneLeft, IsRow, IsRowTaken};
 
 use crate::amounts::Amounts;
@@ -41,7 +41,7 @@ impl Rows {
             (λ found. IfSome found (λ first. IsRowTaken (places_of self.old) (places_of self.new) first.0 first.1)) }
         ensures none { IfOk result (λ found. IfNone found (HasNoneLeft (places_of self.old))) }
     {
-        match first_of(self.places.as_slice()) {
+        match last_of(self.places.as_slice()) {
             Some(vertex) => {
                 let row = self.take(alloc, vertex)?;
                 return Ok(Some((vertex, row)));
@@ -67,15 +67,22 @@ impl Rows {
     }
 }
 
-/// A vertex for which a number is kept at some place; `None` exactly where there is none.
-fn first_of(places: &[Amounts]) -> Option<u32>
+/// The last vertex for which a number is kept at some place; `None` exactly where there is none.
+fn last_of(places: &[Amounts]) -> Option<u32>
     ensures some { IfSome result (IsLeft places.now) }
     ensures none { IfNone result (HasNoneLeft places.now) }
 {
+    let mut last = None;
     for amounts in places {
-        if let Some(vertex) = amounts.first() {
-            return Some(vertex);
-        }
+        last = later(last, amounts.last());
     }
-    None
+    last
+}
+
+/// The later one of two vertices that may be absent.
+fn later(one: Option<u32>, other: Option<u32>) -> Option<u32>
+    ensures some { IfSome result (λ v. (one ≡ Some v) ⊎ (other ≡ Some v)) }
+    ensures none { IfNone result ((one ≡ None) × (other ≡ None)) }
+{
+    one.max(other)
 }

@@ -2,6 +2,13 @@ use Rattle.std.proofs.Common.{arith}
 use Rattle.vertex_planners.proofs.ClaimSums.{on_step, inside_item}
 use Rattle.vertex_planners.proofs.measures.amounts_on.Goals as goal
 
+pub loop-claim-init : goal.loop-claim-init
+loop-claim-init g c = record {
+  sums = c.new-amounts.ensures.zero;
+  keys = λ most all. c.new-amounts.ensures.keys most;
+  few = (let none = c.new-amounts.ensures.count in omega (arith, none));
+}
+
 pub loop-claim-preserved : goal.loop-claim-preserved
 loop-claim-preserved g c = record {
   sums = λ v. on_step (g.M.Measure.amount c.args.measure.now)

@@ -2,6 +2,13 @@ use Rattle.std.proofs.Common.{length, refl, arith}
 use Rattle.vertex_planners.proofs.ClaimSums.{counts_step, inside_item}
 use Rattle.vertex_planners.proofs.measures.amounts_within.Goals as goal
 
+pub loop-claim-init : goal.loop-claim-init
+loop-claim-init g c = record {
+  sums = c.new-amounts.ensures.zero;
+  keys = λ all. c.new-amounts.ensures.keys (length c.args.graph.now.resources.vertices);
+  few = λ all. (let none = c.new-amounts.ensures.count in omega (arith, none));
+}
+
 pub loop-claim-preserved : goal.loop-claim-preserved
 loop-claim-preserved g c =
     let claims = c.args.claims.now in

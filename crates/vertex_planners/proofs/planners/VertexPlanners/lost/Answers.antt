@@ -5,8 +5,16 @@ use Rattle.vertex_planners.specs.Kept.{Loses, HasSpanOf}
 use Rattle.vertex_planners.specs.Lists.{items_of}
 use Rattle.vertex_planners.specs.Work.{change_most}
 use Rattle.vertex_planners.proofs.Walks.{row_of, none_of, vertex_there, row_places, row_before, walk_steps, walk_counts}
-use Rattle.vertex_planners.proofs.Walks.{still_wide, walk_ends}
+use Rattle.vertex_planners.proofs.Walks.{walk_begins, loses_none, still_wide, walk_ends}
 use Rattle.vertex_planners.proofs.planners.VertexPlanners.lost.Goals as goal
+
+pub loop-left-init : goal.loop-left-init
+loop-left-init g c = record {
+  walked = rw c.in_ok-items.ensures
+      (walk_begins (Loses g.P.Planner.total_of g.P.Planner.stands_for c.args.window) (items_of c.args.self.now)
+      (places_of c.args.rows) (loses_none g.P.Planner.total_of g.P.Planner.stands_for c.args.window) c.requires.keys);
+  work = λ most within. omega arith;
+}
 
 pub lose_at-requires-clause-vertex : goal.lose_at-requires-clause-vertex
 lose_at-requires-clause-vertex g c =
