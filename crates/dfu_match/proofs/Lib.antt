@@ -11,3 +11,4 @@ pub mod StepLaws
 pub mod MatchedLaws
 pub mod HoldLaws
 pub mod ReachLaws
+pub mod NoteLaws

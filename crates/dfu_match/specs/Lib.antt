@@ -5,3 +5,4 @@ pub mod Walks
 pub mod Reaches
 pub mod Pairs
 pub mod Matches
+pub mod Notes

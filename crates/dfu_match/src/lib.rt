@@ -7,11 +7,14 @@ mod bars;
 mod bounding;
 mod counting;
 mod demanding;
+mod knowing;
 mod matching;
 mod scopes;
 mod search;
+mod topmost;
 mod walking;
 mod wanting;
 mod writing;
 
+pub use knowing::Known;
 pub use matching::{Matched, Matcher, match_at, some_fit};

@@ -9,13 +9,15 @@ ghost use Rattle.dfu_match.specs.Bars.{BarsAll};
 ghost use Rattle.dfu_match.specs.Tables.{needs_all, AreWantedBy, AreDemandsOfAll};
 ghost use Rattle.dfu_match.specs.Pairs.{Pair, HasEachOpen, IsRootShort, IsEnoughFor};
 ghost use Rattle.dfu_match.specs.Matches.{IsMatched, IsKeptShort};
+ghost use Rattle.dfu_match.specs.Notes.{Knows};
 
 use crate::bars::bars_all;
 use crate::counting::copies;
 use crate::demanding::{Kinds, demands_in_full};
+use crate::knowing::Known;
 use crate::search::Search;
+use crate::topmost::write_top;
 use crate::wanting::{Wanted, table_of};
-use crate::writing::write_needs;
 use flux_defs::{Ask, Claim, FreeView, List, Steps, Window};
 use prune_filters::{Demand, Shortage, first_short};
 use resource_graph::Graph;
@@ -106,20 +108,26 @@ impl<'a> Matcher<'a> {
     }
 
     /// What the match comes to over the window, in seconds, where `view` tells what is free of the graph. The only
-    /// error is want of memory. It looks as often as `match_at`.
+    /// error is want of memory. It looks as often as `match_at`, and not again at what is known to be short. What it
+    /// finds short is known then, to later matches over windows that end no sooner.
     pub fn over<F: FreeView, L: Ledger>(
         &self,
         alloc: Global,
         view: &F,
         window: Window,
+        known: &mut Known,
         steps: &mut Steps<L>,
     ) -> Result<Matched, AllocError>
         requires over { F.graph view.now ≡ self.now.graph.now.resources.vertices }
         requires proper { IsProperAsk self.now.graph.now.resources.vertices self.now.ask.now }
         requires opens { window.from < window.to }
+        requires known { Knows self.now.graph.now.resources.vertices (F.stands_for view.now) self.now.wanted
+            (F.keeps view.now) (needs_all self.now.ask.now.needs) window known.old }
         ensures matched { IfOk result (λ matched. (jobs : List Job) → F.stands_for view.now jobs →
             IsMatched self.now.graph.now.resources.vertices jobs (F.keeps view.now) self.now.ask.now window matched) }
         ensures kept { IfOk result (IsKeptShort (F.keeps view.now) window.from) }
+        ensures known { Knows self.now.graph.now.resources.vertices (F.stands_for view.now) self.now.wanted
+            (F.keeps view.now) (needs_all self.now.ask.now.needs) window known.new }
         ensures work { (jobs : List Job) → F.stands_for view.now jobs → (looks : ℕ) →
             IsEnoughFor self.now.graph.now.resources.vertices jobs window (F.keeps view.now) self.now.ask.now.needs
             looks → steps.new ≤ steps.old + looks * F.cost view.now }
@@ -127,7 +135,7 @@ impl<'a> Matcher<'a> {
         self.graph.is_valid();
         match first_short(view, 0, &self.whole, window, steps) {
             Some(shortage) => Ok(Matched::Short(shortage)),
-            None => self.walked(alloc, view, window, steps),
+            None => self.walked(alloc, view, window, known, steps),
         }
     }
 
@@ -137,6 +145,7 @@ impl<'a> Matcher<'a> {
         alloc: Global,
         view: &F,
         window: Window,
+        known: &mut Known,
         steps: &mut Steps<L>,
     ) -> Result<Matched, AllocError>
         requires over { F.graph view.now ≡ self.now.graph.now.resources.vertices }
@@ -145,9 +154,13 @@ impl<'a> Matcher<'a> {
         requires enough { (jobs : List Job) → F.stands_for view.now jobs →
             IsRootShort self.now.graph.now.resources.vertices jobs window (F.keeps view.now) self.now.ask.now.needs
             → ⊥ }
+        requires known { Knows self.now.graph.now.resources.vertices (F.stands_for view.now) self.now.wanted
+            (F.keeps view.now) (needs_all self.now.ask.now.needs) window known.old }
         ensures matched { IfOk result (λ matched. (jobs : List Job) → F.stands_for view.now jobs →
             IsMatched self.now.graph.now.resources.vertices jobs (F.keeps view.now) self.now.ask.now window matched) }
         ensures kept { IfOk result (IsKeptShort (F.keeps view.now) window.from) }
+        ensures known { Knows self.now.graph.now.resources.vertices (F.stands_for view.now) self.now.wanted
+            (F.keeps view.now) (needs_all self.now.ask.now.needs) window known.new }
         ensures work { (jobs : List Job) → F.stands_for view.now jobs → (pairs : List Pair) →
             (let all : List Need = needs_all self.now.ask.now.needs in
             HasEachOpen self.now.graph.now.resources.vertices jobs window (F.keeps view.now) all pairs →
@@ -164,16 +177,8 @@ impl<'a> Matcher<'a> {
         };
         let mut claims = Vec::new(alloc);
         let mut until = window.from;
-        if !write_needs(
-            &search,
-            &self.ask.needs,
-            0,
-            1,
-            None,
-            &mut claims,
-            &mut until,
-            steps,
-        )? {
+        known.begin();
+        if !write_top(&search, known, &mut claims, &mut until, steps)? {
             return Ok(Matched::NoFit(until));
         }
         Ok(Matched::Fits(List::of_vec(claims)))
@@ -205,7 +210,8 @@ pub fn match_at<F: FreeView, L: Ledger>(
         steps.new ≤ steps.old + looks * F.cost view.now }
 {
     let matcher = Matcher::of(alloc, graph, ask)?;
-    match matcher.over(alloc, view, window, steps)? {
+    let mut known = Known::never(alloc);
+    match matcher.over(alloc, view, window, &mut known, steps)? {
         Matched::Fits(claims) => Ok(Some(claims)),
         Matched::Short(_) => Ok(None),
         Matched::NoFit(_) => Ok(None),

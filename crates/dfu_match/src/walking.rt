@@ -49,7 +49,7 @@ fn short_at<F: FreeView, L: Ledger>(
 }
 
 /// The vertex's parent, where it has one from `low` on.
-fn parent_from(graph: &Graph, vertex: u32, low: u32) -> Option<u32>
+pub(crate) fn parent_from(graph: &Graph, vertex: u32, low: u32) -> Option<u32>
     requires vertex { vertex < length graph.now.resources.vertices }
     ensures { IsParentFrom graph.now.resources.vertices vertex low result }
 {
@@ -95,7 +95,7 @@ fn own_short<F: FreeView, L: Ledger>(
 /// The uppermost of the vertex and those above it, from `low` on, that is short for the need, as `own_short` tells it.
 /// It looks from the top, and at none where there is no table.
 #[cycle(tops)]
-fn top_short<F: FreeView, L: Ledger>(
+pub(crate) fn top_short<F: FreeView, L: Ledger>(
     s: &Search<F>,
     need: &Need,
     index: usize,

@@ -144,7 +144,7 @@ fn write_group<F: FreeView, L: Ledger>(
 }
 
 /// Until when there is nothing that fits: `last` where something is still lacking, else no longer than from `first` on.
-fn until_when(lacking: u128, last: u64, first: u64) -> u64
+pub(crate) fn until_when(lacking: u128, last: u64, first: u64) -> u64
     ensures some { 0 < lacking → result ≡ last }
     ensures none { lacking ≡ 0 → result ≡ first }
 {
@@ -153,7 +153,7 @@ fn until_when(lacking: u128, last: u64, first: u64) -> u64
 
 /// Lets the vertex serve as much of the need as it can, at most so much, and writes its piece.
 #[cycle(writing)]
-fn offer<F: FreeView, L: Ledger>(
+pub(crate) fn offer<F: FreeView, L: Ledger>(
     s: &Search<F>,
     need: &Need,
     index: usize,

@@ -102,7 +102,7 @@ window_opens horizon ask u c = elim (eqb_tells ask.duration 0) [
   | inr some ↦ (let d : ask.duration ≡ 0 → ⊥ = some.1 in rw some.0 (let a : u < u + ask.duration = omega arith in a))
 ]
 
-ends_no_sooner : (horizon : ℕ) (ask : Ask) (t u : ℕ) → t < u →
+pub ends_no_sooner : (horizon : ℕ) (ask : Ask) (t u : ℕ) → t < u →
     (window_of horizon ask t).to ≤ (window_of horizon ask u).to
 ends_no_sooner horizon ask t u lt = elim (eqb_tells ask.duration 0) [
   | inl none ↦ rw none.0 (let a : horizon ≤ horizon = omega arith in a)

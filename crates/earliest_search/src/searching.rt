@@ -7,7 +7,7 @@ ghost use Rattle.dfu_match.specs.Matches.{IsKeptShort};
 ghost use Rattle.earliest_search.specs.Tried.{TakesTries, IsNextTryOrNone};
 
 use crate::windows::{counts, window_at};
-use dfu_match::{Matched, Matcher};
+use dfu_match::{Known, Matched, Matcher};
 use flux_defs::{Ask, Claim, List, Steps};
 use prune_filters::TotalsView;
 use resource_graph::Graph;
@@ -74,10 +74,11 @@ pub fn earliest<F: TotalsView, L: Ledger>(
 {
     graph.is_valid();
     let matcher = Matcher::of(alloc, graph, ask)?;
+    let mut known = Known::nothing(alloc);
     let mut start = now;
     'starts: while counts(horizon, ask, start) {
         let window = window_at(horizon, ask, start);
-        let matched = matcher.over(alloc, view, window, steps)?;
+        let matched = matcher.over(alloc, view, window, &mut known, steps)?;
         if let Matched::Fits(claims) = matched {
             return Ok(Some(Found { start, claims }));
         }

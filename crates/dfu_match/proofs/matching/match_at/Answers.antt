@@ -1,3 +1,5 @@
+use Rattle.dfu_match.specs.Tables.{needs_all}
+use Rattle.dfu_match.proofs.NoteLaws.{knows_nothing}
 use Rattle.dfu_match.proofs.matching.match_at.Goals as goal
 
 pub returns-in_err-claims-clause-work : goal.returns-in_err-claims-clause-work
@@ -15,3 +17,10 @@ returns-in-Short-clause-work g c = λ jobs stands looks enough.
 pub returns-clause-work : goal.returns-clause-work
 returns-clause-work g c = λ jobs stands looks enough.
     c.over.ensures.work jobs stands looks (rw (c.in_ok-matcher.ensures.graph, c.in_ok-matcher.ensures.ask) enough)
+
+pub over-requires-clause-known : goal.over-requires-clause-known
+over-requires-clause-known g c =
+    let matcher = c.in_ok-matcher.matcher in
+    knows_nothing matcher.graph.now.resources.vertices (g.F.FreeView.stands_for c.args.view.now) matcher.wanted
+    (g.F.FreeView.keeps c.args.view.now) (needs_all matcher.ask.now.needs) c.args.window c.never-known.result
+    c.never-known.ensures.before c.never-known.ensures.fresh

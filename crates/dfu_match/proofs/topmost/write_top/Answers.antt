@@ -1,0 +1,211 @@
+use Rattle.std.proofs.Common.{◌≡◌, ◌+◌, ◌*◌, List, ◌∷◌, ◌++◌, length, take, drop}
+use Rattle.std.specs.List.{AllByRecursion}
+use Rattle.dfu_match.specs.Pairs.{Pair, HasEachOpen, IsPlaceOfAll, AreLooksAll, TakesEach}
+use Rattle.std.proofs.Common.{ℕ, None, subst, inr}
+use Rattle.std.proofs.lemmas.List.{drop_all}
+use Rattle.flux_defs.specs.declared.claims.Claim.{Claim}
+use Rattle.flux_defs.specs.declared.requests.Need.{Need}
+use Rattle.flux_defs.specs.Needs.{AreValidNeeds}
+use Rattle.match_laws.proofs.NeedLists.{group_at, completes_next, completes_end}
+use Rattle.flux_defs.specs.Graph.{Everywhere}
+use Rattle.dfu_match.specs.Searches.{open_to}
+use Rattle.dfu_match.specs.Tables.{needs_all}
+use Rattle.dfu_match.proofs.TableLaws as tables
+use Rattle.dfu_match.proofs.CountLaws as counts
+use Rattle.dfu_match.proofs.WriteLaws as laws
+use Rattle.dfu_match.specs.Pairs.{IsClearScope, asked_totals}
+use Rattle.dfu_match.proofs.PairLaws.{takes_none}
+use Rattle.dfu_match.proofs.StepLaws as steps
+use Rattle.dfu_match.proofs.topmost.write_top.Goals as goal
+
+pub write_top_group-requires-clause-stands : goal.write_top_group-requires-clause-stands
+write_top_group-requires-clause-stands g c =
+    let items : List Need = c.items-need-items.result.now in
+    let i = c.loop-need.need-index in
+    let need = c.need-item.result in
+    let split : drop i items ≡ need ∷ drop (i + 1) items = counts.item_split items i need c.loop-need-test.true
+    c.need-item.is in
+    tables.stand_first (needs_all c.args.s.now.needs.now) c.args.s.now.wanted.now c.loop-need.at (drop i items)
+    (drop (i + 1) items) need split c.loop-need.invariant.stand
+
+pub write_top_group-requires-clause-valid : goal.write_top_group-requires-clause-valid
+write_top_group-requires-clause-valid g c =
+    let vs = c.args.s.now.graph.now.resources.vertices in
+    let items : List Need = c.items-need-items.result.now in
+    let i = c.loop-need.need-index in
+    let need = c.need-item.result in
+    let split : drop i items ≡ need ∷ drop (i + 1) items = counts.item_split items i need c.loop-need-test.true
+    c.need-item.is in
+    let valid : AreValidNeeds vs items = rw c.items-need-items.ensures c.requires.valid in
+    counts.valid_at vs items i need (drop (i + 1) items) split valid
+
+pub index_after-at-requires : goal.index_after-at-requires
+index_after-at-requires g c =
+    let items : List Need = c.items-need-items.result.now in
+    let i = c.loop-need.need-index in
+    let need = c.need-item.result in
+    let split : drop i items ≡ need ∷ drop (i + 1) items = counts.item_split items i need c.loop-need-test.true
+    c.need-item.is in
+    record {
+      stands = tables.stand_first (needs_all c.args.s.now.needs.now) c.args.s.now.wanted.now c.loop-need.at
+          (drop i items) (drop (i + 1) items) need split c.loop-need.invariant.stand;
+    }
+
+pub loop-need-init : goal.loop-need-init
+loop-need-init g c = record {
+  stand = rw c.items-need-items.ensures (inr (steps.first_place c.args.s.now.needs.now));
+  known = c.requires.known;
+  written = laws.extends_none c.args.out.now.items _ (λ jobs stands rest low. low);
+  taken = λ jobs stands place from to times here clear span look.
+      takes_none _ _ c.args.steps.now place (place + 0) from to;
+}
+
+pub returns-then-not-filled-clause-written : goal.returns-then-not-filled-clause-written
+returns-then-not-filled-clause-written g c =
+    let items : List Need = c.items-need-items.result.now in
+    let i = c.loop-need.need-index in
+    let need = c.need-item.result in
+    let split : drop i items ≡ need ∷ drop (i + 1) items = counts.item_split items i need c.loop-need-test.true
+    c.need-item.is in
+    let before = c.loop-need.invariant.written in
+    let wrote = c.in_ok-filled.ensures.written in (
+      before.0 ++ wrote.0,
+      laws.extends_twice c.args.out.now.items c.loop-need.out.items c.write_top_group.new.out.items before.0 wrote.0
+          before.1 wrote.1,
+      λ jobs stands fit.
+          let vs = c.args.s.now.graph.now.resources.vertices in
+          let ok : Claim → Type 0 = open_to vs jobs c.args.s.now.barred.now c.args.s.now.window in
+          let never = rw c.if-not-filled.true at (wrote.2 jobs stands) in
+          never (group_at vs ok 1 Everywhere items i need (drop (i + 1) items) split
+          (rw c.items-need-items.ensures fit)),
+    )
+
+pub returns-then-not-filled-clause-later : goal.returns-then-not-filled-clause-later
+returns-then-not-filled-clause-later g c = λ e.
+    let items : List Need = c.items-need-items.result.now in
+    let i = c.loop-need.need-index in
+    let need = c.need-item.result in
+    let split : drop i items ≡ need ∷ drop (i + 1) items = counts.item_split items i need c.loop-need-test.true
+    c.need-item.is in
+    let later = c.in_ok-filled.ensures.later c.if-not-filled.true in (
+      later.0,
+      λ jobs stands lt w reach fit.
+          let vs = c.args.s.now.graph.now.resources.vertices in
+          let ok : Claim → Type 0 = open_to vs jobs c.args.s.now.barred.now w in
+          later.1 jobs stands lt w reach (group_at vs ok 1 Everywhere items i need
+          (drop (i + 1) items) split (rw c.items-need-items.ensures fit)),
+    )
+
+pub loop-need-preserved : goal.loop-need-preserved
+loop-need-preserved g c =
+    let items : List Need = c.items-need-items.result.now in
+    let i = c.loop-need.need-index in
+    let need = c.need-item.result in
+    let split : drop i items ≡ need ∷ drop (i + 1) items = counts.item_split items i need c.loop-need-test.true
+    c.need-item.is in
+    let before = c.loop-need.invariant.written in
+    let wrote = c.in_ok-filled.ensures.written in
+    record {
+      stand = tables.stand_next (needs_all c.args.s.now.needs.now) c.args.s.now.wanted.now c.loop-need.at
+          c.index_after-at.result (drop i items) (drop (i + 1) items) need split c.index_after-at.ensures
+          c.loop-need.invariant.stand;
+      known = c.write_top_group.ensures.known;
+      written = (
+        before.0 ++ wrote.0,
+        laws.extends_twice c.args.out.now.items c.loop-need.out.items c.write_top_group.new.out.items before.0 wrote.0
+            before.1 wrote.1,
+        λ jobs stands.
+            let vs = c.args.s.now.graph.now.resources.vertices in
+            let ok : Claim → Type 0 = open_to vs jobs c.args.s.now.barred.now c.args.s.now.window in
+            let group = rw c.if-not-filled.false at (wrote.2 jobs stands) in
+            completes_next vs ok 1 Everywhere items (drop i items) (drop (i + 1) items) need
+            before.0 wrote.0 split group (before.2 jobs stands),
+      );
+      taken = λ jobs stands place from to times here clear span look.
+          let all = needs_all c.args.s.now.needs.now in
+          let each = times * ((length all + 2) * g.F.FreeView.cost c.args.s.now.view.now) in
+          let keeps = asked_totals c.args.s.now.wanted.now (g.F.FreeView.keeps c.args.s.now.view.now) in
+          let before = length (needs_all (take i items)) in
+          let place' = tables.place_first all (place + before) (drop i items) (drop (i + 1) items) need split
+          (tables.place_from all i place items here) in
+          let scope = counts.each_at (IsClearScope c.args.s.now.graph.now.resources.vertices jobs c.args.s.now.window
+          keeps None) items i need (drop (i + 1) items) split clear in
+          steps.listed_next _ each c.args.steps.now c.loop-need.steps c.write_top_group.new.steps place from to items
+          (drop (i + 1) items) i need c.loop-need-test.true c.need-item.is
+          (c.loop-need.invariant.taken jobs stands place from to times here clear span look)
+          (c.write_top_group.ensures.work jobs stands (place + before) from to times place' scope span
+          (steps.looks_at times items i need (drop (i + 1) items) split look));
+    }
+
+pub returns-clause-written : goal.returns-clause-written
+returns-clause-written g c =
+    let items : List Need = c.items-need-items.result.now in
+    let wrote = c.loop-need.invariant.written in (
+      wrote.0,
+      wrote.1,
+      λ jobs stands.
+          let vs = c.args.s.now.graph.now.resources.vertices in
+          let ok : Claim → Type 0 = open_to vs jobs c.args.s.now.barred.now c.args.s.now.window in
+          rw (← c.items-need-items.ensures) (completes_end vs ok 1 Everywhere items
+          (drop c.loop-need.need-index items) wrote.0
+          (drop_all c.loop-need.need-index items c.loop-need-test.false) (wrote.2 jobs stands)),
+    )
+
+needs_same : (each : List Pair → Type 0) (P : Need → Type 0) (all items needs : List Need) → items ≡ needs →
+    (steps old new place from to times : ℕ) →
+    (IsPlaceOfAll all place items → AllByRecursion P items → AreLooksAll times items →
+    TakesEach each steps old new place (place + length (needs_all items)) from to) →
+    IsPlaceOfAll all place needs → AllByRecursion P needs → AreLooksAll times needs →
+    TakesEach each steps old new place (place + length (needs_all needs)) from to
+needs_same each P all items needs e steps old new place from to times =
+    subst (λ (ns : List Need). IsPlaceOfAll all place ns → AllByRecursion P ns → AreLooksAll times ns →
+    TakesEach each steps old new place (place + length (needs_all ns)) from to) e
+
+pub returns-in_err-filled-clause-work : goal.returns-in_err-filled-clause-work
+returns-in_err-filled-clause-work g c = λ jobs stands place from to times here clear span look.
+    let s = c.args.s.now in
+    let vs = s.graph.now.resources.vertices in
+    let all = needs_all s.needs.now in
+    let items : List Need = c.items-need-items.result.now in
+    let keeps = asked_totals s.wanted.now (g.F.FreeView.keeps s.view.now) in
+    let open' : List Pair → Type 0 = HasEachOpen vs jobs s.window keeps all in
+    let clears : Need → Type 0 = IsClearScope vs jobs s.window keeps None in
+    let each = times * ((length all + 2) * g.F.FreeView.cost s.view.now) in
+    needs_same open' clears all items s.needs.now c.items-need-items.ensures each c.args.steps.now
+    c.write_top_group.new.steps place from to times (λ here clear look.
+    steps.listed_over open' clears all items c.loop-need.need-index c.need-item.result c.loop-need-test.true
+    c.need-item.is each c.args.steps.now c.loop-need.steps c.write_top_group.new.steps place from to times here clear look
+    (c.loop-need.invariant.taken jobs stands place from to times here clear span look)
+    (λ at there open'' few. c.write_top_group.ensures.work jobs stands at from to times there open'' span few)) here clear look
+
+pub returns-then-not-filled-clause-work : goal.returns-then-not-filled-clause-work
+returns-then-not-filled-clause-work g c = λ jobs stands place from to times here clear span look.
+    let s = c.args.s.now in
+    let vs = s.graph.now.resources.vertices in
+    let all = needs_all s.needs.now in
+    let items : List Need = c.items-need-items.result.now in
+    let keeps = asked_totals s.wanted.now (g.F.FreeView.keeps s.view.now) in
+    let open' : List Pair → Type 0 = HasEachOpen vs jobs s.window keeps all in
+    let clears : Need → Type 0 = IsClearScope vs jobs s.window keeps None in
+    let each = times * ((length all + 2) * g.F.FreeView.cost s.view.now) in
+    needs_same open' clears all items s.needs.now c.items-need-items.ensures each c.args.steps.now
+    c.write_top_group.new.steps place from to times (λ here clear look.
+    steps.listed_over open' clears all items c.loop-need.need-index c.need-item.result c.loop-need-test.true
+    c.need-item.is each c.args.steps.now c.loop-need.steps c.write_top_group.new.steps place from to times here clear look
+    (c.loop-need.invariant.taken jobs stands place from to times here clear span look)
+    (λ at there open'' few. c.write_top_group.ensures.work jobs stands at from to times there open'' span few)) here clear look
+
+pub returns-clause-work : goal.returns-clause-work
+returns-clause-work g c = λ jobs stands place from to times here clear span look.
+    let s = c.args.s.now in
+    let vs = s.graph.now.resources.vertices in
+    let all = needs_all s.needs.now in
+    let items : List Need = c.items-need-items.result.now in
+    let keeps = asked_totals s.wanted.now (g.F.FreeView.keeps s.view.now) in
+    let open' : List Pair → Type 0 = HasEachOpen vs jobs s.window keeps all in
+    let clears : Need → Type 0 = IsClearScope vs jobs s.window keeps None in
+    let each = times * ((length all + 2) * g.F.FreeView.cost s.view.now) in
+    needs_same open' clears all items s.needs.now c.items-need-items.ensures each c.args.steps.now
+    c.loop-need.steps place from to times (λ here clear look.
+    steps.listed_end open' each c.args.steps.now c.loop-need.steps place from to items c.loop-need.need-index
+    (c.loop-need.invariant.taken jobs stands place from to times here clear span look)) here clear look
