@@ -151,6 +151,7 @@ returns-clause-written g c =
           (drop_all c.loop-need.need-index items c.loop-need-test.false) (wrote.2 jobs stands)),
     )
 
+-- what is told of a list of needs is told of the same list
 needs_same : (each : List Pair → Type 0) (P : Need → Type 0) (all items needs : List Need) → items ≡ needs →
     (steps old new place from to times : ℕ) →
     (IsPlaceOfAll all place items → AllByRecursion P items → AreLooksAll times items →
@@ -174,9 +175,11 @@ returns-in_err-filled-clause-work g c = λ jobs stands place from to times here 
     needs_same open' clears all items s.needs.now c.items-need-items.ensures each c.args.steps.now
     c.write_top_group.new.steps place from to times (λ here clear look.
     steps.listed_over open' clears all items c.loop-need.need-index c.need-item.result c.loop-need-test.true
-    c.need-item.is each c.args.steps.now c.loop-need.steps c.write_top_group.new.steps place from to times here clear look
+    c.need-item.is each c.args.steps.now c.loop-need.steps c.write_top_group.new.steps place from to times here clear
+    look
     (c.loop-need.invariant.taken jobs stands place from to times here clear span look)
-    (λ at there open'' few. c.write_top_group.ensures.work jobs stands at from to times there open'' span few)) here clear look
+    (λ at there open'' few. c.write_top_group.ensures.work jobs stands at from to times there open'' span few))
+    here clear look
 
 pub returns-then-not-filled-clause-work : goal.returns-then-not-filled-clause-work
 returns-then-not-filled-clause-work g c = λ jobs stands place from to times here clear span look.
@@ -191,9 +194,11 @@ returns-then-not-filled-clause-work g c = λ jobs stands place from to times her
     needs_same open' clears all items s.needs.now c.items-need-items.ensures each c.args.steps.now
     c.write_top_group.new.steps place from to times (λ here clear look.
     steps.listed_over open' clears all items c.loop-need.need-index c.need-item.result c.loop-need-test.true
-    c.need-item.is each c.args.steps.now c.loop-need.steps c.write_top_group.new.steps place from to times here clear look
+    c.need-item.is each c.args.steps.now c.loop-need.steps c.write_top_group.new.steps place from to times here clear
+    look
     (c.loop-need.invariant.taken jobs stands place from to times here clear span look)
-    (λ at there open'' few. c.write_top_group.ensures.work jobs stands at from to times there open'' span few)) here clear look
+    (λ at there open'' few. c.write_top_group.ensures.work jobs stands at from to times there open'' span few))
+    here clear look
 
 pub returns-clause-work : goal.returns-clause-work
 returns-clause-work g c = λ jobs stands place from to times here clear span look.
