@@ -1,6 +1,6 @@
 -- Moments at which a vertex is held or closed, and at which its total of a type is too little.
-use Rattle.std.proofs.Common.{◌≡◌, ℕ, zero, suc, ◌+◌, ◌-◌, ◌<◌, ◌≤◌, ◌↔◌, Bool, false, ◌||◌, ◌&&◌, is_some, List, [], ◌∷◌}
-use Rattle.std.proofs.Common.{length, Option, Some}
+use Rattle.std.proofs.Common.{◌≡◌, ℕ, zero, suc, ◌+◌, ◌-◌, ◌<◌, ◌≤◌, ◌↔◌, Bool, false, ◌||◌, ◌&&◌, is_some, List, []}
+use Rattle.std.proofs.Common.{◌∷◌, length, Option, Some}
 use Rattle.std.proofs.Common.{None, MatchOption, inl, inr}
 use Rattle.std.proofs.Common.{refl, sym, ◌∙◌, subst, arith, IsTrue, true≢false}
 use Rattle.std.proofs.lemmas.Bool.{cases_Bool}

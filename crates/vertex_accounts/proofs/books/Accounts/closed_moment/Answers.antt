@@ -12,7 +12,8 @@ use Rattle.vertex_accounts.specs.Costs.{look_most}
 use Rattle.vertex_accounts.specs.Books.{AreAccounts, counted_of}
 use Rattle.vertex_accounts.specs.Moments.{IsMomentOrNone}
 use Rattle.vertex_accounts.proofs.AskingLaws.{place_in, closed_work}
-use Rattle.vertex_accounts.proofs.LittleLaws.{above_along, above_none, along_at, closed_moment_is, held_moment, here_along}
+use Rattle.vertex_accounts.proofs.LittleLaws.{above_along, above_none, along_at, closed_moment_is, held_moment}
+use Rattle.vertex_accounts.proofs.LittleLaws.{here_along}
 use Rattle.vertex_accounts.proofs.books.Accounts.closed_moment.Goals as goal
 
 pub below_in-requires-clause-place : goal.below_in-requires-clause-place
