@@ -95,20 +95,32 @@ fn listed_calls_fail(rt: HostRuntime) -> Result<(), Fail> {
     Ok(())
 }
 
+/// What a write of 250 bytes answers.
+fn written<S: Sink>(alloc: Global, sink: &mut S) -> Result<Result<(), Failed>, AllocError> {
+    let text = Text::of_vec(counting(alloc, 250)?);
+    Ok(write_all(sink, &text))
+}
+
 #[test]
 fn pushes_past_the_room_fail(rt: HostRuntime) -> Result<(), Fail> {
     let alloc = rt.alloc();
-    let text = Text::of_vec(counting(alloc, 250)?);
-    let mut mem = MemSink::new(alloc, 7, List::new(alloc));
-    mem.reserve(50)?;
-    assert_eq!(rt; write_all(&mut mem, &text), Err(Failed));
-    assert_eq!(rt; mem.bytes(), counting(alloc, 49)?.as_slice());
-    let mut sure = SureSink::new(alloc, 7);
-    sure.reserve(249)?;
-    assert_eq!(rt; write_all(&mut sure, &text), Err(Failed));
-    sure.reserve(250)?;
-    assert_eq!(rt; write_all(&mut sure, &text), Ok(()));
-    assert_eq!(rt; sure.bytes().len(), 245 + 250);
+    let mut sink = MemSink::new(alloc, 7, List::new(alloc));
+    sink.reserve(50)?;
+    let told = written(alloc, &mut sink)?;
+    let wanted = counting(alloc, 49)?;
+    assert_eq!(rt; (told, sink.bytes()), (Err(Failed), wanted.as_slice()));
+    Ok(())
+}
+
+#[test]
+fn a_sure_sink_needs_its_room(rt: HostRuntime) -> Result<(), Fail> {
+    let alloc = rt.alloc();
+    let mut sink = SureSink::new(alloc, 7);
+    for (room, answer, bytes) in [(249, Err(Failed), 245), (250, Ok(()), 245 + 250)] {
+        sink.reserve(room)?;
+        let told = written(alloc, &mut sink)?;
+        assert_eq!(rt; (told, sink.bytes().len()), (answer, bytes));
+    }
     Ok(())
 }
 
@@ -134,22 +146,47 @@ fn two_files(alloc: Global) -> Result<List<(Text, Text)>, AllocError> {
     Ok(List::of_vec(files))
 }
 
+/// A name, the most bytes that its file may have, and what a read of it answers.
+type Reading = (&'static str, u64, Result<Got, FileFail>);
+
+const OF_SURE: [Reading; 4] = [
+    ("a", 5, Ok(Got::Whole)),
+    ("a", 4, Ok(Got::Long)),
+    ("b", 0, Ok(Got::Whole)),
+    ("", 9, Ok(Got::Absent)),
+];
+
+/// The second call fails.
+const OF_FAILING: [Reading; 3] = [
+    ("c", 9, Ok(Got::Absent)),
+    ("a", 9, Err(FileFail::Failed)),
+    ("a", 9, Ok(Got::Whole)),
+];
+
+/// The store answers these readings, and the bytes that they append are those of its first file.
+fn reads_first<F: Files>(
+    rt: &impl Abort,
+    alloc: Global,
+    files: &mut F,
+    readings: &[Reading],
+) -> Result<(), Fail> {
+    let mut into = Text::of(alloc, b"> ")?.into_vec();
+    for (name, most, answer) in readings {
+        let found = files.read(name, &mut into, *most);
+        assert_eq!(rt; found, *answer, "{name}, at most {most} bytes");
+    }
+    assert_eq!(rt; into.as_slice(), b"> first".as_slice());
+    Ok(())
+}
+
 #[test]
 fn stores_answer(rt: HostRuntime) -> Result<(), Fail> {
     let alloc = rt.alloc();
-    let mut into = Text::of(alloc, b"> ")?.into_vec();
     let mut sure = SureFiles::new(two_files(alloc)?);
-    assert_eq!(rt; sure.read("a", &mut into, 5), Ok(Got::Whole));
-    assert_eq!(rt; sure.read("a", &mut into, 4), Ok(Got::Long));
-    assert_eq!(rt; sure.read("b", &mut into, 0), Ok(Got::Whole));
-    assert_eq!(rt; sure.read("", &mut into, 9), Ok(Got::Absent));
-    assert_eq!(rt; into.as_slice(), b"> first".as_slice());
-    let mut mem = MemFiles::new(two_files(alloc)?, List::of_vec(vec![in alloc; 2]?));
-    assert_eq!(rt; mem.read("c", &mut into, 9), Ok(Got::Absent));
-    assert_eq!(rt; mem.read("a", &mut into, 9), Err(FileFail::Failed));
-    assert_eq!(rt; mem.read("a", &mut into, 9), Ok(Got::Whole));
-    assert_eq!(rt; into.as_slice(), b"> firstfirst".as_slice());
-    Ok(())
+    reads_first(&rt, alloc, &mut sure, OF_SURE.as_slice())?;
+    let fails = List::of_vec(vec![in alloc; 2]?);
+    let mut failing = MemFiles::new(two_files(alloc)?, fails);
+    reads_first(&rt, alloc, &mut failing, OF_FAILING.as_slice())
 }
 
 #[test]

@@ -40,6 +40,3 @@ mod view;
 pub use logged::Logged;
 pub use turn::{Seat, Turn};
 pub use view::{ALL_SHARES, TurnPhase, View};
-
-#[cfg(test)]
-mod tests;
