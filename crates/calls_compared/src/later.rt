@@ -2,7 +2,7 @@
 //! plain answers.
 ghost use Rattle.std.specs.Prelude.{◌≡◌, ◌<◌};
 
-use crate::{places, rows};
+use crate::{pairs, rows};
 use flux_defs::Steps;
 use history_scenes::Unmade;
 use std::alloc::Global;
@@ -17,7 +17,7 @@ struct Answers {
     full: String,
     known: String,
     gone: Option<usize>,
-    places: places::Counts,
+    places: pairs::Counts,
 }
 
 fn played<L: Ledger>(alloc: Global, blank: Blank) -> Result<Answers, Unmade>
@@ -31,7 +31,7 @@ fn played<L: Ledger>(alloc: Global, blank: Blank) -> Result<Answers, Unmade>
         full: rows::full(alloc, &mut steps)?,
         known: rows::known(alloc, &mut steps)?,
         gone: rows::first_gone(alloc, &mut steps)?,
-        places: places::compared(alloc, &mut steps)?,
+        places: pairs::compared(alloc, &mut steps)?,
     })
 }
 

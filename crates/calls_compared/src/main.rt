@@ -14,7 +14,7 @@ mod nodes;
 mod orders;
 mod overtaking;
 mod pages;
-mod places;
+mod pairs;
 mod planners;
 mod rows;
 mod side_by_side;
