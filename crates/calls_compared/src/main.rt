@@ -1,7 +1,7 @@
-//! Plays calls of libraries whose answers are known, and random ones, each beside a plain answer: calls of the libraries
-//! that keep old versions; histories in which a candidate is searched at one place and committed at a later one; and
-//! events of several clients in any order. It writes what came, and how many answers differ. The numbers are the same in
-//! each run, by fixed seeds.
+//! Plays calls of libraries whose answers are known, and random ones, each beside a plain answer: calls of the
+//! libraries that keep old versions; histories in which a candidate is searched at one place and committed at a later
+//! one; and events of several clients in any order. It writes what came, and how many answers differ. The numbers are
+//! the same in each run, by fixed seeds.
 #![tactic(auto)]
 
 mod adding;
