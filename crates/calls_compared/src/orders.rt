@@ -25,10 +25,10 @@ pub(crate) fn write(rt: &HostRuntime) -> io::Result<()> {
         Ok(told) => told,
         Err(why) => return println!(rt; "not played: {why:?}"),
     };
-    let (answers, history) = told.two;
+    let Answers { two, events } = told;
+    let (answers, history) = two;
     println!(rt; "events of two clients are open: {answers:?}")?;
     print!(rt; "{history}")?;
-    let events = told.events;
     let enough = events.open > 5_000 && events.closed > 5_000 && events.overtaken > 200;
     println!(rt;
         "{} events of four clients: {} answers and {} histories differ; many were open, many were not, many were overtaken: {enough}",
