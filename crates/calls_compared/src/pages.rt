@@ -1,6 +1,6 @@
 //! Lists beside plain ones.
 
-use crate::kept::Differing;
+use crate::Differing;
 use flux_defs::Steps;
 use seeded_numbers::Seed;
 use snapshot_store::Pages;

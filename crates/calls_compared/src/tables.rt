@@ -1,6 +1,6 @@
 //! Tables of jobs beside sorted maps.
 
-use crate::kept::Differing;
+use crate::Differing;
 use flux_defs::Steps;
 use job_table::{JobTable, Row};
 use seeded_numbers::Seed;

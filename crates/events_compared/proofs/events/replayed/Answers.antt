@@ -5,7 +5,7 @@ use Rattle.flux_defs.specs.declared.journal.ClientLine.{ClientLine}
 use Rattle.flux_defs.specs.declared.journal.Command.{Command}
 use Rattle.flux_defs.specs.Graph.{ResourceGraph}
 use Rattle.flux_defs.specs.Scheduler.{IsProper}
-use Rattle.calls_compared.proofs.events.replayed.Goals as goal
+use Rattle.events_compared.proofs.events.replayed.Goals as goal
 
 pub decide-requires : goal.decide-requires
 decide-requires c =

@@ -1,8 +1,15 @@
-//! A search at one place of a history and a commit at a later one: some whose answers are known, and random ones beside
-//! plain answers.
+//! Plays histories of the scheduler in which a candidate is searched at one place and committed at a later one: some
+//! whose answers are known, and random ones beside plain answers. It writes what came, and how many replies and causes
+//! differ. The numbers are the same in each run, by a fixed seed.
+#![tactic(auto)]
+
 ghost use Rattle.std.specs.Prelude.{◌≡◌, ◌<◌};
 
-use crate::{pairs, rows};
+mod commits;
+mod overtaking;
+mod places;
+mod rows;
+
 use flux_defs::Steps;
 use history_scenes::Unmade;
 use std::alloc::Global;
@@ -17,7 +24,7 @@ struct Answers {
     full: String,
     known: String,
     gone: Option<usize>,
-    places: pairs::Counts,
+    places: places::Counts,
 }
 
 fn played<L: Ledger>(alloc: Global, blank: Blank) -> Result<Answers, Unmade>
@@ -31,12 +38,11 @@ fn played<L: Ledger>(alloc: Global, blank: Blank) -> Result<Answers, Unmade>
         full: rows::full(alloc, &mut steps)?,
         known: rows::known(alloc, &mut steps)?,
         gone: rows::first_gone(alloc, &mut steps)?,
-        places: pairs::compared(alloc, &mut steps)?,
+        places: places::compared(alloc, &mut steps)?,
     })
 }
 
-/// Writes what came of them, and how many replies and causes differ.
-pub(crate) fn write(rt: &HostRuntime) -> io::Result<()> {
+fn main(rt: HostRuntime) -> io::Result<()> {
     let told = match played::<Brand>(rt.alloc(), Blank::new(1)) {
         Ok(told) => told,
         Err(why) => return println!(rt; "not played: {why:?}"),
