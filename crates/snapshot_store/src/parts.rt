@@ -228,7 +228,10 @@ impl<T: Drop> Part<T> {
         let Some(page) = node.get_mut() else {
             return Err((item, AllocError));
         };
-        *page.parts.get_mut(0) = Part::path(alloc, height - 1, item)?;
+        match Part::path(alloc, height - 1, item) {
+            Ok(first) => *page.parts.get_mut(0) = first,
+            Err(refused) => return Err(refused),
+        }
         Ok(Part {
             body: Body::Fork(node),
         })

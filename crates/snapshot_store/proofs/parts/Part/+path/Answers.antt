@@ -9,13 +9,13 @@ invariant_of-result-2 g t c =
     let same = c.in-Some.ensures.value ∙ c.in-Ok-new.ensures.ok in
     let vacant = ap (λ (u : Page _). parts_in u) same ∙ c.vacant.ensures.parts in
     let low : c.args.height - 1 < 16 = omega arith in
-    first_page c.in-Some.page.now c.in_ok-page.field-0 vacant (c.args.height - 1)
-    (ap (λ (u : Page _). u.below) same ∙ c.vacant.ensures.below) low (one_item _ _ _ c.in_ok-page.ensures.new)
+    first_page c.in-Some.page.now c.in-Ok-path.first vacant (c.args.height - 1)
+    (ap (λ (u : Page _). u.below) same ∙ c.vacant.ensures.below) low (one_item _ _ _ c.in-Ok-path.ensures.new)
 
 pub returns-clause-new : goal.returns-clause-new
 returns-clause-new g t c =
     let same = c.in-Some.ensures.value ∙ c.in-Ok-new.ensures.ok in
     let vacant = ap (λ (u : Page _). parts_in u) same ∙ c.vacant.ensures.parts in
     let height : c.args.height - 1 + 1 ≡ c.args.height = omega arith in
-    first_seen c.in-Some.page.now c.in_ok-page.field-0 vacant (c.args.height - 1)
-    (ap (λ (u : Page _). u.below) same ∙ c.vacant.ensures.below) ∙ one_seen _ _ _ _ c.in_ok-page.ensures.new height
+    first_seen c.in-Some.page.now c.in-Ok-path.first vacant (c.args.height - 1)
+    (ap (λ (u : Page _). u.below) same ∙ c.vacant.ensures.below) ∙ one_seen _ _ _ _ c.in-Ok-path.ensures.new height
