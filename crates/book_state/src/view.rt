@@ -23,6 +23,11 @@ impl FreeView for BookState {
 
     ghost cost = { cost_of };
 
+    /// The jobs aren't kept, so it isn't known.
+    fn is_bare(&self) -> bool {
+        false
+    }
+
     fn closed_over<L: Ledger>(&self, vertex: u32, window: Window, steps: &mut Steps<L>) -> bool {
         let graph = self.graph();
         let accounts = self.accounts();

@@ -1,16 +1,16 @@
 -- Where a vertex may be held: where the one above it isn't closed and it isn't touched.
-use Rattle.std.proofs.Common.{◌≡◌, ℕ, zero, suc, ◌<◌, ◌↔◌, ◌⊎◌, inl, inr, Bool, true, false, not, ◌&&◌, List, [], ◌∷◌}
+use Rattle.std.proofs.Common.{◌≡◌, ℕ, zero, suc, ◌<◌, ◌↔◌, ◌⊎◌, inl, inr, Bool, true, false, not, List}
 use Rattle.std.proofs.Common.{length, Option, Some, None, refl, sym, ◌∙◌, subst, arith, IsTrue, true≢false}
 use Rattle.std.specs.List.{list_any}
 use Rattle.std.specs.Option.{IsSomeAnd}
-use Rattle.std.proofs.lemmas.Bool.{and_parts, and_from, or_cases, or_left, or_right}
+use Rattle.std.proofs.lemmas.Bool.{and_parts, or_cases, or_left, or_right}
 use Rattle.flux_defs.specs.declared.vertices.Vertex.{Vertex}
 use Rattle.flux_defs.specs.declared.claims.Claim.{Claim}
 use Rattle.flux_defs.specs.declared.claims.Claim.TheVariants.{Take, Hold, Pass}
 use Rattle.flux_defs.specs.declared.claims.Job.{Job}
 use Rattle.flux_defs.specs.declared.claims.Window.{Window}
 use Rattle.flux_defs.specs.Graph.{parent_of, is_at_or_below}
-use Rattle.flux_defs.specs.Jobs.{is_live, some_live_claim, holds_over, is_on_or_below}
+use Rattle.flux_defs.specs.Jobs.{some_live_claim, holds_over, is_on_or_below}
 use Rattle.flux_defs.specs.Closed.{Scene, is_touched, IsClosedIn, IsTouchedIn}
 use Rattle.flux_defs.specs.Available.{IsAvailable}
 use Rattle.list_laws.proofs.Lists.{any_either}

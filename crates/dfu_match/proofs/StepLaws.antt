@@ -1,6 +1,6 @@
 -- How many steps a search takes: of a walk over the vertices of a need, and of the needs of a list.
 use Rattle.std.proofs.Common.{◌≡◌, ◌≢◌, ℕ, zero, suc, ◌+◌, ◌-◌, ◌*◌, ◌<◌, ◌≤◌, Bool, List, [], ◌∷◌, append-nil, inl}
-use Rattle.std.proofs.Common.{inr, Option, Some, None, length, length-append, take, drop, get_or, refl, sym}
+use Rattle.std.proofs.Common.{inr, Option, Some, None, length, length-append, take, drop, get_or, sym}
 use Rattle.std.proofs.Common.{ap, subst, arith}
 use Rattle.std.specs.Prelude.{Contains, IfSome, IfNone, MatchOption}
 use Rattle.std.specs.List.{AllByRecursion}

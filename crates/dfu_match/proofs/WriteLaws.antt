@@ -1,5 +1,5 @@
 -- What writing keeps: the piece of each vertex, the group of each need, and the claims of all.
-use Rattle.std.proofs.Common.{◌≡◌, ℕ, ◌*◌, ◌≤◌, Bool, true, false, List, [], ◌∷◌, ◌++◌, refl, sym, ◌∙◌, ap, subst}
+use Rattle.std.proofs.Common.{◌≡◌, ℕ, ◌≤◌, Bool, true, false, List, [], ◌∷◌, ◌++◌, refl, sym, ◌∙◌, ap, subst}
 use Rattle.std.proofs.Common.{arith, append_assoc, append-nil, take, length}
 use Rattle.std.proofs.Math.Seq.{take-append_seam}
 use Rattle.flux_defs.specs.declared.vertices.Vertex.{Vertex}

@@ -17,6 +17,7 @@ ghost use Rattle.std.specs.List.{AllByRecursion};
 
 use crate::scopes::{kind_of, span_of};
 use crate::search::{Search, admits, free};
+use crate::singles::{reach_singles, serves_one_each};
 use crate::walking::{index_after, index_within, next_open_until};
 use flux_defs::{FreeView, List, Need, Steps};
 use std::sync::ledger::Ledger;
@@ -53,6 +54,9 @@ fn reach<F: FreeView, L: Ledger>(
     let Some(kind) = kind_of(s.graph, need) else {
         return 0;
     };
+    if serves_one_each(s, need) {
+        return reach_singles(s, need, kind, scope, most);
+    }
     let span = span_of(s.graph, scope);
     let mut reached = 0;
     let mut at = span.from;

@@ -11,6 +11,7 @@ mod knowing;
 mod matching;
 mod scopes;
 mod search;
+mod singles;
 mod topmost;
 mod walking;
 mod wanting;

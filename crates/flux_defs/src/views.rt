@@ -1,5 +1,5 @@
 //! What a graph has free over time, as a search sees it.
-ghost use Rattle.std.specs.Prelude.{◌≡◌, ℕ, ◌+◌, ◌<◌, ◌≤◌, ◌↔◌, IsTrue, length, List, MatchOption, IfSome, IfNone};
+ghost use Rattle.std.specs.Prelude.{◌≡◌, ℕ, ◌+◌, ◌<◌, ◌≤◌, ◌↔◌, [], IsTrue, length, List, MatchOption, IfSome, IfNone};
 ghost use Rattle.flux_defs.specs.declared.vertices.Vertex.{Vertex};
 ghost use Rattle.flux_defs.specs.declared.claims.Job.{Job};
 ghost use Rattle.flux_defs.specs.Jobs.{IsPoint, IsNextPoint};
@@ -13,7 +13,7 @@ use crate::vertices::Vertex;
 use std::sync::ledger::Ledger;
 
 /// A view of a list of vertices and a list of jobs. It need not keep the jobs: each answer holds for every list of jobs
-/// that the view stands for. No call takes memory, and each takes at least one step and at most `cost`.
+/// that the view stands for. No call takes memory, and each but `is_bare` takes at least one step and at most `cost`.
 pub trait FreeView {
     /// The vertices.
     ghost graph: { Self → List Vertex };
@@ -26,6 +26,10 @@ pub trait FreeView {
 
     /// How many steps a call takes at most.
     ghost cost: { Self → ℕ };
+
+    /// Whether it is known that there are no jobs. It takes no step.
+    fn is_bare(&self) -> bool
+        ensures bare { IsTrue result → (jobs : List Job) → stands_for self.now jobs → jobs ≡ [] };
 
     /// Whether a job holds the vertex or one above it at some moment of the window.
     fn closed_over<L: Ledger>(&self, vertex: u32, window: Window, steps: &mut Steps<L>) -> bool
@@ -127,6 +131,10 @@ impl<'a> FreeView for NoJobs<'a> {
     ghost keeps = { λ view vertex kind. ⊥ };
 
     ghost cost = { λ _. 1 };
+
+    fn is_bare(&self) -> bool {
+        true
+    }
 
     fn closed_over<L: Ledger>(&self, _vertex: u32, _window: Window, steps: &mut Steps<L>) -> bool {
         steps.tick();

@@ -35,6 +35,10 @@ impl<'a> FreeView for PlainJobs<'a> {
 
     ghost cost = { λ _. 1 };
 
+    fn is_bare(&self) -> bool {
+        self.jobs.is_empty()
+    }
+
     fn closed_over<L: Ledger>(&self, vertex: u32, window: Window, steps: &mut Steps<L>) -> bool {
         steps.tick();
         is_closed(self.graph, self.jobs.items(), window, vertex)

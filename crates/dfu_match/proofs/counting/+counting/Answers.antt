@@ -211,6 +211,11 @@ reach-returns-in_default-clause-greatest g t c = λ jobs stands.
     (reached_start _ (serves_less vs ok (takes_less _ _) scope need) c.args.most 0
     (λ v q lo hi some can. never v q can)))
 
+pub reach-returns-then-serves_one_each-clause-work : goal.reach-returns-then-serves_one_each-clause-work
+reach-returns-then-serves_one_each-clause-work g t c = λ jobs stands place from to at clear span.
+    takes_none _ ((length (needs_all c.args.s.now.needs.now) + 2) * g.F.FreeView.cost c.args.s.now.view.now)
+    c.args.steps.now place (place + length (all_of c.args.need.now)) from to
+
 pub reach-loop-reached-init : goal.reach-loop-reached-init
 reach-loop-reached-init g t c =
     let vs = c.args.s.now.graph.now.resources.vertices in

@@ -1,0 +1,59 @@
+//! Needs of which each vertex serves exactly 1, which are counted without a look at any vertex.
+ghost use Rattle.std.specs.Prelude.{◌≡◌, ℕ, ◌≤◌, length, List, IsTrue, Some};
+ghost use Rattle.flux_defs.specs.declared.vertices.Vertex.{Vertex};
+ghost use Rattle.flux_defs.specs.declared.claims.Claim.{Claim};
+ghost use Rattle.flux_defs.specs.declared.claims.Job.{Job};
+ghost use Rattle.match_laws.specs.Offers.{IsGreatest, SomeGroup};
+ghost use Rattle.dfu_match.specs.Searches.{open_to, scope_of, IsScope, IsKindOfNeed};
+ghost use Rattle.dfu_match.specs.Walks.{ServesOneEach};
+
+use crate::scopes::span_of;
+use crate::search::Search;
+use flux_defs::{FreeView, Need};
+
+/// Whether it is known that each vertex of the need serves exactly 1: nothing is asked within it, no node is barred,
+/// and there are no jobs.
+pub(crate) fn serves_one_each<F: FreeView>(s: &Search<F>, need: &Need) -> bool
+    ensures { IsTrue result → (jobs : List Job) → F.stands_for s.now.view.now jobs →
+        (let vs : List Vertex = s.now.graph.now.resources.vertices in
+        ServesOneEach vs (open_to vs jobs s.now.barred.now s.now.window) need.now) }
+{
+    let Need::Vert { needs, .. } = need else {
+        return false;
+    };
+    needs.is_empty() && s.barred.is_empty() && s.view.is_bare()
+}
+
+/// As much of the need as the scope can serve, at most so much, where each vertex of the need serves exactly 1: how
+/// many vertices of its kind there are.
+pub(crate) fn reach_singles<F: FreeView>(
+    s: &Search<F>,
+    need: &Need,
+    kind: u32,
+    scope: Option<u32>,
+    most: u128,
+) -> u128
+    requires scope { IsScope s.now.graph.now.resources.vertices scope }
+    requires of_kind { IsKindOfNeed s.now.graph.now.resources.vertices need.now (Some kind) }
+    requires singles { (jobs : List Job) → F.stands_for s.now.view.now jobs →
+        (let vs : List Vertex = s.now.graph.now.resources.vertices in
+        ServesOneEach vs (open_to vs jobs s.now.barred.now s.now.window) need.now) }
+    ensures within { result ≤ most }
+    ensures greatest { (jobs : List Job) → F.stands_for s.now.view.now jobs →
+        (let vs : List Vertex = s.now.graph.now.resources.vertices in
+        let ok : Claim → Type 0 = open_to vs jobs s.now.barred.now s.now.window in
+        IsGreatest (SomeGroup vs ok (scope_of scope) need.now) most result) }
+{
+    s.graph.is_valid();
+    let span = span_of(s.graph, scope);
+    let mut reached: u32 = 0;
+    let mut at = span.from;
+    while u128::from(reached) < most {
+        let Some(vertex) = s.graph.next_of_kind(kind, at, span.to) else {
+            return u128::from(reached);
+        };
+        reached += 1;
+        at = s.graph.past(vertex);
+    }
+    u128::from(reached)
+}
