@@ -1,5 +1,5 @@
 //! Balanced trees.
-ghost use Rattle.std.specs.Prelude.{◌≡◌, ℕ, ◌+◌, ◌*◌, ◌^◌, ◌<◌, ◌≤◌, min, max, List, [], ◌∷◌, ◌++◌, length, IfOk};
+ghost use Rattle.std.specs.Prelude.{◌≡◌, ℕ, ◌+◌, ◌*◌, ◌^◌, ◌<◌, ◌≤◌, min, max, List, [], ◌∷◌, ◌++◌, length, IfOk, OnOk};
 
 use crate::edits::Edit;
 use crate::measures::Measure;
@@ -52,6 +52,15 @@ struct Outline<M> {
     height: u64,
     len: u64,
     sum: M,
+}
+
+/// What becomes of a tree of which one side was edited.
+#[derive(Drop)]
+enum Mended<E: Share + Drop, M: Measure<E>> {
+    /// It has its two sides where they stand, and keeps this of them.
+    InPlace(Outline<M>),
+    /// It is another tree, which has taken the two sides.
+    Anew(Tree<E, M>),
 }
 
 impl<E: Share + Drop, M: Measure<E>> Model for Tree<E, M> {
@@ -208,16 +217,27 @@ impl<E: Share + Drop, M: Measure<E>> Tree<E, M> {
     }
 }
 
+impl<E: Share + Drop, M: Measure<E>> Sides<E, M> {
+    /// Takes both sides, and leaves two without items.
+    fn taken(&mut self) -> (Tree<E, M>, Tree<E, M>)
+        ensures left { result.0 ≡ self.old.left }
+        ensures right { result.1 ≡ self.old.right }
+    {
+        let left = mem::replace(&mut self.left, Tree::empty());
+        let right = mem::replace(&mut self.right, Tree::empty());
+        (left, right)
+    }
+}
+
 impl<E: Share + Drop, M: Measure<E>> Tree<E, M> {
     ghost use Rattle.balanced_tree.specs.Sides.{AreSides, DifferByAtMost, Settles};
 
-    /// Takes the two sides out of a tree, or copies of them where another tree holds them too, and gives with them a
-    /// node for two other sides. It takes one step.
+    /// Takes the two sides out of a tree, or copies of them where another tree holds them too. It takes one step.
     fn into_sides<L: Ledger>(
         self,
         alloc: Global,
         steps: &mut Steps<L>,
-    ) -> Result<(Tree<E, M>, Tree<E, M>, Node<Sides<E, M>>), AllocError>
+    ) -> Result<(Tree<E, M>, Tree<E, M>), AllocError>
         requires { 0 < self.1 }
         ensures sides { IfOk result (λ sides. AreSides self sides.0 sides.1) }
         ensures work { steps.new ≡ steps.old + 1 }
@@ -231,33 +251,7 @@ impl<E: Share + Drop, M: Measure<E>> Tree<E, M> {
         let Some(sides) = node.get_mut() else {
             return Err(AllocError);
         };
-        let left = mem::replace(&mut sides.left, Tree::empty());
-        let right = mem::replace(&mut sides.right, Tree::empty());
-        Ok((left, right, node))
-    }
-
-    /// The two trees one after the other, in a node that is there already.
-    fn refork(
-        alloc: Global,
-        mut node: Node<Sides<E, M>>,
-        left: Tree<E, M>,
-        right: Tree<E, M>,
-    ) -> Result<Tree<E, M>, AllocError>
-        requires some_left { 0 < length left.0 }
-        requires some_right { 0 < length right.0 }
-        requires near { DifferByAtMost 1 left.1 right.1 }
-        ensures { IfOk result (λ both. both ≡ (left.0 ++ right.0, max left.1 right.1 + 1)) }
-    {
-        let outline = Tree::outline(&left, &right)?;
-        match node.set(alloc, Sides { left, right }) {
-            Ok(()) => Ok(Tree {
-                height: outline.height,
-                len: outline.len,
-                sum: outline.sum,
-                body: Body::Fork(node),
-            }),
-            Err((_, refused)) => Err(refused),
-        }
+        Ok(sides.taken())
     }
 
     /// The two trees one after the other, of which the left is higher by two.
@@ -274,12 +268,12 @@ impl<E: Share + Drop, M: Measure<E>> Tree<E, M> {
         ensures most { IfOk result (λ both. both.1 ≤ left.1 + 1) }
         ensures work { steps.new ≤ steps.old + 2 }
     {
-        let (a, b, _) = left.into_sides(alloc, steps)?;
+        let (a, b) = left.into_sides(alloc, steps)?;
         if a.height() >= b.height() {
             let inner = Tree::fork(alloc, b, right)?;
             return Tree::fork(alloc, a, inner);
         }
-        let (c, d, _) = b.into_sides(alloc, steps)?;
+        let (c, d) = b.into_sides(alloc, steps)?;
         let outer = Tree::fork(alloc, a, c)?;
         let inner = Tree::fork(alloc, d, right)?;
         Tree::fork(alloc, outer, inner)
@@ -299,21 +293,20 @@ impl<E: Share + Drop, M: Measure<E>> Tree<E, M> {
         ensures most { IfOk result (λ both. both.1 ≤ right.1 + 1) }
         ensures work { steps.new ≤ steps.old + 2 }
     {
-        let (a, b, _) = right.into_sides(alloc, steps)?;
+        let (a, b) = right.into_sides(alloc, steps)?;
         if b.height() >= a.height() {
             let inner = Tree::fork(alloc, left, a)?;
             return Tree::fork(alloc, inner, b);
         }
-        let (c, d, _) = a.into_sides(alloc, steps)?;
+        let (c, d) = a.into_sides(alloc, steps)?;
         let inner = Tree::fork(alloc, left, c)?;
         let outer = Tree::fork(alloc, d, b)?;
         Tree::fork(alloc, inner, outer)
     }
 
-    /// The two trees one after the other, in balance, of which one may be empty; the node is there for them.
+    /// The two trees one after the other, in balance, of which one may be empty.
     fn joined<L: Ledger>(
         alloc: Global,
-        node: Node<Sides<E, M>>,
         left: Tree<E, M>,
         right: Tree<E, M>,
         steps: &mut Steps<L>,
@@ -335,7 +328,7 @@ impl<E: Share + Drop, M: Measure<E>> Tree<E, M> {
         } else if l < r && r - l > 1 {
             Tree::lean_right(alloc, left, right, steps)
         } else {
-            Tree::refork(alloc, node, left, right)
+            Tree::fork(alloc, left, right)
         }
     }
 }
@@ -387,7 +380,6 @@ impl<E: Share + Drop, M: Measure<E>> Tree<E, M> {
     }
 
     /// The tree with the item at that place replaced. It writes in place what no other tree holds.
-    #[tactic(auto, using(crate::proofs::EditLaws::edited_left, crate::proofs::EditLaws::edited_right))]
     pub fn edited<L: Ledger>(
         self,
         alloc: Global,
@@ -402,16 +394,131 @@ impl<E: Share + Drop, M: Measure<E>> Tree<E, M> {
         ensures emptied { IfOk result (λ tree. length tree.0 ≡ 0 → self.1 ≡ 0) }
         ensures work { steps.new ≤ steps.old + 3 * self.1 + 2 }
     {
-        if self.height == 0 {
-            return Tree::made(alloc, edit, steps);
+        let mut tree = self;
+        tree.edit(alloc, at, edit, steps)?;
+        Ok(tree)
+    }
+}
+
+impl<E: Share + Drop, M: Measure<E>> Sides<E, M> {
+    ghost use Rattle.balanced_tree.specs.Sides.{DifferByAtMost, Settles};
+    ghost use Rattle.balanced_tree.specs.Trees.{tree_after, IsAfter};
+    ghost use Rattle.balanced_tree.specs.Edits.{edited};
+
+    /// What becomes of a tree of these sides, of which one was edited: they stay where they stand in balance.
+    fn mended<L: Ledger>(
+        &mut self,
+        alloc: Global,
+        steps: &mut Steps<L>,
+    ) -> Result<Mended<E, M>, AllocError>
+        requires near { DifferByAtMost 2 self.old.left.1 self.old.right.1 }
+        ensures items { IfOk result (λ m. (tree_after self.new m).0 ≡ self.old.left.0 ++ self.old.right.0) }
+        ensures level { IfOk result (λ m. IsAfter M.of_items self.new m) }
+        ensures height { IfOk result (λ m. 0 < length self.old.left.0 → 0 < length self.old.right.0 →
+            Settles self.old.left.1 self.old.right.1 (tree_after self.new m).1) }
+        ensures all_right { IfOk result (λ m. length self.old.left.0 ≡ 0 →
+            (tree_after self.new m).1 ≡ self.old.right.1) }
+        ensures all_left { IfOk result (λ m. length self.old.right.0 ≡ 0 → 0 < length self.old.left.0 →
+            (tree_after self.new m).1 ≡ self.old.left.1) }
+        ensures work { steps.new ≤ steps.old + 2 }
+    {
+        let (l, r) = (self.left.height(), self.right.height());
+        if self.left.len() > 0 && self.right.len() > 0 && l.abs_diff(r) <= 1 {
+            let outline = Tree::outline(&self.left, &self.right)?;
+            return Ok(Mended::InPlace(outline));
         }
-        let (left, right, node) = self.into_sides(alloc, steps)?;
-        let middle = left.len();
+        let (left, right) = self.taken();
+        let tree = Tree::joined(alloc, left, right, steps)?;
+        Ok(Mended::Anew(tree))
+    }
+
+    /// Edits the item at that place of the two sides, one after the other.
+    #[cycle(edit)]
+    #[tactic(auto, using(crate::proofs::EditLaws::edited_left, crate::proofs::EditLaws::edited_right))]
+    fn edit<L: Ledger>(
+        &mut self,
+        alloc: Global,
+        at: u64,
+        edit: Edit<E>,
+        steps: &mut Steps<L>,
+    ) -> Result<Mended<E, M>, AllocError>
+        requires within { at < length (self.old.left.0 ++ self.old.right.0) }
+        requires some_left { 0 < length self.old.left.0 }
+        requires some_right { 0 < length self.old.right.0 }
+        requires near { DifferByAtMost 1 self.old.left.1 self.old.right.1 }
+        ensures items { IfOk result (λ m. (tree_after self.new m).0 ≡
+            edited (self.old.left.0 ++ self.old.right.0) at edit) }
+        ensures level { IfOk result (λ m. IsAfter M.of_items self.new m) }
+        ensures least { IfOk result (λ m. max self.old.left.1 self.old.right.1 ≤ (tree_after self.new m).1) }
+        ensures most { IfOk result (λ m. (tree_after self.new m).1 ≤ max self.old.left.1 self.old.right.1 + 2) }
+        ensures some { IfOk result (λ m. 0 < length (tree_after self.new m).0) }
+        ensures work { steps.new ≤ steps.old + 3 * max self.old.left.1 self.old.right.1 + 4 }
+    {
+        let middle = self.left.len();
         if at < middle {
-            let left = left.edited(alloc, at, edit, steps)?;
-            return Tree::joined(alloc, node, left, right, steps);
+            self.left.edit(alloc, at, edit, steps)?;
+            return self.mended(alloc, steps);
         }
-        let right = right.edited(alloc, at - middle, edit, steps)?;
-        return Tree::joined(alloc, node, left, right, steps);
+        self.right.edit(alloc, at - middle, edit, steps)?;
+        self.mended(alloc, steps)
+    }
+}
+
+impl<E: Share + Drop, M: Measure<E>> Tree<E, M> {
+    ghost use Rattle.balanced_tree.specs.Edits.{edited};
+
+    /// Edits the item at that place. It writes in place what no other tree holds; where no memory is left it may leave
+    /// no items.
+    #[cycle(edit)]
+    fn edit<L: Ledger>(
+        &mut self,
+        alloc: Global,
+        at: u64,
+        edit: Edit<E>,
+        steps: &mut Steps<L>,
+    ) -> Result<(), AllocError>
+        requires { at < length self.old.0 }
+        ensures items { OnOk result (self.new.0 ≡ edited self.old.0 at edit) }
+        ensures least { OnOk result (self.old.1 ≤ self.new.1 + 1) }
+        ensures most { OnOk result (self.new.1 ≤ self.old.1 + 1) }
+        ensures emptied { OnOk result (length self.new.0 ≡ 0 → self.old.1 ≡ 0) }
+        ensures work { steps.new ≤ steps.old + 3 * self.old.1 + 2 }
+    {
+        match &mut self.body {
+            Body::Empty => unreachable!(),
+            Body::Leaf(item) => {
+                match edit {
+                    Edit::Put(new) => {
+                        self.sum = M::of_item(&new, steps)?;
+                        *item = new;
+                    }
+                    other => *self = Tree::made(alloc, other, steps)?,
+                }
+                return Ok(());
+            }
+            Body::Fork(node) => {
+                steps.tick();
+                node.own(alloc)?;
+                let Some(sides) = node.get_mut() else {
+                    return Err(AllocError);
+                };
+                match sides.edit(alloc, at, edit, steps) {
+                    Ok(Mended::InPlace(outline)) => {
+                        self.height = outline.height;
+                        self.len = outline.len;
+                        self.sum = outline.sum;
+                        return Ok(());
+                    }
+                    Ok(Mended::Anew(tree)) => {
+                        *self = tree;
+                        return Ok(());
+                    }
+                    Err(refused) => {
+                        *self = Tree::empty();
+                        return Err(refused);
+                    }
+                }
+            }
+        }
     }
 }
