@@ -1,5 +1,6 @@
 //! Balanced trees.
-ghost use Rattle.std.specs.Prelude.{◌≡◌, ℕ, ◌+◌, ◌*◌, ◌^◌, ◌<◌, ◌≤◌, min, max, List, [], ◌∷◌, ◌++◌, length, IfOk, OnOk};
+ghost use Rattle.std.specs.Prelude.{◌≡◌, ℕ, ◌+◌, ◌*◌, ◌^◌, ◌<◌, ◌≤◌, min, max, List, [], ◌∷◌, ◌++◌, length};
+ghost use Rattle.std.specs.Prelude.{IsTrue, IfOk, OnOk, OnErr};
 
 use crate::edits::Edit;
 use crate::measures::Measure;
@@ -52,15 +53,6 @@ struct Outline<M> {
     height: u64,
     len: u64,
     sum: M,
-}
-
-/// What becomes of a tree of which one side was edited.
-#[derive(Drop)]
-enum Mended<E: Share + Drop, M: Measure<E>> {
-    /// It has its two sides where they stand, and keeps this of them.
-    InPlace(Outline<M>),
-    /// It is another tree, which has taken the two sides.
-    Anew(Tree<E, M>),
 }
 
 impl<E: Share + Drop, M: Measure<E>> Model for Tree<E, M> {
@@ -183,6 +175,7 @@ impl<E: Share + Drop, M: Measure<E>> Tree<E, M> {
     ghost use Rattle.balanced_tree.specs.Trees.{Outlines};
 
     /// What a tree of these two sides keeps of them.
+    #[inline(always)]
     fn outline(left: &Tree<E, M>, right: &Tree<E, M>) -> Result<Outline<M>, AllocError>
         requires some_left { 0 < length left.now.0 }
         requires some_right { 0 < length right.now.0 }
@@ -303,34 +296,6 @@ impl<E: Share + Drop, M: Measure<E>> Tree<E, M> {
         let outer = Tree::fork(alloc, d, b)?;
         Tree::fork(alloc, inner, outer)
     }
-
-    /// The two trees one after the other, in balance, of which one may be empty.
-    fn joined<L: Ledger>(
-        alloc: Global,
-        left: Tree<E, M>,
-        right: Tree<E, M>,
-        steps: &mut Steps<L>,
-    ) -> Result<Tree<E, M>, AllocError>
-        requires near { DifferByAtMost 2 left.1 right.1 }
-        ensures items { IfOk result (λ both. both.0 ≡ left.0 ++ right.0) }
-        ensures height { IfOk result (λ both. 0 < length left.0 → 0 < length right.0 → Settles left.1 right.1 both.1) }
-        ensures all_right { IfOk result (λ both. length left.0 ≡ 0 → both.1 ≡ right.1) }
-        ensures all_left { IfOk result (λ both. length right.0 ≡ 0 → 0 < length left.0 → both.1 ≡ left.1) }
-        ensures work { steps.new ≤ steps.old + 2 }
-    {
-        let (l, r) = (left.height(), right.height());
-        if left.len() == 0 {
-            Ok(right)
-        } else if right.len() == 0 {
-            Ok(left)
-        } else if r < l && l - r > 1 {
-            Tree::lean_left(alloc, left, right, steps)
-        } else if l < r && r - l > 1 {
-            Tree::lean_right(alloc, left, right, steps)
-        } else {
-            Tree::fork(alloc, left, right)
-        }
-    }
 }
 
 impl<E: Share + Drop, M: Measure<E>> Tree<E, M> {
@@ -401,39 +366,54 @@ impl<E: Share + Drop, M: Measure<E>> Tree<E, M> {
 }
 
 impl<E: Share + Drop, M: Measure<E>> Sides<E, M> {
-    ghost use Rattle.balanced_tree.specs.Sides.{DifferByAtMost, Settles};
-    ghost use Rattle.balanced_tree.specs.Trees.{tree_after, IsAfter};
+    ghost use Rattle.balanced_tree.specs.Sides.{DifferByAtMost, Settles, Shift};
     ghost use Rattle.balanced_tree.specs.Edits.{edited};
 
-    /// What becomes of a tree of these sides, of which one was edited: they stay where they stand in balance.
-    fn mended<L: Ledger>(
+    /// Takes both sides and makes one tree of them, in balance, of which one may be empty.
+    #[inline(never)]
+    fn joined<L: Ledger>(
         &mut self,
         alloc: Global,
         steps: &mut Steps<L>,
-    ) -> Result<Mended<E, M>, AllocError>
+    ) -> Result<Tree<E, M>, AllocError>
         requires near { DifferByAtMost 2 self.old.left.1 self.old.right.1 }
-        ensures items { IfOk result (λ m. (tree_after self.new m).0 ≡ self.old.left.0 ++ self.old.right.0) }
-        ensures level { IfOk result (λ m. IsAfter M.of_items self.new m) }
-        ensures height { IfOk result (λ m. 0 < length self.old.left.0 → 0 < length self.old.right.0 →
-            Settles self.old.left.1 self.old.right.1 (tree_after self.new m).1) }
-        ensures all_right { IfOk result (λ m. length self.old.left.0 ≡ 0 →
-            (tree_after self.new m).1 ≡ self.old.right.1) }
-        ensures all_left { IfOk result (λ m. length self.old.right.0 ≡ 0 → 0 < length self.old.left.0 →
-            (tree_after self.new m).1 ≡ self.old.left.1) }
+        ensures items { IfOk result (λ both. both.0 ≡ self.old.left.0 ++ self.old.right.0) }
+        ensures height { IfOk result (λ both. 0 < length self.old.left.0 → 0 < length self.old.right.0 →
+            Settles self.old.left.1 self.old.right.1 both.1) }
+        ensures all_right { IfOk result (λ both. length self.old.left.0 ≡ 0 → both.1 ≡ self.old.right.1) }
+        ensures all_left { IfOk result (λ both. length self.old.right.0 ≡ 0 → 0 < length self.old.left.0 →
+            both.1 ≡ self.old.left.1) }
         ensures work { steps.new ≤ steps.old + 2 }
     {
-        let (l, r) = (self.left.height(), self.right.height());
-        if self.left.len() > 0 && self.right.len() > 0 && l.abs_diff(r) <= 1 {
-            let outline = Tree::outline(&self.left, &self.right)?;
-            return Ok(Mended::InPlace(outline));
-        }
         let (left, right) = self.taken();
-        let tree = Tree::joined(alloc, left, right, steps)?;
-        Ok(Mended::Anew(tree))
+        let (l, r) = (left.height(), right.height());
+        if left.len() == 0 {
+            Ok(right)
+        } else if right.len() == 0 {
+            Ok(left)
+        } else if r < l && l - r > 1 {
+            Tree::lean_left(alloc, left, right, steps)
+        } else if l < r && r - l > 1 {
+            Tree::lean_right(alloc, left, right, steps)
+        } else {
+            Tree::fork(alloc, left, right)
+        }
+    }
+
+    /// Whether they are the sides of one tree where they stand: neither is empty, or higher by more than one.
+    #[inline(always)]
+    fn are_near(&self) -> bool
+        ensures some_left { IsTrue result → 0 < length self.now.left.0 }
+        ensures some_right { IsTrue result → 0 < length self.now.right.0 }
+        ensures near { IsTrue result → DifferByAtMost 1 self.now.left.1 self.now.right.1 }
+    {
+        let (l, r) = (self.left.height(), self.right.height());
+        self.left.len() > 0 && self.right.len() > 0 && l.abs_diff(r) <= 1
     }
 
     /// Edits the item at that place of the two sides, one after the other.
     #[cycle(edit)]
+    #[inline(always)]
     #[tactic(auto, using(crate::proofs::EditLaws::edited_left, crate::proofs::EditLaws::edited_right))]
     fn edit<L: Ledger>(
         &mut self,
@@ -441,34 +421,58 @@ impl<E: Share + Drop, M: Measure<E>> Sides<E, M> {
         at: u64,
         edit: Edit<E>,
         steps: &mut Steps<L>,
-    ) -> Result<Mended<E, M>, AllocError>
+    ) -> Result<(), AllocError>
         requires within { at < length (self.old.left.0 ++ self.old.right.0) }
         requires some_left { 0 < length self.old.left.0 }
         requires some_right { 0 < length self.old.right.0 }
         requires near { DifferByAtMost 1 self.old.left.1 self.old.right.1 }
-        ensures items { IfOk result (λ m. (tree_after self.new m).0 ≡
+        ensures items { OnOk result (self.new.left.0 ++ self.new.right.0 ≡
             edited (self.old.left.0 ++ self.old.right.0) at edit) }
-        ensures level { IfOk result (λ m. IsAfter M.of_items self.new m) }
-        ensures least { IfOk result (λ m. max self.old.left.1 self.old.right.1 ≤ (tree_after self.new m).1) }
-        ensures most { IfOk result (λ m. (tree_after self.new m).1 ≤ max self.old.left.1 self.old.right.1 + 2) }
-        ensures some { IfOk result (λ m. 0 < length (tree_after self.new m).0) }
-        ensures work { steps.new ≤ steps.old + 3 * max self.old.left.1 self.old.right.1 + 4 }
+        ensures shift { OnOk result (Shift self.old.left self.old.right self.new.left self.new.right) }
+        ensures work { steps.new ≤ steps.old + 3 * max self.old.left.1 self.old.right.1 + 2 }
     {
         let middle = self.left.len();
         if at < middle {
-            self.left.edit(alloc, at, edit, steps)?;
-            return self.mended(alloc, steps);
+            return self.left.edit(alloc, at, edit, steps);
         }
-        self.right.edit(alloc, at - middle, edit, steps)?;
-        self.mended(alloc, steps)
+        self.right.edit(alloc, at - middle, edit, steps)
     }
 }
 
 impl<E: Share + Drop, M: Measure<E>> Tree<E, M> {
-    ghost use Rattle.balanced_tree.specs.Edits.{edited};
+    ghost use Rattle.balanced_tree.specs.Edits.{edited, made};
 
-    /// Edits the item at that place. It writes in place what no other tree holds; where no memory is left it may leave
-    /// no items.
+    /// Writes an item over another one, and gives the measure of it. It takes at most one step.
+    #[inline(never)]
+    fn put<L: Ledger>(place: &mut E, item: E, steps: &mut Steps<L>) -> Result<M, AllocError>
+        ensures item { OnOk result (place.new ≡ item) }
+        ensures sum { IfOk result (λ sum. sum ≡ M.of_items (item ∷ [])) }
+        ensures same { OnErr result (place.new ≡ place.old) }
+        ensures work { steps.new ≤ steps.old + 1 }
+    {
+        let sum = M::of_item(&item, steps)?;
+        *place = item;
+        Ok(sum)
+    }
+
+    /// Makes this the tree of what stands in the place of an item.
+    #[inline(never)]
+    fn remade<L: Ledger>(
+        &mut self,
+        alloc: Global,
+        edit: Edit<E>,
+        steps: &mut Steps<L>,
+    ) -> Result<(), AllocError>
+        ensures items { OnOk result (self.new.0 ≡ made edit) }
+        ensures height { OnOk result (self.new.1 ≤ 1) }
+        ensures work { steps.new ≤ steps.old + 2 }
+    {
+        *self = Tree::made(alloc, edit, steps)?;
+        Ok(())
+    }
+
+    /// Edits the item at that place. It writes in place what no other tree holds. Where no memory is left the items may
+    /// be gone.
     #[cycle(edit)]
     fn edit<L: Ledger>(
         &mut self,
@@ -486,16 +490,13 @@ impl<E: Share + Drop, M: Measure<E>> Tree<E, M> {
     {
         match &mut self.body {
             Body::Empty => unreachable!(),
-            Body::Leaf(item) => {
-                match edit {
-                    Edit::Put(new) => {
-                        self.sum = M::of_item(&new, steps)?;
-                        *item = new;
-                    }
-                    other => *self = Tree::made(alloc, other, steps)?,
+            Body::Leaf(item) => match edit {
+                Edit::Put(new) => {
+                    self.sum = Tree::put(item, new, steps)?;
+                    return Ok(());
                 }
-                return Ok(());
-            }
+                other => return self.remade(alloc, other, steps),
+            },
             Body::Fork(node) => {
                 steps.tick();
                 node.own(alloc)?;
@@ -503,14 +504,29 @@ impl<E: Share + Drop, M: Measure<E>> Tree<E, M> {
                     return Err(AllocError);
                 };
                 match sides.edit(alloc, at, edit, steps) {
-                    Ok(Mended::InPlace(outline)) => {
+                    Ok(()) => {}
+                    Err(refused) => {
+                        *self = Tree::empty();
+                        return Err(refused);
+                    }
+                }
+                if !sides.are_near() {
+                    match sides.joined(alloc, steps) {
+                        Ok(tree) => {
+                            *self = tree;
+                            return Ok(());
+                        }
+                        Err(refused) => {
+                            *self = Tree::empty();
+                            return Err(refused);
+                        }
+                    }
+                }
+                match Tree::outline(&sides.left, &sides.right) {
+                    Ok(outline) => {
                         self.height = outline.height;
                         self.len = outline.len;
                         self.sum = outline.sum;
-                        return Ok(());
-                    }
-                    Ok(Mended::Anew(tree)) => {
-                        *self = tree;
                         return Ok(());
                     }
                     Err(refused) => {
