@@ -1,6 +1,6 @@
 //! Balanced trees.
 ghost use Rattle.std.specs.Prelude.{◌≡◌, ℕ, ◌+◌, ◌*◌, ◌^◌, ◌<◌, ◌≤◌, min, max, List, [], ◌∷◌, ◌++◌, length};
-ghost use Rattle.std.specs.Prelude.{IsTrue, IfOk, OnOk, OnErr};
+ghost use Rattle.std.specs.Prelude.{IsTrue, IfOk, OnOk};
 
 use crate::edits::Edit;
 use crate::measures::Measure;
@@ -369,7 +369,8 @@ impl<E: Share + Drop, M: Measure<E>> Sides<E, M> {
     ghost use Rattle.balanced_tree.specs.Sides.{DifferByAtMost, Settles, Shift};
     ghost use Rattle.balanced_tree.specs.Edits.{edited};
 
-    /// Takes both sides and makes one tree of them, in balance, of which one may be empty.
+    /// Takes both sides and makes one tree of them, in balance, of which one may be empty. It stands alone, so that an
+    /// edit that joins nothing has no room to clear for it.
     #[inline(never)]
     fn joined<L: Ledger>(
         &mut self,
@@ -442,20 +443,7 @@ impl<E: Share + Drop, M: Measure<E>> Sides<E, M> {
 impl<E: Share + Drop, M: Measure<E>> Tree<E, M> {
     ghost use Rattle.balanced_tree.specs.Edits.{edited, made};
 
-    /// Writes an item over another one, and gives the measure of it. It takes at most one step.
-    #[inline(never)]
-    fn put<L: Ledger>(place: &mut E, item: E, steps: &mut Steps<L>) -> Result<M, AllocError>
-        ensures item { OnOk result (place.new ≡ item) }
-        ensures sum { IfOk result (λ sum. sum ≡ M.of_items (item ∷ [])) }
-        ensures same { OnErr result (place.new ≡ place.old) }
-        ensures work { steps.new ≤ steps.old + 1 }
-    {
-        let sum = M::of_item(&item, steps)?;
-        *place = item;
-        Ok(sum)
-    }
-
-    /// Makes this the tree of what stands in the place of an item.
+    /// Makes this tree of one item that of what stands in the place of the item. It stands alone, as `joined` does.
     #[inline(never)]
     fn remade<L: Ledger>(
         &mut self,
@@ -463,11 +451,22 @@ impl<E: Share + Drop, M: Measure<E>> Tree<E, M> {
         edit: Edit<E>,
         steps: &mut Steps<L>,
     ) -> Result<(), AllocError>
+        requires one { length self.old.0 ≡ 1 }
+        requires flat { self.old.1 ≡ 0 }
         ensures items { OnOk result (self.new.0 ≡ made edit) }
         ensures height { OnOk result (self.new.1 ≤ 1) }
         ensures work { steps.new ≤ steps.old + 2 }
     {
-        *self = Tree::made(alloc, edit, steps)?;
+        match edit {
+            Edit::Put(item) => {
+                let Body::Leaf(place) = &mut self.body else {
+                    unreachable!()
+                };
+                self.sum = M::of_item(&item, steps)?;
+                *place = item;
+            }
+            other => *self = Tree::made(alloc, other, steps)?,
+        }
         Ok(())
     }
 
@@ -490,13 +489,7 @@ impl<E: Share + Drop, M: Measure<E>> Tree<E, M> {
     {
         match &mut self.body {
             Body::Empty => unreachable!(),
-            Body::Leaf(item) => match edit {
-                Edit::Put(new) => {
-                    self.sum = Tree::put(item, new, steps)?;
-                    return Ok(());
-                }
-                other => return self.remade(alloc, other, steps),
-            },
+            Body::Leaf(_) => return self.remade(alloc, edit, steps),
             Body::Fork(node) => {
                 steps.tick();
                 node.own(alloc)?;
