@@ -25,6 +25,16 @@ pub record Settles (l r h : ℕ) : Type 0 where
   pub most : h ≤ max l r + 1
   pub near : DifferByAtMost 1 l r → h ≡ max l r + 1
 
+-- how an edit of one of the two sides of a tree changes their heights
+pub record Shift {E : Type 0} (l r new_l new_r : List E × ℕ) : Type 0 where
+  pub some : 0 < length (new_l.0 ++ new_r.0)
+  pub near : DifferByAtMost 2 new_l.1 new_r.1
+  pub least : max l.1 r.1 ≤ max new_l.1 new_r.1 + 1
+  pub most : max new_l.1 new_r.1 ≤ max l.1 r.1 + 1
+  pub apart : max new_l.1 new_r.1 < max l.1 r.1 → DifferByAtMost 1 new_l.1 new_r.1
+  pub no_left : length new_l.0 ≡ 0 → max l.1 r.1 ≤ new_r.1
+  pub no_right : length new_r.0 ≡ 0 → max l.1 r.1 ≤ new_l.1
+
 -- what a tree is made of: nothing, one item, or two sides
 abbrev pub HasShape : {E M : Type 0} → List E × ℕ → Shape E M → Type 0
 HasShape t Empty = t ≡ ([], 0)

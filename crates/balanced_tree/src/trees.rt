@@ -1,5 +1,6 @@
 //! Balanced trees.
-ghost use Rattle.std.specs.Prelude.{◌≡◌, ℕ, ◌+◌, ◌*◌, ◌^◌, ◌<◌, ◌≤◌, min, max, List, [], ◌∷◌, ◌++◌, length, IfOk};
+ghost use Rattle.std.specs.Prelude.{◌≡◌, ℕ, ◌+◌, ◌*◌, ◌^◌, ◌<◌, ◌≤◌, min, max, List, [], ◌∷◌, ◌++◌, length};
+ghost use Rattle.std.specs.Prelude.{IsTrue, IfOk, OnOk};
 
 use crate::edits::Edit;
 use crate::measures::Measure;
@@ -174,6 +175,7 @@ impl<E: Share + Drop, M: Measure<E>> Tree<E, M> {
     ghost use Rattle.balanced_tree.specs.Trees.{Outlines};
 
     /// What a tree of these two sides keeps of them.
+    #[inline(always)]
     fn outline(left: &Tree<E, M>, right: &Tree<E, M>) -> Result<Outline<M>, AllocError>
         requires some_left { 0 < length left.now.0 }
         requires some_right { 0 < length right.now.0 }
@@ -208,16 +210,27 @@ impl<E: Share + Drop, M: Measure<E>> Tree<E, M> {
     }
 }
 
+impl<E: Share + Drop, M: Measure<E>> Sides<E, M> {
+    /// Takes both sides, and leaves two without items.
+    fn taken(&mut self) -> (Tree<E, M>, Tree<E, M>)
+        ensures left { result.0 ≡ self.old.left }
+        ensures right { result.1 ≡ self.old.right }
+    {
+        let left = mem::replace(&mut self.left, Tree::empty());
+        let right = mem::replace(&mut self.right, Tree::empty());
+        (left, right)
+    }
+}
+
 impl<E: Share + Drop, M: Measure<E>> Tree<E, M> {
     ghost use Rattle.balanced_tree.specs.Sides.{AreSides, DifferByAtMost, Settles};
 
-    /// Takes the two sides out of a tree, or copies of them where another tree holds them too, and gives with them a
-    /// node for two other sides. It takes one step.
+    /// Takes the two sides out of a tree, or copies of them where another tree holds them too. It takes one step.
     fn into_sides<L: Ledger>(
         self,
         alloc: Global,
         steps: &mut Steps<L>,
-    ) -> Result<(Tree<E, M>, Tree<E, M>, Node<Sides<E, M>>), AllocError>
+    ) -> Result<(Tree<E, M>, Tree<E, M>), AllocError>
         requires { 0 < self.1 }
         ensures sides { IfOk result (λ sides. AreSides self sides.0 sides.1) }
         ensures work { steps.new ≡ steps.old + 1 }
@@ -231,33 +244,7 @@ impl<E: Share + Drop, M: Measure<E>> Tree<E, M> {
         let Some(sides) = node.get_mut() else {
             return Err(AllocError);
         };
-        let left = mem::replace(&mut sides.left, Tree::empty());
-        let right = mem::replace(&mut sides.right, Tree::empty());
-        Ok((left, right, node))
-    }
-
-    /// The two trees one after the other, in a node that is there already.
-    fn refork(
-        alloc: Global,
-        mut node: Node<Sides<E, M>>,
-        left: Tree<E, M>,
-        right: Tree<E, M>,
-    ) -> Result<Tree<E, M>, AllocError>
-        requires some_left { 0 < length left.0 }
-        requires some_right { 0 < length right.0 }
-        requires near { DifferByAtMost 1 left.1 right.1 }
-        ensures { IfOk result (λ both. both ≡ (left.0 ++ right.0, max left.1 right.1 + 1)) }
-    {
-        let outline = Tree::outline(&left, &right)?;
-        match node.set(alloc, Sides { left, right }) {
-            Ok(()) => Ok(Tree {
-                height: outline.height,
-                len: outline.len,
-                sum: outline.sum,
-                body: Body::Fork(node),
-            }),
-            Err((_, refused)) => Err(refused),
-        }
+        Ok(sides.taken())
     }
 
     /// The two trees one after the other, of which the left is higher by two.
@@ -274,12 +261,12 @@ impl<E: Share + Drop, M: Measure<E>> Tree<E, M> {
         ensures most { IfOk result (λ both. both.1 ≤ left.1 + 1) }
         ensures work { steps.new ≤ steps.old + 2 }
     {
-        let (a, b, _) = left.into_sides(alloc, steps)?;
+        let (a, b) = left.into_sides(alloc, steps)?;
         if a.height() >= b.height() {
             let inner = Tree::fork(alloc, b, right)?;
             return Tree::fork(alloc, a, inner);
         }
-        let (c, d, _) = b.into_sides(alloc, steps)?;
+        let (c, d) = b.into_sides(alloc, steps)?;
         let outer = Tree::fork(alloc, a, c)?;
         let inner = Tree::fork(alloc, d, right)?;
         Tree::fork(alloc, outer, inner)
@@ -299,44 +286,15 @@ impl<E: Share + Drop, M: Measure<E>> Tree<E, M> {
         ensures most { IfOk result (λ both. both.1 ≤ right.1 + 1) }
         ensures work { steps.new ≤ steps.old + 2 }
     {
-        let (a, b, _) = right.into_sides(alloc, steps)?;
+        let (a, b) = right.into_sides(alloc, steps)?;
         if b.height() >= a.height() {
             let inner = Tree::fork(alloc, left, a)?;
             return Tree::fork(alloc, inner, b);
         }
-        let (c, d, _) = a.into_sides(alloc, steps)?;
+        let (c, d) = a.into_sides(alloc, steps)?;
         let inner = Tree::fork(alloc, left, c)?;
         let outer = Tree::fork(alloc, d, b)?;
         Tree::fork(alloc, inner, outer)
-    }
-
-    /// The two trees one after the other, in balance, of which one may be empty; the node is there for them.
-    fn joined<L: Ledger>(
-        alloc: Global,
-        node: Node<Sides<E, M>>,
-        left: Tree<E, M>,
-        right: Tree<E, M>,
-        steps: &mut Steps<L>,
-    ) -> Result<Tree<E, M>, AllocError>
-        requires near { DifferByAtMost 2 left.1 right.1 }
-        ensures items { IfOk result (λ both. both.0 ≡ left.0 ++ right.0) }
-        ensures height { IfOk result (λ both. 0 < length left.0 → 0 < length right.0 → Settles left.1 right.1 both.1) }
-        ensures all_right { IfOk result (λ both. length left.0 ≡ 0 → both.1 ≡ right.1) }
-        ensures all_left { IfOk result (λ both. length right.0 ≡ 0 → 0 < length left.0 → both.1 ≡ left.1) }
-        ensures work { steps.new ≤ steps.old + 2 }
-    {
-        let (l, r) = (left.height(), right.height());
-        if left.len() == 0 {
-            Ok(right)
-        } else if right.len() == 0 {
-            Ok(left)
-        } else if r < l && l - r > 1 {
-            Tree::lean_left(alloc, left, right, steps)
-        } else if l < r && r - l > 1 {
-            Tree::lean_right(alloc, left, right, steps)
-        } else {
-            Tree::refork(alloc, node, left, right)
-        }
     }
 }
 
@@ -387,7 +345,6 @@ impl<E: Share + Drop, M: Measure<E>> Tree<E, M> {
     }
 
     /// The tree with the item at that place replaced. It writes in place what no other tree holds.
-    #[tactic(auto, using(crate::proofs::EditLaws::edited_left, crate::proofs::EditLaws::edited_right))]
     pub fn edited<L: Ledger>(
         self,
         alloc: Global,
@@ -402,16 +359,175 @@ impl<E: Share + Drop, M: Measure<E>> Tree<E, M> {
         ensures emptied { IfOk result (λ tree. length tree.0 ≡ 0 → self.1 ≡ 0) }
         ensures work { steps.new ≤ steps.old + 3 * self.1 + 2 }
     {
-        if self.height == 0 {
-            return Tree::made(alloc, edit, steps);
+        let mut tree = self;
+        tree.edit(alloc, at, edit, steps)?;
+        Ok(tree)
+    }
+}
+
+impl<E: Share + Drop, M: Measure<E>> Sides<E, M> {
+    ghost use Rattle.balanced_tree.specs.Sides.{DifferByAtMost, Settles, Shift};
+    ghost use Rattle.balanced_tree.specs.Edits.{edited};
+
+    /// Takes both sides and makes one tree of them, in balance, of which one may be empty. It stands alone, so that an
+    /// edit that joins nothing has no room to clear for it.
+    #[inline(never)]
+    fn joined<L: Ledger>(
+        &mut self,
+        alloc: Global,
+        steps: &mut Steps<L>,
+    ) -> Result<Tree<E, M>, AllocError>
+        requires near { DifferByAtMost 2 self.old.left.1 self.old.right.1 }
+        ensures items { IfOk result (λ both. both.0 ≡ self.old.left.0 ++ self.old.right.0) }
+        ensures height { IfOk result (λ both. 0 < length self.old.left.0 → 0 < length self.old.right.0 →
+            Settles self.old.left.1 self.old.right.1 both.1) }
+        ensures all_right { IfOk result (λ both. length self.old.left.0 ≡ 0 → both.1 ≡ self.old.right.1) }
+        ensures all_left { IfOk result (λ both. length self.old.right.0 ≡ 0 → 0 < length self.old.left.0 →
+            both.1 ≡ self.old.left.1) }
+        ensures work { steps.new ≤ steps.old + 2 }
+    {
+        let (left, right) = self.taken();
+        let (l, r) = (left.height(), right.height());
+        if left.len() == 0 {
+            Ok(right)
+        } else if right.len() == 0 {
+            Ok(left)
+        } else if r < l && l - r > 1 {
+            Tree::lean_left(alloc, left, right, steps)
+        } else if l < r && r - l > 1 {
+            Tree::lean_right(alloc, left, right, steps)
+        } else {
+            Tree::fork(alloc, left, right)
         }
-        let (left, right, node) = self.into_sides(alloc, steps)?;
-        let middle = left.len();
+    }
+
+    /// Whether they are the sides of one tree where they stand: neither is empty, or higher by more than one.
+    #[inline(always)]
+    fn are_near(&self) -> bool
+        ensures some_left { IsTrue result → 0 < length self.now.left.0 }
+        ensures some_right { IsTrue result → 0 < length self.now.right.0 }
+        ensures near { IsTrue result → DifferByAtMost 1 self.now.left.1 self.now.right.1 }
+    {
+        let (l, r) = (self.left.height(), self.right.height());
+        self.left.len() > 0 && self.right.len() > 0 && l.abs_diff(r) <= 1
+    }
+
+    /// Edits the item at that place of the two sides, one after the other.
+    #[cycle(edit)]
+    #[inline(always)]
+    #[tactic(auto, using(crate::proofs::EditLaws::edited_left, crate::proofs::EditLaws::edited_right))]
+    fn edit<L: Ledger>(
+        &mut self,
+        alloc: Global,
+        at: u64,
+        edit: Edit<E>,
+        steps: &mut Steps<L>,
+    ) -> Result<(), AllocError>
+        requires within { at < length (self.old.left.0 ++ self.old.right.0) }
+        requires some_left { 0 < length self.old.left.0 }
+        requires some_right { 0 < length self.old.right.0 }
+        requires near { DifferByAtMost 1 self.old.left.1 self.old.right.1 }
+        ensures items { OnOk result (self.new.left.0 ++ self.new.right.0 ≡
+            edited (self.old.left.0 ++ self.old.right.0) at edit) }
+        ensures shift { OnOk result (Shift self.old.left self.old.right self.new.left self.new.right) }
+        ensures work { steps.new ≤ steps.old + 3 * max self.old.left.1 self.old.right.1 + 2 }
+    {
+        let middle = self.left.len();
         if at < middle {
-            let left = left.edited(alloc, at, edit, steps)?;
-            return Tree::joined(alloc, node, left, right, steps);
+            return self.left.edit(alloc, at, edit, steps);
         }
-        let right = right.edited(alloc, at - middle, edit, steps)?;
-        return Tree::joined(alloc, node, left, right, steps);
+        self.right.edit(alloc, at - middle, edit, steps)
+    }
+}
+
+impl<E: Share + Drop, M: Measure<E>> Tree<E, M> {
+    ghost use Rattle.balanced_tree.specs.Edits.{edited, made};
+
+    /// Makes this tree of one item that of what stands in the place of the item. It stands alone, as `joined` does.
+    #[inline(never)]
+    fn remade<L: Ledger>(
+        &mut self,
+        alloc: Global,
+        edit: Edit<E>,
+        steps: &mut Steps<L>,
+    ) -> Result<(), AllocError>
+        requires one { length self.old.0 ≡ 1 }
+        requires flat { self.old.1 ≡ 0 }
+        ensures items { OnOk result (self.new.0 ≡ made edit) }
+        ensures height { OnOk result (self.new.1 ≤ 1) }
+        ensures work { steps.new ≤ steps.old + 2 }
+    {
+        match edit {
+            Edit::Put(item) => {
+                let Body::Leaf(place) = &mut self.body else {
+                    unreachable!()
+                };
+                self.sum = M::of_item(&item, steps)?;
+                *place = item;
+            }
+            other => *self = Tree::made(alloc, other, steps)?,
+        }
+        Ok(())
+    }
+
+    /// Edits the item at that place. It writes in place what no other tree holds. Where no memory is left the items may
+    /// be gone.
+    #[cycle(edit)]
+    fn edit<L: Ledger>(
+        &mut self,
+        alloc: Global,
+        at: u64,
+        edit: Edit<E>,
+        steps: &mut Steps<L>,
+    ) -> Result<(), AllocError>
+        requires { at < length self.old.0 }
+        ensures items { OnOk result (self.new.0 ≡ edited self.old.0 at edit) }
+        ensures least { OnOk result (self.old.1 ≤ self.new.1 + 1) }
+        ensures most { OnOk result (self.new.1 ≤ self.old.1 + 1) }
+        ensures emptied { OnOk result (length self.new.0 ≡ 0 → self.old.1 ≡ 0) }
+        ensures work { steps.new ≤ steps.old + 3 * self.old.1 + 2 }
+    {
+        match &mut self.body {
+            Body::Empty => unreachable!(),
+            Body::Leaf(_) => return self.remade(alloc, edit, steps),
+            Body::Fork(node) => {
+                steps.tick();
+                node.own(alloc)?;
+                let Some(sides) = node.get_mut() else {
+                    return Err(AllocError);
+                };
+                match sides.edit(alloc, at, edit, steps) {
+                    Ok(()) => {}
+                    Err(refused) => {
+                        *self = Tree::empty();
+                        return Err(refused);
+                    }
+                }
+                if !sides.are_near() {
+                    match sides.joined(alloc, steps) {
+                        Ok(tree) => {
+                            *self = tree;
+                            return Ok(());
+                        }
+                        Err(refused) => {
+                            *self = Tree::empty();
+                            return Err(refused);
+                        }
+                    }
+                }
+                match Tree::outline(&sides.left, &sides.right) {
+                    Ok(outline) => {
+                        self.height = outline.height;
+                        self.len = outline.len;
+                        self.sum = outline.sum;
+                        return Ok(());
+                    }
+                    Err(refused) => {
+                        *self = Tree::empty();
+                        return Err(refused);
+                    }
+                }
+            }
+        }
     }
 }

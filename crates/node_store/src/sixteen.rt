@@ -104,6 +104,8 @@ impl<S: Vacant> Sixteen<S> {
 }
 
 impl<S: Share + Drop> Share for Two<S> {
+    /// Two equal parts. All sixteen are made in one function, so that none is moved from half to half.
+    #[inline(always)]
     fn share(&self) -> Result<Two<S>, AllocError> {
         let left = self.left.share()?;
         let right = self.right.share()?;
@@ -112,6 +114,7 @@ impl<S: Share + Drop> Share for Two<S> {
 }
 
 impl<S: Share + Drop> Share for Sixteen<S> {
+    #[inline(always)]
     fn share(&self) -> Result<Sixteen<S>, AllocError> {
         let halves = self.halves.share()?;
         Ok(Sixteen { halves })

@@ -98,6 +98,7 @@ impl Measure<Chunk> for Dip {
         dip_of(chunk.look(steps))
     }
 
+    #[inline(always)]
     fn join(self, other: Dip) -> Result<Dip, AllocError> {
         let both = self.then(other)?;
         Ok(both)
