@@ -1,7 +1,7 @@
 -- From the accounts of a book to the book.
 use Rattle.std.proofs.Common.{◌≡◌, ℕ, ◌+◌, ◌*◌, ◌<◌, ◌≤◌, List, [], ◌∷◌, ◌++◌, length, Option, Some, None, IfSome}
 use Rattle.std.proofs.Common.{MatchOption}
-use Rattle.std.proofs.Common.{slice_get, refl, sym, ap, subst, arith}
+use Rattle.std.proofs.Common.{slice_get, sym, ap, subst, arith}
 use Rattle.std.specs.Option.{IsSomeAnd}
 use Rattle.std.specs.FinMap.{len}
 use Rattle.flux_defs.specs.declared.vertices.Vertex.{Vertex}
@@ -18,7 +18,8 @@ use Rattle.vertex_planners.specs.Lists.{items_of}
 use Rattle.vertex_planners.specs.Work.{CostWithin}
 use Rattle.vertex_accounts.specs.declared.books.Accounts.{Accounts}
 use Rattle.vertex_accounts.specs.Costs.{look_most, closed_most, accounts_most}
-use Rattle.vertex_accounts.specs.Books.{AreAccountsOf, AreAccounts, HasTotals, types_of}
+use Rattle.vertex_accounts.specs.Books.{AreAccountsOf, AreAccounts, HasPlace, HasTotals, types_of}
+use Rattle.vertex_accounts.specs.Moments.{IsMomentOrNone}
 use Rattle.book_state.specs.declared.held.Kept.{Kept}
 use Rattle.book_state.specs.Books.{graph_of, vertices_of, rules_of, accounts_of, rows_of, IsPairKept, IsTotalKept}
 use Rattle.book_state.specs.Books.{StandsFor, IsBook, MayAdd, cost_of, change_cost_of}
@@ -47,6 +48,9 @@ module _ (g : NamedGraph) (a : Accounts Plan) (book : Kept) (eg : g ≡ graph_of
       AreAccounts (λ (p : Plan). p.total) Plans.StandsFor g.resources.vertices jobs a → Q g.resources.vertices jobs) →
       (jobs : List Job) → StandsFor book jobs → Q (vertices_of book) jobs
   answer_at Q f jobs x = subst (λ (h : NamedGraph). Q h.resources.vertices jobs) eg (f jobs (accounts_at jobs x))
+
+  pub place_at : (kind place : ℕ) → HasPlace (accounts_of book) kind place → HasPlace a kind place
+  place_at kind place is = subst (λ (x : Accounts Plan). HasPlace x kind place) (sym ea) is
 
   pub inside_at : (v : ℕ) → v < length (vertices_of book) → v < length g.resources.vertices
   inside_at v lt = subst (λ (h : NamedGraph). v < length h.resources.vertices) (sym eg) lt
@@ -114,17 +118,16 @@ kind_kept a book ea jobs is v kind keeps =
     subst (λ (b : Accounts Plan). HasTotals b kind) (sym ea)
     (is.kinds kind low lower (rule.0, rule.1, rule.2, rule.3, rule.4.0))
 
--- what the accounts tell of a total that is too little, where they keep those of its type
-module _ (w : Window) (vertices : List Vertex) (jobs : List Job) (v kind amount : ℕ) (Has : Type 0) where
+-- what the accounts tell of a total that is too little
+module _ (w : Window) (vertices : List Vertex) (jobs : List Job) (v kind amount : ℕ) where
   abbrev pub LittleOrNone : Option ℕ → Type 0
-  LittleOrNone found = MatchOption found (Has → IsTooLittle vertices jobs w v kind amount → ⊥)
-      (λ m. (w.from ≤ m) × (m < w.to) × IsTooLittleAt vertices jobs v kind amount m)
+  LittleOrNone found = IsMomentOrNone w (IsTooLittleAt vertices jobs v kind amount) found
 
-  pub little_told : (Keeps : Type 0) → (Keeps → Has) → (found : Option ℕ) → LittleOrNone found →
+  pub little_told : (Keeps : Type 0) → (found : Option ℕ) → LittleOrNone found →
       MatchOption found (Keeps → IsTooLittle vertices jobs w v kind amount → ⊥)
       (IsTooLittleAt vertices jobs v kind amount)
-  little_told Keeps has None none = λ keeps. none (has keeps)
-  little_told Keeps has (Some m) some = some.2
+  little_told Keeps None none = λ keeps. none
+  little_told Keeps (Some m) some = some.2
 
   pub little_within : (found : Option ℕ) → LittleOrNone found → IfSome found (λ m. (w.from ≤ m) × (m < w.to))
   little_within None none = tt

@@ -53,13 +53,13 @@ impl FreeView for BookState {
         window: Window,
         steps: &mut Steps<L>,
     ) -> Option<u64> {
-        if !self.keeps_total(vertex, kind) {
+        let Some(place) = self.place_kept(vertex, kind) else {
             steps.tick();
             return None;
-        }
+        };
         let graph = self.graph();
         let accounts = self.accounts();
-        accounts.total_over(graph, vertex, kind, window, steps)
+        Some(accounts.total_over(graph, vertex, place, window, steps))
     }
 
     fn total_below<L: Ledger>(
@@ -70,13 +70,13 @@ impl FreeView for BookState {
         window: Window,
         steps: &mut Steps<L>,
     ) -> Option<u64> {
-        if !self.keeps_total(vertex, kind) {
+        let Some(place) = self.place_kept(vertex, kind) else {
             steps.tick();
             return None;
-        }
+        };
         let graph = self.graph();
         let accounts = self.accounts();
-        accounts.total_below(graph, vertex, kind, amount, window, steps)
+        accounts.total_below(graph, vertex, place, amount, window, steps)
     }
 
     fn next_point<L: Ledger>(&self, after: u64, steps: &mut Steps<L>) -> Option<u64> {
@@ -100,8 +100,9 @@ impl TotalsView for BookState {
 }
 
 impl BookState {
-    ghost use Rattle.std.specs.Prelude.{◌≡◌, ◌↔◌, IsTrue};
+    ghost use Rattle.std.specs.Prelude.{◌≡◌, IfNone, IfSome};
     ghost use Rattle.resource_graph.specs.NamedGraph.{IsWhole};
+    ghost use Rattle.vertex_accounts.specs.Books.{HasPlace};
     ghost use Rattle.book_state.specs.Books.{graph_of, accounts_of, IsBook, IsTotalKept};
 
     /// The graph.
@@ -120,17 +121,22 @@ impl BookState {
         &self.kept.accounts
     }
 
-    /// Whether the rules keep a total of the type at the vertex. Where the accounts keep none of the type, the vertex
-    /// isn't looked up.
-    fn keeps_total(&self, vertex: u32, kind: u32) -> bool
-        ensures { IsTrue result ↔ IsTotalKept self.now vertex kind }
+    /// The place of the type's units in the accounts, where the rules keep a total of it at the vertex. Where the
+    /// accounts keep none of the type, the vertex isn't looked up.
+    fn place_kept(&self, vertex: u32, kind: u32) -> Option<usize>
+        ensures place { IfSome result (HasPlace (accounts_of self.now) kind) }
+        ensures kept { IfSome result (λ _. IsTotalKept self.now vertex kind) }
+        ensures unkept { IfNone result (IsTotalKept self.now vertex kind → ⊥) }
     {
-        if !self.accounts().keeps(kind) {
-            return false;
+        let Some(place) = self.accounts().place_of(kind) else {
+            return None;
+        };
+        let Some(found) = self.graph().vertices().get(vertex as usize) else {
+            return None;
+        };
+        if !self.kept.filtered.keeps(found.kind, kind) {
+            return None;
         }
-        match self.graph().vertices().get(vertex as usize) {
-            Some(found) => return self.kept.filtered.keeps(found.kind, kind),
-            None => return false,
-        }
+        Some(place)
     }
 }

@@ -26,9 +26,13 @@ counted_of book = arc_value book.counted
 abbrev pub types_of : {P : Type 0} → Accounts P → ℕ
 types_of book = types_in (arc_value book.counted)
 
+-- the units of this type have this place
+abbrev pub HasPlace : {P : Type 0} → Accounts P → ℕ → ℕ → Type 0
+HasPlace book kind place = slice_get (arc_value book.counted).places kind ≡ Some (Some place)
+
 -- the book keeps totals of this type
 abbrev pub HasTotals : {P : Type 0} → Accounts P → ℕ → Type 0
-HasTotals book kind = (place : ℕ) × (slice_get (arc_value book.counted).places kind ≡ Some (Some place))
+HasTotals book kind = (place : ℕ) × HasPlace book kind place
 
 -- what is counted is of the graph of these vertices, and each vertex has a planner for each place
 pub record ArePlanned {P : Type 0} (vertices : List Vertex) (counted : Counted) (items : List (List P)) : Type 0 where

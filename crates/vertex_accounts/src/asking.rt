@@ -1,13 +1,13 @@
 //! What the accounts say of a vertex over a window.
 ghost use Rattle.std.specs.Prelude.{◌≡◌, ℕ, ◌+◌, ◌*◌, ◌<◌, ◌≤◌, ◌↔◌, IsTrue, List, length, Option, Some, slice_get};
-ghost use Rattle.std.specs.Prelude.{IfSome, IsSome, MatchOption};
+ghost use Rattle.std.specs.Prelude.{IfSome, MatchOption};
 ghost use Rattle.flux_defs.specs.declared.vertices.Vertex.{Vertex};
 ghost use Rattle.flux_defs.specs.declared.claims.Job.{Job};
 ghost use Rattle.flux_defs.specs.Digits.{dig};
 ghost use Rattle.flux_defs.specs.Graph.{chain, is_pool};
 ghost use Rattle.flux_defs.specs.Jobs.{some_live_claim, IsPoint, IsNextPoint};
 ghost use Rattle.flux_defs.specs.Closed.{no_bars, is_closed, IsClosedOver, IsTouchedOver};
-ghost use Rattle.flux_defs.specs.Free.{IsFreeOver, IsTotalOver, IsTooLittle, IsTooLittleAt};
+ghost use Rattle.flux_defs.specs.Free.{IsFreeOver, IsTotalOver, IsTooLittleAt};
 ghost use Rattle.planner_points.specs.Spans.{IsLeastFree, HasRoom, IsLastBelow};
 ghost use Rattle.book_laws.specs.Amounts.{is_hold, holds_along};
 ghost use Rattle.book_laws.specs.Grouped.{grouped};
@@ -29,7 +29,7 @@ use std::sync::ledger::Ledger;
 use vertex_planners::{Item, parent_in};
 
 impl<P: Planner + Drop> Accounts<P> {
-    ghost use Rattle.vertex_accounts.specs.Books.{AreAccountsOf, AreAccounts, HasTotals, counted_of};
+    ghost use Rattle.vertex_accounts.specs.Books.{AreAccountsOf, AreAccounts, HasPlace, HasTotals, counted_of};
 
     /// A moment of the window at which a job holds one of the first so many vertices on the way up from this one;
     /// `None` exactly where there is none.
@@ -259,69 +259,10 @@ impl<P: Planner + Drop> Accounts<P> {
         1
     }
 
-    /// The least total of the type at the vertex, over a moment of the window, where the totals of the type are kept.
-    /// Where jobs leave nothing of it there, it doesn't look whether the vertex is closed.
-    pub fn total_over<L: Ledger>(
-        &self,
-        graph: &Graph,
-        vertex: u32,
-        kind: u32,
-        window: Window,
-        steps: &mut Steps<L>,
-    ) -> Option<u64>
-        requires graph { AreAccountsOf graph.now.resources.vertices self.now }
-        requires window { window.from < window.to }
-        requires inside { vertex < length graph.now.resources.vertices }
-        ensures answer { (jobs : List Job) →
-            AreAccounts P.total_of P.stands_for graph.now.resources.vertices jobs self.now →
-            IfSome result (IsTotalOver graph.now.resources.vertices jobs window kind vertex) }
-        ensures kept { HasTotals self.now kind → IsSome result }
-        ensures some_work { steps.old < steps.new }
-        ensures work { (most_looks : ℕ) → CostWithin P.look_cost most_looks (items_of self.now.planners) →
-            steps.new ≤ steps.old + (closed_most (length graph.now.resources.vertices) most_looks + most_looks) }
-    {
-        let Some(place) = self.counted().place_of(kind) else {
-            steps.tick();
-            return None;
-        };
-        Some(self.least_total(graph, vertex, place, window, steps))
-    }
-
-    /// A moment of the window at which the total of the type at the vertex is below the amount; `None` exactly where
-    /// there is none, or totals of the type are not kept. Where jobs leave less of it there at some moment, it doesn't
-    /// look whether the vertex is closed.
+    /// A moment of the window at which the total at the vertex of the type whose units have this place is below the
+    /// amount; `None` exactly where there is none. Where jobs leave less of it there at some moment, it doesn't look
+    /// whether the vertex is closed.
     pub fn total_below<L: Ledger>(
-        &self,
-        graph: &Graph,
-        vertex: u32,
-        kind: u32,
-        amount: u64,
-        window: Window,
-        steps: &mut Steps<L>,
-    ) -> Option<u64>
-        requires graph { AreAccountsOf graph.now.resources.vertices self.now }
-        requires window { window.from < window.to }
-        requires inside { vertex < length graph.now.resources.vertices }
-        ensures answer { (jobs : List Job) →
-            AreAccounts P.total_of P.stands_for graph.now.resources.vertices jobs self.now →
-            MatchOption result
-            (HasTotals self.now kind → IsTooLittle graph.now.resources.vertices jobs window vertex kind amount → ⊥)
-            (λ m. (window.from ≤ m) × (m < window.to)
-            × IsTooLittleAt graph.now.resources.vertices jobs vertex kind amount m) }
-        ensures kept { IfSome result (λ _. HasTotals self.now kind) }
-        ensures some_work { steps.old < steps.new }
-        ensures work { (most_looks : ℕ) → CostWithin P.look_cost most_looks (items_of self.now.planners) →
-            steps.new ≤ steps.old + (closed_most (length graph.now.resources.vertices) most_looks + most_looks) }
-    {
-        let Some(place) = self.counted().place_of(kind) else {
-            steps.tick();
-            return None;
-        };
-        self.below_at(graph, vertex, place, amount, window, steps)
-    }
-
-    /// The same of the type with this place.
-    fn below_at<L: Ledger>(
         &self,
         graph: &Graph,
         vertex: u32,
@@ -331,11 +272,10 @@ impl<P: Planner + Drop> Accounts<P> {
         steps: &mut Steps<L>,
     ) -> Option<u64>
         requires graph { AreAccountsOf graph.now.resources.vertices self.now }
-        requires place { place < length (counted_of self.now).quantities }
+        requires place { (kind : ℕ) × HasPlace self.now kind place }
         requires window { window.from < window.to }
         requires inside { vertex < length graph.now.resources.vertices }
-        ensures answer { (kind : ℕ) (jobs : List Job) →
-            slice_get (counted_of self.now).places kind ≡ Some (Some place) →
+        ensures answer { (kind : ℕ) (jobs : List Job) → HasPlace self.now kind place →
             AreAccounts P.total_of P.stands_for graph.now.resources.vertices jobs self.now →
             IsMomentOrNone window (IsTooLittleAt graph.now.resources.vertices jobs vertex kind amount) result }
         ensures some_work { steps.old < steps.new }
@@ -353,8 +293,9 @@ impl<P: Planner + Drop> Accounts<P> {
         self.closed_moment(graph, item, vertex, window, steps)
     }
 
-    /// The least total at the vertex, over a moment of the window, of the type with this place.
-    fn least_total<L: Ledger>(
+    /// The least total at the vertex, over a moment of the window, of the type whose units have this place. Where jobs
+    /// leave nothing of it there, it doesn't look whether the vertex is closed.
+    pub fn total_over<L: Ledger>(
         &self,
         graph: &Graph,
         vertex: u32,
@@ -363,11 +304,10 @@ impl<P: Planner + Drop> Accounts<P> {
         steps: &mut Steps<L>,
     ) -> u64
         requires graph { AreAccountsOf graph.now.resources.vertices self.now }
-        requires place { place < length (counted_of self.now).quantities }
+        requires place { (kind : ℕ) × HasPlace self.now kind place }
         requires window { window.from < window.to }
         requires inside { vertex < length graph.now.resources.vertices }
-        ensures answer { (kind : ℕ) (jobs : List Job) →
-            slice_get (counted_of self.now).places kind ≡ Some (Some place) →
+        ensures answer { (kind : ℕ) (jobs : List Job) → HasPlace self.now kind place →
             AreAccounts P.total_of P.stands_for graph.now.resources.vertices jobs self.now →
             IsTotalOver graph.now.resources.vertices jobs window kind vertex result }
         ensures some_work { steps.old < steps.new }

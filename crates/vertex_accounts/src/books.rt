@@ -19,8 +19,8 @@ pub struct Accounts<P: Planner + Drop> {
 }
 
 impl<P: Planner + Drop> Accounts<P> {
-    ghost use Rattle.std.specs.Prelude.{◌≡◌, ◌↔◌, IsTrue};
-    ghost use Rattle.vertex_accounts.specs.Books.{counted_of, HasTotals};
+    ghost use Rattle.std.specs.Prelude.{◌≡◌, IfSome, IsSome};
+    ghost use Rattle.vertex_accounts.specs.Books.{counted_of, HasPlace, HasTotals};
 
     /// What is counted at each place.
     pub(crate) fn counted(&self) -> &Counted
@@ -29,10 +29,11 @@ impl<P: Planner + Drop> Accounts<P> {
         &self.counted
     }
 
-    /// Whether totals of the type are kept.
-    pub fn keeps(&self, kind: u32) -> bool
-        ensures { IsTrue result ↔ HasTotals self.now kind }
+    /// The place of the type's units, where totals of the type are kept.
+    pub fn place_of(&self, kind: u32) -> Option<usize>
+        ensures place { IfSome result (HasPlace self.now kind) }
+        ensures kept { HasTotals self.now kind → IsSome result }
     {
-        self.counted().place_of(kind).is_some()
+        self.counted().place_of(kind)
     }
 }
