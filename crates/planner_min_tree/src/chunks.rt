@@ -1,5 +1,5 @@
-//! Up to eight points in a node.
-ghost use Rattle.std.specs.Prelude.{◌≡◌, ◌+◌, ◌<◌, ◌≤◌, List, [], length, IfOk};
+//! A few points in a node.
+ghost use Rattle.std.specs.Prelude.{◌≡◌, ◌+◌, ◌<◌, ◌≤◌, List, [], ◌++◌, length, IfOk};
 ghost use Rattle.planner_min_tree.specs.Chunks.{flat, AreFilled};
 ghost use Rattle.planner_min_tree.specs.Points.{dip_of};
 ghost use Rattle.balanced_tree.specs.Edits.{made};
@@ -13,13 +13,14 @@ use std::alloc::{AllocError, Global};
 use std::marker::Model;
 use std::sync::ledger::Ledger;
 
-/// What a node of points holds.
+/// What a node of points holds: up to eight of them, or more, which stand in memory with room for no others.
 #[derive(Drop)]
-struct Block {
-    points: ArrayVec<Point, 8>,
+enum Block {
+    Few(ArrayVec<Point, 8>),
+    Many(Vec<Point>),
 }
 
-/// Up to eight points, one after the other, in one node. Contracts see the list of them.
+/// Points one after the other in one node. Contracts see the list of them.
 #[derive(Drop)]
 pub struct Chunk {
     node: Node<Block>,
@@ -31,7 +32,9 @@ impl Model for Chunk {
 
     ghost Value = { List Point };
 
-    ghost view = { λ chunk. chunk.node.points.items };
+    ghost use Rattle.planner_min_tree.specs.Blocks.{points_in};
+
+    ghost view = { λ chunk. points_in chunk.node };
 }
 
 impl Share for Chunk {
@@ -56,19 +59,45 @@ pub fn copied<const N: usize>(points: &[Point]) -> Result<ArrayVec<Point, N>, Al
 }
 
 impl Chunk {
+    ghost use Rattle.planner_min_tree.specs.Blocks.{points_in};
+
     /// A node of copies of these points.
     pub fn copied(alloc: Global, points: &[Point]) -> Result<Chunk, AllocError>
         ensures { IfOk result (λ chunk. chunk ≡ points.now) }
     {
-        let points = copied(points)?;
-        Chunk::of(alloc, points)
+        Chunk::joined(alloc, points, &[])
+    }
+
+    /// A node of copies of these points, the first before the others.
+    pub fn joined(alloc: Global, first: &[Point], others: &[Point]) -> Result<Chunk, AllocError>
+        ensures { IfOk result (λ chunk. chunk ≡ first.now ++ others.now) }
+    {
+        let len = first.len() + others.len();
+        if len <= 8 {
+            let mut few = copied(first)?;
+            if few.try_extend_from_slice(others).is_err() {
+                return Err(AllocError);
+            }
+            return Chunk::of(alloc, few);
+        }
+        let mut many = Vec::with_capacity(alloc, len)?;
+        many.extend_from_slice(first)?;
+        many.extend_from_slice(others)?;
+        Chunk::holding(alloc, Block::Many(many))
     }
 
     /// A node of these points.
     pub fn of(alloc: Global, points: ArrayVec<Point, 8>) -> Result<Chunk, AllocError>
         ensures { IfOk result (λ chunk. chunk ≡ points.items) }
     {
-        match Node::new(alloc, Block { points }) {
+        Chunk::holding(alloc, Block::Few(points))
+    }
+
+    /// A node of these points.
+    fn holding(alloc: Global, block: Block) -> Result<Chunk, AllocError>
+        ensures { IfOk result (λ chunk. chunk ≡ points_in block) }
+    {
+        match Node::new(alloc, block) {
             Ok(node) => Ok(Chunk { node }),
             Err((_, refused)) => Err(refused),
         }
@@ -79,7 +108,10 @@ impl Chunk {
         ensures value { result.now ≡ self.now }
         ensures work { steps.new ≡ steps.old + 1 }
     {
-        self.node.look(steps).points.as_slice()
+        match self.node.look(steps) {
+            Block::Few(points) => points.as_slice(),
+            Block::Many(points) => points.as_slice(),
+        }
     }
 }
 

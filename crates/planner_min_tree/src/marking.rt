@@ -159,8 +159,9 @@ fn put_few(alloc: Global, points: ArrayVec<Point, 8>) -> Result<Edit<Chunk>, All
     Ok(Edit::Put(chunk))
 }
 
-/// What stands in the place of a chunk: as `put_few`, or two chunks of about the same length.
-fn put_many(alloc: Global, points: &[Point]) -> Result<Edit<Chunk>, AllocError>
+/// What stands in the place of a chunk: as `put_few`, or one chunk of so many points at most, or two chunks of about the
+/// same length.
+fn put_many(alloc: Global, points: &[Point], most: usize) -> Result<Edit<Chunk>, AllocError>
     ensures items { IfOk result (λ edit. flat (made edit) ≡ points.now) }
     ensures filled { IfOk result (λ edit. AreFilled (made edit)) }
 {
@@ -168,10 +169,26 @@ fn put_many(alloc: Global, points: &[Point]) -> Result<Edit<Chunk>, AllocError>
         let few = copied(points)?;
         return put_few(alloc, few);
     }
+    if points.len() <= most {
+        let chunk = Chunk::copied(alloc, points)?;
+        return Ok(Edit::Put(chunk));
+    }
     let (front, back) = points.split_at(points.len() / 2);
     let first = Chunk::copied(alloc, front)?;
     let second = Chunk::copied(alloc, back)?;
     Ok(Edit::Pair(first, second))
+}
+
+/// What stands in the place of a chunk of more than eight points after a change of them. It stands alone, so that no
+/// other change has to clear room for so many.
+#[inline(never)]
+fn long_changed(alloc: Global, points: &[Point], change: Change) -> Result<Edit<Chunk>, AllocError>
+    ensures items { IfOk result (λ edit. flat (made edit) ≡ changed change points.now) }
+    ensures filled { IfOk result (λ edit. AreFilled (made edit)) }
+{
+    let mut many = copied::<34>(points)?;
+    change.apply(&mut many)?;
+    put_many(alloc, many.as_slice(), 32)
 }
 
 /// What stands in the place of a chunk after a change of its points.
@@ -184,9 +201,29 @@ fn changed(alloc: Global, points: &[Point], change: Change) -> Result<Edit<Chunk
         change.apply(&mut few)?;
         return put_few(alloc, few);
     }
+    if points.len() > 8 {
+        return long_changed(alloc, points, change);
+    }
     let mut many = copied::<10>(points)?;
     change.apply(&mut many)?;
-    put_many(alloc, many.as_slice())
+    put_many(alloc, many.as_slice(), 8)
+}
+
+/// What stands in the place of a chunk of more than eight points after two changes of them, as `long_changed`.
+#[inline(never)]
+fn long_changed_twice(
+    alloc: Global,
+    points: &[Point],
+    first: Change,
+    second: Change,
+) -> Result<Edit<Chunk>, AllocError>
+    ensures items { IfOk result (λ edit. flat (made edit) ≡ changed second (changed first points.now)) }
+    ensures filled { IfOk result (λ edit. AreFilled (made edit)) }
+{
+    let mut many = copied::<34>(points)?;
+    first.apply(&mut many)?;
+    second.apply(&mut many)?;
+    put_many(alloc, many.as_slice(), 32)
 }
 
 /// What stands in the place of a chunk after two changes of its points, which are both made in one array.
@@ -205,10 +242,13 @@ fn changed_twice(
         second.apply(&mut few)?;
         return put_few(alloc, few);
     }
+    if points.len() > 8 {
+        return long_changed_twice(alloc, points, first, second);
+    }
     let mut many = copied::<10>(points)?;
     first.apply(&mut many)?;
     second.apply(&mut many)?;
-    put_many(alloc, many.as_slice())
+    put_many(alloc, many.as_slice(), 8)
 }
 
 /// The points of a tree without sides after two changes.
