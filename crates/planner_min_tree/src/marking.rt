@@ -159,8 +159,8 @@ fn put_few(alloc: Global, points: ArrayVec<Point, 8>) -> Result<Edit<Chunk>, All
     Ok(Edit::Put(chunk))
 }
 
-/// What stands in the place of a chunk: as `put_few`, or one chunk of so many points at most, or two chunks of about the
-/// same length.
+/// What stands in the place of a chunk: as `put_few`, or one chunk of so many points at most, or two chunks of about
+/// the same length.
 fn put_many(alloc: Global, points: &[Point], most: usize) -> Result<Edit<Chunk>, AllocError>
     ensures items { IfOk result (λ edit. flat (made edit) ≡ points.now) }
     ensures filled { IfOk result (λ edit. AreFilled (made edit)) }
