@@ -1,10 +1,10 @@
--- The points of a node.
+-- What a node of points holds.
 use Rattle.std.specs.Prelude.{List}
 use Rattle.planner_min_tree.specs.declared.points.Point.{Point}
-use Rattle.planner_min_tree.specs.declared.chunks.Block.{Block}
-use Rattle.planner_min_tree.specs.declared.chunks.Block.TheVariants.{Few, Many}
+use Rattle.planner_min_tree.specs.declared.chunks.Holder.{Holder}
+use Rattle.planner_min_tree.specs.declared.chunks.Holder.TheVariants.{Few, Many}
 
--- the points, few or many
-abbrev pub points_in : Block → List Point
-points_in (Few points) = points.items
-points_in (Many points) = points.items
+-- the points that stand in a node
+abbrev pub points_in : Holder → List Point
+points_in (Few block) = block.points.items
+points_in (Many block) = block.points.items

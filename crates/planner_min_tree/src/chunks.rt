@@ -1,4 +1,4 @@
-//! A few points in a node.
+//! Some points in a node.
 ghost use Rattle.std.specs.Prelude.{◌≡◌, ◌+◌, ◌<◌, ◌≤◌, List, [], ◌++◌, length, IfOk};
 ghost use Rattle.planner_min_tree.specs.Chunks.{flat, AreFilled};
 ghost use Rattle.planner_min_tree.specs.Points.{dip_of};
@@ -13,17 +13,26 @@ use std::alloc::{AllocError, Global};
 use std::marker::Model;
 use std::sync::ledger::Ledger;
 
-/// What a node of points holds: up to eight of them, or more, which stand in memory with room for no others.
+/// How many points that are past stand in one node at most.
+pub const PAST_POINTS: usize = 32;
+
+/// So many points at most, one after the other.
 #[derive(Drop)]
-enum Block {
-    Few(ArrayVec<Point, 8>),
-    Many(Vec<Point>),
+struct Block<const N: usize> {
+    points: ArrayVec<Point, N>,
 }
 
-/// Points one after the other in one node. Contracts see the list of them.
+/// A node of up to eight points, or one of more, as there are of the past.
+#[derive(Drop)]
+enum Holder {
+    Few(Node<Block<8>>),
+    Many(Node<Block<PAST_POINTS>>),
+}
+
+/// Up to `PAST_POINTS` points, one after the other, in one node. Contracts see the list of them.
 #[derive(Drop)]
 pub struct Chunk {
-    node: Node<Block>,
+    holder: Holder,
 }
 
 impl Model for Chunk {
@@ -34,13 +43,16 @@ impl Model for Chunk {
 
     ghost use Rattle.planner_min_tree.specs.Blocks.{points_in};
 
-    ghost view = { λ chunk. points_in chunk.node };
+    ghost view = { λ chunk. points_in chunk.holder };
 }
 
 impl Share for Chunk {
     fn share(&self) -> Result<Chunk, AllocError> {
-        let node = self.node.share()?;
-        Ok(Chunk { node })
+        let holder = match &self.holder {
+            Holder::Few(node) => Holder::Few(node.share()?),
+            Holder::Many(node) => Holder::Many(node.share()?),
+        };
+        Ok(Chunk { holder })
     }
 }
 
@@ -58,9 +70,21 @@ pub fn copied<const N: usize>(points: &[Point]) -> Result<ArrayVec<Point, N>, Al
     Ok(copy)
 }
 
-impl Chunk {
-    ghost use Rattle.planner_min_tree.specs.Blocks.{points_in};
+/// The points in an array of room for so many, the first before the others. Too many are answered as want of memory.
+fn in_turn<const N: usize>(
+    first: &[Point],
+    others: &[Point],
+) -> Result<ArrayVec<Point, N>, AllocError>
+    ensures { IfOk result (λ both. both.items ≡ first.now ++ others.now) }
+{
+    let mut both = copied(first)?;
+    if both.try_extend_from_slice(others).is_err() {
+        return Err(AllocError);
+    }
+    Ok(both)
+}
 
+impl Chunk {
     /// A node of copies of these points.
     pub fn copied(alloc: Global, points: &[Point]) -> Result<Chunk, AllocError>
         ensures { IfOk result (λ chunk. chunk ≡ points.now) }
@@ -72,33 +96,27 @@ impl Chunk {
     pub fn joined(alloc: Global, first: &[Point], others: &[Point]) -> Result<Chunk, AllocError>
         ensures { IfOk result (λ chunk. chunk ≡ first.now ++ others.now) }
     {
-        let len = first.len() + others.len();
-        if len <= 8 {
-            let mut few = copied(first)?;
-            if few.try_extend_from_slice(others).is_err() {
-                return Err(AllocError);
-            }
+        if first.len() + others.len() <= 8 {
+            let few = in_turn(first, others)?;
             return Chunk::of(alloc, few);
         }
-        let mut many = Vec::with_capacity(alloc, len)?;
-        many.extend_from_slice(first)?;
-        many.extend_from_slice(others)?;
-        Chunk::holding(alloc, Block::Many(many))
+        let points = in_turn(first, others)?;
+        match Node::new(alloc, Block { points }) {
+            Ok(node) => Ok(Chunk {
+                holder: Holder::Many(node),
+            }),
+            Err((_, refused)) => Err(refused),
+        }
     }
 
     /// A node of these points.
     pub fn of(alloc: Global, points: ArrayVec<Point, 8>) -> Result<Chunk, AllocError>
         ensures { IfOk result (λ chunk. chunk ≡ points.items) }
     {
-        Chunk::holding(alloc, Block::Few(points))
-    }
-
-    /// A node of these points.
-    fn holding(alloc: Global, block: Block) -> Result<Chunk, AllocError>
-        ensures { IfOk result (λ chunk. chunk ≡ points_in block) }
-    {
-        match Node::new(alloc, block) {
-            Ok(node) => Ok(Chunk { node }),
+        match Node::new(alloc, Block { points }) {
+            Ok(node) => Ok(Chunk {
+                holder: Holder::Few(node),
+            }),
             Err((_, refused)) => Err(refused),
         }
     }
@@ -108,9 +126,9 @@ impl Chunk {
         ensures value { result.now ≡ self.now }
         ensures work { steps.new ≡ steps.old + 1 }
     {
-        match self.node.look(steps) {
-            Block::Few(points) => points.as_slice(),
-            Block::Many(points) => points.as_slice(),
+        match &self.holder {
+            Holder::Few(node) => node.look(steps).points.as_slice(),
+            Holder::Many(node) => node.look(steps).points.as_slice(),
         }
     }
 }
@@ -130,6 +148,7 @@ impl Measure<Chunk> for Dip {
         dip_of(chunk.look(steps))
     }
 
+    #[inline(always)]
     fn join(self, other: Dip) -> Result<Dip, AllocError> {
         let both = self.then(other)?;
         Ok(both)

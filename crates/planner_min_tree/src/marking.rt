@@ -5,7 +5,7 @@ ghost use Rattle.planner_min_tree.specs.Marks.{added, fresh, marked, unmarked, c
 ghost use Rattle.arrayvec.specs.ArrayVec.{array_vec_len};
 ghost use Rattle.balanced_tree.specs.Edits.{made};
 
-use crate::chunks::{Chunk, copied};
+use crate::chunks::{Chunk, PAST_POINTS, copied};
 use crate::points::{Dip, Point, count_before};
 use crate::walks::{Side, chunk_at};
 use arrayvec::ArrayVec;
@@ -14,6 +14,9 @@ use flux_defs::Steps;
 use node_store::Share;
 use std::alloc::{AllocError, Global};
 use std::sync::ledger::Ledger;
+
+/// Room for the points of a node that are past, and two more.
+const PAST_ROOM: usize = PAST_POINTS + 2;
 
 /// One end of a span: the second at which it is, and what is taken or given back there.
 #[derive(Clone, Copy, Debug)]
@@ -186,9 +189,9 @@ fn long_changed(alloc: Global, points: &[Point], change: Change) -> Result<Edit<
     ensures items { IfOk result (λ edit. flat (made edit) ≡ changed change points.now) }
     ensures filled { IfOk result (λ edit. AreFilled (made edit)) }
 {
-    let mut many = copied::<34>(points)?;
+    let mut many = copied::<PAST_ROOM>(points)?;
     change.apply(&mut many)?;
-    put_many(alloc, many.as_slice(), 32)
+    put_many(alloc, many.as_slice(), PAST_POINTS)
 }
 
 /// What stands in the place of a chunk after a change of its points.
@@ -220,10 +223,10 @@ fn long_changed_twice(
     ensures items { IfOk result (λ edit. flat (made edit) ≡ changed second (changed first points.now)) }
     ensures filled { IfOk result (λ edit. AreFilled (made edit)) }
 {
-    let mut many = copied::<34>(points)?;
+    let mut many = copied::<PAST_ROOM>(points)?;
     first.apply(&mut many)?;
     second.apply(&mut many)?;
-    put_many(alloc, many.as_slice(), 32)
+    put_many(alloc, many.as_slice(), PAST_POINTS)
 }
 
 /// What stands in the place of a chunk after two changes of its points, which are both made in one array.

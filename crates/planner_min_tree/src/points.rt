@@ -73,6 +73,7 @@ impl Dip {
     }
 
     /// What points do one after the other. Numbers that don't fit are answered as want of memory.
+    #[inline(always)]
     #[tactic(auto, using(crate::proofs::Dips::append_facts))]
     pub fn then(self, other: Dip) -> Result<Dip, AllocError>
         ensures { IfOk result (λ both. (xs ys : List Point) → self ≡ dip_of xs → other ≡ dip_of ys →

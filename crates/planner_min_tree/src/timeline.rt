@@ -8,7 +8,7 @@ ghost use Rattle.planner_min_tree.specs.Chunks.{flat, AreFilled};
 ghost use Rattle.planner_min_tree.specs.Points.{Runs, lowest_in, first_from, value_at, rise_after, low_end, HasPlace};
 ghost use Rattle.planner_min_tree.specs.Marks.{changed, StaysLate};
 
-use crate::chunks::Chunk;
+use crate::chunks::{Chunk, PAST_POINTS};
 use crate::marking::{Change, once_changed, twice_changed};
 use crate::points::{Dip, Point, are_over};
 use crate::walks::{self, Side};
@@ -117,7 +117,7 @@ fn both_changed<L: Ledger>(
 }
 
 /// What stands in the place of the last chunk where the next one comes behind it: both in one where these are no more
-/// than 32 points.
+/// than `PAST_POINTS`.
 fn joined<L: Ledger>(
     alloc: Global,
     last: &Chunk,
@@ -132,7 +132,7 @@ fn joined<L: Ledger>(
 {
     let front = last.look(steps);
     let back = next.look(steps);
-    if front.len() + back.len() > 32 {
+    if front.len() + back.len() > PAST_POINTS {
         let first = last.share()?;
         let second = next.share()?;
         return Ok(Edit::Pair(first, second));
