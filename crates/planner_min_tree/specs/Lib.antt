@@ -1,5 +1,6 @@
 pub mod Points
 pub mod Chunks
+pub mod Blocks
 pub mod Marks
 pub mod Plans
 pub mod Stands

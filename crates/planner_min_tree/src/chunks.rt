@@ -1,5 +1,5 @@
-//! Up to eight points in a node.
-ghost use Rattle.std.specs.Prelude.{◌≡◌, ◌+◌, ◌<◌, ◌≤◌, List, [], length, IfOk};
+//! Some points in a node.
+ghost use Rattle.std.specs.Prelude.{◌≡◌, ◌+◌, ◌<◌, ◌≤◌, List, [], ◌++◌, length, IfOk};
 ghost use Rattle.planner_min_tree.specs.Chunks.{flat, AreFilled};
 ghost use Rattle.planner_min_tree.specs.Points.{dip_of};
 ghost use Rattle.balanced_tree.specs.Edits.{made};
@@ -13,16 +13,26 @@ use std::alloc::{AllocError, Global};
 use std::marker::Model;
 use std::sync::ledger::Ledger;
 
-/// What a node of points holds.
+/// How many points that are past stand in one node at most.
+pub const PAST_POINTS: usize = 32;
+
+/// So many points at most, one after the other.
 #[derive(Drop)]
-struct Block {
-    points: ArrayVec<Point, 8>,
+struct Block<const N: usize> {
+    points: ArrayVec<Point, N>,
 }
 
-/// Up to eight points, one after the other, in one node. Contracts see the list of them.
+/// A node of up to eight points, or one of more, as there are of the past.
+#[derive(Drop)]
+enum Holder {
+    Few(Node<Block<8>>),
+    Many(Node<Block<PAST_POINTS>>),
+}
+
+/// Up to `PAST_POINTS` points, one after the other, in one node. Contracts see the list of them.
 #[derive(Drop)]
 pub struct Chunk {
-    node: Node<Block>,
+    holder: Holder,
 }
 
 impl Model for Chunk {
@@ -31,13 +41,18 @@ impl Model for Chunk {
 
     ghost Value = { List Point };
 
-    ghost view = { λ chunk. chunk.node.points.items };
+    ghost use Rattle.planner_min_tree.specs.Blocks.{points_in};
+
+    ghost view = { λ chunk. points_in chunk.holder };
 }
 
 impl Share for Chunk {
     fn share(&self) -> Result<Chunk, AllocError> {
-        let node = self.node.share()?;
-        Ok(Chunk { node })
+        let holder = match &self.holder {
+            Holder::Few(node) => Holder::Few(node.share()?),
+            Holder::Many(node) => Holder::Many(node.share()?),
+        };
+        Ok(Chunk { holder })
     }
 }
 
@@ -55,13 +70,43 @@ pub fn copied<const N: usize>(points: &[Point]) -> Result<ArrayVec<Point, N>, Al
     Ok(copy)
 }
 
+/// The points in an array of room for so many, the first before the others. Too many are answered as want of memory.
+fn in_turn<const N: usize>(
+    first: &[Point],
+    others: &[Point],
+) -> Result<ArrayVec<Point, N>, AllocError>
+    ensures { IfOk result (λ both. both.items ≡ first.now ++ others.now) }
+{
+    let mut both = copied(first)?;
+    if both.try_extend_from_slice(others).is_err() {
+        return Err(AllocError);
+    }
+    Ok(both)
+}
+
 impl Chunk {
     /// A node of copies of these points.
     pub fn copied(alloc: Global, points: &[Point]) -> Result<Chunk, AllocError>
         ensures { IfOk result (λ chunk. chunk ≡ points.now) }
     {
-        let points = copied(points)?;
-        Chunk::of(alloc, points)
+        Chunk::joined(alloc, points, &[])
+    }
+
+    /// A node of copies of these points, the first before the others.
+    pub fn joined(alloc: Global, first: &[Point], others: &[Point]) -> Result<Chunk, AllocError>
+        ensures { IfOk result (λ chunk. chunk ≡ first.now ++ others.now) }
+    {
+        if first.len() + others.len() <= 8 {
+            let few = in_turn(first, others)?;
+            return Chunk::of(alloc, few);
+        }
+        let points = in_turn(first, others)?;
+        match Node::new(alloc, Block { points }) {
+            Ok(node) => Ok(Chunk {
+                holder: Holder::Many(node),
+            }),
+            Err((_, refused)) => Err(refused),
+        }
     }
 
     /// A node of these points.
@@ -69,7 +114,9 @@ impl Chunk {
         ensures { IfOk result (λ chunk. chunk ≡ points.items) }
     {
         match Node::new(alloc, Block { points }) {
-            Ok(node) => Ok(Chunk { node }),
+            Ok(node) => Ok(Chunk {
+                holder: Holder::Few(node),
+            }),
             Err((_, refused)) => Err(refused),
         }
     }
@@ -79,7 +126,10 @@ impl Chunk {
         ensures value { result.now ≡ self.now }
         ensures work { steps.new ≡ steps.old + 1 }
     {
-        self.node.look(steps).points.as_slice()
+        match &self.holder {
+            Holder::Few(node) => node.look(steps).points.as_slice(),
+            Holder::Many(node) => node.look(steps).points.as_slice(),
+        }
     }
 }
 

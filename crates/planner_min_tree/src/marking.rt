@@ -5,7 +5,7 @@ ghost use Rattle.planner_min_tree.specs.Marks.{added, fresh, marked, unmarked, c
 ghost use Rattle.arrayvec.specs.ArrayVec.{array_vec_len};
 ghost use Rattle.balanced_tree.specs.Edits.{made};
 
-use crate::chunks::{Chunk, copied};
+use crate::chunks::{Chunk, PAST_POINTS, copied};
 use crate::points::{Dip, Point, count_before};
 use crate::walks::{Side, chunk_at};
 use arrayvec::ArrayVec;
@@ -14,6 +14,9 @@ use flux_defs::Steps;
 use node_store::Share;
 use std::alloc::{AllocError, Global};
 use std::sync::ledger::Ledger;
+
+/// Room for the points of a node that are past, and two more.
+const PAST_ROOM: usize = PAST_POINTS + 2;
 
 /// One end of a span: the second at which it is, and what is taken or given back there.
 #[derive(Clone, Copy, Debug)]
@@ -159,8 +162,9 @@ fn put_few(alloc: Global, points: ArrayVec<Point, 8>) -> Result<Edit<Chunk>, All
     Ok(Edit::Put(chunk))
 }
 
-/// What stands in the place of a chunk: as `put_few`, or two chunks of about the same length.
-fn put_many(alloc: Global, points: &[Point]) -> Result<Edit<Chunk>, AllocError>
+/// What stands in the place of a chunk: as `put_few`, or one chunk of so many points at most, or two chunks of about
+/// the same length.
+fn put_many(alloc: Global, points: &[Point], most: usize) -> Result<Edit<Chunk>, AllocError>
     ensures items { IfOk result (λ edit. flat (made edit) ≡ points.now) }
     ensures filled { IfOk result (λ edit. AreFilled (made edit)) }
 {
@@ -168,10 +172,26 @@ fn put_many(alloc: Global, points: &[Point]) -> Result<Edit<Chunk>, AllocError>
         let few = copied(points)?;
         return put_few(alloc, few);
     }
+    if points.len() <= most {
+        let chunk = Chunk::copied(alloc, points)?;
+        return Ok(Edit::Put(chunk));
+    }
     let (front, back) = points.split_at(points.len() / 2);
     let first = Chunk::copied(alloc, front)?;
     let second = Chunk::copied(alloc, back)?;
     Ok(Edit::Pair(first, second))
+}
+
+/// What stands in the place of a chunk of more than eight points after a change of them. It stands alone, so that no
+/// other change has to clear room for so many.
+#[inline(never)]
+fn long_changed(alloc: Global, points: &[Point], change: Change) -> Result<Edit<Chunk>, AllocError>
+    ensures items { IfOk result (λ edit. flat (made edit) ≡ changed change points.now) }
+    ensures filled { IfOk result (λ edit. AreFilled (made edit)) }
+{
+    let mut many = copied::<PAST_ROOM>(points)?;
+    change.apply(&mut many)?;
+    put_many(alloc, many.as_slice(), PAST_POINTS)
 }
 
 /// What stands in the place of a chunk after a change of its points.
@@ -184,9 +204,29 @@ fn changed(alloc: Global, points: &[Point], change: Change) -> Result<Edit<Chunk
         change.apply(&mut few)?;
         return put_few(alloc, few);
     }
+    if points.len() > 8 {
+        return long_changed(alloc, points, change);
+    }
     let mut many = copied::<10>(points)?;
     change.apply(&mut many)?;
-    put_many(alloc, many.as_slice())
+    put_many(alloc, many.as_slice(), 8)
+}
+
+/// What stands in the place of a chunk of more than eight points after two changes of them, as `long_changed`.
+#[inline(never)]
+fn long_changed_twice(
+    alloc: Global,
+    points: &[Point],
+    first: Change,
+    second: Change,
+) -> Result<Edit<Chunk>, AllocError>
+    ensures items { IfOk result (λ edit. flat (made edit) ≡ changed second (changed first points.now)) }
+    ensures filled { IfOk result (λ edit. AreFilled (made edit)) }
+{
+    let mut many = copied::<PAST_ROOM>(points)?;
+    first.apply(&mut many)?;
+    second.apply(&mut many)?;
+    put_many(alloc, many.as_slice(), PAST_POINTS)
 }
 
 /// What stands in the place of a chunk after two changes of its points, which are both made in one array.
@@ -205,10 +245,13 @@ fn changed_twice(
         second.apply(&mut few)?;
         return put_few(alloc, few);
     }
+    if points.len() > 8 {
+        return long_changed_twice(alloc, points, first, second);
+    }
     let mut many = copied::<10>(points)?;
     first.apply(&mut many)?;
     second.apply(&mut many)?;
-    put_many(alloc, many.as_slice())
+    put_many(alloc, many.as_slice(), 8)
 }
 
 /// The points of a tree without sides after two changes.

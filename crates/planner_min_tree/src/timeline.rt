@@ -8,7 +8,7 @@ ghost use Rattle.planner_min_tree.specs.Chunks.{flat, AreFilled};
 ghost use Rattle.planner_min_tree.specs.Points.{Runs, lowest_in, first_from, value_at, rise_after, low_end, HasPlace};
 ghost use Rattle.planner_min_tree.specs.Marks.{changed, StaysLate};
 
-use crate::chunks::{Chunk, copied};
+use crate::chunks::{Chunk, PAST_POINTS};
 use crate::marking::{Change, once_changed, twice_changed};
 use crate::points::{Dip, Point, are_over};
 use crate::walks::{self, Side};
@@ -116,8 +116,8 @@ fn both_changed<L: Ledger>(
     }
 }
 
-/// What stands in the place of the last chunk where the next one comes behind it: both in one where they have room in
-/// it.
+/// What stands in the place of the last chunk where the next one comes behind it: both in one where these are no more
+/// than `PAST_POINTS`.
 fn joined<L: Ledger>(
     alloc: Global,
     last: &Chunk,
@@ -130,18 +130,15 @@ fn joined<L: Ledger>(
     ensures filled { IfOk result (λ edit. AreFilled (made edit)) }
     ensures work { steps.new ≤ steps.old + 2 }
 {
-    let mut both = copied::<8>(last.look(steps))?;
-    match both.try_extend_from_slice(next.look(steps)) {
-        Ok(()) => {
-            let chunk = Chunk::of(alloc, both)?;
-            Ok(Edit::Put(chunk))
-        }
-        Err(_) => {
-            let first = last.share()?;
-            let second = next.share()?;
-            Ok(Edit::Pair(first, second))
-        }
+    let front = last.look(steps);
+    let back = next.look(steps);
+    if front.len() + back.len() > PAST_POINTS {
+        let first = last.share()?;
+        let second = next.share()?;
+        return Ok(Edit::Pair(first, second));
     }
+    let both = Chunk::joined(alloc, front, back)?;
+    Ok(Edit::Put(both))
 }
 
 /// The points of a tree with those of a chunk behind them. The tree stays.
