@@ -10,6 +10,7 @@ use Rattle.balanced_tree.proofs.trees.Tree.TheLaws.TheKnot as tree
 use Rattle.job_table.proofs.parts.Part.TheLaws.TheKnot as part
 use Rattle.snapshot_store.proofs.parts.Part.TheLaws.TheKnot as page
 use Rattle.flux_defs.proofs.requests.Need.TheLaws.TheKnot as need
+use Rattle.planner_min_tree.specs.contracts.chunks.Chunk as chunk
 use Rattle.planner_min_tree.specs.contracts.planner.MinTree as min_tree
 use Rattle.job_table.specs.contracts.tables.JobTable as table
 use Rattle.resource_graph.specs.contracts.graph.Graph as graph
@@ -32,11 +33,17 @@ use Rattle.sched_core.specs.contracts.held.Kept as grown
 use Rattle.commit_book.specs.contracts.held.Held as held
 use Rattle.sched_core.specs.contracts.held.Site as site
 
+chunk_send : IsSend chunk.the_row
+chunk_send = search (crosses, sendable) depth 60 fits 20000
+
+chunk_sync : IsSync chunk.the_row
+chunk_sync = search (crosses, sendable) depth 60 fits 20000
+
 min_tree_send : IsSend min_tree.the_row
-min_tree_send = search (crosses, tree.crosses, sendable) depth 60 fits 20000
+min_tree_send = search (chunk_send, chunk_sync, crosses, tree.crosses, sendable) depth 60 fits 20000
 
 min_tree_sync : IsSync min_tree.the_row
-min_tree_sync = search (crosses, tree.crosses, sendable) depth 60 fits 20000
+min_tree_sync = search (chunk_send, chunk_sync, crosses, tree.crosses, sendable) depth 60 fits 20000
 
 table_send : IsSend table.the_row
 table_send = search (crosses, part.crosses, sendable) depth 60 fits 20000
