@@ -201,8 +201,15 @@ pub room_place : {E : Type 0} (page : Page E) (at width : ℕ) → width ≡ 2 ^
     at < 16 * 2 ^ (4 * page.below) → at / width < 16
 room_place page at width e l = subst (λ u. at / u < 16) (sym e) (within_sixteen at page.below l)
 
--- a width is not 0
-pub width_some : (b w : ℕ) → w ≡ 2 ^ (4 * b) → 0 < w
-width_some b w e = let s = some_width b in omega arith
+-- a quotient and a remainder that were found otherwise
+module _ {E : Type 0} (page : Page E) (at : ℕ) (part : List E × ℕ) (place rest : ℕ)
+    (by : place ≡ at / 2 ^ (4 * page.below)) (left : rest ≡ at % 2 ^ (4 * page.below)) where
+  pub item_split : HasItem page at part (at / 2 ^ (4 * page.below)) (at % 2 ^ (4 * page.below)) →
+      HasItem page at part place rest
+  item_split it = subst (λ (r : ℕ). HasItem page at part place r) (sym left)
+      (subst (λ (d : ℕ). HasItem page at part d (at % 2 ^ (4 * page.below))) (sym by) it)
 
-pub ruleset place_facts = (has_item, item_place, has_room, room_place, width_some)
+  pub room_split : HasRoom page part (at / 2 ^ (4 * page.below)) (at % 2 ^ (4 * page.below)) →
+      HasRoom page part place rest
+  room_split it = subst (λ (r : ℕ). HasRoom page part place r) (sym left)
+      (subst (λ (d : ℕ). HasRoom page part d (at % 2 ^ (4 * page.below))) (sym by) it)

@@ -1,5 +1,6 @@
 -- Which part of a page has an item or has room for the next one, and what a change of that part makes of the page.
 use Rattle.std.specs.Prelude.{◌≡◌, ℕ, ◌*◌, ◌^◌, ◌<◌, ◌≤◌, List, [], ◌∷◌, ◌++◌, length, slice_get, slice_set}
+use Rattle.std.specs.Prelude.{Option, Some}
 use Rattle.snapshot_store.specs.Parts.{parts_in, items_in, IsPart, ArePacked}
 use Rattle.snapshot_store.specs.declared.parts.Page.{Page}
 
@@ -20,3 +21,7 @@ pub record HasRoom {E : Type 0} (page : Page E) (part : List E × ℕ) (place re
   pub items : (x : E) → items_in (slice_set (parts_in page) place (part.0 ++ x ∷ [], page.below)) ≡ items_in
       (parts_in page) ++ x ∷ []
   pub packed : (x : E) → ArePacked page.below (slice_set (parts_in page) place (part.0 ++ x ∷ [], page.below))
+
+-- an item is given
+abbrev pub IsGiven : {E : Type 0} → Option E → Type 0
+IsGiven {E = E} given = (item : E) × (given ≡ Some item)

@@ -134,7 +134,14 @@ impl<T: Drop> Pages<T> {
         ensures work { steps.new ≤ steps.old + 2 * dig (length self.old + 1) }
     {
         let _len = self.len;
-        self.root.put(alloc, at, item, steps)
+        let mut given = Some(item);
+        match self.root.put(alloc, at, &mut given, steps) {
+            Ok(()) => return Ok(()),
+            Err(refused) => match given {
+                Some(item) => return Err((item, refused)),
+                None => unreachable!(),
+            },
+        }
     }
 
     /// Adds the item at the end. A list of 2^64 - 1 items is not made longer: that is answered as want of memory.

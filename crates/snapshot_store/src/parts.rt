@@ -1,6 +1,7 @@
 //! Parts of a list, as shared trees: a node of sixteen parts has room for sixteen times as many items as each of them.
 ghost use Rattle.std.specs.Prelude.{◌≡◌, ℕ, ◌+◌, ◌-◌, ◌*◌, ◌/◌, ◌^◌, ◌<◌, ◌≤◌, List, [], ◌∷◌, ◌++◌, length, slice_get};
-ghost use Rattle.std.specs.Prelude.{slice_set, replicate, Some, IfOk, IfErr, OnOk, OnErr};
+ghost use Rattle.std.specs.Prelude.{slice_set, replicate, Some, IfOk, IfErr, OnOk, OnErr, ◌%◌};
+ghost use Rattle.snapshot_store.specs.Places.{IsGiven};
 
 use flux_defs::Steps;
 use node_store::{Node, Share, Sixteen, Vacant};
@@ -97,17 +98,20 @@ impl<T: Drop> Page<T> {
         }
     }
 
-    /// How many items each of its parts has room for.
-    #[tactic(auto, using(crate::proofs::PlaceLaws::width_fits))]
-    fn width(&self) -> u64
+    /// The quotient and the remainder of a place by the number of items that each part has room for, which is a power of
+    /// two: no division is made.
+    #[inline(always)]
+    fn split(&self, at: u64) -> (u64, u64)
         requires { self.now.below < 16 }
-        ensures { result ≡ 2 ^ (4 * self.now.below) }
+        ensures place { result.0 ≡ at / 2 ^ (4 * self.now.below) }
+        ensures rest { result.1 ≡ at % 2 ^ (4 * self.now.below) }
     {
-        1 << (4 * self.below)
+        let bits = 4 * self.below;
+        let place = at >> bits;
+        (place, at - (place << bits))
     }
 
     /// The place of the part that has the item, and the item's place in it.
-    #[tactic(auto, using(crate::proofs::PlaceLaws::place_facts))]
     fn place_of(&self, at: u64) -> (u64, u64)
         requires page { IsPage self.now }
         requires inside { at < length (items_in (parts_in self.now)) }
@@ -115,12 +119,10 @@ impl<T: Drop> Page<T> {
         ensures item { (part : List T × ℕ) → slice_get (parts_in self.now) result.0 ≡ Some part →
             HasItem self.now at part result.0 result.1 }
     {
-        let width = self.width();
-        (at / width, at % width)
+        self.split(at)
     }
 
     /// The place of the part that has room for the next item, and how many items that part has.
-    #[tactic(auto, using(crate::proofs::PlaceLaws::place_facts))]
     fn room_of(&self, at: u64) -> (u64, u64)
         requires page { IsPage self.now }
         requires end { at ≡ length (items_in (parts_in self.now)) }
@@ -129,8 +131,7 @@ impl<T: Drop> Page<T> {
         ensures room { (part : List T × ℕ) → slice_get (parts_in self.now) result.0 ≡ Some part →
             HasRoom self.now part result.0 result.1 }
     {
-        let width = self.width();
-        (at / width, at % width)
+        self.split(at)
     }
 
     /// The part that has the item, and the item's place in it.
@@ -143,6 +144,30 @@ impl<T: Drop> Page<T> {
     {
         let (place, rest) = self.place_of(at);
         (self.parts.get(place), rest)
+    }
+}
+
+/// From now on the node holds the item that is given, which is taken. Where no memory is left it isn't taken, and the
+/// node is as before.
+fn set_given<T: Drop>(
+    alloc: Global,
+    node: &mut Node<T>,
+    given: &mut Option<T>,
+) -> Result<(), AllocError>
+    requires { IsGiven given.old }
+    ensures new { OnOk result ((item : T) → given.old ≡ Some item → node.new ≡ item) }
+    ensures given { OnErr result (given.new ≡ given.old) }
+    ensures same { OnErr result (node.new ≡ node.old) }
+{
+    let Some(item) = given.take() else {
+        unreachable!()
+    };
+    match node.set(alloc, item) {
+        Ok(()) => return Ok(()),
+        Err((item, refused)) => {
+            *given = Some(item);
+            return Err(refused);
+        }
     }
 }
 
@@ -167,18 +192,20 @@ impl<T: Drop> Part<T> {
         }
     }
 
-    /// Stores the item at a place, in the pages of this part that no other holds and in copies of the others. Where no
-    /// memory is left the item comes back, and the part is as before.
+    /// Stores the item that is given at a place, in the pages of this part that no other holds and in copies of the
+    /// others, and takes it. Where no memory is left it isn't taken, and the part is as before.
     pub fn put<L: Ledger>(
         &mut self,
         alloc: Global,
         at: u64,
-        item: T,
+        given: &mut Option<T>,
         steps: &mut Steps<L>,
-    ) -> Result<(), (T, AllocError)>
-        requires { at < length self.old.0 }
-        ensures new { OnOk result (self.new ≡ (slice_set self.old.0 at item, self.old.1)) }
-        ensures item { IfErr result (λ e. e.0 ≡ item) }
+    ) -> Result<(), AllocError>
+        requires within { at < length self.old.0 }
+        requires some { IsGiven given.old }
+        ensures new { OnOk result
+            ((item : T) → given.old ≡ Some item → self.new ≡ (slice_set self.old.0 at item, self.old.1)) }
+        ensures given { OnErr result (given.new ≡ given.old) }
         ensures same { OnErr result (self.new ≡ self.old) }
         ensures work { steps.new ≤ steps.old + self.old.1 + 1 }
     {
@@ -186,18 +213,18 @@ impl<T: Drop> Part<T> {
             Body::Empty => unreachable!(),
             Body::Item(node) => {
                 steps.tick();
-                return node.set(alloc, item);
+                return set_given(alloc, node, given);
             }
             Body::Fork(node) => {
                 steps.tick();
                 if let Err(refused) = node.own(alloc) {
-                    return Err((item, refused));
+                    return Err(refused);
                 }
                 let Some(page) = node.get_mut() else {
-                    return Err((item, AllocError));
+                    return Err(AllocError);
                 };
                 let (place, rest) = page.place_of(at);
-                match page.parts.get_mut(place).put(alloc, rest, item, steps) {
+                match page.parts.get_mut(place).put(alloc, rest, given, steps) {
                     Ok(()) => return Ok(()),
                     Err(refused) => return Err(refused),
                 }

@@ -14,13 +14,14 @@ pub invariant_of-self-in-Ok : goal.invariant_of-self-in-Ok
 invariant_of-self-in-Ok g t c =
     let page : IsPage c.in-Some.page.now = search rules in
     let it = c.place_of-place.ensures.item _ c.get_mut-in-Fork.ensures.value in
-    put_page c.in-Some.page.now _ _ _ c.place_of-place.ensures.place _ _ _ page it c.in-Ok.ensures.new
+    let (item, is) = c.requires.some in
+    put_page c.in-Some.page.now _ _ _ c.place_of-place.ensures.place _ _ item page it (c.in-Ok.ensures.new item is)
 
 pub returns-in-Ok-clause-new : goal.returns-in-Ok-clause-new
-returns-in-Ok-clause-new g t c =
+returns-in-Ok-clause-new g t c = λ item is.
     let it = c.place_of-place.ensures.item _ c.get_mut-in-Fork.ensures.value in
     let seen = opened _ _ _ _ c.self.view_is c.in-Fork.is (c.in-Some.ensures.value ∙ c.own.ensures) in
-    put_seen c.in-Some.page.now _ _ _ c.place_of-place.ensures.place _ _ _ _ seen it c.in-Ok.ensures.new
+    put_seen c.in-Some.page.now _ _ _ c.place_of-place.ensures.place _ _ _ item seen it (c.in-Ok.ensures.new item is)
 
 pub returns-in-Ok-clause-work : goal.returns-in-Ok-clause-work
 returns-in-Ok-clause-work g t c =
