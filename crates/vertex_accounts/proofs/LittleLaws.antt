@@ -9,12 +9,13 @@ use Rattle.std.specs.List.{AllByRecursion, list_any}
 use Rattle.flux_defs.specs.declared.claims.Claim.{Claim}
 use Rattle.flux_defs.specs.declared.claims.Job.{Job}
 use Rattle.flux_defs.specs.declared.claims.Window.{Window}
-use Rattle.flux_defs.specs.Graph.{ResourceGraph, chain, parent_of}
+use Rattle.flux_defs.specs.Graph.{ResourceGraph, chain, parent_of, is_at_or_below}
 use Rattle.flux_defs.specs.ValidGraph.{StandsInPreorder}
 use Rattle.flux_defs.specs.Jobs.{is_live, some_live_claim, SomeMoment}
 use Rattle.flux_defs.specs.Closed.{no_bars, is_closed, IsClosedOver}
 use Rattle.flux_defs.specs.Free.{total_at, IsTotalOver, IsTooLittle, IsTooLittleAt}
 use Rattle.graph_laws.proofs.Preorder.{parents_first}
+use Rattle.graph_laws.proofs.Containment.{ParentsFirst, up, steps_of, falls_up}
 use Rattle.planner_points.specs.declared.spans.Span.{Span}
 use Rattle.planner_points.specs.Spans.{free_at, HasRoom, IsLeastFree}
 use Rattle.book_laws.specs.Amounts.{is_hold, holds_along, capacity, part_within}
@@ -146,6 +147,25 @@ pub above_none : (vertices : List Vertex) (jobs : List Job) (w : Window) (v most
     IsMomentOrNone w (along_at jobs vertices most (parent_of vertices v)) None
 above_none vertices jobs w v most free = λ (m, lo, hi, h).
     true≢false (sym h ∙ jobs_none vertices m jobs free most (parent_of vertices v) (λ u e. (v, e)))
+
+-- nor is a vertex that contains another held itself
+pub parent_none : (vertices : List Vertex) (jobs : List Job) (w : Window) (u v most : ℕ) → HoldNoParents vertices jobs →
+    parent_of vertices u ≡ Some v → IsMomentOrNone w (along_at jobs vertices most (Some v)) None
+parent_none vertices jobs w u v most free parent = λ (m, lo, hi, h).
+    true≢false (sym h ∙ jobs_none vertices m jobs free most (Some v)
+    (λ x e. (u, (let is : v ≡ x = cc in subst (λ (y : ℕ). parent_of vertices u ≡ Some y) is parent))))
+
+-- the next vertex that stands below this one is its child
+pub next_child : (vertices : List Vertex) → ParentsFirst vertices → (v : ℕ) →
+    IsTrue (is_at_or_below vertices (v + 1) v) → parent_of vertices (v + 1) ≡ Some v
+next_child vertices first v below =
+    let (n, e) = steps_of vertices first (v + 1) v below in
+    one_step n (let le = falls_up vertices first n (v + 1) v e in omega (arith, le)) e
+  where
+    one_step : (n : ℕ) → n ≤ 1 → up vertices n (Some (v + 1)) ≡ Some v → parent_of vertices (v + 1) ≡ Some v
+    one_step zero le e = absurd (let same : v + 1 ≡ v = cc in omega (arith, same))
+    one_step (suc zero) le e = e
+    one_step (suc (suc n)) le e = absurd (omega (arith, le))
 
 -- closed is held along the chain
 pub closed_moment_is : (vertices : List Vertex) (jobs : List Job) (w : Window) (v : ℕ) (found : Option ℕ) →

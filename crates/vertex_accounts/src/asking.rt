@@ -4,7 +4,7 @@ ghost use Rattle.std.specs.Prelude.{IfSome, MatchOption};
 ghost use Rattle.flux_defs.specs.declared.vertices.Vertex.{Vertex};
 ghost use Rattle.flux_defs.specs.declared.claims.Job.{Job};
 ghost use Rattle.flux_defs.specs.Digits.{dig};
-ghost use Rattle.flux_defs.specs.Graph.{chain, is_pool};
+ghost use Rattle.flux_defs.specs.Graph.{chain, is_pool, parent_of};
 ghost use Rattle.flux_defs.specs.Jobs.{some_live_claim, IsPoint, IsNextPoint};
 ghost use Rattle.flux_defs.specs.Closed.{no_bars, is_closed, IsClosedOver, IsTouchedOver};
 ghost use Rattle.flux_defs.specs.Free.{IsFreeOver, IsTotalOver, IsTooLittleAt};
@@ -139,7 +139,7 @@ impl<P: Planner + Drop> Accounts<P> {
     }
 
     /// A moment of the window at which a job holds the vertex, whose item this is, or one above it; `None` exactly
-    /// where there is none.
+    /// where there is none. Where no job holds a vertex with others below it, it doesn't look at one.
     fn closed_moment<L: Ledger>(
         &self,
         graph: &Graph,
@@ -160,6 +160,9 @@ impl<P: Planner + Drop> Accounts<P> {
         ensures work { (most_looks : ℕ) → CostWithin P.look_cost most_looks (items_of self.now.planners) →
             steps.new ≤ steps.old + rest_most (length graph.now.resources.vertices) most_looks }
     {
+        if !self.holds_parents && has_below(graph, vertex) {
+            return None;
+        }
         match self.below_in(item, vertex, HOLDS, window, u64::MAX, steps) {
             Some(moment) => Some(moment),
             None => {
@@ -383,4 +386,13 @@ fn is_pool_vertex(graph: &Graph, vertex: u32) -> bool
         Some(found) => return graph.is_pool(found.kind),
         None => return false,
     }
+}
+
+/// Whether the vertex has others below it.
+fn has_below(graph: &Graph, vertex: u32) -> bool
+    requires { vertex < length graph.now.resources.vertices }
+    ensures { IsTrue result → parent_of graph.now.resources.vertices (vertex + 1) ≡ Some vertex }
+{
+    graph.is_valid();
+    graph.past(vertex) - vertex > 1
 }

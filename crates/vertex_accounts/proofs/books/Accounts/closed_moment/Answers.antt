@@ -13,7 +13,7 @@ use Rattle.vertex_accounts.specs.Books.{AreAccounts, counted_of}
 use Rattle.vertex_accounts.specs.Moments.{IsMomentOrNone}
 use Rattle.vertex_accounts.proofs.AskingLaws.{place_in, closed_work}
 use Rattle.vertex_accounts.proofs.LittleLaws.{above_along, above_none, along_at, closed_moment_is, held_moment}
-use Rattle.vertex_accounts.proofs.LittleLaws.{here_along}
+use Rattle.vertex_accounts.proofs.LittleLaws.{here_along, parent_none}
 use Rattle.vertex_accounts.proofs.books.Accounts.closed_moment.Goals as goal
 
 pub below_in-requires-clause-place : goal.below_in-requires-clause-place
@@ -44,8 +44,8 @@ held_up-requires-clause-inside g c =
     (parents_in c.args.graph.now.resources.vertices
     (parents_first c.args.graph.now.resources c.vertices.ensures.valid.valid.preorder)))
 
-pub returns-else-not-self-clause-answer : goal.returns-else-not-self-clause-answer
-returns-else-not-self-clause-answer g c = λ jobs is.
+pub returns-else-not-self-2-clause-answer : goal.returns-else-not-self-2-clause-answer
+returns-else-not-self-2-clause-answer g c = λ jobs is.
     let vertices = c.args.graph.now.resources.vertices in
     let inside = c.requires.inside in
     let never = held_moment vertices jobs c.args.window c.args.vertex None
@@ -64,8 +64,8 @@ returns-else-not-self-clause-answer g c = λ jobs is.
     (above_along jobs c.args.window vertices (length vertices) c.args.vertex (Some c.args.vertex)
     (λ e. omega (arith, e, inside)) refl c.parent_in-above.result c.held_up.result parent never along)
 
-pub returns-else-not-self-clause-work : goal.returns-else-not-self-clause-work
-returns-else-not-self-clause-work g c = λ n looks.
+pub returns-else-not-self-2-clause-work : goal.returns-else-not-self-2-clause-work
+returns-else-not-self-2-clause-work g c = λ n looks.
     let vertices = c.args.graph.now.resources.vertices in
     let parent = c.parent_in-above.ensures
     ∙ ap (λ (vs : List Vertex). parent_of vs c.args.vertex) (c.items-vertices.ensures ∙ c.vertices.ensures.value) in
@@ -83,14 +83,21 @@ returns-else-not-self-clause-work g c = λ n looks.
     (subst (λ (o : _). c.held_up.new.steps ≤ c.below_in.new.steps + length
     (chain vertices (length vertices - 1) o) * look_most (length vertices) n) parent along)
 
-pub returns-then-not-self-clause-answer : goal.returns-then-not-self-clause-answer
-returns-then-not-self-clause-answer g c = λ jobs is.
+pub returns-then-not-self-2-clause-answer : goal.returns-then-not-self-2-clause-answer
+returns-then-not-self-2-clause-answer g c = λ jobs is.
     let vertices = c.args.graph.now.resources.vertices in
     let vertex = c.args.vertex in
     let inside = c.requires.inside in
     let never = held_moment vertices jobs c.args.window vertex None
     (c.in-None.ensures.last vertices jobs Holds is is.graph.counts.holds) in
-    let along = above_none vertices jobs c.args.window vertex (length vertices - 1) (is.parents c.if-not-self.true) in
+    let along = above_none vertices jobs c.args.window vertex (length vertices - 1) (is.parents c.if-not-self-2.true) in
     closed_moment_is vertices jobs c.args.window vertex None
     (above_along jobs c.args.window vertices (length vertices) vertex (Some vertex)
     (λ e. omega (arith, e, inside)) refl (parent_of vertices vertex) None refl never along)
+
+pub returns-then-has_below-clause-answer : goal.returns-then-has_below-clause-answer
+returns-then-has_below-clause-answer g c = λ jobs is.
+    let vertices = c.args.graph.now.resources.vertices in
+    closed_moment_is vertices jobs c.args.window c.args.vertex None
+    (parent_none vertices jobs c.args.window (c.args.vertex + 1) c.args.vertex (length vertices)
+    (is.parents c.if-not-self.true) (c.has_below.ensures c.if-has_below.true))
