@@ -1,6 +1,6 @@
 -- Sums over claims, and along chains of parents.
 use Rattle.std.proofs.Common.{◌≡◌, ◌≢◌, ℕ, zero, suc, ◌+◌, ◌-◌, ◌<◌, ◌==◌, nat_eq, Bool, true, false, ◌||◌, ◌&&◌}
-use Rattle.std.proofs.Common.{nat_lt, cond, List, ◌∷◌, length, take, get_or, Option, Some, None, IfSome, inl, inr}
+use Rattle.std.proofs.Common.{◌≤◌, nat_lt, cond, List, [], ◌∷◌, length, take, get_or, Option, Some, None, IfSome, inl, inr}
 use Rattle.std.proofs.Common.{refl, sym, ◌∙◌, ap, subst, arith}
 use Rattle.std.specs.List.{AllByRecursion, sum_by}
 use Rattle.std.proofs.lemmas.Bool.Decides.{eqb_tells}
@@ -17,7 +17,7 @@ use Rattle.vertex_planners.specs.Chains.{sum_on, ParentsIn}
 use Rattle.vertex_planners.specs.Counting.{counts_at}
 use Rattle.book_laws.specs.Amounts.{is_hold}
 use Rattle.std.proofs.lemmas.Bool.{cases_lt, lt-ltb}
-use Rattle.resource_graph.proofs.ChainLaws.{chain-None}
+use Rattle.resource_graph.proofs.ChainLaws.{chain-None, chain_short, chains_agree}
 
 -- one claim more
 pub claim_step : (f : Claim → ℕ) (xs : List Claim) (i : ℕ) (d : Claim) (old new more : ℕ) →
@@ -33,15 +33,6 @@ pub on_step : (f : Claim → ℕ) (v : ℕ) (xs : List Claim) (i : ℕ) (d : Cla
 on_step f v xs i d old new x n lt e was at is =
     claim_step (λ c. cond (vertex_of c == v) (f c) 0) xs i d old new (cond (x == v) n 0) lt e was
     (ap (λ y. cond (y == v) n 0) at ∙ ap (λ k. cond (vertex_of (get_or xs i d) == v) k 0) is)
-
-pub counts_step : (vertices : List Vertex)
-    (f : Claim → ℕ) (v : ℕ) (xs : List Claim) (i : ℕ) (d x : Claim) (old new n : ℕ) → i < length xs →
-    new ≡ old + cond (counts_at vertices v x) n 0 → old
-    ≡ sum_by (λ c. cond (counts_at vertices v c) (f c) 0) (take i xs) → x ≡ get_or xs i d → n ≡ f (get_or xs i d) →
-    new ≡ sum_by (λ c. cond (counts_at vertices v c) (f c) 0) (take (i + 1) xs)
-counts_step vertices f v xs i d x old new n lt e was at is =
-    claim_step (λ c. cond (counts_at vertices v c) (f c) 0) xs i d old new (cond (counts_at vertices v x) n 0) lt e was
-    (ap (λ y. cond (counts_at vertices v y) n 0) at ∙ ap (λ k. cond (counts_at vertices v (get_or xs i d)) k 0) is)
 
 pub none_more : (b : Bool) (n more : ℕ) → more ≡ 0 → n ≡ n + cond b more 0
 none_more true n more e = omega arith
@@ -193,3 +184,67 @@ root_counts vertices u (suc v) more is = elim (eqb_tells u (suc v)) [
 pub soft_counts : (vertices : List Vertex) (v more : ℕ) (c : Claim) → is_hold v c ≡ false →
     cond (is_on_or_below vertices v c) more 0 ≡ cond (counts_at vertices v c) more 0
 soft_counts vertices v more c soft = rw soft (not_own (nat_lt 0 v) (is_on_or_below vertices v c) more)
+
+-- sums along a chain
+cond_add : (t : Bool) (a b : ℕ) → cond t (a + b) 0 ≡ cond t a 0 + cond t b 0
+cond_add true a b = refl
+cond_add false a b = refl
+
+pub sum_on_add : (v a b : ℕ) (us : List ℕ) → sum_on v (a + b) us ≡ sum_on v a us + sum_on v b us
+sum_on_add v a b [] = refl
+sum_on_add v a b (u ∷ us) =
+    let both = sum_by-cons (λ (w : ℕ). cond (w == v) (a + b) 0) u us in
+    let one = sum_by-cons (λ (w : ℕ). cond (w == v) a 0) u us in
+    let other = sum_by-cons (λ (w : ℕ). cond (w == v) b 0) u us in
+    let here = cond_add (u == v) a b in
+    let rest = sum_on_add v a b us in
+    omega (arith, both, one, other, here, rest)
+
+cond_none : (t : Bool) (none : ℕ) → none ≡ 0 → cond t none 0 ≡ 0
+cond_none true none e = e
+cond_none false none e = refl
+
+pub sum_on_none : (v none : ℕ) (us : List ℕ) → none ≡ 0 → sum_on v none us ≡ 0
+sum_on_none v none [] e = refl
+sum_on_none v none (u ∷ us) e =
+    let all = sum_by-cons (λ (w : ℕ). cond (w == v) none 0) u us in
+    let here = cond_none (u == v) none e in
+    let rest = sum_on_none v none us e in
+    omega (arith, all, here, rest)
+
+-- a chain of vertices that stand before one another is no longer than the number of its first vertex and one more
+chain_falls : (vertices : List Vertex) → ParentsFirst vertices → (most v : ℕ) →
+    length (chain vertices most (Some v)) ≤ v + 1
+chain_falls vertices first zero v = omega arith
+chain_falls vertices first (suc most) v = step (parent_of vertices v) refl (chain_falls vertices first most)
+  where
+    step : (o : Option ℕ) → parent_of vertices v ≡ o → ((w : ℕ) → length (chain vertices most (Some w)) ≤ w + 1) →
+        suc (length (chain vertices most (parent_of vertices v))) ≤ v + 1
+    step None e falls =
+        let none = ap (λ (x : Option ℕ). length (chain vertices most x)) e in
+        let nil = ap (λ (us : List ℕ). length us) (chain-None vertices most) in omega (arith, none, nil)
+    step (Some p) e falls =
+        let same = ap (λ (x : Option ℕ). length (chain vertices most x)) e in
+        let rest = falls p in
+        let before = first v p e in omega (arith, same, rest, before)
+
+-- the chain above a vertex of the list is whole
+pub whole_above : (vertices : List Vertex) → ParentsFirst vertices → (u : ℕ) →
+    chain vertices (length vertices - 1) (parent_of vertices u) ≡ chain vertices (length vertices) (parent_of vertices u)
+whole_above vertices first u = by_parent (parent_of vertices u) refl
+  where
+    by_parent : (o : Option ℕ) → parent_of vertices u ≡ o →
+        chain vertices (length vertices - 1) (parent_of vertices u)
+        ≡ chain vertices (length vertices) (parent_of vertices u)
+    by_parent None e =
+        ap (chain vertices (length vertices - 1)) e ∙ chain-None vertices (length vertices - 1)
+        ∙ sym (ap (chain vertices (length vertices)) e ∙ chain-None vertices (length vertices))
+    by_parent (Some p) e =
+        let inside = has_parent vertices u p e in
+        let before = first u p e in
+        let short = chain_falls vertices first (length vertices) p in
+        let less = chain_short vertices (length vertices - 1) (Some p) in
+        ap (chain vertices (length vertices - 1)) e
+        ∙ chains_agree vertices (length vertices - 1) (length vertices) (Some p)
+        (omega (arith, less)) (omega (arith, short, before, inside))
+        ∙ sym (ap (chain vertices (length vertices)) e)

@@ -6,3 +6,4 @@ pub mod Kept
 pub mod Chains
 pub mod Work
 pub mod Counting
+pub mod Rises

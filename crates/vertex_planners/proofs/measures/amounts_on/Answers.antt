@@ -13,8 +13,8 @@ pub loop-claim-preserved : goal.loop-claim-preserved
 loop-claim-preserved g c = record {
   sums = λ v. on_step (g.M.Measure.amount c.args.measure.now)
       v c.args.claims.now c.loop-claim.claim-index _ _ _ _ _ c.loop-claim-test.true
-      (c.in_ok-add.ensures.sum v) (c.loop-claim.invariant.sums v) c.vertex.ensures c.amount_of.ensures;
-  keys = λ most all. c.in_ok-add.ensures.keys most (inside_item most c.args.claims.now
+      (c.in_ok-add_some.ensures.sum v) (c.loop-claim.invariant.sums v) c.vertex.ensures c.amount_of.ensures;
+  keys = λ most all. c.in_ok-add_some.ensures.keys most (inside_item most c.args.claims.now
       c.loop-claim.claim-index _ _ c.loop-claim-test.true c.vertex.ensures all) (c.loop-claim.invariant.keys most all);
-  few = (let one = c.add.ensures.count in let rest = c.loop-claim.invariant.few in omega (arith, one, rest));
+  few = (let one = c.in_ok-add_some.ensures.count in let rest = c.loop-claim.invariant.few in omega (arith, one, rest));
 }
