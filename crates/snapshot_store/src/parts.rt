@@ -98,8 +98,8 @@ impl<T: Drop> Page<T> {
         }
     }
 
-    /// The quotient and the remainder of a place by the number of items that each part has room for, which is a power of
-    /// two: no division is made.
+    /// The quotient and the remainder of a place by the number of items that each part has room for, which is a power
+    /// of two: no division is made.
     #[inline(always)]
     fn split(&self, at: u64) -> (u64, u64)
         requires { self.now.below < 16 }

@@ -1,7 +1,7 @@
 -- Sums over claims, and along chains of parents.
 use Rattle.std.proofs.Common.{◌≡◌, ◌≢◌, ℕ, zero, suc, ◌+◌, ◌-◌, ◌<◌, ◌==◌, nat_eq, Bool, true, false, ◌||◌, ◌&&◌}
-use Rattle.std.proofs.Common.{◌≤◌, nat_lt, cond, List, [], ◌∷◌, length, take, get_or, Option, Some, None, IfSome, inl, inr}
-use Rattle.std.proofs.Common.{refl, sym, ◌∙◌, ap, subst, arith}
+use Rattle.std.proofs.Common.{◌≤◌, nat_lt, cond, List, [], ◌∷◌, length, take, get_or, Option, Some, None, IfSome}
+use Rattle.std.proofs.Common.{inl, inr, refl, sym, ◌∙◌, ap, subst, arith}
 use Rattle.std.specs.List.{AllByRecursion, sum_by}
 use Rattle.std.proofs.lemmas.Bool.Decides.{eqb_tells}
 use Rattle.std.proofs.lemmas.List.Sums.{sum_by-cons, sum_by_more}
@@ -230,7 +230,8 @@ chain_falls vertices first (suc most) v = step (parent_of vertices v) refl (chai
 
 -- the chain above a vertex of the list is whole
 pub whole_above : (vertices : List Vertex) → ParentsFirst vertices → (u : ℕ) →
-    chain vertices (length vertices - 1) (parent_of vertices u) ≡ chain vertices (length vertices) (parent_of vertices u)
+    chain vertices (length vertices - 1) (parent_of vertices u)
+    ≡ chain vertices (length vertices) (parent_of vertices u)
 whole_above vertices first u = by_parent (parent_of vertices u) refl
   where
     by_parent : (o : Option ℕ) → parent_of vertices u ≡ o →
