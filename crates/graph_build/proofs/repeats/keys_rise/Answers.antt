@@ -1,4 +1,4 @@
-use Rattle.std.proofs.Common.{◌+◌, ◌<◌, length, Some, None, arith, below_more, sym, subst, Option}
+use Rattle.std.proofs.Common.{◌+◌, ◌<◌, length, Some, None, arith, below_more, sym, subst}
 use Rattle.graph_build.proofs.RepeatLaws.{EndsWith, read_at, no_key_here, repeated_within}
 use Rattle.graph_build.proofs.RepeatLaws.{ends_more, ends_skip, greater_is_new}
 use Rattle.graph_build.proofs.repeats.keys_rise.Goals as goal
