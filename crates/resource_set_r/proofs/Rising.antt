@@ -38,7 +38,7 @@ all_insert a k (x ∷ xs) h all = by (nat_cmp k x) (all_insert a k xs h all.1)
     by Greater rest = (all.0, rest)
 
 -- a number put among rising ones leaves them rising
-pub sorted_insert : (k : ℕ) (xs : List ℕ) →
+sorted_insert : (k : ℕ) (xs : List ℕ) →
     IsStrictlySortedBy nat_cmp xs → IsStrictlySortedBy nat_cmp (insert_key nat_cmp xs k)
 unfolding IsStrictlySortedBy
 sorted_insert k [] s = (tt, tt)
@@ -55,7 +55,7 @@ sorted_fold : (ns ks : List ℕ) →
 sorted_fold [] ks s = s
 sorted_fold (n ∷ ns) ks s = sorted_fold ns (insert_key nat_cmp ks n) (sorted_insert n ks s)
 
-pub sorted_nil : IsStrictlySortedBy nat_cmp []
+sorted_nil : IsStrictlySortedBy nat_cmp []
 unfolding IsStrictlySortedBy
 sorted_nil = tt
 
