@@ -1,4 +1,4 @@
-use Rattle.std.proofs.Common.{◌≡◌, ◌-◌, length, List, ℕ, Some, ap, sym, ◌∙◌}
+use Rattle.std.proofs.Common.{Some, ap, sym, ◌∙◌}
 use Rattle.resource_set_r.specs.Rows.{rising}
 use Rattle.resource_set_r.proofs.SetLaws.{already, added}
 use Rattle.resource_set_r.proofs.sets.add.Goals as goal
