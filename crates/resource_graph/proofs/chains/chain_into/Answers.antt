@@ -1,7 +1,7 @@
 use Rattle.std.proofs.Common.{◌≡◌, ℕ, ◌<◌, ◌++◌, ◌∷◌, [], length, Some, None, vec_len, sym, ◌∙◌, ap, subst, arith, List}
 use Rattle.flux_defs.specs.declared.limits.TheConstants.{MOST_LEVELS}
 use Rattle.flux_defs.specs.Graph.{chain}
-use Rattle.resource_graph.specs.Chains.{chain_of, AllBelow}
+use Rattle.resource_graph.specs.Chains.{AllBelow}
 use Rattle.resource_graph.proofs.ChainLaws.{parent_at, climb_step, AllBelow-push, chain_min, climb_all, climb_past}
 use Rattle.resource_graph.proofs.chains.chain_into.Goals as goal
 
