@@ -103,7 +103,8 @@ module _ {K : Type 0} (cmp : K → K → Ordering) (total : IsTotalOrder cmp) (k
     | inl before ↦ (key, refl, ap is_le (greater_than_all v key last ends greater u a before here))
     | inr not_before ↦ (
         let is : u ≡ v = omega (arith, lt, not_before) in
-        let same : a ≡ key = (let e : Some (Some a) ≡ Some (Some key) = sym here ∙ (ap (slice_get keys) is ∙ at) in cc) in
+        let same : a ≡ key =
+        (let e : Some (Some a) ≡ Some (Some key) = sym here ∙ (ap (slice_get keys) is ∙ at) in cc) in
         (key, refl, ap (λ k. is_le (cmp k key)) same ∙ ap is_le (tied_itself total key)))
   ]
 

@@ -29,7 +29,8 @@ returns-in-Hold c =
     subst (λ (v : ℕ). IsPast g.vertices v c.past.result) is c.past.ensures in
     let all = ap (λ v. ids_from (c.past.result - v) v) is
     ∙ sym (given_hold g.vertices first v c.past.result past) ∙ ap (given_by g.vertices) (sym c.in-Hold.is) in
-    subst (λ ns. OnOk c.add_all.result (rising c.add_all.new.numbers.items ≡ fold (insert_key nat_cmp) (rising c.args.numbers.now.items) ns))
+    subst (λ ns. OnOk c.add_all.result
+    (rising c.add_all.new.numbers.items ≡ fold (insert_key nat_cmp) (rising c.args.numbers.now.items) ns))
     all c.add_all.ensures
 
 pub returns-in-Take : goal.returns-in-Take
@@ -42,7 +43,8 @@ returns-in-Take c =
     let lt : c.vertex-vertex.result < c.len.result = c.if-vertex-len.false in
     let one = ap (λ v. v ∷ []) is ∙ sym (given_take g.vertices first v c.in-Take.quantity (omega arith))
     ∙ ap (given_by g.vertices) (sym c.in-Take.is) in
-    subst (λ ns. OnOk c.add.result (rising c.add.new.numbers.items ≡ fold (insert_key nat_cmp) (rising c.args.numbers.now.items) ns))
+    subst (λ ns. OnOk c.add.result
+    (rising c.add.new.numbers.items ≡ fold (insert_key nat_cmp) (rising c.args.numbers.now.items) ns))
     one c.add.ensures
 
 pub returns-in-Pass : goal.returns-in-Pass
@@ -56,4 +58,5 @@ returns-in-Pass c =
     let one = ap (λ v. v ∷ []) is
     ∙ sym (given_pass g.vertices first v (omega arith)) ∙ ap (given_by g.vertices) (sym c.in-Pass.is) in
     subst (λ ns. OnOk c.add-in-Pass.result
-    (rising c.add-in-Pass.new.numbers.items ≡ fold (insert_key nat_cmp) (rising c.args.numbers.now.items) ns)) one c.add-in-Pass.ensures
+    (rising c.add-in-Pass.new.numbers.items ≡ fold (insert_key nat_cmp) (rising c.args.numbers.now.items) ns))
+    one c.add-in-Pass.ensures

@@ -7,5 +7,6 @@ use Rattle.resource_set_r.proofs.given.given_of.Given as goal
 
 abbrev pub invariant-claims : goal.invariant-claims
 invariant-claims l =
-    fold (insert_key nat_cmp) (rising l.numbers.items) (flat_map (given_by l.graph.resources.vertices) (drop l.claim-index l.claims))
+    fold (insert_key nat_cmp) (rising l.numbers.items)
+    (flat_map (given_by l.graph.resources.vertices) (drop l.claim-index l.claims))
     ≡ given l.graph.resources.vertices l.claims

@@ -11,5 +11,6 @@ numbers-preserved c =
     let n = c.numbers.number in
     let rest = ids_from (c.args.to - (n + 1)) (n + 1) in
     ap (λ ks. fold (insert_key nat_cmp) ks rest) c.in_ok-add.ensures
-    ∙ sym (ap (λ ns. fold (insert_key nat_cmp) (rising c.numbers.numbers.items) ns) (ids_step n c.args.to (omega arith)))
+    ∙ sym (ap (λ ns. fold (insert_key nat_cmp) (rising c.numbers.numbers.items) ns)
+    (ids_step n c.args.to (omega arith)))
     ∙ c.numbers.invariant
