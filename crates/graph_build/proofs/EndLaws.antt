@@ -12,6 +12,7 @@ use Rattle.graph_build.specs.Faults.{NeverEnds, IsDeep}
 use Rattle.graph_build.specs.Checks.{graph_in, climb, HasClimbs}
 use Rattle.resource_graph.specs.Finds.{IsFirstOf}
 use Rattle.resource_graph.proofs.ChainLaws.{chains_agree, chain_short}
+use Rattle.graph_laws.proofs.Containment.{chain_none}
 use Rattle.graph_build.proofs.ClimbLaws.{climb-None, climb-climb, chain_ends, chain_goes_on}
 use Rattle.resource_graph.proofs.Finds.{Passes, finds_position, finds_same}
 use Rattle.list_laws.proofs.Values.{value_of, from_value}
@@ -116,3 +117,20 @@ module _ (kinds : List (List ℕ)) (vertices : List Vertex) where
                 (let over : length (chain vertices (suc (length vertices)) (Some v)) ≡ suc (length vertices)
                     = chain_goes_on vertices (length vertices) w (Some v) f in omega arith),
               )
+
+-- where parents stand before their children, no chain is longer than the vertices up to its own
+module _ (vertices : List Vertex) (first : (v p : ℕ) → parent_of vertices v ≡ Some p → p < v) where
+  chain_within : (most v : ℕ) → length (chain vertices most (Some v)) ≤ v + 1
+  chain_within zero v = omega arith
+  chain_within (suc most) v = by (parent_of vertices v) refl (λ p. chain_within most p)
+    where
+      by : (o : Option ℕ) → parent_of vertices v ≡ o → ((p : ℕ) → length (chain vertices most (Some p)) ≤ p + 1) →
+          suc (length (chain vertices most o)) ≤ v + 1
+      by None e shorter = let none = chain_none vertices most in omega (arith, none)
+      by (Some p) e shorter = let before = first v p e in let rest = shorter p in omega (arith, before, rest)
+
+  pub none_endless : (kinds : List (List ℕ)) (v : ℕ) → NeverEnds (graph_in kinds vertices) v → ⊥
+  none_endless kinds v bad =
+      let within = bad.0 in
+      let over = bad.1 in
+      let short = chain_within (suc (length vertices)) v in absurd (omega (arith, within, over, short))

@@ -16,5 +16,6 @@ pub mod EndLaws
 pub mod RepeatLaws
 pub mod KeyLaws
 pub mod OrderLaws
+pub mod SiblingLaws
 pub mod OneGraph
 pub mod OwnGraph

@@ -1,13 +1,14 @@
 -- The keys that were seen, one index more at a time.
 use Rattle.std.proofs.Common.{◌≡◌, ℕ, ◌+◌, ◌<◌, ◌↔◌, Bool, true, false, cond, List, length, get_or, Option, Some, None}
-use Rattle.std.proofs.Common.{inl, inr, refl, sym, ◌∙◌, ap, arith, true≢false}
+use Rattle.std.proofs.Common.{inl, inr, refl, sym, ◌∙◌, ap, arith, IsTrue, true≢false}
 use Rattle.std.specs.Prelude.{slice_get}
-use Rattle.std.specs.Ordering.{is_eq}
-use Rattle.std.specs.Cmp.{Equal-is}
+use Rattle.std.specs.Ordering.{is_eq, is_le}
+use Rattle.std.specs.BTreeMap.Comparable.{le_lt_trans}
+use Rattle.std.specs.Cmp.{IsTotalOrder, Equal-is, tied_itself}
 use Rattle.std.proofs.lemmas.Bool.{cases_lt, cases_Bool}
 use Rattle.std.proofs.lemmas.Option.{slice_get-get_or, slice_get_within}
 use Rattle.std.specs.declared.cmp.Ordering.{Ordering}
-use Rattle.std.specs.declared.cmp.Ordering.TheVariants.{Equal}
+use Rattle.std.specs.declared.cmp.Ordering.TheVariants.{Less, Equal}
 use Rattle.graph_build.specs.Keys.{IsRepeated}
 
 -- one of the first so many indices has this key
@@ -81,3 +82,46 @@ module _ {K : Type 0} (cmp : K → K → Ordering) (keys : List (Option K)) wher
 
   pub repeated_within : (v : ℕ) → IsRepeated cmp keys v → v < length keys
   repeated_within v bad = slice_get_within keys v (Some bad.2) bad.5
+
+-- each key of the first so many indices is at most the last one
+abbrev pub EndsWith : {K : Type 0} → (K → K → Ordering) → List (Option K) → ℕ → Option K → Type 0
+EndsWith {K} cmp keys most last = (u : ℕ) (a : K) → u < most → slice_get keys u ≡ Some (Some a) →
+    (b : K) × (last ≡ Some b) × IsTrue (is_le (cmp a b))
+
+module _ {K : Type 0} (cmp : K → K → Ordering) (total : IsTotalOrder cmp) (keys : List (Option K)) where
+  -- a key that is greater than the last one is greater than all before it
+  greater_than_all : (v : ℕ) (key : K) (last : Option K) → EndsWith cmp keys v last →
+      ((before : K) → last ≡ Some before → cmp before key ≡ Less) → (u : ℕ) (a : K) → u < v →
+      slice_get keys u ≡ Some (Some a) → cmp a key ≡ Less
+  greater_than_all v key last ends greater u a lt at =
+      let r = ends u a lt at in le_lt_trans total a r.0 key r.2 (greater r.0 r.1)
+
+  pub ends_more : (v : ℕ) (key : K) (last : Option K) → slice_get keys v ≡ Some (Some key) →
+      EndsWith cmp keys v last → ((before : K) → last ≡ Some before → cmp before key ≡ Less) →
+      EndsWith cmp keys (v + 1) (Some key)
+  ends_more v key last at ends greater u a lt here = elim (cases_lt u v) [
+    | inl before ↦ (key, refl, ap is_le (greater_than_all v key last ends greater u a before here))
+    | inr not_before ↦ (
+        let is : u ≡ v = omega (arith, lt, not_before) in
+        let same : a ≡ key =
+        (let e : Some (Some a) ≡ Some (Some key) = sym here ∙ (ap (slice_get keys) is ∙ at) in cc) in
+        (key, refl, ap (λ k. is_le (cmp k key)) same ∙ ap is_le (tied_itself total key)))
+  ]
+
+  pub ends_skip : (v : ℕ) (last : Option K) → slice_get keys v ≡ Some None → EndsWith cmp keys v last →
+      EndsWith cmp keys (v + 1) last
+  ends_skip v last at ends u a lt here = elim (cases_lt u v) [
+    | inl before ↦ ends u a before here
+    | inr not_before ↦ absurd (
+        let is : u ≡ v = omega (arith, lt, not_before) in
+        let clash : Some None ≡ Some (Some a) = sym at ∙ (ap (slice_get keys) (sym is) ∙ here) in cc)
+  ]
+
+  pub greater_is_new : (v : ℕ) (key : K) (last : Option K) → slice_get keys v ≡ Some (Some key) →
+      EndsWith cmp keys v last → ((before : K) → last ≡ Some before → cmp before key ≡ Less) →
+      IsRepeated cmp keys v → ⊥
+  greater_is_new v key last at ends greater bad =
+      let same : bad.2 ≡ key = (let e : Some (Some bad.2) ≡ Some (Some key) = sym bad.5 ∙ at in cc) in
+      let less : cmp bad.1 key ≡ Less = greater_than_all v key last ends greater bad.0 bad.1 bad.3 bad.4 in
+      let equal : cmp bad.1 key ≡ Equal = ap (cmp bad.1) (sym same) ∙ bad.6 in
+      true≢false (sym (ap is_eq equal) ∙ ap is_eq less)

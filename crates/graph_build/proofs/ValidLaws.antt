@@ -1,5 +1,5 @@
 -- A list of vertices with which nothing is wrong gives a valid graph.
-use Rattle.std.proofs.Common.{◌≡◌, ◌≢◌, ℕ, zero, suc, ◌+◌, ◌-◌, ◌^◌, ◌<◌, ◌≤◌, ◌⊎◌, ◌&&◌, ◌==◌, not, Bool, true, false}
+use Rattle.std.proofs.Common.{◌≡◌, ◌≢◌, ℕ, zero, suc, ◌+◌, ◌-◌, ◌<◌, ◌≤◌, ◌⊎◌, ◌&&◌, ◌==◌, not, Bool, true, false}
 use Rattle.std.proofs.Common.{cond, List, [], length, get_or, take, Option, Some, None, inl, inr, refl, sym, ◌∙◌, ap}
 use Rattle.std.proofs.Common.{subst, arith, IsTrue, true≢false, option_and_then}
 use Rattle.std.specs.Prelude.{slice_get, is_some, count_by, codes, IsSome}

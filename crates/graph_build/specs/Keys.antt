@@ -1,9 +1,12 @@
 -- What tells vertices apart, and the first that it doesn't.
-use Rattle.std.specs.Prelude.{◌≡◌, ℕ, ◌<◌, List, length, map, Option, Some, None, MatchOption, min, slice_get, IsTrue}
+use Rattle.std.specs.Prelude.{◌≡◌, ℕ, ◌<◌, ◌⊎◌, List, length, map, Option, Some, None, MatchOption, min, slice_get}
+use Rattle.std.specs.Prelude.{IsTrue}
 use Rattle.std.specs.Option.{IsSomeAnd}
 use Rattle.std.specs.declared.cmp.Ordering.{Ordering}
-use Rattle.std.specs.declared.cmp.Ordering.TheVariants.{Equal}
+use Rattle.std.specs.declared.cmp.Ordering.TheVariants.{Less, Equal}
 use Rattle.std.specs.Borrow.{Bor}
+use Rattle.std.specs.Cmp.Lexicographic.{slice_cmp}
+use Rattle.std.specs.Ordering.{nat_cmp}
 use Rattle.flux_defs.specs.Graph.{ResourceGraph, parent_of, is_below, HasKind}
 use Rattle.flux_defs.specs.ValidGraph.{HasId, HasRank, IsDevice}
 use Rattle.graph_build.specs.Faults.{IsNodeType}
@@ -16,6 +19,15 @@ use Rattle.graph_build.specs.declared.doubles.SiblingKey.{SiblingKey}
 abbrev pub IsRepeated : {K : Type 0} → (K → K → Ordering) → List (Option K) → ℕ → Type 0
 IsRepeated {K} cmp keys v = (u : ℕ) × (a : K) × (b : K) × (u < v) × (slice_get keys u ≡ Some (Some a))
     × (slice_get keys v ≡ Some (Some b)) × (cmp a b ≡ Equal)
+
+-- an earlier index has the parent and the name of this one
+abbrev pub IsDoubleSibling : List (Option SiblingKey) → ℕ → Type 0
+IsDoubleSibling keys v = (u : ℕ) × (a : SiblingKey) × (b : SiblingKey) × (u < v) × (slice_get keys u ≡ Some (Some a))
+    × (slice_get keys v ≡ Some (Some b)) × (a.parent ≡ b.parent) × (a.name.now ≡ b.name.now)
+
+-- a name is shorter than another one, or as long and less
+abbrev pub IsNameBefore : List ℕ → List ℕ → Type 0
+IsNameBefore a b = (length a < length b) ⊎ ((length a ≡ length b) × (slice_cmp nat_cmp a b ≡ Less))
 
 -- the lesser of two indices, of which either may be missing
 abbrev pub lesser : Option ℕ → Option ℕ → Option ℕ

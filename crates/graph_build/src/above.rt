@@ -11,7 +11,7 @@ ghost use Rattle.resource_graph.specs.Finds.{IsFirstOf};
 use crate::finding::first_where;
 use crate::own::{is_device_at, is_node_at};
 use flux_defs::{Text, Vertex};
-use resource_graph::chains::chain_up;
+use resource_graph::chains::chain_into;
 use resource_graph::tables::pool_table;
 use std::alloc::{AllocError, Global};
 
@@ -23,8 +23,9 @@ pub(crate) fn first_nested(alloc: Global, vertices: &[Vertex]) -> Result<Option<
     ensures first { IfOk result (IsFirstOf (IsNestedInKind (plain vertices.now))) }
     ensures within { IfOk result (λ found. IfSome found (λ v. v < length vertices.now)) }
 {
+    let mut chain = Vec::new(alloc);
     for v in 0..vertices.len() {
-        let chain = chain_up(alloc, vertices, v as u32)?;
+        chain_into(&mut chain, vertices, v as u32)?;
         if is_nested(vertices, chain.as_slice(), v) {
             return Ok(Some(v));
         }
@@ -63,8 +64,9 @@ pub(crate) fn house_table(
     ensures { IfOk result (λ houses. HasHouses (graph_in kinds.now vertices.now) (length vertices.now) houses.items) }
 {
     let mut houses = Vec::with_capacity(alloc, vertices.len())?;
+    let mut chain = Vec::new(alloc);
     for v in 0..vertices.len() {
-        let chain = chain_up(alloc, vertices, v as u32)?;
+        chain_into(&mut chain, vertices, v as u32)?;
         let house = house_of(kinds, vertices, chain.as_slice(), v);
         houses.push(house)?;
     }

@@ -1,11 +1,12 @@
 //! The first vertex that has what only one may have: an id in its node, a name among its siblings or among the nodes,
 //! or the rank of a node.
-ghost use Rattle.std.specs.Prelude.{◌≡◌, ◌<◌, ℕ, IfOk, IfSome, length, map};
+ghost use Rattle.std.specs.Prelude.{◌≡◌, ◌<◌, ℕ, IfOk, IfSome, IsTrue, length, map};
 ghost use Rattle.graph_build.specs.Faults.{IsNestedInKind, HasDoubleId, HasDoubleName, HasBadRank};
 ghost use Rattle.graph_build.specs.Checks.{graph_in, HasHouses};
 ghost use Rattle.resource_graph.specs.Finds.{IsFirstOf};
 ghost use Rattle.graph_build.specs.Raw.{KindsApart, shape_of, raw_graph, raw_names};
 ghost use Rattle.graph_build.specs.Keys.{HasEach, IsDeviceKey, IsSiblingKey, IsNodeName, IsNodeRank, IsUnranked};
+ghost use Rattle.graph_build.specs.Keys.{IsDoubleSibling, IsNameBefore};
 
 use crate::arrange::ranks_given;
 use crate::own::{is_called, is_device_at, is_node_at};
@@ -13,6 +14,7 @@ use crate::raw::RawVertex;
 use crate::repeats::{first_repeated, lesser};
 use flux_defs::{Text, Vertex};
 use std::alloc::{AllocError, Global};
+use std::cmp::Ordering;
 
 /// What tells the cores and gpus apart.
 #[derive(Clone, Copy, Debug, PartialEq, Eq, PartialOrd, Ord)]
@@ -110,6 +112,63 @@ fn sibling_key<'a>(raw: &'a [RawVertex], v: usize) -> Option<SiblingKey<'a>>
     })
 }
 
+/// The first vertex with the parent and the name of an earlier one.
+fn first_double_sibling(
+    alloc: Global,
+    keys: &[Option<SiblingKey<'_>>],
+) -> Result<Option<usize>, AllocError>
+    ensures first { IfOk result (IsFirstOf (IsDoubleSibling keys.now)) }
+    ensures within { IfOk result (λ found. IfSome found (λ v. v < length keys.now)) }
+{
+    if siblings_rise(alloc, keys)? {
+        return Ok(None);
+    }
+    let found = first_repeated(alloc, keys)?;
+    Ok(found)
+}
+
+/// Whether each name comes after that of the sibling before it. Such names are apart, and no search is needed.
+fn siblings_rise<'a>(alloc: Global, keys: &[Option<SiblingKey<'a>>]) -> Result<bool, AllocError>
+    ensures { IfOk result (λ rise. IsTrue rise → (v : ℕ) → IsDoubleSibling keys.now v → ⊥) }
+{
+    // By parent, the name of the child that was looked at last.
+    let mut last: Vec<Option<&'a [u8]>> = vec![in alloc; None; keys.len()]?;
+    for at in 0..keys.len() {
+        let Some(key) = keys[at] else { continue };
+        let parent = index_of_parent(key.parent);
+        if parent >= last.len() {
+            return Ok(false);
+        }
+        if let Some(before) = last[parent] {
+            if !is_before(before, key.name) {
+                return Ok(false);
+            }
+        }
+        last[parent] = Some(key.name);
+    }
+    Ok(true)
+}
+
+/// The parent as an index.
+fn index_of_parent(parent: u32) -> usize
+    ensures { result ≡ parent }
+{
+    parent as usize
+}
+
+/// Whether a name is shorter than another one, or as long and less.
+fn is_before(name: &[u8], other: &[u8]) -> bool
+    ensures { IsTrue result → IsNameBefore name.now other.now }
+{
+    if name.len() != other.len() {
+        return name.len() < other.len();
+    }
+    match name.cmp(other) {
+        Ordering::Less => true,
+        _ => false,
+    }
+}
+
 /// By vertex, the name of a node.
 fn node_names<'a>(
     alloc: Global,
@@ -147,7 +206,7 @@ pub(crate) fn first_double_name(
     ensures within { IfOk result (λ found. IfSome found (λ v. v < length raw.now)) }
 {
     let siblings = sibling_keys(alloc, raw)?;
-    let sibling = first_repeated(alloc, siblings.as_slice())?;
+    let sibling = first_double_sibling(alloc, siblings.as_slice())?;
     let nodes = node_names(alloc, kinds, raw)?;
     let node = first_repeated(alloc, nodes.as_slice())?;
     Ok(lesser(sibling, node))

@@ -2,6 +2,7 @@ pub mod Filtered
 pub mod NodeLaws
 pub mod GivenLaws
 pub mod Rising
+pub mod SetLaws
 pub mod OtherLaws
 pub mod ReadLaws
 pub mod RowsRead

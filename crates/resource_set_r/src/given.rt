@@ -3,27 +3,27 @@ ghost use Rattle.std.specs.Prelude.{◌≡◌, IfOk, OnOk};
 ghost use Rattle.std.specs.List.{fold};
 ghost use Rattle.std.specs.Ordering.{nat_cmp};
 ghost use Rattle.std.specs.BTreeSet.{insert_key};
-ghost use Rattle.resource_set_r.specs.Rows.{given_by, given};
+ghost use Rattle.resource_set_r.specs.Rows.{given_by, given, rising};
 
-use crate::sets::{add, add_all, numbers_of};
+use crate::sets::{add, add_all, in_order};
 use flux_defs::{Claim, List};
 use resource_graph::Graph;
 use std::alloc::{AllocError, Global};
-use std::collections::BTreeSet;
 
 /// Adds what a claim gives.
-fn add_given(set: &mut BTreeSet<u32>, graph: &Graph, claim: &Claim) -> Result<(), AllocError>
+fn add_given(numbers: &mut Vec<u32>, graph: &Graph, claim: &Claim) -> Result<(), AllocError>
     ensures { OnOk result
-        (set.new.keys ≡ fold (insert_key nat_cmp) set.old.keys (given_by graph.now.resources.vertices claim.now)) }
+        (rising numbers.new.items ≡ fold (insert_key nat_cmp) (rising numbers.old.items)
+        (given_by graph.now.resources.vertices claim.now)) }
 {
     let vertex = claim.vertex();
     if vertex as usize >= graph.vertices().len() {
         return Ok(());
     }
     match claim {
-        Claim::Hold { .. } => add_all(set, vertex, graph.past(vertex)),
-        Claim::Take { .. } => add(set, vertex),
-        Claim::Pass { .. } => add(set, vertex),
+        Claim::Hold { .. } => add_all(numbers, vertex, graph.past(vertex)),
+        Claim::Take { .. } => add(numbers, vertex),
+        Claim::Pass { .. } => add(numbers, vertex),
     }
 }
 
@@ -35,9 +35,9 @@ pub(crate) fn given_of(
 ) -> Result<List<u32>, AllocError>
     ensures { IfOk result (λ list. list ≡ given graph.now.resources.vertices claims.now) }
 {
-    let mut set = BTreeSet::new(alloc);
+    let mut numbers = Vec::with_capacity(alloc, claims.len())?;
     'claims: for claim in claims {
-        add_given(&mut set, graph, claim)?;
+        add_given(&mut numbers, graph, claim)?;
     }
-    numbers_of(alloc, &mut set)
+    in_order(alloc, numbers)
 }

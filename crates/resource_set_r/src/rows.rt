@@ -7,11 +7,10 @@ ghost use Rattle.resource_set_r.specs.Rows.{host_of, type_called, element_of, ri
 ghost use Rattle.resource_set_r.specs.Rows.{id_of_type, ids_among, children_in, part_of, is_same, with_rank};
 ghost use Rattle.resource_set_r.specs.Rows.{elements_from, elements};
 
-use crate::sets::{add, numbers_of};
+use crate::sets::{add, in_order};
 use flux_defs::{List, Text, Vertex};
 use resource_graph::Graph;
 use std::alloc::{AllocError, Global};
-use std::collections::BTreeSet;
 use text_forms::index_of;
 
 /// The ids of cores and of gpus of a node.
@@ -46,13 +45,13 @@ fn rank_above(graph: &Graph, vertex: u32) -> Option<u32>
 pub(crate) fn ranks_of(alloc: Global, graph: &Graph, given: &[u32]) -> Result<List<u32>, AllocError>
     ensures { IfOk result (λ list. list ≡ rising (filter_map (rank_above graph.now.resources.vertices) given.now)) }
 {
-    let mut set = BTreeSet::new(alloc);
+    let mut ranks = Vec::new(alloc);
     'vertices: for vertex in given {
         if let Some(rank) = rank_above(graph, *vertex) {
-            add(&mut set, rank)?;
+            add(&mut ranks, rank)?;
         }
     }
-    numbers_of(alloc, &mut set)
+    in_order(alloc, ranks)
 }
 
 /// The part of the rising vertices that is of the node of a rank.
@@ -96,13 +95,13 @@ fn ids_among(
 ) -> Result<List<u32>, AllocError>
     ensures { IfOk result (λ list. list ≡ ids_among vertices.now kind part.now) }
 {
-    let mut set = BTreeSet::new(alloc);
+    let mut ids = Vec::new(alloc);
     'vertices: for vertex in part {
         if let Some(id) = id_of_type(vertices, kind, *vertex) {
-            add(&mut set, id)?;
+            add(&mut ids, id)?;
         }
     }
-    numbers_of(alloc, &mut set)
+    in_order(alloc, ids)
 }
 
 /// Whether both have the same ids.

@@ -7,5 +7,6 @@ use Rattle.resource_set_r.proofs.rows.ids_among.Given as goal
 
 abbrev pub invariant-vertices : goal.invariant-vertices
 invariant-vertices l =
-    fold (insert_key nat_cmp) l.set.keys (filter_map (id_of_type l.vertices l.kind) (drop l.vertex-index l.part))
+    fold (insert_key nat_cmp) (rising l.ids.items)
+    (filter_map (id_of_type l.vertices l.kind) (drop l.vertex-index l.part))
     ≡ rising (filter_map (id_of_type l.vertices l.kind) l.part)

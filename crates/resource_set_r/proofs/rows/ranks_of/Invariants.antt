@@ -6,5 +6,6 @@ use Rattle.resource_set_r.specs.Rows.{rank_above, rising}
 use Rattle.resource_set_r.proofs.rows.ranks_of.Given as goal
 
 abbrev pub invariant-vertices : goal.invariant-vertices
-invariant-vertices l = fold (insert_key nat_cmp) l.set.keys (filter_map (rank_above l.graph.resources.vertices)
-    (drop l.vertex-index l.given)) ≡ rising (filter_map (rank_above l.graph.resources.vertices) l.given)
+invariant-vertices l = fold (insert_key nat_cmp) (rising l.ranks.items)
+    (filter_map (rank_above l.graph.resources.vertices) (drop l.vertex-index l.given))
+    ≡ rising (filter_map (rank_above l.graph.resources.vertices) l.given)

@@ -1,10 +1,9 @@
 use Rattle.std.proofs.Common.{◌≡◌, ℕ, ◌<◌, ◌++◌, ◌∷◌, [], length, Some, None, vec_len, sym, ◌∙◌, ap, subst, arith, List}
 use Rattle.flux_defs.specs.declared.limits.TheConstants.{MOST_LEVELS}
 use Rattle.flux_defs.specs.Graph.{chain}
-use Rattle.resource_graph.specs.Chains.{chain_of, AllBelow}
+use Rattle.resource_graph.specs.Chains.{AllBelow}
 use Rattle.resource_graph.proofs.ChainLaws.{parent_at, climb_step, AllBelow-push, chain_min, climb_all, climb_past}
-use Rattle.resource_graph.proofs.chains.chain_up.Goals as goal
-use Rattle.resource_graph.proofs.chains.chain_up.Goals.{else-loop-at-test, then-loop-at-test+in_default}
+use Rattle.resource_graph.proofs.chains.chain_into.Goals as goal
 
 pub loop-at-preserved : goal.loop-at-preserved
 loop-at-preserved c =
@@ -23,16 +22,17 @@ loop-at-preserved c =
           (sym items) (AllBelow-push (length vertices) v c.loop-at.chain.items within c.loop-at.invariant.below);
     }
 
-pub returns-clause-chain : goal.returns-clause-chain
-returns-clause-chain c =
+pub returns-after-loop-at-clause-chain : goal.returns-after-loop-at-clause-chain
+returns-after-loop-at-clause-chain c =
     let vertices = c.args.vertices.now in
-    let whole : chain vertices c.min-most.result (Some c.args.vertex) ≡ chain_of vertices c.args.vertex =
-    ap (λ m. chain vertices m (Some c.args.vertex)) c.min-most.ensures
-    ∙ chain_min vertices MOST_LEVELS c.args.vertex c.requires.short in
-    elim c.loop-at-test.branch [
-      | else-loop-at-test w ↦ climb_all vertices c.min-most.result
-          (vec_len c.loop-at.chain) c.loop-at.chain.items _ c.loop-at.at (omega arith) c.loop-at.invariant.climbed
-          ∙ whole
-      | then-loop-at-test+in_default w ↦ climb_past
-          vertices _ c.loop-at.chain.items _ c.loop-at.at w.in_default.not-Some c.loop-at.invariant.climbed ∙ whole
-    ]
+    climb_all vertices c.min-most.result (vec_len c.loop-at.chain) c.loop-at.chain.items _ c.loop-at.at (omega arith)
+    c.loop-at.invariant.climbed
+    ∙ (ap (λ m. chain vertices m (Some c.args.vertex)) c.min-most.ensures
+    ∙ chain_min vertices MOST_LEVELS c.args.vertex c.requires.short)
+
+pub returns-in_default-clause-chain : goal.returns-in_default-clause-chain
+returns-in_default-clause-chain c =
+    let vertices = c.args.vertices.now in
+    climb_past vertices _ c.loop-at.chain.items _ c.loop-at.at c.in_default.not-Some c.loop-at.invariant.climbed
+    ∙ (ap (λ m. chain vertices m (Some c.args.vertex)) c.min-most.ensures
+    ∙ chain_min vertices MOST_LEVELS c.args.vertex c.requires.short)

@@ -1,7 +1,7 @@
 use Rattle.std.proofs.Common.{◌≡◌, ℕ, ◌-◌, ◌<◌, ◌≤◌, ◌++◌, length, Some, vec_len}
 use Rattle.flux_defs.specs.Graph.{chain}
 use Rattle.resource_graph.specs.Chains.{AllBelow}
-use Rattle.resource_graph.proofs.chains.chain_up.Given as goal
+use Rattle.resource_graph.proofs.chains.chain_into.Given as goal
 
 abbrev pub invariant-loop-at : goal.invariant-loop-at
 invariant-loop-at l = record {
