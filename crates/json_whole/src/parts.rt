@@ -1,9 +1,9 @@
 //! The tree of a text of whose values parts alone are wanted. All else is checked and passed over.
-ghost use Rattle.std.specs.Prelude.{◌≡◌, ◌<◌, ◌∷◌, length, Some, IfOk, OnOk, option_map};
+ghost use Rattle.std.specs.Prelude.{◌≡◌, ◌<◌, ◌∷◌, ◌++◌, length, Some, IfOk, OnOk, option_map};
 ghost use Rattle.json.specs.Json.{Json, Members, members, value};
 ghost use Rattle.json.specs.Value.{value_view, members_view};
 ghost use Rattle.json_whole.specs.Stays.{Stays, MembersStay};
-ghost use Rattle.json_whole.specs.Parts.{is_whole_key, part_of, at_key, wanted_members};
+ghost use Rattle.json_whole.specs.Parts.{is_whole_key, part_of, at_key, wanted_members, built};
 
 use crate::parsing::{TreeFault, Unfinished, read_one, take_from};
 use crate::passing::pass_over;
@@ -102,6 +102,20 @@ fn read_member<'a>(
     Ok(None)
 }
 
+/// Adds a member, where something is built of it.
+fn add_member<'a>(
+    members: &mut Vec<(&'a str, Value<'a>)>,
+    key: &'a str,
+    found: Option<Value<'a>>,
+) -> Result<(), TreeFault>
+    ensures { OnOk result (members.new.items ≡ members.old.items ++ built key.entry found.entry) }
+{
+    if let Some(member) = found {
+        members.push((key, member))?;
+    }
+    Ok(())
+}
+
 /// The wanted members of an object whose brace the reader has passed, up to the one that closes it.
 #[cycle(part)]
 #[inline(never)]
@@ -126,9 +140,8 @@ fn read_wanted<'a>(
             Ok(None) => break,
             Err(_) => return Err(TreeFault::Other),
         };
-        if let Some(member) = read_member(reader, depth, wanted, within, key, unfinished)? {
-            unfinished.members.push((key, member))?;
-        }
+        let member = read_member(reader, depth, wanted, within, key, unfinished)?;
+        add_member(&mut unfinished.members, key, member)?;
     }
     take_from(&mut unfinished.members, from)
 }

@@ -22,7 +22,9 @@ pub fn pass_over(reader: &mut Reader<'_>, depth: usize) -> Result<(), TreeFault>
                 Err(TreeFault::Other)
             }
         }
-        Token::String(_) | Token::Bool(_) | Token::Null => Ok(()),
+        Token::String(_) => Ok(()),
+        Token::Bool(_) => Ok(()),
+        Token::Null => Ok(()),
         Token::EndObject | Token::EndArray | Token::Key(_) | Token::Bad => Err(TreeFault::Other),
         Token::BeginArray => {
             if depth == 0 {
