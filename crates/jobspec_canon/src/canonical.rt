@@ -9,7 +9,7 @@ ghost use Rattle.jobspec_canon.specs.Canonical.{canon_in, canon_of};
 use flux_defs::Ask;
 use jobspec_v1::SpecFault;
 use jobspec_v1::faults::field_at;
-use jobspec_v1::jobspecs::{ask_by, check_task_list, read_resources, read_value, read_version};
+use jobspec_v1::jobspecs::{ask_by, check_task_list, read_parts, read_resources, read_version};
 use jobspec_v1::requests::Requested;
 use json::Value;
 use json_whole::{FieldFault, Room, as_object};
@@ -58,6 +58,6 @@ pub fn read_canon_in<'b>(
     ensures proper { IfOk result (IsProperAsk graph.now.resources.vertices) }
     ensures told { IfErr result (IsFirstFault (canon_of graph.now bytes.now)) }
 {
-    let value = read_value(alloc, bytes, room)?;
+    let value = read_parts(alloc, bytes, room)?;
     canon_in(alloc, graph, &value)
 }

@@ -4,11 +4,13 @@ ghost use Rattle.std.specs.Prelude.{option_map};
 ghost use Rattle.std.specs.List.{AllByRecursion};
 ghost use Rattle.serde_json.specs.Find.{as_object};
 ghost use Rattle.json_whole.specs.Values.{view, items_view};
+ghost use Rattle.json_whole.specs.Whole.{value_of};
 ghost use Rattle.flux_defs.specs.Graph.{IsNode};
 ghost use Rattle.flux_defs.specs.Needs.{IsProperAsk, AreRisingFrom};
 ghost use Rattle.need_shape.specs.Requests.{AreRequests};
 ghost use Rattle.jobspec_v1.specs.Faults.{IsFirstFault};
 ghost use Rattle.jobspec_v1.specs.Forms.{is_v1};
+ghost use Rattle.jobspec_v1.specs.Parts.{IsReadAs};
 ghost use Rattle.jobspec_v1.specs.Jobspecs.{version_of, resources_of, bars_in, is_one, ask_for, ask_by, v1_tasks};
 ghost use Rattle.jobspec_v1.specs.Jobspecs.{tasks_in, v1_in, v1_of};
 
@@ -170,8 +172,8 @@ fn v1_in(alloc: Global, graph: &Graph, value: &Value) -> Result<Ask, SpecFault>
     ask_by(alloc, graph, value, &needs)
 }
 
-/// The value of a jobspec's bytes. Of its attributes nothing is built but the duration and the constraint.
-pub fn read_value<'a, 'b: 'a>(
+/// The value of a jobspec's bytes. Of its attributes no more is built than the duration and the constraint.
+pub fn read_parts<'a, 'b: 'a>(
     alloc: Global,
     bytes: &'b [u8],
     room: &'a mut Room<'b>,
@@ -224,6 +226,6 @@ pub fn read_v1_in<'b>(
     ensures proper { IfOk result (IsProperAsk graph.now.resources.vertices) }
     ensures told { IfErr result (IsFirstFault (v1_of graph.now bytes.now)) }
 {
-    let value = read_value(alloc, bytes, room)?;
+    let value = read_parts(alloc, bytes, room)?;
     v1_in(alloc, graph, &value)
 }
