@@ -58,6 +58,8 @@ pub fn read_canon_in<'b>(
     ensures proper { IfOk result (IsProperAsk graph.now.resources.vertices) }
     ensures told { IfErr result (IsFirstFault (canon_of graph.now bytes.now)) }
 {
-    let value = read_parts(alloc, bytes, room)?;
-    canon_in(alloc, graph, &value)
+    match read_parts(alloc, bytes, room) {
+        Ok(value) => canon_in(alloc, graph, &value),
+        Err(fault) => Err(fault),
+    }
 }

@@ -1,7 +1,7 @@
 -- Values that agree on what is wanted of a jobspec are read as the same jobspec.
 use Rattle.std.proofs.Common.{◌≡◌, ◌==◌, ℕ, List, [], ◌∷◌, Bool, true, false, cond, not, Option, Some, None, refl, sym}
-use Rattle.std.proofs.Common.{is_some, option_and_then, Result, Ok, Err, codes, subst, ap, ◌∙◌}
-use Rattle.std.specs.Prelude.{IsTrue}
+use Rattle.std.proofs.Common.{is_some, option_and_then, Result, Ok, Err, codes, subst, ap, ◌∙◌, ◌⊎◌, inl, inr}
+use Rattle.std.specs.Prelude.{IsTrue, if◌then◌else◌}
 use Rattle.serde_json.specs.Data.{Data, Items}
 use Rattle.serde_json.specs.Find.{get, as_null, as_object}
 use Rattle.json_whole.specs.declared.parts.Wanted.{Wanted}
@@ -13,10 +13,10 @@ use Rattle.flux_defs.specs.declared.limits.TheConstants.{GREATEST_NUMBER}
 use Rattle.flux_defs.specs.declared.requests.Ask.{Ask}
 use Rattle.resource_graph.specs.NamedGraph.{NamedGraph}
 use Rattle.jobspec_v1.specs.declared.faults.SpecFault.{SpecFault}
-use Rattle.jobspec_v1.specs.declared.faults.SpecFault.TheVariants.{Version, Form, Task}
+use Rattle.jobspec_v1.specs.declared.faults.SpecFault.TheVariants.{NotJson, Version, Form, Task, Memory}
 use Rattle.jobspec_v1.specs.declared.requests.Requested.{Requested}
-use Rattle.jobspec_v1.specs.Faults.{at_path}
-use Rattle.jobspec_v1.specs.Attributes.{Terms, terms_of}
+use Rattle.jobspec_v1.specs.Faults.{IsFirstFault, at_path}
+use Rattle.jobspec_v1.specs.Attributes.{Terms, terms_of, given_in, duration_in}
 use Rattle.jobspec_v1.specs.Forms.{is_v1}
 use Rattle.jobspec_v1.specs.Requests.{requests_of}
 use Rattle.jobspec_v1.specs.Tasks.{task_list, tasks_fault}
@@ -73,12 +73,13 @@ held duration constraint =
     Ok (record { duration = n; constraint = not_null constraint }))
 
 abbrev of_system : Option Data → Result Terms SpecFault
-of_system None = held None None
-of_system (Some d) = held (get (codes "duration") d) (get (codes "constraints") d)
+of_system o =
+    result_and_then (at_path (codes "attributes.system.duration") (duration_in o)) (λ n.
+    Ok (record { duration = n; constraint = given_in (codes "constraints") o }))
 
 abbrev of_attributes : Option Data → Result Terms SpecFault
-of_attributes None = read_at (codes "attributes.system") of_system None
-of_attributes (Some d) = read_at (codes "attributes.system") of_system (get (codes "system") d)
+of_attributes o =
+    result_and_then (at_path (codes "attributes.system") (object_or_none (given_in (codes "system") o))) of_system
 
 -- ---- a jobspec
 
@@ -166,3 +167,11 @@ v1_body g version resources tasks terms =
 pub same_v1 : (g : NamedGraph) (o : Option Data) (d : Data) → IsReadAs o d → v1_or_no_json g o ≡ v1_in g d
 same_v1 g None d same = absurd same
 same_v1 g (Some e) d same = same_by_parts (v1_body g) e d same
+
+-- ---- no value
+
+-- the fault of bytes without a value
+pub told_none : (read : Option Data → Result Ask SpecFault) → read None ≡ Err NotJson → (o : Option Data)
+    (fault : SpecFault) → (fault ≡ Memory) ⊎ ((fault ≡ NotJson) × (o ≡ None)) → IsFirstFault (read o) fault
+told_none read none o fault (inl memory) = inl memory
+told_none read none o fault (inr told) = inr (ap read told.1 ∙ none ∙ ap Err (sym told.0))

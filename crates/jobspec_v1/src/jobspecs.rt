@@ -226,6 +226,8 @@ pub fn read_v1_in<'b>(
     ensures proper { IfOk result (IsProperAsk graph.now.resources.vertices) }
     ensures told { IfErr result (IsFirstFault (v1_of graph.now bytes.now)) }
 {
-    let value = read_parts(alloc, bytes, room)?;
-    v1_in(alloc, graph, &value)
+    match read_parts(alloc, bytes, room) {
+        Ok(value) => v1_in(alloc, graph, &value),
+        Err(fault) => Err(fault),
+    }
 }
