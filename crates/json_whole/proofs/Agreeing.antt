@@ -1,7 +1,6 @@
 -- What is built of a tree agrees with the tree on what is wanted.
 use Rattle.std.proofs.Common.{◌≡◌, ℕ, List, [], ◌∷◌, Bool, true, false, cond, Option, Some, None, option_map, refl, sym}
 use Rattle.std.proofs.Common.{ap, ◌∙◌, subst, IsUtf8}
-use Rattle.std.specs.Prelude.{IsTrue}
 use Rattle.std.specs.Str.{bytes_eq}
 use Rattle.std.proofs.lemmas.Slice.Eq.{bytes_eq-Decides}
 use Rattle.json.specs.Json as json
@@ -139,8 +138,3 @@ part_standing wanted bytes j v utf8 found stay part =
 pub whole_is_part : (wanted : List Wanted) (bytes : List ℕ) (d : Data) →
     value_of bytes ≡ Some d → IsPartOf wanted (value_of bytes) d
 whole_is_part wanted bytes d is = of_value wanted (value_of bytes) d d is (agrees_itself wanted d)
-
--- a part that is the whole
-pub part_is_whole : (o : Option Data) (d : Data) → IsPartOf [] o d → o ≡ Some d
-part_is_whole None d is = absurd is
-part_is_whole (Some e) d is = ap Some is

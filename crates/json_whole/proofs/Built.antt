@@ -1,6 +1,6 @@
 -- What is built of the wanted members of an object, a turn at a time.
 use Rattle.std.proofs.Common.{◌≡◌, ℕ, ◌-◌, ◌<◌, ◌≤◌, List, [], ◌∷◌, ◌++◌, length, Option, Some, None, option_map, refl}
-use Rattle.std.proofs.Common.{sym, ap, ◌∙◌}
+use Rattle.std.proofs.Common.{ap, ◌∙◌}
 use Rattle.std.specs.Borrow.{Bor}
 use Rattle.json.specs.Token.{Token}
 use Rattle.json.specs.Json.{Json, Members, no_members, member, Parse, parse_map, read_key, members}
@@ -26,10 +26,6 @@ module _ (p : Parse Json) (wanted : Wanted) (within : List Wanted) (start : List
   PartGoesOn found n ts = (ms : Members) (r : List Token) → members p n ts ≡ Some (ms, r) → MembersStay ms
       → (all : Members) × (members p (length start) start ≡ Some (all, r)) × MembersStay all
       × (wanted_members wanted within all ≡ members_before found (wanted_members wanted within ms))
-
-  pub part_begins : {A : Type 0} (found : List (Bor (List ℕ) × Value A)) →
-      found ≡ [] → PartGoesOn found (length start) start
-  part_begins found none ms r e stay = (ms, e, stay, rw none refl)
 
   pub part_grows : {A : Type 0} (found : List (Bor (List ℕ) × Value A)) (key : Bor (List ℕ)) (o : Option (Value A))
       (n : ℕ) (ts s r : List Token) (j : Json) → PartGoesOn found n ts → 0 < n → read_key ts ≡ Some (Some key.now, s)

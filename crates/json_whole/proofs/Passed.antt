@@ -12,9 +12,6 @@ module _ (p : Parse Json) (start : List Token) where
   ItemsGoOn n ts = (js : Items) (r : List Token) → items p n ts ≡ Some (js, r) → ItemsStay js
       → (all : Items) × (items p (length start) start ≡ Some (all, r)) × ItemsStay all
 
-  pub items_begin : ItemsGoOn (length start) start
-  items_begin js r e stay = (js, e, stay)
-
   pub item_passed : (n : ℕ) (ts r : List Token) (j : Json) → ItemsGoOn n ts →
       0 < n → after_end_array ts ≡ None → p ts ≡ Some (j, r) → Stays j → ItemsGoOn (n - 1) r
   item_passed n ts r j goes some not_closed read stays js s e stay =
@@ -27,9 +24,6 @@ module _ (p : Parse Json) (start : List Token) where
   abbrev pub MembersGoOn : ℕ → List Token → Type 0
   MembersGoOn n ts = (ms : Members) (r : List Token) → members p n ts ≡ Some (ms, r) → MembersStay ms
       → (all : Members) × (members p (length start) start ≡ Some (all, r)) × MembersStay all
-
-  pub members_begin : MembersGoOn (length start) start
-  members_begin ms r e stay = (ms, e, stay)
 
   pub member_passed : (n : ℕ) (k : List ℕ) (ts s r : List Token) (j : Json) → MembersGoOn n ts →
       0 < n → read_key ts ≡ Some (Some k, s) → p s ≡ Some (j, r) → Stays j → MembersGoOn (n - 1) r

@@ -1,13 +1,12 @@
-use Rattle.std.proofs.Common.{◌≡◌, ◌-◌, ◌≤◌, ◌<◌, [], ◌∷◌, ◌++◌, length, take, drop, Some, None, sym, ap, ◌∙◌, subst, arith}
-use Rattle.std.proofs.Common.{rules, ℕ, List, Global}
-use Rattle.std.specs.Borrow.{Bor}
+use Rattle.std.proofs.Common.{◌≡◌, ◌-◌, ◌∷◌, ◌++◌, length, take, drop, Some, None, sym, ap, ◌∙◌, subst, arith}
+use Rattle.std.proofs.Common.{rules}
 use Rattle.std.proofs.lemmas.List.{drop-append-le, take-append-le, length-append}
 use Rattle.std.proofs.lemmas.Result.{IfOk-weaker}
 use Rattle.json.specs.Token.{Token}
 use Rattle.json.specs.Json.{Json, object, parse_map, read_key, value}
 use Rattle.json.specs.Reads.{token_of}
 use Rattle.json.specs.Value.{value_view, members_view}
-use Rattle.json.specs.declared.value.Value.{Value, Null, the_lemmas}
+use Rattle.json.specs.declared.value.Value.{Null, the_lemmas}
 use Rattle.json.proofs.Grammar.{value_is, value-begin_object, read_key-shorter}
 use Rattle.json.proofs.Trees.{view-Object}
 use Rattle.json_whole.specs.Parts.{built}

@@ -1,4 +1,4 @@
-use Rattle.std.proofs.Common.{◌≡◌, ℕ, ◌+◌, ◌*◌, ◌≤◌, List, length, take, drop}
+use Rattle.std.proofs.Common.{◌≡◌, ℕ, ◌+◌, ◌*◌, ◌≤◌, length, take, drop}
 use Rattle.json.specs.Json.{value}
 use Rattle.json_whole.proofs.Built.{PartGoesOn}
 use Rattle.json_whole.proofs.parts.+part.Given as goal

@@ -1,4 +1,4 @@
-use Rattle.std.proofs.Common.{◌≡◌, ◌-◌, ◌<◌, [], ◌∷◌, length, Some, None, ap, ◌∙◌, arith}
+use Rattle.std.proofs.Common.{◌≡◌, ◌-◌, ◌<◌, ◌∷◌, length, Some, None, ap, ◌∙◌, arith}
 use Rattle.json.specs.Token.{Token}
 use Rattle.json.specs.Json.{Json, array, object, parse_map, after_end_array, read_key, value}
 use Rattle.json.specs.Reads.{token_of}

@@ -1,7 +1,6 @@
 use Rattle.std.proofs.Common.{◌≡◌, IsUtf8, Some, refl, rules, arith, []}
 use Rattle.json.specs.Lex.{tokens}
 use Rattle.json.specs.Json.{value}
-use Rattle.json.specs.Value.{value_view}
 use Rattle.json_whole.specs.Whole.{json_in}
 use Rattle.json_whole.proofs.Agreeing.{part_standing}
 use Rattle.json_whole.proofs.values.read_as_it_stands.Goals as goal
