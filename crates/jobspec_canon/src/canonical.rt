@@ -9,10 +9,10 @@ ghost use Rattle.jobspec_canon.specs.Canonical.{canon_in, canon_of};
 use flux_defs::Ask;
 use jobspec_v1::SpecFault;
 use jobspec_v1::faults::field_at;
-use jobspec_v1::jobspecs::{ask_by, check_task_list, read_resources, read_version};
+use jobspec_v1::jobspecs::{ask_by, check_task_list, read_parts, read_resources, read_version};
 use jobspec_v1::requests::Requested;
 use json::Value;
-use json_whole::{FieldFault, Room, ValueFault, as_object, read_bytes};
+use json_whole::{FieldFault, Room, as_object};
 use resource_graph::Graph;
 use std::alloc::Global;
 
@@ -58,9 +58,8 @@ pub fn read_canon_in<'b>(
     ensures proper { IfOk result (IsProperAsk graph.now.resources.vertices) }
     ensures told { IfErr result (IsFirstFault (canon_of graph.now bytes.now)) }
 {
-    match read_bytes(alloc, bytes, room) {
+    match read_parts(alloc, bytes, room) {
         Ok(value) => canon_in(alloc, graph, &value),
-        Err(ValueFault::NotJson) => Err(SpecFault::NotJson),
-        Err(ValueFault::Memory) => Err(SpecFault::Memory),
+        Err(fault) => Err(fault),
     }
 }

@@ -1,3 +1,4 @@
 pub mod SaidLaws
 pub mod RequestLaws
 pub mod TaskLaws
+pub mod PartLaws

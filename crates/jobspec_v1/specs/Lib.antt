@@ -4,3 +4,4 @@ pub mod Tasks
 pub mod Attributes
 pub mod Forms
 pub mod Jobspecs
+pub mod Parts

@@ -4,11 +4,13 @@ ghost use Rattle.std.specs.Prelude.{option_map};
 ghost use Rattle.std.specs.List.{AllByRecursion};
 ghost use Rattle.serde_json.specs.Find.{as_object};
 ghost use Rattle.json_whole.specs.Values.{view, items_view};
+ghost use Rattle.json_whole.specs.Whole.{value_of};
 ghost use Rattle.flux_defs.specs.Graph.{IsNode};
 ghost use Rattle.flux_defs.specs.Needs.{IsProperAsk, AreRisingFrom};
 ghost use Rattle.need_shape.specs.Requests.{AreRequests};
 ghost use Rattle.jobspec_v1.specs.Faults.{IsFirstFault};
 ghost use Rattle.jobspec_v1.specs.Forms.{is_v1};
+ghost use Rattle.jobspec_v1.specs.Parts.{IsReadAs};
 ghost use Rattle.jobspec_v1.specs.Jobspecs.{version_of, resources_of, bars_in, is_one, ask_for, ask_by, v1_tasks};
 ghost use Rattle.jobspec_v1.specs.Jobspecs.{tasks_in, v1_in, v1_of};
 
@@ -20,7 +22,7 @@ use crate::tasks::{check_tasks, task_list};
 use flux_defs::{Ask, GREATEST_NUMBER, List, Text};
 use json::Value;
 use json_fields::some_field;
-use json_whole::{FieldFault, Room, ValueFault, as_object, need_u64, read_bytes};
+use json_whole::{FieldFault, Room, ValueFault, Wanted, as_object, need_u64, read_bytes_part};
 use need_shape::{RawNeed, ShapeFault, shape};
 use node_constraints::{ConstraintFault, barred};
 use resource_graph::Graph;
@@ -170,6 +172,37 @@ fn v1_in(alloc: Global, graph: &Graph, value: &Value) -> Result<Ask, SpecFault>
     ask_by(alloc, graph, value, &needs)
 }
 
+/// The value of a jobspec's bytes. Of its attributes no more is built than the duration and the constraint.
+pub fn read_parts<'a, 'b: 'a>(
+    alloc: Global,
+    bytes: &'b [u8],
+    room: &'a mut Room<'b>,
+) -> Result<Value<'a>, SpecFault>
+    ensures value { IfOk result (λ v. IsReadAs (value_of bytes.now) (view v)) }
+    ensures told { IfErr result (λ fault.
+        (fault ≡ SpecFault.Memory) ⊎ ((fault ≡ SpecFault.NotJson) × (value_of bytes.now ≡ None))) }
+{
+    let wanted = [
+        Wanted {
+            whole: &["version", "resources", "tasks"],
+            part: "attributes",
+        },
+        Wanted {
+            whole: &[],
+            part: "system",
+        },
+        Wanted {
+            whole: &["duration"],
+            part: "constraints",
+        },
+    ];
+    match read_bytes_part(alloc, bytes, &wanted, room) {
+        Ok(value) => Ok(value),
+        Err(ValueFault::NotJson) => Err(SpecFault::NotJson),
+        Err(ValueFault::Memory) => Err(SpecFault::Memory),
+    }
+}
+
 /// What a jobspec V1 (RFC 25) asks for over a graph, from its bytes. The fault is the first one, in this order: no
 /// JSON, the version, the request vertices, the form, the tasks, the attributes, the constraint, the shape. What is
 /// asked for is proper for the graph.
@@ -193,9 +226,8 @@ pub fn read_v1_in<'b>(
     ensures proper { IfOk result (IsProperAsk graph.now.resources.vertices) }
     ensures told { IfErr result (IsFirstFault (v1_of graph.now bytes.now)) }
 {
-    match read_bytes(alloc, bytes, room) {
+    match read_parts(alloc, bytes, room) {
         Ok(value) => v1_in(alloc, graph, &value),
-        Err(ValueFault::NotJson) => Err(SpecFault::NotJson),
-        Err(ValueFault::Memory) => Err(SpecFault::Memory),
+        Err(fault) => Err(fault),
     }
 }

@@ -9,3 +9,6 @@ pub mod Exact
 pub mod Lexed
 mod Growing
 mod Standing
+mod Passed
+mod Built
+mod Agreeing

@@ -59,9 +59,9 @@ read-no_float (Ok v) = data_of-no_float (value_view v)
 read-no_float (Err e) = tt
 
 -- the value of bytes that are their own plain form
-pub read_standing : {A : Type 0} (bytes : List ℕ) (v : Value A) →
-    IsUtf8 bytes → json_in bytes ≡ Some (value_view v) → Stays (value_view v) → value_of bytes ≡ Some (view v)
+pub tree_standing : (bytes : List ℕ) (j : Json) →
+    IsUtf8 bytes → json_in bytes ≡ Some j → Stays j → value_of bytes ≡ Some (data_of j)
 unfolding value_of
-read_standing bytes v utf8 found stay =
-    let same : plain_of bytes ≡ bytes = stands bytes (value_view v) found stay in
-    rw same (value_in-tree bytes (value_view v) utf8 (rw same at (plain_whole bytes)) found)
+tree_standing bytes j utf8 found stay =
+    let same : plain_of bytes ≡ bytes = stands bytes j found stay in
+    rw same (value_in-tree bytes j utf8 (rw same at (plain_whole bytes)) found)

@@ -5,3 +5,4 @@ pub mod Whole
 pub mod Field
 pub mod Forms
 pub mod Stays
+pub mod Parts

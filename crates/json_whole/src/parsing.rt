@@ -51,7 +51,7 @@ pub struct Unfinished<'a> {
 
 /// Whether the plain form writes a number as it stands. Most numbers are whole.
 #[tactic(auto, using(crate::proofs::Numerals::whole_stays))]
-fn stays(number: &str) -> bool
+pub fn stays(number: &str) -> bool
     ensures { IsTrue result → written number.now ≡ number.now }
 {
     if is_whole(number.as_bytes()) {
@@ -62,7 +62,7 @@ fn stays(number: &str) -> bool
 }
 
 /// Takes what stands from a place on.
-fn take_from<T: Drop>(list: &mut Vec<T>, from: usize) -> Result<Vec<T>, TreeFault>
+pub fn take_from<T: Drop>(list: &mut Vec<T>, from: usize) -> Result<Vec<T>, TreeFault>
     requires { from ≤ vec_len list.old }
     ensures kept { OnOk result (list.new.items ≡ take from list.old.items) }
     ensures taken { IfOk result (λ taken. taken.items ≡ drop from list.old.items) }

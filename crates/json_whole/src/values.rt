@@ -4,9 +4,11 @@ ghost use Rattle.serde_json.specs.Written.{has_float};
 ghost use Rattle.json.specs.Value.{value_view};
 ghost use Rattle.json_whole.specs.Plain.{plain_of};
 ghost use Rattle.json_whole.specs.Values.{view};
+ghost use Rattle.json_whole.specs.Parts.{IsPartOf};
 ghost use Rattle.json_whole.specs.Whole.{json_in, value_of};
 
-use crate::parsing::{TreeFault, Unfinished, read_one};
+use crate::parsing::{TreeFault, Unfinished};
+use crate::parts::{Wanted, read_part};
 use crate::plain_form::plain_if_other;
 use flux_defs::Text;
 use json::{Error, Reader, Scratch, Value};
@@ -124,13 +126,14 @@ impl<'b> Room<'b> {
     }
 }
 
-/// The value of a text that is its own plain form.
+/// The wanted part of the value of a text that is its own plain form.
 fn read_as_it_stands<'a>(
     alloc: Global,
     bytes: &'a [u8],
+    wanted: &[Wanted],
     scratch: &'a mut Scratch,
 ) -> Result<Value<'a>, TreeFault>
-    ensures { IfOk result (λ v. value_of bytes.now ≡ Some (view v)) }
+    ensures { IfOk result (λ v. IsPartOf wanted.now (value_of bytes.now) (view v)) }
 {
     let Ok(text) = std::str::from_utf8(bytes) else {
         return Err(TreeFault::Other);
@@ -142,7 +145,7 @@ fn read_as_it_stands<'a>(
         items: Vec::new(alloc),
         members: Vec::new(alloc),
     };
-    let value = read_one(&mut reader, MOST_NESTED, &mut unfinished)?;
+    let value = read_part(&mut reader, MOST_NESTED, wanted, &mut unfinished)?;
     match reader.next() {
         None => Ok(value),
         Some(_) => Err(TreeFault::Other),
@@ -183,9 +186,24 @@ pub fn read_bytes<'a, 'b: 'a>(
     ensures whole { IfOk result (λ v. has_float (view v) ≡ false) }
     ensures not_json { IsErrOf result ValueFault.NotJson → value_of bytes.now ≡ None }
 {
+    read_bytes_part(alloc, bytes, Default::default(), room)
+}
+
+/// As `read_bytes`, where of the value only a part is wanted: what is read agrees on it with the value of the plain
+/// form. All else is checked too, but nothing is built of it where the text is its own plain form.
+pub fn read_bytes_part<'a, 'b: 'a>(
+    alloc: Global,
+    bytes: &'b [u8],
+    wanted: &[Wanted],
+    room: &'a mut Room<'b>,
+) -> Result<Value<'a>, ValueFault>
+    ensures value { IfOk result (λ v. IsPartOf wanted.now (value_of bytes.now) (view v)) }
+    ensures whole { IfOk result (λ v. has_float (view v) ≡ false) }
+    ensures not_json { IsErrOf result ValueFault.NotJson → value_of bytes.now ≡ None }
+{
     let Room { scratch, others } = room;
     others.clear();
-    match read_as_it_stands(alloc, bytes, scratch) {
+    match read_as_it_stands(alloc, bytes, wanted, scratch) {
         Ok(value) => Ok(value),
         Err(TreeFault::Memory) => Err(ValueFault::Memory),
         Err(TreeFault::Other) => read_other(alloc, bytes, others),
