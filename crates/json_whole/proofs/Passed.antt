@@ -31,6 +31,6 @@ module _ (p : Parse Json) (start : List Token) where
       goes (member k j ms) rest (members_more p n k ts s r j some key read ∙ ap (parse_map (member k j)) e)
       (stays, stay)
 
-  pub members_passed : (n : ℕ) (ts r : List Token) → MembersGoOn n ts → length ts ≤ n →
-      read_key ts ≡ Some (None, r) → (all : Members) × (members p (length start) start ≡ Some (all, r)) × MembersStay all
+  pub members_passed : (n : ℕ) (ts r : List Token) → MembersGoOn n ts → length ts ≤ n → read_key ts ≡ Some (None, r) →
+      (all : Members) × (members p (length start) start ≡ Some (all, r)) × MembersStay all
   members_passed n ts r goes within closed = goes no_members r (members_end p n ts r within closed) tt

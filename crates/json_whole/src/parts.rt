@@ -10,11 +10,13 @@ use crate::passing::pass_over;
 use json::{Reader, Token, Value};
 
 /// What is wanted of an object: the values at some keys whole, and of the value at one more key a part. A list of these
-/// says what is wanted of a value: the first says it of the value itself, and the rest of what stands at its key `part`.
-/// Where the list is empty, the value is wanted whole.
+/// says what is wanted of a value: the first says it of the value itself, and the rest of what stands at its key
+/// `part`. Where the list is empty, the value is wanted whole.
 #[derive(Clone, Copy)]
 pub struct Wanted<'k> {
+    /// The keys whose values are wanted whole.
     pub whole: &'k [&'k str],
+    /// The key of whose value a part is wanted.
     pub part: &'k str,
 }
 
