@@ -48,13 +48,13 @@ pub put_part : {T : Type 0} (height : ℕ) (old new : List T × ℕ) (at : ℕ) 
 put_part height old new at x is e =
     let len = set_length old.0 at x in
     let part : IsPart height (slice_set old.0 at x, old.1) = (
-      let within = is.within in
-      record {
-        within = omega (arith, within, len);
-        high = is.high;
-        tall = λ some. is.tall (omega (arith, some, len));
-        forked = is.forked;
-      }) in
+    let within = is.within in
+    record {
+      within = omega (arith, within, len);
+      high = is.high;
+      tall = λ some. is.tall (omega (arith, some, len));
+      forked = is.forked;
+    }) in
     (subst (IsPart height) (sym e) part, ap (λ (u : List _ × ℕ). length u.0) e ∙ len)
 
 pub ruleset list_facts = (few_steps, low_height, set_length, raised_tight, top_room, raised_room, width_fits)
