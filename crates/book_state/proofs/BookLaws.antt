@@ -41,7 +41,7 @@ use Rattle.prune_filters.specs.Filters.{IsCounted}
 use Rattle.resource_graph.specs.NamedGraph.{NamedGraph}
 use Rattle.vertex_accounts.specs.declared.books.Accounts.{Accounts}
 use Rattle.vertex_accounts.specs.Books.{AreAccounts, HasTotals, types_of}
-use Rattle.book_state.specs.Books.{vertices_of, StandsIn, StandsFor}
+use Rattle.book_state.specs.Books.{vertices_of, accounts_of, StandsIn, StandsFor}
 use Rattle.book_state.proofs.TieLaws.{agree_none, agree_more, agree_less, agree_along, without_middle}
 
 -- what two lists of jobs amount to at one place for which the accounts stand
@@ -69,7 +69,7 @@ pub alike : (book : Kept) → ParentsFirst (vertices_of book) →
     (a b : List Job) → StandsFor book a → StandsFor book b → AmountAlike (vertices_of book) a b
 alike book first a b x y =
     let vertices = vertices_of book in
-    let accounts = arc_value book.accounts in
+    let accounts = accounts_of book in
     let places = x.accounts_are.graph.counts in
     let held = λ (v m : ℕ) (lt : v < length vertices).
     alike_in vertices a b accounts 0 Holds places.holds x.accounts_are y.accounts_are v m lt in

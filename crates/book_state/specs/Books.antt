@@ -60,7 +60,7 @@ IsTotalKept book v kind =
 
 -- the accounts of a book
 abbrev pub accounts_of : Kept → Accounts Plan
-accounts_of book = arc_value book.accounts
+accounts_of book = book.accounts
 
 -- Over this graph, with these rules, accounts and rows stand for these jobs: the accounts do, exactly the jobs' ids
 -- have live rows, of which there are no more than rows, and totals are kept of each type that a rule names, and of no
@@ -105,10 +105,10 @@ pub record MayAdd (book : Kept) (job : Job) : Type 0 where
 -- how many steps an answer about the book takes at most: n is the number of its jobs' claims, g that of the ids that
 -- were ever added
 abbrev pub cost_of : Kept → ℕ
-cost_of book = 512 * dig (2 * (arc_value book.accounts).count + len (rows_of book) + 4)
+cost_of book = 512 * dig (2 * book.accounts.count + len (rows_of book) + 4)
 
 -- how many steps a job more or less takes at most, of so many claims
 abbrev pub change_cost_of : Kept → ℕ → ℕ
 change_cost_of book claims =
     8192 * (claims + 1) * (1 + length (rules_of book)) * dig
-    (2 * (arc_value book.accounts).count + len (rows_of book) + 4)
+    (2 * book.accounts.count + len (rows_of book) + 4)

@@ -10,15 +10,15 @@ ghost use Rattle.job_table.specs.Rows.{live_row, cancelled_row, HasLiveRow};
 ghost use Rattle.prune_filters.specs.Filters.{IsCounted};
 ghost use Rattle.planner_min_tree.specs.Plans as Plans;
 ghost use Rattle.planner_min_tree.specs.Plans.{Plan};
-ghost use Rattle.vertex_accounts.specs.Books.{AreAccounts, HasTotals, types_of};
+ghost use Rattle.vertex_accounts.specs.Books.{AreAccounts, HasTotals, HaveSameParts, types_of};
 ghost use Rattle.book_state.specs.Ties.{has_job};
 ghost use Rattle.book_state.specs.Books.{graph_of, rules_of, horizon_of, moment_of, rows_of, StandsFor, HaveOneSetting};
-ghost use Rattle.book_state.specs.Books.{MayAdd, change_cost_of};
+ghost use Rattle.book_state.specs.Books.{accounts_of, MayAdd, change_cost_of};
 
-use crate::filtered::FilteredGraph;
+use crate::frames::Frame;
 use crate::held::{BookState, Kept};
 use flux_defs::{Job, Steps};
-use job_table::{JobTable, Row};
+use job_table::Row;
 use planner_min_tree::MinTree;
 use prune_filters::Rules;
 use resource_graph::Graph;
@@ -43,17 +43,8 @@ impl BookState {
         ensures rows { IfOk result (λ book. rows_of book ≡ map.empty) }
         ensures jobs { IfOk result (λ book. StandsFor book []) }
     {
-        let accounts = first_accounts(alloc, &graph, &rules, horizon)?;
-        let filtered = FilteredGraph::of(alloc, graph, rules)?;
-        Ok(BookState {
-            kept: Kept {
-                filtered: Arc::new(alloc, filtered)?,
-                horizon,
-                moment: 0,
-                accounts: Arc::new(alloc, accounts)?,
-                table: JobTable::empty(),
-            },
-        })
+        let frame = Frame::of(alloc, graph, rules, horizon)?;
+        frame.book(alloc)
     }
 
     /// The present moment. It takes no memory.
@@ -80,30 +71,58 @@ impl BookState {
         ensures moment { IfOk result (λ book. moment_of book ≡ moment_of self.now) }
         ensures rows { IfOk result (λ book. rows_of book ≡ rows_of self.now) }
         ensures jobs { IfOk result (λ book. (jobs : List Job) → StandsFor self.now jobs → StandsFor book jobs) }
+        ensures count { IfOk result (λ book. (accounts_of book).count ≡ (accounts_of self.now).count) }
+        ensures parts { IfOk result (λ book. HaveSameParts (accounts_of self.now) (accounts_of book)) }
     {
-        self.after_advance(self.kept.moment)
+        Ok(BookState {
+            kept: Kept {
+                filtered: Arc::try_clone(&self.kept.filtered)?,
+                horizon: self.kept.horizon,
+                moment: self.kept.moment,
+                accounts: self.kept.accounts.share()?,
+                table: self.kept.table.share()?,
+            },
+        })
     }
 
-    /// The book at another moment.
+    /// The book at another moment, beside this one.
     pub fn after_advance(&self, to: u64) -> Result<BookState, AllocError>
         ensures setting { IfOk result (λ book. HaveOneSetting self.now book) }
         ensures moment { IfOk result (λ book. moment_of book ≡ to) }
         ensures rows { IfOk result (λ book. rows_of book ≡ rows_of self.now) }
         ensures jobs { IfOk result (λ book. (jobs : List Job) → StandsFor self.now jobs → StandsFor book jobs) }
     {
-        Ok(BookState {
-            kept: Kept {
-                filtered: Arc::try_clone(&self.kept.filtered)?,
-                horizon: self.kept.horizon,
-                moment: to,
-                accounts: Arc::try_clone(&self.kept.accounts)?,
-                table: self.kept.table.share()?,
-            },
-        })
+        let same = self.share()?;
+        Ok(same.into_advanced(to))
     }
 
-    /// The book with one job more, which the journal's entry at place `at` accepted. It costs by the job's claims and
-    /// the rules, whatever the graph's size.
+    /// The book at another moment. It takes no memory.
+    pub fn into_advanced(self, to: u64) -> BookState
+        ensures setting { HaveOneSetting self result }
+        ensures moment { moment_of result ≡ to }
+        ensures rows { rows_of result ≡ rows_of self }
+        ensures jobs { (jobs : List Job) → StandsFor self jobs → StandsFor result jobs }
+    {
+        let Kept {
+            filtered,
+            horizon,
+            accounts,
+            table,
+            ..
+        } = self.kept;
+        BookState {
+            kept: Kept {
+                filtered,
+                horizon,
+                moment: to,
+                accounts,
+                table,
+            },
+        }
+    }
+
+    /// The book with one job more, which the journal's entry at place `at` accepted, beside this one. It costs by the
+    /// job's claims and the rules, whatever the graph's size.
     pub fn after_add<L: Ledger>(
         &self,
         alloc: Global,
@@ -119,21 +138,48 @@ impl BookState {
             (λ book. (jobs : List Job) → StandsFor self.now jobs → StandsFor book (jobs ++ job.now ∷ [])) }
         ensures work { steps.new ≤ steps.old + change_cost_of self.now (length job.now.claims) }
     {
-        let graph = self.graph();
-        let old = self.accounts();
-        let accounts = old.with_job(alloc, graph, self.kept.moment, job, steps)?;
+        let same = self.share()?;
+        same.into_added(alloc, job, at, steps)
+    }
+
+    /// The book with one job more, which the journal's entry at place `at` accepted. It costs by the job's claims and
+    /// the rules, whatever the graph's size.
+    pub fn into_added<L: Ledger>(
+        self,
+        alloc: Global,
+        job: &Job,
+        at: u64,
+        steps: &mut Steps<L>,
+    ) -> Result<BookState, AllocError>
+        requires { MayAdd self job.now }
+        ensures setting { IfOk result (λ book. HaveOneSetting self book) }
+        ensures moment { IfOk result (λ book. moment_of book ≡ moment_of self) }
+        ensures rows { IfOk result (λ book. rows_of book ≡ map.insert (rows_of self) job.now.id (live_row at)) }
+        ensures jobs { IfOk result
+            (λ book. (jobs : List Job) → StandsFor self jobs → StandsFor book (jobs ++ job.now ∷ [])) }
+        ensures work { steps.new ≤ steps.old + change_cost_of self (length job.now.claims) }
+    {
+        let Kept {
+            filtered,
+            horizon,
+            moment,
+            accounts,
+            table,
+        } = self.kept;
+        let accounts = accounts.with_job(alloc, filtered.graph(), moment, job, steps)?;
+        let table = table.with_new(alloc, job.id, at, steps)?;
         Ok(BookState {
             kept: Kept {
-                filtered: Arc::try_clone(&self.kept.filtered)?,
-                horizon: self.kept.horizon,
-                moment: self.kept.moment,
-                accounts: Arc::new(alloc, accounts)?,
-                table: self.kept.table.with_new(alloc, job.id, at, steps)?,
+                filtered,
+                horizon,
+                moment,
+                accounts,
+                table,
             },
         })
     }
 
-    /// The book without this job, whose row is then not live. It costs as the job's addition does.
+    /// The book without this job, whose row is then not live, beside this one. It costs as the job's addition does.
     pub fn after_remove<L: Ledger>(
         &self,
         alloc: Global,
@@ -152,23 +198,52 @@ impl BookState {
             StandsFor self.now (before ++ job.now ∷ after) → StandsFor book (before ++ after)) }
         ensures work { steps.new ≤ steps.old + change_cost_of self.now (length job.now.claims) }
     {
-        let graph = self.graph();
-        let old = self.accounts();
-        let accounts = old.without_job(alloc, graph, self.kept.moment, job, steps)?;
+        let same = self.share()?;
+        same.into_removed(alloc, job, steps)
+    }
+
+    /// The book without this job, whose row is then not live. It costs as the job's addition does.
+    pub fn into_removed<L: Ledger>(
+        self,
+        alloc: Global,
+        job: &Job,
+        steps: &mut Steps<L>,
+    ) -> Result<BookState, AllocError>
+        requires there { (jobs : List Job) × StandsFor self jobs × Contains jobs job.now }
+        requires live { HasLiveRow (rows_of self) job.now.id }
+        ensures setting { IfOk result (λ book. HaveOneSetting self book) }
+        ensures moment { IfOk result (λ book. moment_of book ≡ moment_of self) }
+        ensures rows { IfOk result (λ book. (at : ℕ) → map.get (rows_of self) job.now.id ≡ Some (live_row at) →
+            rows_of book ≡ map.insert (rows_of self) job.now.id (cancelled_row at)) }
+        ensures jobs { IfOk result (λ book. (jobs : List Job) →
+            StandsFor self jobs → Contains jobs job.now → StandsFor book (without_job job.now.id jobs)) }
+        ensures once { IfOk result (λ book. (before after : List Job) →
+            StandsFor self (before ++ job.now ∷ after) → StandsFor book (before ++ after)) }
+        ensures work { steps.new ≤ steps.old + change_cost_of self (length job.now.claims) }
+    {
+        let Kept {
+            filtered,
+            horizon,
+            moment,
+            accounts,
+            table,
+        } = self.kept;
+        let accounts = accounts.without_job(alloc, filtered.graph(), moment, job, steps)?;
+        let table = table.with_cancelled(alloc, job.id, steps)?;
         Ok(BookState {
             kept: Kept {
-                filtered: Arc::try_clone(&self.kept.filtered)?,
-                horizon: self.kept.horizon,
-                moment: self.kept.moment,
-                accounts: Arc::new(alloc, accounts)?,
-                table: self.kept.table.with_cancelled(alloc, job.id, steps)?,
+                filtered,
+                horizon,
+                moment,
+                accounts,
+                table,
             },
         })
     }
 }
 
 /// The accounts of no jobs. Their making isn't counted.
-fn first_accounts(
+pub(crate) fn first_accounts(
     alloc: Global,
     graph: &Graph,
     rules: &Rules,

@@ -55,6 +55,13 @@ impl FilteredGraph {
         &self.graph
     }
 
+    /// The filter rules.
+    pub(crate) fn rules(&self) -> &Rules
+        ensures { result.now ≡ self.now.rules }
+    {
+        &self.rules
+    }
+
     /// Whether the rules keep totals of the lower type at vertices of the upper one.
     pub(crate) fn keeps(&self, upper: u32, lower: u32) -> bool
         ensures { IsTrue result ↔ IsPairKept self.now.graph self.now.rules upper lower }

@@ -13,13 +13,14 @@ pub struct Kept {
     pub(crate) filtered: Arc<FilteredGraph, Global>,
     pub(crate) horizon: u64,
     pub(crate) moment: u64,
-    pub(crate) accounts: Arc<Accounts<MinTree>, Global>,
+    pub(crate) accounts: Accounts<MinTree>,
     pub(crate) table: JobTable,
 }
 
 /// A graph with filter rules and a horizon, the present moment, the accounts of the jobs that were accepted and not
-/// cancelled, and a row for each job that was ever accepted. No book changes: a call that changes something gives a new
-/// one, which shares what stays. Times are in seconds.
+/// cancelled, and a row for each job that was ever accepted. The calls that begin with `after` give a new book beside
+/// the old one, those that begin with `into` make it of the old one, in place where no other book shares what changes.
+/// Times are in seconds.
 #[derive(Drop)]
 pub struct BookState {
     pub(crate) kept: Kept,

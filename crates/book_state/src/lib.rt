@@ -4,7 +4,9 @@
 
 mod books;
 mod filtered;
+mod frames;
 mod held;
 mod view;
 
+pub use frames::Frame;
 pub use held::{BookState, Kept};

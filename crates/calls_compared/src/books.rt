@@ -75,7 +75,7 @@ impl Tried {
             book,
             mut jobs,
         } = self;
-        let book = book.after_add(alloc, &job, at, steps)?;
+        let book = book.into_added(alloc, &job, at, steps)?;
         match jobs.push(job) {
             Ok(()) => Ok(Tried { graph, book, jobs }),
             Err((_, refused)) => Err(refused),

@@ -28,7 +28,7 @@ impl Model for Tried {
     ghost view = { λ tried. tried.spans.items };
 
     ghost invariant = { λ tried. StandsFor tried.tree tried.spans.items
-        × AreSame tried.plain.spans.items tried.spans.items };
+        × AreSame tried.plain.spans tried.spans.items };
 }
 
 impl Tried {
@@ -62,8 +62,8 @@ impl Tried {
             plain,
             mut spans,
         } = self;
-        let tree = tree.with_span(alloc, window, quantity, steps)?;
-        let plain = plain.with_span(alloc, window, quantity, steps)?;
+        let tree = tree.into_with_span(alloc, window, quantity, steps)?;
+        let plain = plain.into_with_span(alloc, window, quantity, steps)?;
         match spans.push(Span { window, quantity }) {
             Ok(()) => Ok(Tried { tree, plain, spans }),
             Err(_) => Err(AllocError),
@@ -86,8 +86,8 @@ impl Tried {
             mut spans,
         } = self;
         let span = spans.remove(at);
-        let tree = tree.without_span(alloc, span.window, span.quantity, steps)?;
-        let plain = plain.without_span(alloc, span.window, span.quantity, steps)?;
+        let tree = tree.into_without_span(alloc, span.window, span.quantity, steps)?;
+        let plain = plain.into_without_span(alloc, span.window, span.quantity, steps)?;
         Ok(Tried { tree, plain, spans })
     }
 }
@@ -101,14 +101,8 @@ impl Tried {
         steps: &mut Steps<L>,
     ) -> Result<Tried, AllocError> {
         let Tried { tree, plain, spans } = self;
-        match tree.settled(alloc, moment, steps)? {
-            Some(ready) => Ok(Tried {
-                tree: ready,
-                plain,
-                spans,
-            }),
-            None => Ok(Tried { tree, plain, spans }),
-        }
+        let tree = tree.into_settled(alloc, moment, steps)?;
+        Ok(Tried { tree, plain, spans })
     }
 }
 

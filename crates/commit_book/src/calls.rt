@@ -110,7 +110,7 @@ impl Book {
         ensures share { share seat.new ≡ share seat.old }
     {
         let mut held = self.turn.take(rt, seat);
-        // On want of memory the core has changed nothing: so what goes home is the core that was taken.
+        // On want of memory the core is seen as before: so it goes home.
         let answer = commit_to::<Brand>(&mut held.core, client, line, candidate, Blank::new(1));
         self.turn.give(seat, held);
         answer
@@ -141,7 +141,7 @@ impl Book {
         ensures share { share seat.new ≡ share seat.old }
     {
         let mut held = self.turn.take(rt, seat);
-        // On want of memory the core has changed nothing: so what goes home is the core that was taken.
+        // On want of memory the core is seen as before: so it goes home.
         let answer = held.core.decide(client, line, command);
         self.turn.give(seat, held);
         answer

@@ -6,7 +6,7 @@ ghost use Rattle.flux_defs.specs.Placed.{IsPlaced};
 ghost use Rattle.flux_defs.specs.Scheduler.{IsProper};
 ghost use Rattle.flux_defs.specs.Verdicts.{IsSearchable};
 ghost use Rattle.turn_table.specs.Seats.{seen, mine, share};
-ghost use Rattle.commit_book.specs.Books.{book_setting, entry_in, IsSeatOf};
+ghost use Rattle.commit_book.specs.Books.{book_setting, course, entry_in, IsSeatOf};
 ghost use Rattle.commit_book.specs.Submits.{IsTried};
 
 use crate::books::{Book, BookSeat};
@@ -66,6 +66,31 @@ fn search_in<L: Ledger>(
 }
 
 impl Book {
+    // What a search of a snapshot finds, without the turn. The snapshot is let go of, but for the candidate's own,
+    // before anything is committed: so what no other client shares is written in place.
+    fn searched<R: Wait>(
+        &self,
+        rt: &R,
+        seat: &mut BookSeat,
+        command: Command,
+    ) -> Result<Candidate, (Command, AllocError)>
+        requires own { IsSeatOf self.now seat.old }
+        requires searchable { IsSearchable command }
+        requires proper { IsProper (book_setting self.now).graph.vertices command }
+        ensures own { IsSeatOf self.now seat.new }
+        ensures later { IsPrefix (seen seat.old) (seen seat.new) }
+        ensures same { (mine seat.new ≡ mine seat.old) × (share seat.new ≡ share seat.old) }
+        ensures ok { IfOk result (λ c. (c.command ≡ command)
+            × (c.snap ≡ course (book_setting self.now) (seen seat.new))) }
+        ensures err { IfErr result (λ e. e.0 ≡ command) }
+    {
+        let snap = match self.snapshot(rt, seat) {
+            Ok(snap) => snap,
+            Err(fault) => return Err((command, fault)),
+        };
+        search_in::<Brand>(&snap, command, Blank::new(1))
+    }
+
     // Searches a snapshot, while it has no turn, and commits what was found.
     fn search_and_commit<R: Wait, G: Gate>(
         &self,
@@ -86,11 +111,7 @@ impl Book {
             (IsTried client line command (seen seat.old) (mine seat.old) (seen seat.new) (mine seat.new)) }
         ensures err { IfErr result (λ e. (e.0 ≡ command) × (mine seat.new ≡ mine seat.old)) }
     {
-        let snap = match self.snapshot(rt, seat) {
-            Ok(snap) => snap,
-            Err(fault) => return Err((command, fault)),
-        };
-        let candidate = match search_in::<Brand>(&snap, command, Blank::new(1)) {
+        let candidate = match self.searched(rt, seat, command) {
             Ok(candidate) => candidate,
             Err(refused) => return Err(refused),
         };

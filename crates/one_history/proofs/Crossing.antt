@@ -2,7 +2,7 @@
 -- whole at once, and stops at its limit.
 use denote.RattleType.{RattleType}
 use denote.Param.Send.{IsSend, IsSync, sendable, view_send, view_sync}
-use denote.Param.SendFields.{as_row_send, as_row_sync, declared_send, declared_sync}
+use denote.Param.SendFields.{as_row_send, declared_send, declared_sync, variants_send}
 use denote.Struct.Field.{row_field}
 use Rattle.std.proofs.Crossing.{crosses, Arc-send, Arc-sync}
 use Rattle.std.proofs.MapsCrossing.{crosses as maps}
@@ -27,9 +27,12 @@ use Rattle.book_state.specs.contracts.filtered.FilteredGraph.TheInside as filter
 use Rattle.book_state.specs.contracts.held.BookState as book
 use Rattle.book_state.specs.contracts.held.BookState.TheInside as book_inside
 use Rattle.book_state.specs.contracts.held.Kept as kept
+use Rattle.book_state.specs.contracts.frames.Frame as frame
 use Rattle.sched_core.specs.contracts.scheduler.Core as core
 use Rattle.sched_core.specs.contracts.scheduler.Core.TheInside as core_inside
 use Rattle.sched_core.specs.contracts.held.Kept as grown
+use Rattle.sched_core.specs.contracts.held.Remains as remains
+use Rattle.sched_core.specs.contracts.held.Keeping as keeping
 use Rattle.commit_book.specs.contracts.held.Held as held
 use Rattle.sched_core.specs.contracts.held.Site as site
 
@@ -47,9 +50,6 @@ min_tree_sync = search (chunk_send, chunk_sync, crosses, tree.crosses, sendable)
 
 table_send : IsSend table.the_row
 table_send = search (crosses, part.crosses, sendable) depth 60 fits 20000
-
-table_sync : IsSync table.the_row
-table_sync = search (crosses, part.crosses, sendable) depth 60 fits 20000
 
 graph_send : IsSend graph.the_row
 graph_send = search (crosses, maps, sendable) depth 60 fits 20000
@@ -72,9 +72,6 @@ entry_sync = search (crosses, need.crosses, sendable) depth 60 fits 20000
 pages_send : (P : RattleType) → IsSend P → IsSync P → IsSend (pages.the_row P)
 pages_send P s y = search (crosses, page.crosses, sendable) depth 60 fits 20000
 
-pages_sync : (P : RattleType) → IsSend P → IsSync P → IsSync (pages.the_row P)
-pages_sync P s y = search (crosses, page.crosses, sendable) depth 60 fits 20000
-
 item_send : (P : RattleType) (d : Ghosts P.Denot) → IsSend P → IsSend (item.the_row P d)
 item_send P d s = search (crosses, sendable) depth 60 fits 20000
 
@@ -84,11 +81,6 @@ item_sync P d y = search (crosses, sendable) depth 60 fits 20000
 planners_send : (P : RattleType) (d : Ghosts P.Denot) → IsSend P → IsSync P → IsSend (planners.the_row P d)
 planners_send P d s y =
     let p = pages_send (item.the_row P d) (item_send P d s) (item_sync P d y) in
-    search (crosses, sendable) depth 60 fits 20000
-
-planners_sync : (P : RattleType) (d : Ghosts P.Denot) → IsSend P → IsSync P → IsSync (planners.the_row P d)
-planners_sync P d s y =
-    let p = pages_sync (item.the_row P d) (item_send P d s) (item_sync P d y) in
     search (crosses, sendable) depth 60 fits 20000
 
 counted_send : IsSend counted.the_row
@@ -102,13 +94,6 @@ accounts_send P d s y =
     declared_send (accounts.the_type P d) (
       Arc-send counted.the_row counted_send counted_sync,
       (planners_send P d s y, (as_row_send (row_field P) s, (search sendable, (search sendable, tt)))),
-    )
-
-accounts_sync : (P : RattleType) (d : Ghosts P.Denot) → IsSend P → IsSync P → IsSync (accounts.the_row P d)
-accounts_sync P d s y =
-    declared_sync (accounts.the_type P d) (
-      Arc-sync counted.the_row counted_send counted_sync,
-      (planners_sync P d s y, (as_row_sync (row_field P) y, (search sendable, (search sendable, tt)))),
     )
 
 -- what a planner says of itself plays no part in where it may go
@@ -136,8 +121,7 @@ filtered_sync =
 
 kept_send : IsSend kept.the_row
 kept_send =
-    let a = Arc-send _ (accounts_send min_tree.the_row (any_ghosts _) min_tree_send min_tree_sync)
-    (accounts_sync min_tree.the_row (any_ghosts _) min_tree_send min_tree_sync) in
+    let a = accounts_send min_tree.the_row (any_ghosts _) min_tree_send min_tree_sync in
     declared_send kept.the_type (
       Arc-send filtered.the_row filtered_send filtered_sync,
       (search sendable, (search sendable, (a, (table_send, tt)))),
@@ -150,13 +134,27 @@ grown_send : IsSend grown.the_row
 grown_send =
     declared_send grown.the_type (pages_send entry.the_row entry_send entry_sync, (book_send, (search sendable, tt)))
 
+frame_send : IsSend frame.the_row
+frame_send =
+    declared_send frame.the_type (Arc-send filtered.the_row filtered_send filtered_sync, (search sendable, tt))
+
+remains_send : IsSend remains.the_row
+remains_send =
+    declared_send remains.the_type (
+      frame_send,
+      (pages_send entry.the_row entry_send entry_sync, (search sendable, (search sendable, tt))),
+    )
+
+keeping_send : IsSend keeping.the_row
+keeping_send = search (variants_send, grown_send, remains_send, sendable) depth 30 fits 20000
+
 site_send : IsSend site.the_row
 site_send =
     let g = Arc-send graph.the_row graph_send graph_sync in
     declared_send site.the_type (search (crosses, sendable) depth 20, (g, (search sendable, (search sendable, tt))))
 
 core_send : IsSend core.the_row
-core_send = view_send core_inside.the_row _ _ _ _ (declared_send core_inside.the_type (site_send, (grown_send, tt)))
+core_send = view_send core_inside.the_row _ _ _ _ (declared_send core_inside.the_type (site_send, (keeping_send, tt)))
 
 -- a core under a turn may go to another thread
 pub held_send : IsSend held.the_row

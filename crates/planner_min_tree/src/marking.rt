@@ -360,47 +360,45 @@ fn chunks_changed<L: Ledger>(
     many_changed(alloc, once, second, steps)
 }
 
-/// The points of a tree after two changes. The tree stays.
+/// The points of a tree after two changes.
 pub fn twice_changed<L: Ledger>(
     alloc: Global,
-    tree: &Tree<Chunk, Dip>,
+    tree: Tree<Chunk, Dip>,
     first: Change,
     second: Change,
     steps: &mut Steps<L>,
 ) -> Result<Tree<Chunk, Dip>, AllocError>
-    requires { AreFilled tree.now.0 }
-    ensures items { IfOk result (λ new. flat new.0 ≡ changed second (changed first (flat tree.now.0))) }
+    requires { AreFilled tree.0 }
+    ensures items { IfOk result (λ new. flat new.0 ≡ changed second (changed first (flat tree.0))) }
     ensures filled { IfOk result (λ new. AreFilled new.0) }
-    ensures work { steps.new ≤ steps.old + 13 * (tree.now.1 + 1) }
+    ensures work { steps.new ≤ steps.old + 13 * (tree.1 + 1) }
 {
     if tree.height() == 0 {
-        return few_changed(alloc, tree, first, second, steps);
+        return few_changed(alloc, &tree, first, second, steps);
     }
-    let copy = tree.share()?;
     match first {
-        Change::Less(_) => chunks_changed(alloc, copy, first, second, steps),
+        Change::Less(_) => chunks_changed(alloc, tree, first, second, steps),
         Change::More(mark) => {
-            let at = chunk_at(Side { tree }, mark.time, steps);
-            if chunk_at(Side { tree }, second.time(), steps) != at {
-                return chunks_changed(alloc, copy, first, second, steps);
+            let at = chunk_at(Side { tree: &tree }, mark.time, steps);
+            if chunk_at(Side { tree: &tree }, second.time(), steps) != at {
+                return chunks_changed(alloc, tree, first, second, steps);
             }
-            chunk_changed_twice(alloc, copy, at, mark, second, steps)
+            chunk_changed_twice(alloc, tree, at, mark, second, steps)
         }
     }
 }
 
-/// The points of a tree after one change. The tree stays.
+/// The points of a tree after one change.
 pub fn once_changed<L: Ledger>(
     alloc: Global,
-    tree: &Tree<Chunk, Dip>,
+    tree: Tree<Chunk, Dip>,
     change: Change,
     steps: &mut Steps<L>,
 ) -> Result<Tree<Chunk, Dip>, AllocError>
-    requires { AreFilled tree.now.0 }
-    ensures items { IfOk result (λ new. flat new.0 ≡ changed change (flat tree.now.0)) }
+    requires { AreFilled tree.0 }
+    ensures items { IfOk result (λ new. flat new.0 ≡ changed change (flat tree.0)) }
     ensures filled { IfOk result (λ new. AreFilled new.0) }
-    ensures work { steps.new ≤ steps.old + 5 * tree.now.1 + 4 }
+    ensures work { steps.new ≤ steps.old + 5 * tree.1 + 4 }
 {
-    let copy = tree.share()?;
-    many_changed(alloc, copy, change, steps)
+    many_changed(alloc, tree, change, steps)
 }

@@ -1,5 +1,5 @@
 //! The planner.
-ghost use Rattle.std.specs.Prelude.{◌≡◌, ℕ, ◌+◌, ◌*◌, ◌<◌, ◌≤◌, List, [], ◌∷◌, ◌++◌, length, IfOk, IfSome, MatchOption};
+ghost use Rattle.std.specs.Prelude.{◌≡◌, ℕ, ◌+◌, ◌*◌, ◌<◌, ◌≤◌, List, [], ◌∷◌, ◌++◌, length, IfOk, MatchOption};
 ghost use Rattle.flux_defs.specs.Digits.{dig};
 ghost use Rattle.planner_points.specs.declared.spans.Span.{Span};
 ghost use Rattle.planner_points.specs.Spans.{span_of, HasRoom, HasSpan, IsLeastFree, IsEnd, IsNextEnd, MayStart};
@@ -120,23 +120,102 @@ impl Planner for MinTree {
         })
     }
 
-    fn settled<L: Ledger>(
-        &self,
+    fn into_settled<L: Ledger>(
+        self,
         alloc: Global,
         moment: u64,
         steps: &mut Steps<L>,
-    ) -> Result<Option<MinTree>, AllocError>
-        ensures same { IfOk result (λ some. IfSome some (λ planner. planner ≡ self.now)) }
-        ensures work { steps.new ≤ steps.old + 128 * dig (length self.now.points + 2) }
+    ) -> Result<MinTree, AllocError>
+        ensures same { IfOk result (λ planner. planner ≡ self) }
+        ensures work { steps.new ≤ steps.old + 128 * dig (length self.points + 2) }
     {
-        match self.points.settled(alloc, moment, steps)? {
-            None => Ok(None),
-            Some(points) => Ok(Some(MinTree {
-                total: self.total,
-                horizon: self.horizon,
-                points,
-            })),
-        }
+        let MinTree {
+            total,
+            horizon,
+            points,
+        } = self;
+        let points = points.settled(alloc, moment, steps)?;
+        Ok(MinTree {
+            total,
+            horizon,
+            points,
+        })
+    }
+
+    fn into_with_span<L: Ledger>(
+        self,
+        alloc: Global,
+        window: Window,
+        quantity: u64,
+        steps: &mut Steps<L>,
+    ) -> Result<MinTree, AllocError>
+        requires window { window.from < window.to }
+        requires room { (spans : List Span) → StandsFor self spans → HasRoom self.total spans window quantity }
+        ensures total { IfOk result (λ planner. planner.total ≡ self.total) }
+        ensures horizon { IfOk result (λ planner. planner.horizon ≡ self.horizon) }
+        ensures spans { IfOk result (λ planner. (before after : List Span) → StandsFor self (before ++ after) →
+            StandsFor planner (before ++ span_of window quantity ∷ after)) }
+        ensures work { steps.new ≤ steps.old + 128 * dig (length self.points + 2) }
+    {
+        let stop = Mark {
+            time: window.to,
+            taken: 0,
+            given: quantity,
+        };
+        let start = Mark {
+            time: window.from,
+            taken: quantity,
+            given: 0,
+        };
+        let MinTree {
+            total,
+            horizon,
+            points,
+        } = self;
+        let points = points.twice_changed(alloc, Change::More(stop), Change::More(start), steps)?;
+        Ok(MinTree {
+            total,
+            horizon,
+            points,
+        })
+    }
+
+    fn into_without_span<L: Ledger>(
+        self,
+        alloc: Global,
+        window: Window,
+        quantity: u64,
+        steps: &mut Steps<L>,
+    ) -> Result<MinTree, AllocError>
+        requires window { window.from < window.to }
+        requires span { HasSpan (StandsFor self) (span_of window quantity) }
+        ensures total { IfOk result (λ planner. planner.total ≡ self.total) }
+        ensures horizon { IfOk result (λ planner. planner.horizon ≡ self.horizon) }
+        ensures spans { IfOk result (λ planner. (before after : List Span) →
+            StandsFor self (before ++ span_of window quantity ∷ after) → StandsFor planner (before ++ after)) }
+        ensures work { steps.new ≤ steps.old + 128 * dig (length self.points + 2) }
+    {
+        let start = Mark {
+            time: window.from,
+            taken: quantity,
+            given: 0,
+        };
+        let stop = Mark {
+            time: window.to,
+            taken: 0,
+            given: quantity,
+        };
+        let MinTree {
+            total,
+            horizon,
+            points,
+        } = self;
+        let points = points.twice_changed(alloc, Change::Less(start), Change::Less(stop), steps)?;
+        Ok(MinTree {
+            total,
+            horizon,
+            points,
+        })
     }
 
     fn with_span<L: Ledger>(
@@ -154,24 +233,8 @@ impl Planner for MinTree {
             StandsFor planner (before ++ span_of window quantity ∷ after)) }
         ensures work { steps.new ≤ steps.old + 128 * dig (length self.now.points + 2) }
     {
-        let stop = Mark {
-            time: window.to,
-            taken: 0,
-            given: quantity,
-        };
-        let start = Mark {
-            time: window.from,
-            taken: quantity,
-            given: 0,
-        };
-        let points = self
-            .points
-            .twice_changed(alloc, Change::More(stop), Change::More(start), steps)?;
-        Ok(MinTree {
-            total: self.total,
-            horizon: self.horizon,
-            points,
-        })
+        let same = self.share()?;
+        same.into_with_span(alloc, window, quantity, steps)
     }
 
     fn without_span<L: Ledger>(
@@ -189,24 +252,8 @@ impl Planner for MinTree {
             StandsFor self.now (before ++ span_of window quantity ∷ after) → StandsFor planner (before ++ after)) }
         ensures work { steps.new ≤ steps.old + 128 * dig (length self.now.points + 2) }
     {
-        let start = Mark {
-            time: window.from,
-            taken: quantity,
-            given: 0,
-        };
-        let stop = Mark {
-            time: window.to,
-            taken: 0,
-            given: quantity,
-        };
-        let points = self
-            .points
-            .twice_changed(alloc, Change::Less(start), Change::Less(stop), steps)?;
-        Ok(MinTree {
-            total: self.total,
-            horizon: self.horizon,
-            points,
-        })
+        let same = self.share()?;
+        same.into_without_span(alloc, window, quantity, steps)
     }
 
     #[tactic(auto, using(crate::proofs::PlanFacts::marks_run))]

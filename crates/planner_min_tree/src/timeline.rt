@@ -70,38 +70,36 @@ fn has_place(tree: &Tree<Chunk, Dip>, t: u64) -> bool
     t <= tree.sum().latest
 }
 
-/// The points of two trees, one behind the other, after two changes. The trees stay.
+/// The points of two trees, one behind the other, after two changes.
 #[tactic(auto, using(crate::proofs::Timelines::change_facts))]
 fn both_changed<L: Ledger>(
     alloc: Global,
-    past: &Tree<Chunk, Dip>,
-    coming: &Tree<Chunk, Dip>,
+    past: Tree<Chunk, Dip>,
+    coming: Tree<Chunk, Dip>,
     first: Change,
     second: Change,
     steps: &mut Steps<L>,
 ) -> Result<(Tree<Chunk, Dip>, Tree<Chunk, Dip>), AllocError>
-    requires past { AreFilled past.now.0 }
-    requires coming { AreFilled coming.now.0 }
+    requires past { AreFilled past.0 }
+    requires coming { AreFilled coming.0 }
     requires late { StaysLate first second }
     ensures items { IfOk result (λ sides. flat (sides.0.0 ++ sides.1.0)
-        ≡ changed second (changed first (flat (past.now.0 ++ coming.now.0)))) }
+        ≡ changed second (changed first (flat (past.0 ++ coming.0)))) }
     ensures past { IfOk result (λ sides. AreFilled sides.0.0) }
     ensures coming { IfOk result (λ sides. AreFilled sides.1.0) }
-    ensures work { steps.new ≤ steps.old + 13 * (past.now.1 + 1) + 13 * (coming.now.1 + 1) }
+    ensures work { steps.new ≤ steps.old + 13 * (past.1 + 1) + 13 * (coming.1 + 1) }
 {
     match (
-        has_place(past, first.time()),
-        has_place(past, second.time()),
+        has_place(&past, first.time()),
+        has_place(&past, second.time()),
     ) {
         (false, false) => {
-            let same = past.share()?;
             let new = twice_changed(alloc, coming, first, second, steps)?;
-            Ok((same, new))
+            Ok((past, new))
         }
         (true, true) => {
             let new = twice_changed(alloc, past, first, second, steps)?;
-            let same = coming.share()?;
-            Ok((new, same))
+            Ok((new, coming))
         }
         (true, false) => {
             let front = once_changed(alloc, past, first, steps)?;
@@ -141,46 +139,43 @@ fn joined<L: Ledger>(
     Ok(Edit::Put(both))
 }
 
-/// The points of a tree with those of a chunk behind them. The tree stays.
+/// The points of a tree with those of a chunk behind them.
 #[tactic(auto, using(crate::proofs::Timelines::behind_facts))]
 fn with_behind<L: Ledger>(
     alloc: Global,
-    tree: &Tree<Chunk, Dip>,
-    next: &Chunk,
+    tree: Tree<Chunk, Dip>,
+    next: Chunk,
     steps: &mut Steps<L>,
 ) -> Result<Tree<Chunk, Dip>, AllocError>
-    requires filled { AreFilled tree.now.0 }
-    requires next { 0 < length next.now }
-    ensures items { IfOk result (λ new. flat new.0 ≡ flat tree.now.0 ++ next.now) }
+    requires filled { AreFilled tree.0 }
+    requires next { 0 < length next }
+    ensures items { IfOk result (λ new. flat new.0 ≡ flat tree.0 ++ next) }
     ensures filled { IfOk result (λ new. AreFilled new.0) }
-    ensures work { steps.new ≤ steps.old + 4 * tree.now.1 + 4 }
+    ensures work { steps.new ≤ steps.old + 4 * tree.1 + 4 }
 {
     if tree.len() == 0 {
-        let chunk = next.share()?;
-        return Tree::leaf(chunk, steps);
+        return Tree::leaf(next, steps);
     }
     let at = tree.len() - 1;
-    let edit = joined(alloc, tree.get(at, steps), next, steps)?;
-    let copy = tree.share()?;
-    copy.edited(alloc, at, edit, steps)
+    let edit = joined(alloc, tree.get(at, steps), &next, steps)?;
+    tree.edited(alloc, at, edit, steps)
 }
 
-/// The points of a tree without those of its first chunk. The tree stays.
+/// The points of a tree without those of its first chunk.
 #[tactic(auto, using(crate::proofs::Timelines::first_facts))]
 fn without_first<L: Ledger>(
     alloc: Global,
-    tree: &Tree<Chunk, Dip>,
+    tree: Tree<Chunk, Dip>,
     steps: &mut Steps<L>,
 ) -> Result<Tree<Chunk, Dip>, AllocError>
-    requires filled { AreFilled tree.now.0 }
-    requires some { 0 < length tree.now.0 }
-    ensures items { IfOk result (λ new. (first : List Point) → slice_get tree.now.0 0 ≡ Some first →
-        first ++ flat new.0 ≡ flat tree.now.0) }
+    requires filled { AreFilled tree.0 }
+    requires some { 0 < length tree.0 }
+    ensures items { IfOk result (λ new. (first : List Point) → slice_get tree.0 0 ≡ Some first →
+        first ++ flat new.0 ≡ flat tree.0) }
     ensures filled { IfOk result (λ new. AreFilled new.0) }
-    ensures work { steps.new ≤ steps.old + 3 * tree.now.1 + 2 }
+    ensures work { steps.new ≤ steps.old + 3 * tree.1 + 2 }
 {
-    let copy = tree.share()?;
-    copy.edited(alloc, 0, Edit::Cut, steps)
+    tree.edited(alloc, 0, Edit::Cut, steps)
 }
 
 impl Timeline {
@@ -346,47 +341,50 @@ impl Timeline {
         )
     }
 
-    /// The points after two changes. Those before stay.
+    /// The points after two changes.
     pub fn twice_changed<L: Ledger>(
-        &self,
+        self,
         alloc: Global,
         first: Change,
         second: Change,
         steps: &mut Steps<L>,
     ) -> Result<Timeline, AllocError>
         requires { StaysLate first second }
-        ensures items { IfOk result (λ line. line ≡ changed second (changed first self.now)) }
-        ensures work { steps.new ≤ steps.old + 128 * dig (length self.now + 2) }
+        ensures items { IfOk result (λ line. line ≡ changed second (changed first self)) }
+        ensures work { steps.new ≤ steps.old + 128 * dig (length self + 2) }
     {
         let _past = self.past.height();
         let _coming = self.coming.height();
-        let (past, coming) = both_changed(alloc, &self.past, &self.coming, first, second, steps)?;
+        let Timeline { past, coming } = self;
+        let (past, coming) = both_changed(alloc, past, coming, first, second, steps)?;
         Ok(Timeline { past, coming })
     }
 
     /// The same points, of which the first chunk of those to come is past, where no point of it is later than the
-    /// moment; `None` where one is, or no other chunk is to come.
+    /// moment, and another chunk is to come.
     #[tactic(auto, using(crate::proofs::Timelines::settle_facts))]
     pub fn settled<L: Ledger>(
-        &self,
+        self,
         alloc: Global,
         moment: u64,
         steps: &mut Steps<L>,
-    ) -> Result<Option<Timeline>, AllocError>
-        ensures same { IfOk result (λ some. IfSome some (λ line. line ≡ self.now)) }
-        ensures work { steps.new ≤ steps.old + 128 * dig (length self.now + 2) }
+    ) -> Result<Timeline, AllocError>
+        ensures same { IfOk result (λ line. line ≡ self) }
+        ensures work { steps.new ≤ steps.old + 128 * dig (length self + 2) }
     {
         let _past = self.past.height();
         let _coming = self.coming.height();
         if self.coming.len() < 2 {
-            return Ok(None);
+            return Ok(self);
         }
-        let chunk = self.coming.get(0, steps);
-        if !are_over(chunk.look(steps), moment) {
-            return Ok(None);
+        let first = self.coming.get(0, steps);
+        if !are_over(first.look(steps), moment) {
+            return Ok(self);
         }
-        let past = with_behind(alloc, &self.past, chunk, steps)?;
-        let coming = without_first(alloc, &self.coming, steps)?;
-        Ok(Some(Timeline { past, coming }))
+        let chunk = first.share()?;
+        let Timeline { past, coming } = self;
+        let past = with_behind(alloc, past, chunk, steps)?;
+        let coming = without_first(alloc, coming, steps)?;
+        Ok(Timeline { past, coming })
     }
 }

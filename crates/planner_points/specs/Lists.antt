@@ -25,8 +25,8 @@ sooner None t after = if nat_le t after then None else Some t
 sooner (Some best) t after = if nat_le t after then Some best else Some (min best t)
 
 -- lists of the same spans leave the same
-abbrev pub same_free_of : (planner : SpanList) (some others : List Span) → AreSame planner.spans.items some →
-    AreSame planner.spans.items others → (m : ℕ) → free_at planner.total some m ≡ free_at planner.total others m
+abbrev pub same_free_of : (planner : SpanList) (some others : List Span) → AreSame planner.spans some →
+    AreSame planner.spans others → (m : ℕ) → free_at planner.total some m ≡ free_at planner.total others m
 same_free_of planner some others a b m =
     ap (λ used. planner.total - used) (sym (a (λ span. if is_in span.window m then span.quantity else 0))
     ∙ b (λ span. if is_in span.window m then span.quantity else 0))

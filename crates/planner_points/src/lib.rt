@@ -1,8 +1,8 @@
 //! Planners: what spans of time leave free of a total.
 //!
 //! A planner has a total, a horizon in whole seconds, and stands for a list of spans, each a quantity that is taken
-//! over a window. It need not keep the list, and no planner changes: a call that adds or removes a span gives a new
-//! planner.
+//! over a window. It need not keep the list. `with_span` and `without_span` give a new planner beside the old one, and
+//! the calls that begin with `into` make the new one of the old, in place where they can.
 #![tactic(auto)]
 
 mod planners;

@@ -1,5 +1,5 @@
 //! What every planner answers.
-ghost use Rattle.std.specs.Prelude.{◌≡◌, ℕ, ◌+◌, ◌<◌, ◌≤◌, List, [], ◌∷◌, ◌++◌, ◌↔◌, IfOk, IfSome, MatchOption};
+ghost use Rattle.std.specs.Prelude.{◌≡◌, ℕ, ◌+◌, ◌<◌, ◌≤◌, List, [], ◌∷◌, ◌++◌, ◌↔◌, IfOk, MatchOption};
 ghost use Rattle.planner_points.specs.declared.spans.Span.{Span};
 ghost use Rattle.planner_points.specs.Spans.{free_at, span_of, HasRoom, HasSpan, IsLeastFree, IsEnd, IsNextEnd};
 ghost use Rattle.planner_points.specs.Spans.{MayStart, IsFirstStart, IsFirstFree, IsLastBelow};
@@ -8,8 +8,8 @@ use flux_defs::{Steps, Window};
 use std::alloc::{AllocError, Global};
 use std::sync::ledger::Ledger;
 
-/// What spans leave free of a total over time. A planner never changes, and each answer holds for every list of spans
-/// that it stands for. Windows begin before they end; times are whole seconds.
+/// What spans leave free of a total over time. Each answer holds for every list of spans that the planner stands for.
+/// Windows begin before they end; times are whole seconds. A call that takes a planner and finds no memory leaves none.
 pub trait Planner: Sized {
     /// What there is where no span takes anything.
     ghost total_of: { Self → ℕ };
@@ -23,10 +23,10 @@ pub trait Planner: Sized {
     /// How many steps `min_over`, `last_below`, `first_free` and `next_point` take at most.
     ghost look_cost: { Self → ℕ };
 
-    /// How many steps `with_span` and `without_span` take at most.
+    /// How many steps a span more or less takes at most.
     ghost change_cost: { Self → ℕ };
 
-    /// How many steps `settled` takes at most.
+    /// How many steps `into_settled` takes at most.
     ghost settle_cost: { Self → ℕ };
 
     /// The planner without spans.
@@ -35,30 +35,65 @@ pub trait Planner: Sized {
         ensures horizon { IfOk result (λ planner. horizon_of planner ≡ horizon) }
         ensures spans { IfOk result (λ planner. stands_for planner []) };
 
-    /// Another planner of the same spans, which costs no copy of them.
+    /// The same planner once more, which costs no copy of its spans.
     fn share(&self) -> Result<Self, AllocError>
+        ensures same { IfOk result (λ planner. planner ≡ self.now) }
         ensures total { IfOk result (λ planner. total_of planner ≡ total_of self.now) }
         ensures horizon { IfOk result (λ planner. horizon_of planner ≡ horizon_of self.now) }
         ensures spans { IfOk result (λ planner. (spans : List Span) → stands_for self.now spans →
             stands_for planner spans) };
 
-    /// The same planner, made ready for questions from that second on: what is past stands apart, and calls that ask no
-    /// earlier second pass over it. `None` where there is nothing to set apart. Each second is right.
-    fn settled<L: Ledger>(
-        &self,
+    /// The planner made ready for questions from that second on: what is past stands apart, and calls that ask no
+    /// earlier second pass over it. Each second is right.
+    fn into_settled<L: Ledger>(
+        self,
         alloc: Global,
         moment: u64,
         steps: &mut Steps<L>,
-    ) -> Result<Option<Self>, AllocError>
-        ensures total { IfOk result (λ some. IfSome some (λ planner. total_of planner ≡ total_of self.now)) }
-        ensures horizon { IfOk result (λ some. IfSome some (λ planner. horizon_of planner ≡ horizon_of self.now)) }
-        ensures spans { IfOk result (λ some. IfSome some (λ planner. (spans : List Span) →
-            (stands_for planner spans ↔ stands_for self.now spans))) }
-        ensures look { IfOk result (λ some. IfSome some (λ planner. look_cost planner ≡ look_cost self.now)) }
-        ensures change { IfOk result (λ some. IfSome some (λ planner. change_cost planner ≡ change_cost self.now)) }
-        ensures work { steps.new ≤ steps.old + settle_cost self.now };
+    ) -> Result<Self, AllocError>
+        ensures total { IfOk result (λ planner. total_of planner ≡ total_of self) }
+        ensures horizon { IfOk result (λ planner. horizon_of planner ≡ horizon_of self) }
+        ensures spans { IfOk result (λ planner. (spans : List Span) →
+            (stands_for planner spans ↔ stands_for self spans)) }
+        ensures look { IfOk result (λ planner. look_cost planner ≡ look_cost self) }
+        ensures change { IfOk result (λ planner. change_cost planner ≡ change_cost self) }
+        ensures work { steps.new ≤ steps.old + settle_cost self };
 
-    /// The planner with one span more. So much has to be free over its window.
+    /// The planner with one span more. So much has to be free over its window. What no other planner shares is written
+    /// in place.
+    fn into_with_span<L: Ledger>(
+        self,
+        alloc: Global,
+        window: Window,
+        quantity: u64,
+        steps: &mut Steps<L>,
+    ) -> Result<Self, AllocError>
+        requires window { window.from < window.to }
+        requires room { (spans : List Span) → stands_for self spans → HasRoom (total_of self) spans window quantity }
+        ensures total { IfOk result (λ planner. total_of planner ≡ total_of self) }
+        ensures horizon { IfOk result (λ planner. horizon_of planner ≡ horizon_of self) }
+        ensures spans { IfOk result (λ planner. (before after : List Span) → stands_for self (before ++ after) →
+            stands_for planner (before ++ span_of window quantity ∷ after)) }
+        ensures work { steps.new ≤ steps.old + change_cost self };
+
+    /// The planner with one such span less. It has to stand for a list that has one. What no other planner shares is
+    /// written in place.
+    fn into_without_span<L: Ledger>(
+        self,
+        alloc: Global,
+        window: Window,
+        quantity: u64,
+        steps: &mut Steps<L>,
+    ) -> Result<Self, AllocError>
+        requires window { window.from < window.to }
+        requires span { HasSpan (stands_for self) (span_of window quantity) }
+        ensures total { IfOk result (λ planner. total_of planner ≡ total_of self) }
+        ensures horizon { IfOk result (λ planner. horizon_of planner ≡ horizon_of self) }
+        ensures spans { IfOk result (λ planner. (before after : List Span) →
+            stands_for self (before ++ span_of window quantity ∷ after) → stands_for planner (before ++ after)) }
+        ensures work { steps.new ≤ steps.old + change_cost self };
+
+    /// The planner with one span more, beside this one. So much has to be free over its window.
     fn with_span<L: Ledger>(
         &self,
         alloc: Global,
@@ -75,7 +110,7 @@ pub trait Planner: Sized {
             stands_for planner (before ++ span_of window quantity ∷ after)) }
         ensures work { steps.new ≤ steps.old + change_cost self.now };
 
-    /// The planner with one such span less. It has to stand for a list that has one.
+    /// The planner with one such span less, beside this one. It has to stand for a list that has one.
     fn without_span<L: Ledger>(
         &self,
         alloc: Global,

@@ -8,16 +8,17 @@ ghost use Rattle.planner_points.specs.Lists.{sooner, count_of};
 
 use crate::planners::Planner;
 use crate::spans::Span;
-use flux_defs::{Steps, Window};
+use flux_defs::{List, Steps, Window};
 use std::alloc::{AllocError, Global};
 use std::sync::ledger::Ledger;
 
 /// A planner that keeps the list of its spans, and walks over all of them for each answer.
 #[derive(Drop)]
 pub struct SpanList {
+    alloc: Global,
     total: u64,
     horizon: u64,
-    spans: Vec<Span>,
+    spans: List<Span>,
 }
 
 /// What the spans leave of a number at a second.
@@ -98,9 +99,9 @@ impl SpanList {
     /// The least that is free over the window: at its start, or where a span starts or ends in it.
     fn least_over(&self, window: Window) -> u64
         requires { window.from < window.to }
-        ensures { IsLeastFree self.now.total self.now.spans.items window result }
+        ensures { IsLeastFree self.now.total self.now.spans window result }
     {
-        let spans = self.spans.as_slice();
+        let spans = self.spans.items();
         let mut t = window.from;
         let mut least = left_at(spans, t, self.total);
         loop {
@@ -118,7 +119,7 @@ impl SpanList {
     /// Whether so much is free from t on for so long, and all of that before the horizon.
     fn may_start(&self, t: u64, duration: u64, quantity: u64) -> bool
         requires { 1 ≤ duration }
-        ensures { IsTrue result ↔ MayStart self.now.total self.now.horizon self.now.spans.items duration quantity t }
+        ensures { IsTrue result ↔ MayStart self.now.total self.now.horizon self.now.spans duration quantity t }
     {
         let horizon = self.horizon;
         if duration > horizon || t > horizon - duration {
@@ -135,15 +136,15 @@ impl SpanList {
     fn first_start(&self, from: u64, duration: u64, quantity: u64) -> Option<u64>
         requires { 1 ≤ duration }
         ensures { MatchOption result
-            ((t : ℕ) → from ≤ t → MayStart self.now.total self.now.horizon self.now.spans.items duration quantity t → ⊥)
-            (IsFirstStart self.now.total self.now.horizon self.now.spans.items from duration quantity) }
+            ((t : ℕ) → from ≤ t → MayStart self.now.total self.now.horizon self.now.spans duration quantity t → ⊥)
+            (IsFirstStart self.now.total self.now.horizon self.now.spans from duration quantity) }
     {
         let mut t = from;
         loop {
             if self.may_start(t, duration, quantity) {
                 return Some(t);
             }
-            let Some(next) = next_end(self.spans.as_slice(), t) else {
+            let Some(next) = next_end(self.spans.items(), t) else {
                 return None;
             };
             t = next;
@@ -156,10 +157,10 @@ impl SpanList {
     /// ends.
     fn first_left(&self, from: u64, quantity: u64) -> Option<u64>
         ensures { MatchOption result
-            ((t : ℕ) → from ≤ t → free_at self.now.total self.now.spans.items t < quantity)
-            (IsFirstFree self.now.total self.now.spans.items from quantity) }
+            ((t : ℕ) → from ≤ t → free_at self.now.total self.now.spans t < quantity)
+            (IsFirstFree self.now.total self.now.spans from quantity) }
     {
-        let spans = self.spans.as_slice();
+        let spans = self.spans.items();
         let mut t = from;
         'seconds: loop {
             if left_at(spans, t, self.total) >= quantity {
@@ -178,10 +179,10 @@ impl SpanList {
     /// starts or ends.
     fn last_left(&self, window: Window, quantity: u64) -> Option<u64>
         requires { window.from < window.to }
-        ensures { MatchOption result (HasRoom self.now.total self.now.spans.items window quantity)
-            (IsLastBelow self.now.total self.now.spans.items window quantity) }
+        ensures { MatchOption result (HasRoom self.now.total self.now.spans window quantity)
+            (IsLastBelow self.now.total self.now.spans window quantity) }
     {
-        let spans = self.spans.as_slice();
+        let spans = self.spans.items();
         let mut t = window.from;
         let mut last = None;
         'stretches: while t < window.to {
@@ -202,7 +203,7 @@ impl Planner for SpanList {
 
     ghost horizon_of = { λ planner. planner.horizon };
 
-    ghost stands_for = { λ planner spans. AreSame planner.spans.items spans };
+    ghost stands_for = { λ planner spans. AreSame planner.spans spans };
 
     ghost look_cost = { λ _. 0 };
 
@@ -213,57 +214,86 @@ impl Planner for SpanList {
     /// The planner without spans. It takes no memory.
     fn empty(alloc: Global, total: u64, horizon: u64) -> Result<SpanList, AllocError> {
         Ok(SpanList {
+            alloc,
             total,
             horizon,
-            spans: Vec::new(alloc),
+            spans: List::new(alloc),
         })
     }
 
     /// A copy of the list.
     fn share(&self) -> Result<SpanList, AllocError> {
-        let spans = self.spans.clone()?;
+        let spans = Vec::from_slice(self.alloc, self.spans.items())?;
         Ok(SpanList {
+            alloc: self.alloc,
             total: self.total,
             horizon: self.horizon,
-            spans,
+            spans: List::of_vec(spans),
         })
     }
 
     /// Nothing stands apart: each answer walks over the whole list.
-    fn settled<L: Ledger>(
-        &self,
+    fn into_settled<L: Ledger>(
+        self,
         _alloc: Global,
         _moment: u64,
         _steps: &mut Steps<L>,
-    ) -> Result<Option<SpanList>, AllocError> {
-        Ok(None)
+    ) -> Result<SpanList, AllocError> {
+        Ok(self)
     }
 
-    fn with_span<L: Ledger>(
-        &self,
+    fn into_with_span<L: Ledger>(
+        self,
         _alloc: Global,
         window: Window,
         quantity: u64,
         _steps: &mut Steps<L>,
     ) -> Result<SpanList, AllocError> {
-        let mut more = self.share()?;
+        let mut more = self;
         match more.spans.push(Span { window, quantity }) {
             Ok(()) => Ok(more),
             Err(_) => Err(AllocError),
         }
     }
 
-    fn without_span<L: Ledger>(
-        &self,
+    fn into_without_span<L: Ledger>(
+        self,
         _alloc: Global,
         window: Window,
         quantity: u64,
         _steps: &mut Steps<L>,
     ) -> Result<SpanList, AllocError> {
-        let mut less = self.share()?;
-        let at = place_of(less.spans.as_slice(), Span { window, quantity });
-        less.spans.remove(at);
-        Ok(less)
+        let at = place_of(self.spans.items(), Span { window, quantity });
+        let mut spans = self.spans.into_vec();
+        spans.remove(at);
+        Ok(SpanList {
+            alloc: self.alloc,
+            total: self.total,
+            horizon: self.horizon,
+            spans: List::of_vec(spans),
+        })
+    }
+
+    fn with_span<L: Ledger>(
+        &self,
+        alloc: Global,
+        window: Window,
+        quantity: u64,
+        steps: &mut Steps<L>,
+    ) -> Result<SpanList, AllocError> {
+        let same = self.share()?;
+        same.into_with_span(alloc, window, quantity, steps)
+    }
+
+    fn without_span<L: Ledger>(
+        &self,
+        alloc: Global,
+        window: Window,
+        quantity: u64,
+        steps: &mut Steps<L>,
+    ) -> Result<SpanList, AllocError> {
+        let same = self.share()?;
+        same.into_without_span(alloc, window, quantity, steps)
     }
 
     fn min_over<L: Ledger>(&self, window: Window, _steps: &mut Steps<L>) -> u64 {
@@ -299,7 +329,7 @@ impl Planner for SpanList {
     }
 
     fn next_point<L: Ledger>(&self, after: u64, _steps: &mut Steps<L>) -> Option<u64> {
-        next_end(self.spans.as_slice(), after)
+        next_end(self.spans.items(), after)
     }
 
     ghost same_free = { same_free_of };

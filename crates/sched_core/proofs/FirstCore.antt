@@ -14,7 +14,10 @@ use Rattle.book_state.specs.declared.held.BookState.{BookState}
 use Rattle.book_state.specs.Books.{graph_of, horizon_of, moment_of, rows_of, StandsFor}
 use Rattle.sched_core.specs.declared.held.Site.{Site}
 use Rattle.sched_core.specs.declared.held.Kept.{Kept}
+use Rattle.sched_core.specs.declared.held.Keeping.{Keeping}
+use Rattle.sched_core.specs.declared.held.Keeping.TheVariants as keeping
 use Rattle.sched_core.specs.Courses.{left_by, graph_at, vertices_at, journal_in, setting_in, IsBookOf, IsCore}
+use Rattle.sched_core.specs.Courses.{setting_left, course_at, IsKeptAt}
 use Rattle.sched_core.proofs.JobLaws.{Told}
 use Rattle.list_laws.proofs.Lists.{contains_none}
 
@@ -46,9 +49,29 @@ pub sound_throughout : (site : Site) (kept : Kept) → IsCore site kept →
 sound_throughout site kept core = legal_keeps (setting_in site kept) (graph_at site).names core.whole.valid
     (journal_in kept) core.proper core.legal
 
-pub sound_last : (site : Site) (kept : Kept) → IsCore site kept →
-    IsSound (vertices_at site) (left_by (journal_in kept)).jobs
-sound_last site kept core =
-    subst (λ (j : List Entry). IsSound (vertices_at site) (left_by j).jobs)
-    (take_all (length (journal_in kept)) (journal_in kept) (omega arith))
-    (sound_throughout site kept core (length (journal_in kept)))
+-- the same of what a scheduler keeps, with or without its book
+pub kept_legal : (site : Site) (k : Keeping) → IsKeptAt site k →
+    IsLegal (course_at site k).setting (course_at site k).journal
+kept_legal site (keeping.Whole kept) core = core.legal
+kept_legal site (keeping.Remains left) is = is.legal
+kept_legal site keeping.Nothing is = elim is [ ]
+
+pub kept_proper : (site : Site) (k : Keeping) → IsKeptAt site k →
+    HasProperCommands (course_at site k).setting.graph.vertices (course_at site k).journal
+kept_proper site (keeping.Whole kept) core = core.proper
+kept_proper site (keeping.Remains left) is = is.proper
+kept_proper site keeping.Nothing is = elim is [ ]
+
+pub kept_sound : (site : Site) (k : Keeping) → IsKeptAt site k →
+    IsSoundThroughout (course_at site k).setting.graph.vertices (course_at site k).journal
+kept_sound site (keeping.Whole kept) core = sound_throughout site kept core
+kept_sound site (keeping.Remains left) is =
+    legal_keeps (setting_left site left) (graph_at site).names is.whole.valid left.journal is.proper is.legal
+kept_sound site keeping.Nothing is = elim is [ ]
+
+pub kept_last : (site : Site) (k : Keeping) → IsKeptAt site k →
+    IsSound (course_at site k).setting.graph.vertices (left_by (course_at site k).journal).jobs
+kept_last site k is =
+    let journal = (course_at site k).journal in
+    subst (λ (j : List Entry). IsSound (course_at site k).setting.graph.vertices (left_by j).jobs)
+    (take_all (length journal) journal (omega arith)) (kept_sound site k is (length journal))

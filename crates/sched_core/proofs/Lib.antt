@@ -11,3 +11,4 @@ pub mod SharedCore
 pub mod Committed
 pub mod CommitCounts
 pub mod SearchCounts
+pub mod Remains

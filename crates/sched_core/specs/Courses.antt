@@ -1,5 +1,5 @@
 -- What a scheduler of one thread is seen as, and what it keeps.
-use Rattle.std.specs.Prelude.{◌≡◌, ℕ, ◌≤◌, List, [], ◌∷◌, ◌++◌, length, map, Contains, Some, None, if◌then◌else◌}
+use Rattle.std.specs.Prelude.{◌≡◌, ℕ, ◌≤◌, List, [], ◌∷◌, ◌++◌, length, take, map, Contains, Some, None, if◌then◌else◌}
 use Rattle.std.specs.Prelude.{MatchOption}
 use Rattle.std.specs.Arc.{arc_value}
 use Rattle.std.specs.FinMap.{get, len}
@@ -18,7 +18,11 @@ use Rattle.job_table.specs.declared.tables.Row.{Row}
 use Rattle.book_state.specs.declared.held.BookState.{BookState}
 use Rattle.sched_core.specs.declared.held.Site.{Site}
 use Rattle.sched_core.specs.declared.held.Kept.{Kept}
+use Rattle.sched_core.specs.declared.held.Remains.{Remains}
+use Rattle.sched_core.specs.declared.held.Keeping.{Keeping}
+use Rattle.sched_core.specs.declared.held.Keeping.TheVariants as keeping
 use Rattle.book_state.specs.Books.{graph_of, rules_of, horizon_of, moment_of, rows_of, StandsFor}
+use Rattle.book_state.specs.Frames.{graph_in, rules_in, horizon_in}
 
 -- a setting that never changes, and the journal
 pub record Course : Type 0 where
@@ -100,6 +104,47 @@ pub record IsCore (site : Site) (kept : Kept) : Type 0 where
   pub proper : HasProperCommands (vertices_at site) (journal_in kept)
   pub book-of : IsBookOf (journal_in kept) kept.book
   pub claims-are : kept.claim_count ≡ (left_by (journal_in kept)).claim_count
+
+-- what is seen of a site and what is kept there
+abbrev pub course_in : Site → Kept → Course
+course_in site kept = record { setting = setting_in site kept; journal = journal_in kept }
+
+-- what never changes, with the rules of the frame
+abbrev pub setting_left : Site → Remains → Setting
+setting_left site left = setting_of (arc_value site.graph).resources (rules_in left.frame) site.horizon site.claim_limit
+
+-- The same without a book: its frame is of the site, and moment and count of claims are those of the journal.
+pub record IsLeft (site : Site) (left : Remains) : Type 0 where
+  pub whole : IsWhole (graph_at site)
+  pub graph-is : graph_in left.frame ≡ graph_at site
+  pub horizon-is : horizon_in left.frame ≡ site.horizon
+  pub legal : IsLegal (setting_left site left) left.journal
+  pub proper : HasProperCommands (vertices_at site) left.journal
+  pub moment-is : left.moment ≡ (left_by left.journal).moment
+  pub claims-are : left.claim_count ≡ (left_by left.journal).claim_count
+
+-- what is kept is made again up to that place of the journal
+pub record IsMadeTo (site : Site) (left : Remains) (n : ℕ) (kept : Kept) : Type 0 where
+  pub core : IsCore site kept
+  pub setting : setting_in site kept ≡ setting_left site left
+  pub journal : journal_in kept ≡ take n left.journal
+
+-- what is seen of a scheduler that keeps this
+abbrev pub course_at : Site → Keeping → Course
+course_at site (keeping.Whole kept) = course_in site kept
+course_at site (keeping.Remains left) = record { setting = setting_left site left; journal = left.journal }
+course_at site keeping.Nothing = record { setting = setting_of (arc_value site.graph).resources [] 0 0; journal = [] }
+
+-- what a scheduler keeps is in order
+abbrev pub IsKeptAt : Site → Keeping → Type 0
+IsKeptAt site (keeping.Whole kept) = IsCore site kept
+IsKeptAt site (keeping.Remains left) = IsLeft site left
+IsKeptAt site keeping.Nothing = ⊥
+
+-- it is seen as before, whatever became of the book
+pub record Stays (site : Site) (kept : Kept) (k : Keeping) : Type 0 where
+  pub in-order : IsKeptAt site k
+  pub course : course_at site k ≡ course_in site kept
 
 -- the next one has one entry more, and the same setting
 pub record Grows (site : Site) (old new : Kept) (entry : Entry) : Type 0 where

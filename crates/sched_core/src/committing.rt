@@ -1,9 +1,9 @@
 //! The reply of an older candidate, or why it has none.
-ghost use Rattle.std.specs.Prelude.{◌≡◌, ℕ, ◌+◌, ◌*◌, ◌≤◌, length, IfOk, MatchOption, Contains};
+ghost use Rattle.std.specs.Prelude.{◌≡◌, ℕ, ◌+◌, ◌*◌, ◌≤◌, length, IfOk, IfErr, MatchOption, Contains};
 ghost use Rattle.std.specs.FinMap.{len};
 ghost use Rattle.flux_defs.specs.declared.journal.Reply.TheVariants as reply;
 ghost use Rattle.flux_defs.specs.Digits.{dig};
-ghost use Rattle.flux_defs.specs.Scheduler.{Where};
+ghost use Rattle.flux_defs.specs.Scheduler.{Where, IsProper, Replies};
 ghost use Rattle.flux_defs.specs.Histories.{state_at};
 ghost use Rattle.flux_defs.specs.Verdicts.{Finds, FindsJob, Yields, YieldsJob};
 ghost use Rattle.flux_defs.specs.Overtaken.{IsOvertaken};
@@ -11,17 +11,20 @@ ghost use Rattle.commit_laws.specs.CommitLaws.{StillStands};
 ghost use Rattle.book_state.specs.Books.{rows_of, cost_of};
 ghost use Rattle.overtaken_check.specs.Scans.{cause_of, candidate_of};
 ghost use Rattle.overtaken_check.specs.Costs.{scan_most, claims_found};
-ghost use Rattle.sched_core.specs.Courses.{left_by, journal_in, setting_in, IsCore};
-ghost use Rattle.sched_core.specs.Answered.{FindsAt, none_at};
+ghost use Rattle.sched_core.specs.Courses.{left_by, journal_in, vertices_at, setting_in, course_in, course_at, IsCore};
+ghost use Rattle.sched_core.specs.Courses.{IsKeptAt, Stays};
+ghost use Rattle.sched_core.specs.Candidates.{IsFor, IsJudged, IsCommitted};
+ghost use Rattle.sched_core.specs.Answered.{FindsAt, none_at, IsDecided};
 ghost use Rattle.sched_core.specs.Judged.{IsJudgedOf};
-ghost use Rattle.sched_core.specs.Costs.{AddsAtMost, IsToldAtMost};
+ghost use Rattle.sched_core.specs.Costs.{AddsAtMost, IsToldAtMost, judge_most, append_most, commit_most};
 
-use crate::candidates::copy_verdict;
+use crate::appending::append;
+use crate::candidates::{Candidate, Commit, copy_verdict};
 use crate::finding::{Starts, is_used};
 use crate::giving::give;
-use crate::held::{Kept, Site};
+use crate::held::{Keeping, Kept, Site};
 use crate::replying::{none_at, reached};
-use flux_defs::{Ask, Command, Reply, Steps, Verdict};
+use flux_defs::{Ask, Command, Entry, Reply, Steps, Verdict};
 use overtaken_check::{Cause, overtaken};
 use std::alloc::AllocError;
 use std::sync::ledger::Ledger;
@@ -203,4 +206,114 @@ pub(crate) fn judge<L: Ledger>(
         Some(cause) => Ok(Judged::Overtaken(cause)),
         None => fresh(site, kept, kept.book.now(), command, place, verdict, steps),
     }
+}
+
+/// Keeps the entry of the candidate's command with this reply, and answers its place. The snapshot that was searched
+/// gives its book up before, so that what no other one shares is written in place. On want of memory the candidate
+/// comes back, and nothing is changed but that the book may be lost.
+fn placed<L: Ledger>(
+    site: &Site,
+    kept: Kept,
+    client: u32,
+    line: u32,
+    candidate: Candidate,
+    reply: Reply,
+    steps: &mut Steps<L>,
+) -> Result<(Kept, u64), (Keeping, Candidate)>
+    requires core { IsCore site.now kept }
+    requires proper { IsProper (vertices_at site.now) candidate.command }
+    requires reply { Replies (setting_in site.now kept) (left_by (journal_in kept)) candidate.command reply }
+    ensures place { IfOk result (λ r. r.1 ≡ length (journal_in kept)) }
+    ensures core { IfOk result (λ r. IsCore site.now r.0) }
+    ensures decided { IfOk result
+        (λ r. IsDecided (course_in site.now kept) (course_in site.now r.0) client line candidate.command) }
+    ensures err { IfErr result (λ e. Stays site.now kept e.0 × (e.1 ≡ candidate)) }
+    ensures work { (most : ℕ) → AddsAtMost most reply →
+        steps.new ≤ steps.old + append_most (course_in site.now kept) most }
+{
+    let end = kept.journal.len();
+    let Candidate {
+        command,
+        snap,
+        place,
+        verdict,
+    } = candidate;
+    let snap = snap.without_book();
+    let entry = Entry {
+        client,
+        line,
+        command,
+        reply,
+    };
+    match append(site, kept, entry, steps) {
+        Ok(next) => Ok((next, end)),
+        Err((keeping, command)) => Err((
+            keeping,
+            Candidate {
+                command,
+                snap,
+                place,
+                verdict,
+            },
+        )),
+    }
+}
+
+/// Commits a candidate to what is kept: what is kept then, and the answer. On want of memory the candidate comes back,
+/// and nothing is changed but that the book may be lost.
+pub(crate) fn commit<L: Ledger>(
+    site: &Site,
+    kept: Kept,
+    client: u32,
+    line: u32,
+    candidate: Candidate,
+    steps: &mut Steps<L>,
+) -> (Keeping, Result<Commit, (Candidate, AllocError)>)
+    requires core { IsCore site.now kept }
+    requires candidate { IsFor (course_in site.now kept) candidate }
+    ensures kept { IsKeptAt site.now result.0 }
+    ensures ok { IfOk result.1
+        (IsCommitted (course_in site.now kept) (course_at site.now result.0) client line candidate) }
+    ensures err { IfErr result.1
+        (λ e. (course_at site.now result.0 ≡ course_in site.now kept) × (e.0 ≡ candidate)) }
+    ensures work { steps.new ≤ steps.old + commit_most (course_in site.now kept) candidate }
+{
+    match judge_candidate(site, &kept, &candidate, steps) {
+        Err(fault) => (Keeping::Whole(kept), Err((candidate, fault))),
+        Ok(Judged::Overtaken(cause)) => (
+            Keeping::Whole(kept),
+            Ok(Commit::Stale { candidate, cause }),
+        ),
+        Ok(Judged::Fresh(reply)) => {
+            match placed(site, kept, client, line, candidate, reply, steps) {
+                Ok((next, at)) => (Keeping::Whole(next), Ok(Commit::Done { at })),
+                Err((keeping, candidate)) => (keeping, Err((candidate, AllocError))),
+            }
+        }
+    }
+}
+
+/// The reply that the candidate has now, or by what it is overtaken.
+fn judge_candidate<L: Ledger>(
+    site: &Site,
+    kept: &Kept,
+    candidate: &Candidate,
+    steps: &mut Steps<L>,
+) -> Result<Judged, AllocError>
+    requires core { IsCore site.now kept.now }
+    requires candidate { IsFor (course_in site.now kept.now) candidate.now }
+    ensures answer { IfOk result (IsJudged (course_in site.now kept.now) candidate.now) }
+    ensures few { IfOk result (IsToldAtMost (length (claims_found candidate.now.verdict))) }
+    ensures work { steps.new ≤ steps.old + judge_most (course_in site.now kept.now) candidate.now }
+{
+    let moment = candidate.snap.now();
+    judge(
+        site,
+        kept,
+        &candidate.command,
+        candidate.place,
+        moment,
+        &candidate.verdict,
+        steps,
+    )
 }

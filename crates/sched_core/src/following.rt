@@ -21,17 +21,17 @@ use std::sync::ledger::Ledger;
 fn after_accepted<L: Ledger>(
     alloc: Global,
     entries: &Pages<Entry>,
-    book: &BookState,
+    book: BookState,
     job: &Job,
     steps: &mut Steps<L>,
 ) -> Result<BookState, AllocError>
-    requires book { IsBookOf entries.now book.now }
-    requires may { MayAdd book.now job.now }
-    ensures setting { IfOk result (HaveOneSetting book.now) }
+    requires book { IsBookOf entries.now book }
+    requires may { MayAdd book job.now }
+    ensures setting { IfOk result (HaveOneSetting book) }
     ensures book { IfOk result (λ next. (e : Entry) → HasAccepted e job.now → IsBookOf (entries.now ++ e ∷ []) next) }
-    ensures work { steps.new ≤ steps.old + change_cost_of book.now (length job.now.claims) }
+    ensures work { steps.new ≤ steps.old + change_cost_of book (length job.now.claims) }
 {
-    let next = book.after_add(alloc, job, entries.len(), steps)?;
+    let next = book.into_added(alloc, job, entries.len(), steps)?;
     Ok(next)
 }
 
@@ -39,60 +39,58 @@ fn after_accepted<L: Ledger>(
 fn after_cancelled<L: Ledger>(
     alloc: Global,
     entries: &Pages<Entry>,
-    book: &BookState,
+    book: BookState,
     id: u64,
     steps: &mut Steps<L>,
 ) -> Result<BookState, AllocError>
-    requires book { IsBookOf entries.now book.now }
+    requires book { IsBookOf entries.now book }
     requires there { IsSome (job_with id (left_by entries.now).jobs) }
-    ensures setting { IfOk result (HaveOneSetting book.now) }
+    ensures setting { IfOk result (HaveOneSetting book) }
     ensures book { IfOk result (λ next. (e : Entry) →
         e.command ≡ command.Cancel id → e.reply ≡ reply.Cancelled → IsBookOf (entries.now ++ e ∷ []) next) }
 {
-    match live_job(entries, book, id, steps) {
+    match live_job(entries, &book, id, steps) {
         None => unreachable!(),
         Some(job) => {
-            let next = book.after_remove(alloc, job, steps)?;
+            let next = book.into_removed(alloc, job, steps)?;
             Ok(next)
         }
     }
 }
 
 /// The book at another moment.
-fn after_moved(book: &BookState, to: u64) -> Result<BookState, AllocError>
-    ensures setting { IfOk result (HaveOneSetting book.now) }
-    ensures book { IfOk result (λ next. (journal : List Entry) (e : Entry) →
-        IsBookOf journal book.now → e.reply ≡ reply.Now to → IsBookOf (journal ++ e ∷ []) next) }
+fn after_moved(book: BookState, to: u64) -> BookState
+    ensures setting { HaveOneSetting book result }
+    ensures book { (journal : List Entry) (e : Entry) →
+        IsBookOf journal book → e.reply ≡ reply.Now to → IsBookOf (journal ++ e ∷ []) result }
 {
-    let next = book.after_advance(to)?;
-    Ok(next)
+    book.into_advanced(to)
 }
 
 /// The same book.
-fn unchanged(book: &BookState) -> Result<BookState, AllocError>
-    ensures setting { IfOk result (HaveOneSetting book.now) }
-    ensures book { IfOk result (λ next. (journal : List Entry) (e : Entry) →
-        IsBookOf journal book.now → ChangesNothing e.reply → IsBookOf (journal ++ e ∷ []) next) }
+fn unchanged(book: BookState) -> BookState
+    ensures setting { HaveOneSetting book result }
+    ensures book { (journal : List Entry) (e : Entry) →
+        IsBookOf journal book → ChangesNothing e.reply → IsBookOf (journal ++ e ∷ []) result }
 {
-    let next = book.share()?;
-    Ok(next)
+    book
 }
 
 /// The book after one entry more with this command and this reply.
 pub(crate) fn follow<L: Ledger>(
     alloc: Global,
     entries: &Pages<Entry>,
-    book: &BookState,
+    book: BookState,
     command: &Command,
     reply: &Reply,
     steps: &mut Steps<L>,
 ) -> Result<BookState, AllocError>
-    requires book { IsBookOf entries.now book.now }
-    requires may { MayFollow book.now (left_by entries.now) command.now reply.now }
-    ensures setting { IfOk result (HaveOneSetting book.now) }
+    requires book { IsBookOf entries.now book }
+    requires may { MayFollow book (left_by entries.now) command.now reply.now }
+    ensures setting { IfOk result (HaveOneSetting book) }
     ensures book { IfOk result
         (λ next. (e : Entry) → e.command ≡ command.now → e.reply ≡ reply.now → IsBookOf (entries.now ++ e ∷ []) next) }
-    ensures work { (most : ℕ) → AddsAtMost most reply.now → steps.new ≤ steps.old + change_cost_of book.now most }
+    ensures work { (most : ℕ) → AddsAtMost most reply.now → steps.new ≤ steps.old + change_cost_of book most }
 {
     match reply {
         Reply::Allocated(job) => after_accepted(alloc, entries, book, job, steps),
@@ -101,7 +99,7 @@ pub(crate) fn follow<L: Ledger>(
             Command::Cancel { job } => after_cancelled(alloc, entries, book, *job, steps),
             _ => unreachable!(),
         },
-        Reply::Now { at } => after_moved(book, *at),
-        _ => unchanged(book),
+        Reply::Now { at } => Ok(after_moved(book, *at)),
+        _ => Ok(unchanged(book)),
     }
 }

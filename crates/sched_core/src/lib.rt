@@ -10,6 +10,7 @@ mod following;
 mod giving;
 mod held;
 pub mod playing;
+mod remaking;
 mod replying;
 pub mod scheduler;
 mod searching;

@@ -4,25 +4,26 @@ ghost use Rattle.std.specs.Option.{option_copied};
 ghost use Rattle.std.specs.Arc.{arc_value};
 ghost use Rattle.flux_defs.specs.Scheduler.{IsProper, Replies};
 ghost use Rattle.flux_defs.specs.Histories.{IsLegal, HasProperCommands};
-ghost use Rattle.flux_defs.specs.Verdicts.{IsSearchable};
+ghost use Rattle.flux_defs.specs.Verdicts.{Finds, IsSearchable};
 ghost use Rattle.flux_defs.specs.Sound.{IsSound, IsSoundThroughout};
-ghost use Rattle.sched_core.specs.Courses.{state_of, empty_course};
+ghost use Rattle.sched_core.specs.Courses.{state_of, empty_course, course_in, IsCore};
 ghost use Rattle.sched_core.specs.Answered.{IsDecided};
 ghost use Rattle.overtaken_check.specs.Costs.{claims_found};
 ghost use Rattle.sched_core.specs.Candidates.{IsFor, IsJudged, IsCommitted};
 ghost use Rattle.sched_core.specs.Costs.{AddsAtMost, IsToldAtMost, judge_most, append_most, commit_most};
-ghost use Rattle.sched_core.specs.SearchCosts.{CourseTakes, last_found};
+ghost use Rattle.sched_core.specs.SearchCosts.{CourseTakes, last_found, last_in};
 
-use crate::appending::append;
+use crate::appending::without_book;
 use crate::candidates::{Candidate, Commit};
-use crate::committing::{Judged, judge};
+use crate::committing::commit;
 use crate::deciding::decide;
-use crate::held::{Kept, Site};
+use crate::held::{Keeping, Kept, Site};
+use crate::remaking::{remade, taken};
 use crate::searching::find;
 use crate::sharing::shared;
 use crate::snaps::Snap;
 use book_state::BookState;
-use flux_defs::{Command, Entry, Reply, Steps};
+use flux_defs::{Command, Entry, Steps, Verdict};
 use prune_filters::Rules;
 use resource_graph::Graph;
 use snapshot_store::Pages;
@@ -37,21 +38,35 @@ use std::sync::ledger::{Blank, Ledger};
 #[derive(Drop)]
 pub struct Core {
     site: Site,
-    kept: Kept,
+    keeping: Keeping,
 }
 
 impl Model for Core {
     ghost use Rattle.flux_defs.specs.contracts.requests.Need as need;
     ghost use Rattle.std.specs.Coded.{codes};
-    ghost use Rattle.sched_core.specs.Courses.{Course, IsCore, setting_in, journal_in};
+    ghost use Rattle.sched_core.specs.Courses.{Course, course_at, IsKeptAt};
 
     ghost Value = { Course };
 
     ghost coded = { Prim.hlevel (codes, need.the_row.coded) };
 
-    ghost view = { λ c. record { setting = setting_in c.site c.kept; journal = journal_in c.kept } };
+    ghost view = { λ c. course_at c.site c.keeping };
 
-    ghost invariant = { λ c. IsCore c.site c.kept };
+    ghost invariant = { λ c. IsKeptAt c.site c.keeping };
+}
+
+/// The same of what is kept at a site, which stays as it is.
+fn snap_of(site: &Site, kept: &Kept) -> Result<Snap, AllocError>
+    requires { IsCore site.now kept.now }
+    ensures { IfOk result (λ snap. snap ≡ course_in site.now kept.now) }
+{
+    let (site, kept) = shared(site, kept)?;
+    Ok(Snap {
+        core: Core {
+            site,
+            keeping: Keeping::Whole(kept),
+        },
+    })
 }
 
 impl Core {
@@ -75,11 +90,11 @@ impl Core {
                 horizon,
                 claim_limit: claims,
             },
-            kept: Kept {
+            keeping: Keeping::Whole(Kept {
                 journal: Pages::empty(),
                 book,
                 claim_count: 0,
-            },
+            }),
         })
     }
 
@@ -87,14 +102,18 @@ impl Core {
     pub fn len(&self) -> u64
         ensures { result ≡ length self.now.journal }
     {
-        self.kept.journal.len()
+        self.entries().len()
     }
 
     /// The present moment, in seconds. It takes no memory.
     pub fn now(&self) -> u64
         ensures { result ≡ (state_of self.now).moment }
     {
-        self.kept.book.now()
+        match &self.keeping {
+            Keeping::Whole(kept) => kept.book.now(),
+            Keeping::Remains(left) => left.moment,
+            Keeping::Nothing => unreachable!(),
+        }
     }
 
     /// The entry at a place from 0, and `None` exactly from the journal's end on. It takes no memory.
@@ -111,14 +130,18 @@ impl Core {
         ensures { option_copied result ≡ slice_get self.now.journal at }
     {
         let mut steps: Steps<L> = Steps::new(blank);
-        self.kept.journal.get(at, &mut steps)
+        self.entries().get(at, &mut steps)
     }
 
     /// The journal's entries, in order. It takes no memory.
     pub fn entries(&self) -> &Pages<Entry>
         ensures { result.now ≡ self.now.journal }
     {
-        &self.kept.journal
+        match &self.keeping {
+            Keeping::Whole(kept) => &kept.journal,
+            Keeping::Remains(left) => &left.journal,
+            Keeping::Nothing => unreachable!(),
+        }
     }
 
     /// The same setting and journal, which stay as they are when this scheduler goes on. It costs as little for a long
@@ -126,10 +149,43 @@ impl Core {
     pub fn snap(&self) -> Result<Snap, AllocError>
         ensures { IfOk result (λ snap. snap ≡ self.now) }
     {
-        let (site, kept) = shared(&self.site, &self.kept)?;
-        Ok(Snap {
-            core: Core { site, kept },
-        })
+        match &self.keeping {
+            Keeping::Whole(kept) => snap_of(&self.site, kept),
+            Keeping::Remains(left) => {
+                let kept = remade(&self.site, left)?;
+                snap_of(&self.site, &kept)
+            }
+            Keeping::Nothing => unreachable!(),
+        }
+    }
+
+    /// The same, whose book is given up. It takes no memory.
+    pub(crate) fn without_book(self) -> Core
+        ensures { result ≡ self }
+    {
+        let Core { site, keeping } = self;
+        let keeping = match keeping {
+            Keeping::Whole(kept) => Keeping::Remains(without_book(kept)),
+            other => other,
+        };
+        Core { site, keeping }
+    }
+
+    /// What is found of the command in this state. A scheduler without its book answers want of memory, the only error.
+    fn found<L: Ledger>(
+        &self,
+        command: &Command,
+        steps: &mut Steps<L>,
+    ) -> Result<Verdict, AllocError>
+        requires searchable { IsSearchable command.now }
+        requires proper { IsProper self.now.setting.graph.vertices command.now }
+        ensures found { IfOk result (Finds self.now.setting (state_of self.now) command.now) }
+        ensures work { CourseTakes self.now command.now (last_in self.now.setting.horizon result) steps.old steps.new }
+    {
+        match &self.keeping {
+            Keeping::Whole(kept) => find(&self.site, kept, command, steps),
+            Keeping::Remains(_) | Keeping::Nothing => Err(AllocError),
+        }
     }
 
     /// What is found of a command in the state of a snapshot; room for the claims is left aside. On want of memory,
@@ -151,7 +207,7 @@ impl Core {
             Err(fault) => return Err((command, fault)),
         };
         let place = same.len();
-        match find(&snap.core.site, &snap.core.kept, &command, steps) {
+        match same.core.found(&command, steps) {
             Err(fault) => Err((command, fault)),
             Ok(verdict) => Ok(Candidate {
                 command,
@@ -197,81 +253,13 @@ impl Core {
         ensures err { IfErr result (λ e. (self.new ≡ self.old) × (e.0 ≡ candidate)) }
         ensures work { steps.new ≤ steps.old + commit_most self.old candidate }
     {
-        match self.judge(&candidate, steps) {
+        match taken(&self.site, &mut self.keeping) {
             Err(fault) => Err((candidate, fault)),
-            Ok(Judged::Overtaken(cause)) => Ok(Commit::Stale { candidate, cause }),
-            Ok(Judged::Fresh(reply)) => match self.append_reply(
-                client, line, candidate, reply, steps,
-            ) {
-                Ok(at) => Ok(Commit::Done { at }),
-                Err(refused) => Err(refused),
-            },
-        }
-    }
-
-    /// The reply that the candidate has now, or by what it is overtaken.
-    fn judge<L: Ledger>(
-        &self,
-        candidate: &Candidate,
-        steps: &mut Steps<L>,
-    ) -> Result<Judged, AllocError>
-        requires { IsFor self.now candidate.now }
-        ensures answer { IfOk result (IsJudged self.now candidate.now) }
-        ensures few { IfOk result (IsToldAtMost (length (claims_found candidate.now.verdict))) }
-        ensures work { steps.new ≤ steps.old + judge_most self.now candidate.now }
-    {
-        let moment = candidate.snap.now();
-        judge(
-            &self.site,
-            &self.kept,
-            &candidate.command,
-            candidate.place,
-            moment,
-            &candidate.verdict,
-            steps,
-        )
-    }
-
-    /// Appends the entry of the candidate's command with this reply.
-    fn append_reply<L: Ledger>(
-        &mut self,
-        client: u32,
-        line: u32,
-        candidate: Candidate,
-        reply: Reply,
-        steps: &mut Steps<L>,
-    ) -> Result<u64, (Candidate, AllocError)>
-        requires proper { IsProper self.old.setting.graph.vertices candidate.command }
-        requires reply { Replies self.old.setting (state_of self.old) candidate.command reply }
-        ensures place { IfOk result (λ at. at ≡ length self.old.journal) }
-        ensures decided { IfOk result (λ _. IsDecided self.old self.new client line candidate.command) }
-        ensures err { IfErr result (λ e. (self.new ≡ self.old) × (e.0 ≡ candidate)) }
-        ensures work { (most : ℕ) → AddsAtMost most reply → steps.new ≤ steps.old + append_most self.old most }
-    {
-        let end = self.kept.journal.len();
-        let Candidate {
-            command,
-            snap,
-            place,
-            verdict,
-        } = candidate;
-        let entry = Entry {
-            client,
-            line,
-            command,
-            reply,
-        };
-        match append(&self.site, &mut self.kept, entry, steps) {
-            Ok(()) => Ok(end),
-            Err((command, fault)) => Err((
-                Candidate {
-                    command,
-                    snap,
-                    place,
-                    verdict,
-                },
-                fault,
-            )),
+            Ok(kept) => {
+                let (keeping, answer) = commit(&self.site, kept, client, line, candidate, steps);
+                self.keeping = keeping;
+                answer
+            }
         }
     }
 
@@ -283,7 +271,7 @@ impl Core {
         ensures throughout { IsSoundThroughout self.now.setting.graph.vertices self.now.journal }
         ensures sound { IsSound self.now.setting.graph.vertices (state_of self.now).jobs }
     {
-        let _ = &self.kept.claim_count;
+        let _ = &self.site.claim_limit;
     }
 
     /// Appends the entry of a command, with the scheduler's reply, and answers its place. On want of memory, which is
@@ -322,17 +310,19 @@ impl Core {
         ensures err { IfErr result (λ e. (self.new ≡ self.old) × (e.0 ≡ command)) }
     {
         let mut steps: Steps<L> = Steps::new(blank);
-        let at = self.kept.journal.len();
-        match decide(
-            &self.site,
-            &mut self.kept,
-            client,
-            line,
-            command,
-            &mut steps,
-        ) {
-            Ok(()) => Ok(at),
-            Err(fault) => Err(fault),
+        let at = self.len();
+        match taken(&self.site, &mut self.keeping) {
+            Err(fault) => Err((command, fault)),
+            Ok(kept) => match decide(&self.site, kept, client, line, command, &mut steps) {
+                Ok(next) => {
+                    self.keeping = Keeping::Whole(next);
+                    Ok(at)
+                }
+                Err((keeping, command)) => {
+                    self.keeping = keeping;
+                    Err((command, AllocError))
+                }
+            },
         }
     }
 }

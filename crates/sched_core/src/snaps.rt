@@ -47,4 +47,14 @@ impl Snap {
     {
         self.core.entry(at)
     }
+
+    /// The same snapshot, whose book is given up: it would be made again, should the snapshot be searched once more. It
+    /// takes no memory.
+    pub(crate) fn without_book(self) -> Snap
+        ensures { result ≡ self }
+    {
+        Snap {
+            core: self.core.without_book(),
+        }
+    }
 }

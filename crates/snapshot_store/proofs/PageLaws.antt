@@ -73,6 +73,13 @@ module _ {E : Type 0} (page : Page E) (place : ℕ) (part new : List E × ℕ) (
   kept_seen seen q g e = ap (λ u. (items_in u, page.below + 1))
       (parts_after _ e ∙ set_back (parts_in page) place part g) ∙ sym q
 
+-- an open part has at that place what its part has at the rest
+pub item_in : {E : Type 0} (seen : List E × ℕ) (page : Page E) (part : List E × ℕ) (place at rest : ℕ) (x : E) →
+    seen ≡ (items_in (parts_in page), page.below + 1) → HasItem page at part place rest →
+    slice_get part.0 rest ≡ Some x → slice_get seen.0 at ≡ Some x
+item_in {E} seen page part place at rest x q it is =
+    ap (λ (u : List E × ℕ). slice_get u.0 at) q ∙ it.same ∙ is
+
 -- an open part of that height has room for as many items as sixteen of its parts
 pub room_in : {E : Type 0} (seen : List E × ℕ) (page : Page E) (height at : ℕ) →
     seen ≡ (items_in (parts_in page), page.below + 1) → (0 < seen.1 → seen.1 ≡ height) → at < 2 ^ (4 * height) →

@@ -1,6 +1,6 @@
 //! Lists, of which old versions stay.
 ghost use Rattle.std.specs.Prelude.{◌≡◌, ℕ, ◌+◌, ◌*◌, ◌^◌, ◌<◌, ◌≤◌, ◌↔◌, IsTrue, List, [], ◌∷◌, ◌++◌, length};
-ghost use Rattle.std.specs.Prelude.{slice_get, slice_set, IfOk, IfErr, OnOk, OnErr};
+ghost use Rattle.std.specs.Prelude.{slice_get, slice_set, Some, IfOk, IfErr, OnOk, OnErr};
 ghost use Rattle.std.specs.Option.{option_copied};
 ghost use Rattle.flux_defs.specs.Digits.{dig};
 ghost use Rattle.snapshot_store.specs.Parts.{IsPart};
@@ -13,9 +13,9 @@ use std::marker::Model;
 use std::mem;
 use std::sync::ledger::Ledger;
 
-/// A list of items; contracts see just that. `snap` gives the same list again at the cost of one shared node. `put` and
-/// `push` change a list in place, and `with` and `with_pushed` give a changed one: in each case every list that was
-/// taken before stays as it was, and the nodes that a change doesn't lead through are held in common.
+/// A list of items; contracts see just that. `snap` gives the same list again at the cost of one shared node. `put`,
+/// `swap` and `push` change a list in place, and `with` and `with_pushed` give a changed one: in each case every list
+/// that was taken before stays as it was, and the nodes that a change doesn't lead through are held in common.
 ///
 /// A call takes at most a step for each level of sixteen parts a node, and one for the item: five for 65,536 items.
 /// Where no memory is left a call that was given an item gives it back, and the list is as before.
@@ -63,6 +63,30 @@ fn roomy<T: Drop>(
     match root.raised(alloc, height) {
         Ok(root) => Ok((height + 1, root)),
         Err(refused) => Err(refused),
+    }
+}
+
+impl<T: Share + Drop> Pages<T> {
+    /// Swaps the item at a place of the list with another one. Where no memory is left both are as before.
+    #[tactic(auto, using(crate::proofs::ListLaws::list_facts))]
+    pub fn swap<L: Ledger>(
+        &mut self,
+        alloc: Global,
+        at: u64,
+        item: &mut T,
+        steps: &mut Steps<L>,
+    ) -> Result<(), AllocError>
+        requires { at < length self.old }
+        ensures ok { OnOk result (self.new ≡ slice_set self.old at item.old) }
+        ensures item { OnOk result (slice_get self.old at ≡ Some item.new) }
+        ensures same { OnErr result ((self.new ≡ self.old) × (item.new ≡ item.old)) }
+        ensures work { steps.new ≤ steps.old + 2 * dig (length self.old + 1) }
+    {
+        let _len = self.len;
+        match self.root.swap(alloc, at, item, steps) {
+            Ok(()) => return Ok(()),
+            Err(refused) => return Err(refused),
+        }
     }
 }
 

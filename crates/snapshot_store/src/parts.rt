@@ -7,6 +7,7 @@ use flux_defs::Steps;
 use node_store::{Node, Share, Sixteen, Vacant};
 use std::alloc::{AllocError, Global};
 use std::marker::Model;
+use std::mem;
 use std::sync::ledger::Ledger;
 
 /// A part of a list: nothing, an item, or a page of sixteen parts. Contracts see its items and its height, which is how
@@ -167,6 +168,69 @@ fn set_given<T: Drop>(
         Err((item, refused)) => {
             *given = Some(item);
             return Err(refused);
+        }
+    }
+}
+
+/// Swaps the item that the node holds with another one; others that held the same item keep it. Where no memory is left
+/// both are as before.
+fn swap_held<T: Share + Drop>(
+    alloc: Global,
+    node: &mut Node<T>,
+    item: &mut T,
+) -> Result<(), AllocError>
+    ensures new { OnOk result (node.new ≡ item.old) }
+    ensures item { OnOk result (item.new ≡ node.old) }
+    ensures kept { OnErr result (item.new ≡ item.old) }
+    ensures same { OnErr result (node.new ≡ node.old) }
+{
+    if let Err(refused) = node.own(alloc) {
+        return Err(refused);
+    }
+    let Some(place) = node.get_mut() else {
+        return Err(AllocError);
+    };
+    mem::swap(place, item);
+    Ok(())
+}
+
+impl<T: Share + Drop> Part<T> {
+    /// Swaps the item at a place with another one, in the pages of this part that no other holds and in copies of the
+    /// others. Where no memory is left both are as before.
+    pub fn swap<L: Ledger>(
+        &mut self,
+        alloc: Global,
+        at: u64,
+        item: &mut T,
+        steps: &mut Steps<L>,
+    ) -> Result<(), AllocError>
+        requires within { at < length self.old.0 }
+        ensures new { OnOk result (self.new ≡ (slice_set self.old.0 at item.old, self.old.1)) }
+        ensures item { OnOk result (slice_get self.old.0 at ≡ Some item.new) }
+        ensures kept { OnErr result (item.new ≡ item.old) }
+        ensures same { OnErr result (self.new ≡ self.old) }
+        ensures work { steps.new ≤ steps.old + self.old.1 + 1 }
+    {
+        match &mut self.body {
+            Body::Empty => unreachable!(),
+            Body::Item(node) => {
+                steps.tick();
+                return swap_held(alloc, node, item);
+            }
+            Body::Fork(node) => {
+                steps.tick();
+                if let Err(refused) = node.own(alloc) {
+                    return Err(refused);
+                }
+                let Some(page) = node.get_mut() else {
+                    return Err(AllocError);
+                };
+                let (place, rest) = page.place_of(at);
+                match page.parts.get_mut(place).swap(alloc, rest, item, steps) {
+                    Ok(()) => return Ok(()),
+                    Err(refused) => return Err(refused),
+                }
+            }
         }
     }
 }

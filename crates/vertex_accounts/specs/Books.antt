@@ -75,3 +75,11 @@ pub record AreAccounts {P : Type 0} (total_of : P → ℕ)
   pub parents : book.holds_parents ≡ false → HoldNoParents vertices jobs
   pub fair : AreFair vertices jobs
   pub on_graph : AllByRecursion (IsOnGraph vertices) jobs
+
+-- the other accounts have the parts of these
+pub record HaveSameParts {P : Type 0} (book other : Accounts P) : Type 0 where
+  pub counted : counted_of other ≡ counted_of book
+  pub planners : items_of other.planners ≡ items_of book.planners
+  pub times : other.times ≡ book.times
+  pub count : other.count ≡ book.count
+  pub parents : other.holds_parents ≡ book.holds_parents

@@ -7,8 +7,8 @@ use vertex_planners::VertexPlanners;
 
 /// What jobs have of a graph over time: at each vertex a planner of holds, of claims and of takes side by side, and of
 /// the units of each type of which totals are kept; the times of the jobs, how many claims they have, and whether a job
-/// may hold a vertex with others below it. No accounts change: a call that changes something gives new ones, which
-/// share what stays.
+/// may hold a vertex with others below it. A call that adds or removes a job makes the new accounts of the old ones,
+/// in place where no others share them; `share` keeps the old ones.
 #[derive(Drop)]
 pub struct Accounts<P: Planner + Drop> {
     pub(crate) counted: Arc<Counted, Global>,

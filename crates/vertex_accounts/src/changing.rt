@@ -7,6 +7,7 @@ ghost use Rattle.vertex_planners.specs.Lists.{items_of};
 ghost use Rattle.vertex_planners.specs.Work.{CostWithin};
 ghost use Rattle.std.specs.List.{AllByRecursion};
 ghost use Rattle.vertex_accounts.specs.Books.{IsOnGraph, HoldsNoParent, AreAccounts, HasTotals, types_of};
+ghost use Rattle.vertex_accounts.specs.Books.{HaveSameParts};
 ghost use Rattle.vertex_accounts.specs.Costs.{accounts_most};
 
 use crate::books::Accounts;
@@ -19,10 +20,23 @@ use std::sync::Arc;
 use std::sync::ledger::Ledger;
 
 impl<P: Planner + Drop> Accounts<P> {
+    /// The same accounts once more, without a copy.
+    pub fn share(&self) -> Result<Accounts<P>, AllocError>
+        ensures { IfOk result (λ book. HaveSameParts self.now book) }
+    {
+        Ok(Accounts {
+            counted: Arc::try_clone(&self.counted)?,
+            planners: self.planners.share()?,
+            times: self.times.share()?,
+            count: self.count,
+            holds_parents: self.holds_parents,
+        })
+    }
+
     /// The accounts of one job more, which oversubscribes no vertex beside the others. The planners that change are
     /// made ready before for questions from that second on. More claims than 2^64 - 1 are answered as want of memory.
     pub fn with_job<L: Ledger>(
-        &self,
+        self,
         alloc: Global,
         graph: &Graph,
         moment: u64,
@@ -31,19 +45,19 @@ impl<P: Planner + Drop> Accounts<P> {
     ) -> Result<Accounts<P>, AllocError>
         requires on_graph { IsOnGraph graph.now.resources.vertices job.now }
         requires there { (jobs : List Job)
-            × AreAccounts P.total_of P.stands_for graph.now.resources.vertices jobs self.now
+            × AreAccounts P.total_of P.stands_for graph.now.resources.vertices jobs self
             × AreFair graph.now.resources.vertices (jobs ++ job.now ∷ []) }
         ensures accounts { IfOk result (λ book. (jobs : List Job) →
-            AreAccounts P.total_of P.stands_for graph.now.resources.vertices jobs self.now →
+            AreAccounts P.total_of P.stands_for graph.now.resources.vertices jobs self →
             AreFair graph.now.resources.vertices (jobs ++ job.now ∷ []) →
             AreAccounts P.total_of P.stands_for graph.now.resources.vertices (jobs ++ job.now ∷ []) book) }
-        ensures kinds { IfOk result (λ book. (kind : ℕ) → HasTotals self.now kind → HasTotals book kind) }
-        ensures types { IfOk result (λ book. types_of book ≡ types_of self.now) }
+        ensures kinds { IfOk result (λ book. (kind : ℕ) → HasTotals self kind → HasTotals book kind) }
+        ensures types { IfOk result (λ book. types_of book ≡ types_of self) }
         ensures work { (most : ℕ) → CostWithin
-            (renew_cost P.settle_cost P.change_cost) most (items_of self.now.planners) → steps.new ≤ steps.old +
+            (renew_cost P.settle_cost P.change_cost) most (items_of self.planners) → steps.new ≤ steps.old +
             (accounts_most (length graph.now.resources.vertices) most
-            (types_of self.now) (length job.now.claims) + renew_cost P.settle_cost P.change_cost self.now.times) }
-        ensures count { IfOk result (λ book. book.count ≡ self.now.count + length job.now.claims) }
+            (types_of self) (length job.now.claims) + renew_cost P.settle_cost P.change_cost self.times) }
+        ensures count { IfOk result (λ book. book.count ≡ self.count + length job.now.claims) }
     {
         graph.is_valid();
         let Some(count) = self.count.checked_add(job.claims.len() as u64) else {
@@ -56,11 +70,17 @@ impl<P: Planner + Drop> Accounts<P> {
         let quantities = self.counted().quantities.items();
         let claims = job.claims.items();
         let rows = rows_of(alloc, graph, quantities, claims)?;
-        let planners = self.planners.gained(alloc, moment, window, rows, steps)?;
-        let times = renewed_with(&self.times, alloc, moment, window, 0, steps)?;
         let holds_parents = self.holding(graph, claims);
+        let Accounts {
+            counted,
+            planners,
+            times,
+            ..
+        } = self;
+        let planners = planners.gained(alloc, moment, window, rows, steps)?;
+        let times = renewed_with(times, alloc, moment, window, 0, steps)?;
         Ok(Accounts {
-            counted: Arc::try_clone(&self.counted)?,
+            counted,
             planners,
             times,
             count,
@@ -78,7 +98,7 @@ impl<P: Planner + Drop> Accounts<P> {
 
     /// The accounts of one job less. The planners that change are made ready before for questions from that second on.
     pub fn without_job<L: Ledger>(
-        &self,
+        self,
         alloc: Global,
         graph: &Graph,
         moment: u64,
@@ -87,16 +107,16 @@ impl<P: Planner + Drop> Accounts<P> {
     ) -> Result<Accounts<P>, AllocError>
         requires on_graph { IsOnGraph graph.now.resources.vertices job.now }
         requires there { (before : List Job) × (after : List Job)
-            × AreAccounts P.total_of P.stands_for graph.now.resources.vertices (before ++ job.now ∷ after) self.now }
+            × AreAccounts P.total_of P.stands_for graph.now.resources.vertices (before ++ job.now ∷ after) self }
         ensures accounts { IfOk result (λ book. (before after : List Job) →
-            AreAccounts P.total_of P.stands_for graph.now.resources.vertices (before ++ job.now ∷ after) self.now →
+            AreAccounts P.total_of P.stands_for graph.now.resources.vertices (before ++ job.now ∷ after) self →
             AreAccounts P.total_of P.stands_for graph.now.resources.vertices (before ++ after) book) }
-        ensures kinds { IfOk result (λ book. (kind : ℕ) → HasTotals self.now kind → HasTotals book kind) }
-        ensures types { IfOk result (λ book. types_of book ≡ types_of self.now) }
+        ensures kinds { IfOk result (λ book. (kind : ℕ) → HasTotals self kind → HasTotals book kind) }
+        ensures types { IfOk result (λ book. types_of book ≡ types_of self) }
         ensures work { (most : ℕ) → CostWithin
-            (renew_cost P.settle_cost P.change_cost) most (items_of self.now.planners) → steps.new ≤ steps.old +
+            (renew_cost P.settle_cost P.change_cost) most (items_of self.planners) → steps.new ≤ steps.old +
             (accounts_most (length graph.now.resources.vertices) most
-            (types_of self.now) (length job.now.claims) + renew_cost P.settle_cost P.change_cost self.now.times) }
+            (types_of self) (length job.now.claims) + renew_cost P.settle_cost P.change_cost self.times) }
     {
         let count = self.count - job.claims.len() as u64;
         let window = Window {
@@ -106,14 +126,21 @@ impl<P: Planner + Drop> Accounts<P> {
         let quantities = self.counted().quantities.items();
         let claims = job.claims.items();
         let rows = rows_of(alloc, graph, quantities, claims)?;
-        let planners = self.planners.lost(alloc, moment, window, rows, steps)?;
-        let times = renewed_without(&self.times, alloc, moment, window, 0, steps)?;
+        let Accounts {
+            counted,
+            planners,
+            times,
+            holds_parents,
+            ..
+        } = self;
+        let planners = planners.lost(alloc, moment, window, rows, steps)?;
+        let times = renewed_without(times, alloc, moment, window, 0, steps)?;
         Ok(Accounts {
-            counted: Arc::try_clone(&self.counted)?,
+            counted,
             planners,
             times,
             count,
-            holds_parents: self.holds_parents,
+            holds_parents,
         })
     }
 }

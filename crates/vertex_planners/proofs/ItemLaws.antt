@@ -1,31 +1,62 @@
 -- The planners of one vertex, changed place by place.
-use Rattle.std.proofs.Common.{◌≡◌, ℕ, zero, suc, ◌+◌, ◌*◌, ◌≤◌, List, [], ◌∷◌, ◌++◌, length, take, Some, slice_get, inl}
-use Rattle.std.proofs.Common.{inr, refl, sym, ◌∙◌, ap, subst, arith}
+use Rattle.std.proofs.Common.{◌≡◌, ◌≢◌, ℕ, zero, suc, ◌+◌, ◌*◌, ◌<◌, ◌≤◌, List, length, take, Some, slice_get, inl, inr}
+use Rattle.std.proofs.Common.{refl, sym, ◌∙◌, ap, subst, arith}
 use Rattle.std.proofs.Math.Nat.{add-mul, mul-le-mul_right}
 use Rattle.std.proofs.lemmas.List.Sums.{sum_by_more, sum_by-take-le}
 use Rattle.std.proofs.lemmas.Option.{get_or_from_slice_get, slice_get_within}
-use Rattle.list_laws.proofs.Lists.{last_or}
+use Rattle.std.proofs.lemmas.Bool.{cases_lt}
+use Rattle.list_laws.proofs.Lists.{get_some}
+use Rattle.vertex_planners.specs.Kept.{AtRow}
 use Rattle.vertex_planners.specs.Rows.{some_one, count_some}
 
--- the planners so far are changed by their numbers
-abbrev pub AtSoFar : {P : Type 0} → (ℕ → P → P → Type 0) → List ℕ → List P → List P → Type 0
-AtSoFar {P = P} Q row old now =
-    (k n : ℕ) (p r : P) → slice_get row k ≡ Some n → slice_get old k ≡ Some p → slice_get now k ≡ Some r → Q n p r
+-- the planners before a place are changed by their numbers, and those from it on are as before
+pub record ChangedTo {P : Type 0} (Q : ℕ → P → P → Type 0) (row : List ℕ) (old now : List P) (i : ℕ) : Type 0 where
+  pub len : length now ≡ length old
+  pub done : (k n : ℕ) (p r : P) → k < i →
+      slice_get row k ≡ Some n → slice_get old k ≡ Some p → slice_get now k ≡ Some r → Q n p r
+  pub same : (k : ℕ) → i ≤ k → slice_get now k ≡ slice_get old k
 
-pub one_more : {P : Type 0} (Q : ℕ → P → P → Type 0) (row : List ℕ) (old now next : List P) (i n : ℕ) (p r : P) →
-    length now ≡ i → AtSoFar Q row old now →
-    slice_get row i ≡ Some n → slice_get old i ≡ Some p → Q n p r → next ≡ now ++ r ∷ [] → AtSoFar Q row old next
-one_more Q row old now next i n p r len so_far number there q pushed k m u w a b c =
-    elim (last_or now r w k (ap (λ xs. slice_get xs k) (sym pushed) ∙ c)) [
-      | inl earlier ↦ so_far k m u w a b earlier
-      | inr here ↦ (let place : k ≡ i = here.0 ∙ len in
-          let numbers : Some n ≡ Some m = sym number ∙ (ap (slice_get row) (sym place) ∙ a) in
-          let olds : Some p ≡ Some u = sym there ∙ (ap (slice_get old) (sym place) ∙ b) in
-          let same_number : n ≡ m = cc in
-          let same_old : p ≡ u = cc in
-          subst (λ (z : _). Q m u z) here.1
-          (subst (λ (z : _). Q m z r) same_old (subst (λ (z : ℕ). Q z p r) same_number q)))
-    ]
+module _ {P : Type 0} (Q : ℕ → P → P → Type 0) (row : List ℕ) (old : List P) where
+  pub none_changed : ChangedTo Q row old old 0
+  none_changed = record { len = refl; done = λ k n p r lt a b c. absurd (omega (arith, lt)); same = λ k le. refl }
+
+  module _ (now : List P) (i : ℕ) (so_far : ChangedTo Q row old now i) where
+    -- at the place stands what stood there before
+    pub still_there : i < length row → length row ≡ length old →
+        (p : P) × (slice_get now i ≡ Some p) × (slice_get old i ≡ Some p)
+    still_there lt places =
+        let len = so_far.len in
+        let (p, is) = get_some now i (omega (arith, lt, places, len)) in
+        (p, is, sym (so_far.same i (omega arith)) ∙ is)
+
+    pub one_more : (next : List P) (n : ℕ) → slice_get row i ≡ Some n → length next ≡ length now →
+        ((p r : P) → slice_get now i ≡ Some p → slice_get next i ≡ Some r → Q n p r) →
+        ((k : ℕ) → k ≢ i → slice_get next k ≡ slice_get now k) → ChangedTo Q row old next (i + 1)
+    one_more next n number len here others = record {
+      len = len ∙ so_far.len;
+      done = λ k m p r lt a b c. elim (cases_lt k i) [
+        | inl earlier ↦ so_far.done k m p r earlier a b (sym (others k (λ e. omega (arith, e, earlier))) ∙ c)
+        | inr late ↦ (let place : i ≡ k = omega (arith, lt, late) in
+            let numbers : Some n ≡ Some m = sym number ∙ (ap (slice_get row) place ∙ a) in
+            let same_number : n ≡ m = cc in
+            subst (λ (z : ℕ). Q z p r) same_number
+            (here p r (so_far.same i (omega arith) ∙ (ap (slice_get old) place ∙ b)) (ap (slice_get next) place ∙ c)))
+      ];
+      same = λ k le. others k (λ e. omega (arith, e, le)) ∙ so_far.same k (omega (arith, le));
+    }
+
+    pub all_changed : length row ≤ i → AtRow Q row old now
+    all_changed all = record {
+      len = so_far.len;
+      each = λ k n p r a b c.
+          let lt = slice_get_within row k n a in so_far.done k n p r (omega (arith, lt, all)) a b c;
+    }
+
+-- the steps so far are within those of all planners
+pub steps_within : (row : List ℕ) (i most start after : ℕ) →
+    after ≤ start + count_some (take i row) * most → after ≤ start + count_some row * most
+steps_within row i most start after so_far =
+    let le = mul-le-mul_right most (sum_by-take-le some_one row i) in omega (arith, so_far, le)
 
 -- the steps so far: those of the planners whose numbers aren't 0
 module _ (row : List ℕ) (i n most start before after cost : ℕ) (number : slice_get row i ≡ Some n) (few : cost ≤ most)
@@ -44,7 +75,4 @@ module _ (row : List ℕ) (i n most start before after cost : ℕ) (number : sli
       omega (arith, step, more, parts, so_far)
 
   pub steps_all : after ≤ start + count_some row * most
-  steps_all =
-      let more = steps_more in
-      let le = mul-le-mul_right most (sum_by-take-le some_one row (i + 1)) in
-      omega (arith, more, le)
+  steps_all = steps_within row (i + 1) most start after steps_more

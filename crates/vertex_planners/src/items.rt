@@ -1,23 +1,25 @@
 //! The planners of one vertex.
-ghost use Rattle.std.specs.Prelude.{◌≡◌, ℕ, ◌+◌, ◌*◌, ◌<◌, ◌≤◌, List, [], ◌∷◌, ◌++◌, length, slice_get, slice_index_or};
-ghost use Rattle.std.specs.Prelude.{Some, IfOk, MatchOption};
+ghost use Rattle.std.specs.Prelude.{◌≡◌, ◌≢◌, ℕ, ◌+◌, ◌*◌, ◌<◌, ◌≤◌, List, [], length, slice_get, slice_index_or};
+ghost use Rattle.std.specs.Prelude.{Some, IfOk, OnOk, MatchOption};
 ghost use Rattle.planner_points.specs.declared.spans.Span.{Span};
 ghost use Rattle.planner_points.specs.Spans.{free_at, HasRoom, IsLeastFree, IsFirstFree, IsLastBelow};
 ghost use Rattle.planner_points.specs.Work.{renew_cost};
-ghost use Rattle.book_laws.specs.Grouped.{some_span};
-ghost use Rattle.vertex_planners.specs.Kept.{Gains, Loses, HaveRoom, HaveSpans, AtRow};
+ghost use Rattle.vertex_planners.specs.Kept.{Gains, Loses, HasRoomFor, HasSpanOf, HaveRoom, HaveSpans, AtRow};
 ghost use Rattle.vertex_planners.specs.Rows.{count_some};
 
 use flux_defs::{List, Steps, Window};
+use node_store::Share;
 use planner_points::{Planner, renewed_with, renewed_without};
 use std::alloc::{AllocError, Global};
 use std::marker::Model;
 use std::sync::ledger::Ledger;
 
-/// The planners of one vertex side by side, by place. Contracts see the list of the planners. No item changes: a call
-/// that adds or removes spans gives a new one, which shares the planners that stay.
+/// The planners of one vertex side by side, by place. Contracts see the list of the planners. A call that adds or
+/// removes spans makes the item of the old one, of which the planners that stay aren't moved, and leaves none where no
+/// memory is left. `share` gives an item that has the same planners and keeps them; it takes its memory from `alloc`.
 #[derive(Drop)]
 pub struct Item<P: Planner + Drop> {
+    alloc: Global,
     planners: List<P>,
 }
 
@@ -29,7 +31,36 @@ impl<P: Planner + Drop> Model for Item<P> {
     ghost view = { λ item. item.planners };
 }
 
+impl<P: Planner + Drop> Share for Item<P> {
+    /// A list of its own, which shares each planner.
+    fn share(&self) -> Result<Item<P>, AllocError> {
+        let room = Vec::with_capacity(self.alloc, self.planners.len())?;
+        let mut planners = List::of_vec(room);
+        for planner in self.planners.items() {
+            let same = planner.share()?;
+            match planners.push(same) {
+                Ok(()) => {}
+                Err((_, refused)) => return Err(refused),
+            }
+        }
+        Ok(Item {
+            alloc: self.alloc,
+            planners,
+        })
+    }
+}
+
 impl<P: Planner + Drop> Item<P> {
+    /// No planners. It takes no memory.
+    pub(crate) fn none(alloc: Global) -> Item<P>
+        ensures { result ≡ [] }
+    {
+        Item {
+            alloc,
+            planners: List::new(alloc),
+        }
+    }
+
     /// A planner without spans for each of these totals.
     pub fn of_totals(alloc: Global, totals: &[u64], horizon: u64) -> Result<Item<P>, AllocError>
         ensures len { IfOk result (λ item. length item ≡ length totals.now) }
@@ -45,7 +76,7 @@ impl<P: Planner + Drop> Item<P> {
                 Err((_, refused)) => return Err(refused),
             }
         }
-        Ok(Item { planners })
+        Ok(Item { alloc, planners })
     }
 
     /// The least that is free at the place over the window. It takes no memory.
@@ -111,118 +142,125 @@ impl<P: Planner + Drop> Item<P> {
     /// The item, of which each planner gains a span over the window of its place's number, if that isn't 0, made ready
     /// before for questions from that second on.
     pub(crate) fn gained<L: Ledger>(
-        &self,
+        self,
         alloc: Global,
         moment: u64,
         window: Window,
         row: &List<u64>,
         steps: &mut Steps<L>,
     ) -> Result<Item<P>, AllocError>
-        requires places { length row.now ≡ length self.now }
+        requires places { length row.now ≡ length self }
         requires window { window.from < window.to }
-        requires room { HaveRoom P.total_of P.stands_for window row.now self.now }
-        ensures gains { IfOk result (AtRow (Gains P.total_of P.stands_for window) row.now self.now) }
+        requires room { HaveRoom P.total_of P.stands_for window row.now self }
+        ensures gains { IfOk result (AtRow (Gains P.total_of P.stands_for window) row.now self) }
         ensures work { (most : ℕ) →
-            ((k : ℕ) (p : P) → slice_get self.now k ≡ Some p → renew_cost P.settle_cost P.change_cost p ≤ most) →
+            ((k : ℕ) (p : P) → slice_get self k ≡ Some p → renew_cost P.settle_cost P.change_cost p ≤ most) →
             steps.new ≤ steps.old + count_some row.now * most }
     {
-        let room = Vec::with_capacity(alloc, self.planners.len())?;
-        let mut planners = List::of_vec(room);
-        for place in 0..self.planners.len() {
-            let Some(old) = self.planners.get(place) else {
-                unreachable!()
-            };
+        let Item { mut planners, .. } = self;
+        for place in 0..row.len() {
             let Some(number) = row.get(place) else {
                 unreachable!()
             };
-            let planner = gain(alloc, old, moment, window, *number, steps)?;
-            match planners.push(planner) {
-                Ok(()) => {}
-                Err((_, refused)) => return Err(refused),
-            }
+            gain(alloc, &mut planners, place, moment, window, *number, steps)?;
         }
-        Ok(Item { planners })
+        Ok(Item { alloc, planners })
     }
 
     /// The item, of which each planner loses a span over the window of its place's number, if that isn't 0, made ready
     /// before for questions from that second on.
     pub(crate) fn lost<L: Ledger>(
-        &self,
+        self,
         alloc: Global,
         moment: u64,
         window: Window,
         row: &List<u64>,
         steps: &mut Steps<L>,
     ) -> Result<Item<P>, AllocError>
-        requires places { length row.now ≡ length self.now }
+        requires places { length row.now ≡ length self }
         requires window { window.from < window.to }
-        requires span { HaveSpans P.stands_for window row.now self.now }
-        ensures loses { IfOk result (AtRow (Loses P.total_of P.stands_for window) row.now self.now) }
+        requires span { HaveSpans P.stands_for window row.now self }
+        ensures loses { IfOk result (AtRow (Loses P.total_of P.stands_for window) row.now self) }
         ensures work { (most : ℕ) →
-            ((k : ℕ) (p : P) → slice_get self.now k ≡ Some p → renew_cost P.settle_cost P.change_cost p ≤ most) →
+            ((k : ℕ) (p : P) → slice_get self k ≡ Some p → renew_cost P.settle_cost P.change_cost p ≤ most) →
             steps.new ≤ steps.old + count_some row.now * most }
     {
-        let room = Vec::with_capacity(alloc, self.planners.len())?;
-        let mut planners = List::of_vec(room);
-        for place in 0..self.planners.len() {
-            let Some(old) = self.planners.get(place) else {
-                unreachable!()
-            };
+        let Item { mut planners, .. } = self;
+        for place in 0..row.len() {
             let Some(number) = row.get(place) else {
                 unreachable!()
             };
-            let planner = lose(alloc, old, moment, window, *number, steps)?;
-            match planners.push(planner) {
-                Ok(()) => {}
-                Err((_, refused)) => return Err(refused),
-            }
+            lose(alloc, &mut planners, place, moment, window, *number, steps)?;
         }
-        Ok(Item { planners })
+        Ok(Item { alloc, planners })
     }
 }
 
-/// The planner with a span more, made ready before for questions from that second on; the same one where the quantity
-/// is 0.
+/// The planner at the place gains a span, made ready before for questions from that second on; it stays as it is where
+/// the quantity is 0. While it changes an empty one stands in its place, and so it is after want of memory.
 fn gain<P: Planner + Drop, L: Ledger>(
     alloc: Global,
-    planner: &P,
+    planners: &mut List<P>,
+    place: usize,
     moment: u64,
     window: Window,
     quantity: u64,
     steps: &mut Steps<L>,
-) -> Result<P, AllocError>
+) -> Result<(), AllocError>
+    requires place { place < length planners.old }
     requires window { window.from < window.to }
-    requires room { (spans : List Span) →
-        P.stands_for planner.now spans → HasRoom (P.total_of planner.now) spans window quantity }
-    ensures gains { IfOk result (Gains P.total_of P.stands_for window quantity planner.now) }
+    requires room { (p : P) → slice_get planners.old place ≡ Some p →
+        HasRoomFor P.total_of P.stands_for window quantity p }
+    ensures len { OnOk result (length planners.new ≡ length planners.old) }
+    ensures here { OnOk result
+        ((p r : P) → slice_get planners.old place ≡ Some p → slice_get planners.new place ≡ Some r →
+        Gains P.total_of P.stands_for window quantity p r) }
+    ensures others { OnOk result
+        ((k : ℕ) → k ≢ place → slice_get planners.new k ≡ slice_get planners.old k) }
     ensures none { quantity ≡ 0 → steps.new ≤ steps.old }
-    ensures work { steps.new ≤ steps.old + renew_cost P.settle_cost P.change_cost planner.now }
+    ensures work { (p : P) → slice_get planners.old place ≡ Some p →
+        steps.new ≤ steps.old + renew_cost P.settle_cost P.change_cost p }
 {
     if quantity == 0 {
-        return Ok(planner.share()?);
+        return Ok(());
     }
-    renewed_with(planner, alloc, moment, window, quantity, steps)
+    let none = P::empty(alloc, 0, 0)?;
+    let old = planners.put(place, none);
+    let new = renewed_with(old, alloc, moment, window, quantity, steps)?;
+    planners.put(place, new);
+    Ok(())
 }
 
-/// The planner with a span less, made ready before for questions from that second on; the same one where the quantity
-/// is 0.
+/// The planner at the place loses a span, made ready before for questions from that second on; it stays as it is where
+/// the quantity is 0. While it changes an empty one stands in its place, and so it is after want of memory.
 fn lose<P: Planner + Drop, L: Ledger>(
     alloc: Global,
-    planner: &P,
+    planners: &mut List<P>,
+    place: usize,
     moment: u64,
     window: Window,
     quantity: u64,
     steps: &mut Steps<L>,
-) -> Result<P, AllocError>
+) -> Result<(), AllocError>
+    requires place { place < length planners.old }
     requires window { window.from < window.to }
-    requires span { (before : List Span)
-        × (after : List Span) × P.stands_for planner.now (before ++ (some_span window quantity ++ after)) }
-    ensures loses { IfOk result (Loses P.total_of P.stands_for window quantity planner.now) }
+    requires span { (p : P) → slice_get planners.old place ≡ Some p → HasSpanOf P.stands_for window quantity p }
+    ensures len { OnOk result (length planners.new ≡ length planners.old) }
+    ensures here { OnOk result
+        ((p r : P) → slice_get planners.old place ≡ Some p → slice_get planners.new place ≡ Some r →
+        Loses P.total_of P.stands_for window quantity p r) }
+    ensures others { OnOk result
+        ((k : ℕ) → k ≢ place → slice_get planners.new k ≡ slice_get planners.old k) }
     ensures none { quantity ≡ 0 → steps.new ≤ steps.old }
-    ensures work { steps.new ≤ steps.old + renew_cost P.settle_cost P.change_cost planner.now }
+    ensures work { (p : P) → slice_get planners.old place ≡ Some p →
+        steps.new ≤ steps.old + renew_cost P.settle_cost P.change_cost p }
 {
     if quantity == 0 {
-        return Ok(planner.share()?);
+        return Ok(());
     }
-    renewed_without(planner, alloc, moment, window, quantity, steps)
+    let none = P::empty(alloc, 0, 0)?;
+    let old = planners.put(place, none);
+    let new = renewed_without(old, alloc, moment, window, quantity, steps)?;
+    planners.put(place, new);
+    Ok(())
 }

@@ -15,8 +15,9 @@ use snapshot_store::Pages;
 use std::alloc::{AllocError, Global};
 use std::sync::ledger::Ledger;
 
-/// One item a vertex, by the vertices' numbers, each with a planner for each place. No list of items changes: a call
-/// that changes something gives a new one, which shares what stays.
+/// One item a vertex, by the vertices' numbers, each with a planner for each place. A call that changes something makes
+/// the new ones of the old ones, in place where no others share them, and leaves none where no memory is left; `share`
+/// keeps the old ones.
 #[derive(Drop)]
 pub struct VertexPlanners<P: Planner + Drop> {
     items: Pages<Item<P>>,
@@ -64,10 +65,18 @@ impl<P: Planner + Drop> VertexPlanners<P> {
         }
     }
 
+    /// The same planners once more, without a copy.
+    pub fn share(&self) -> Result<VertexPlanners<P>, AllocError>
+        ensures { IfOk result (λ all. items_of all ≡ items_of self.now) }
+    {
+        let items = self.items.snap()?;
+        Ok(VertexPlanners { items })
+    }
+
     /// The planners, of which each gains a span over the window of its vertex's number at its place, if that isn't 0.
     /// Each that does is made ready before for questions from that second on.
     pub fn gained<L: Ledger>(
-        &self,
+        self,
         alloc: Global,
         moment: u64,
         window: Window,
@@ -75,17 +84,17 @@ impl<P: Planner + Drop> VertexPlanners<P> {
         steps: &mut Steps<L>,
     ) -> Result<VertexPlanners<P>, AllocError>
         requires window { window.from < window.to }
-        requires places { AreWide (length (places_of rows)) (items_of self.now) }
-        requires keys { HaveKeysBelow (length (items_of self.now)) (places_of rows) }
-        requires room { RoomAt P.total_of P.stands_for window (places_of rows) (items_of self.now) }
-        ensures len { IfOk result (λ all. length (items_of all) ≡ length (items_of self.now)) }
+        requires places { AreWide (length (places_of rows)) (items_of self) }
+        requires keys { HaveKeysBelow (length (items_of self)) (places_of rows) }
+        requires room { RoomAt P.total_of P.stands_for window (places_of rows) (items_of self) }
+        ensures len { IfOk result (λ all. length (items_of all) ≡ length (items_of self)) }
         ensures places { IfOk result (λ all. AreWide (length (places_of rows)) (items_of all)) }
         ensures gains { IfOk result (λ all.
-            AtPlaces (Gains P.total_of P.stands_for window) (places_of rows) (items_of self.now) (items_of all)) }
-        ensures work { (most : ℕ) → CostWithin (renew_cost P.settle_cost P.change_cost) most (items_of self.now) →
-            steps.new ≤ steps.old + count_all (places_of rows) * change_most (length (items_of self.now)) most }
+            AtPlaces (Gains P.total_of P.stands_for window) (places_of rows) (items_of self) (items_of all)) }
+        ensures work { (most : ℕ) → CostWithin (renew_cost P.settle_cost P.change_cost) most (items_of self) →
+            steps.new ≤ steps.old + count_all (places_of rows) * change_most (length (items_of self)) most }
     {
-        let mut items = self.items.snap()?;
+        let VertexPlanners { mut items } = self;
         let mut left = rows;
         while let Some((vertex, row)) = left.pop(alloc)? {
             gain_at(alloc, &mut items, vertex, moment, window, &row, steps)?;
@@ -96,7 +105,7 @@ impl<P: Planner + Drop> VertexPlanners<P> {
     /// The planners, of which each loses a span over the window of its vertex's number at its place, if that isn't 0.
     /// Each that does is made ready before for questions from that second on.
     pub fn lost<L: Ledger>(
-        &self,
+        self,
         alloc: Global,
         moment: u64,
         window: Window,
@@ -104,17 +113,17 @@ impl<P: Planner + Drop> VertexPlanners<P> {
         steps: &mut Steps<L>,
     ) -> Result<VertexPlanners<P>, AllocError>
         requires window { window.from < window.to }
-        requires places { AreWide (length (places_of rows)) (items_of self.now) }
-        requires keys { HaveKeysBelow (length (items_of self.now)) (places_of rows) }
-        requires span { SpansAt P.stands_for window (places_of rows) (items_of self.now) }
-        ensures len { IfOk result (λ all. length (items_of all) ≡ length (items_of self.now)) }
+        requires places { AreWide (length (places_of rows)) (items_of self) }
+        requires keys { HaveKeysBelow (length (items_of self)) (places_of rows) }
+        requires span { SpansAt P.stands_for window (places_of rows) (items_of self) }
+        ensures len { IfOk result (λ all. length (items_of all) ≡ length (items_of self)) }
         ensures places { IfOk result (λ all. AreWide (length (places_of rows)) (items_of all)) }
         ensures loses { IfOk result (λ all.
-            AtPlaces (Loses P.total_of P.stands_for window) (places_of rows) (items_of self.now) (items_of all)) }
-        ensures work { (most : ℕ) → CostWithin (renew_cost P.settle_cost P.change_cost) most (items_of self.now) →
-            steps.new ≤ steps.old + count_all (places_of rows) * change_most (length (items_of self.now)) most }
+            AtPlaces (Loses P.total_of P.stands_for window) (places_of rows) (items_of self) (items_of all)) }
+        ensures work { (most : ℕ) → CostWithin (renew_cost P.settle_cost P.change_cost) most (items_of self) →
+            steps.new ≤ steps.old + count_all (places_of rows) * change_most (length (items_of self)) most }
     {
-        let mut items = self.items.snap()?;
+        let VertexPlanners { mut items } = self;
         let mut left = rows;
         while let Some((vertex, row)) = left.pop(alloc)? {
             lose_at(alloc, &mut items, vertex, moment, window, &row, steps)?;
@@ -123,7 +132,8 @@ impl<P: Planner + Drop> VertexPlanners<P> {
     }
 }
 
-/// The planners of one vertex gain spans.
+/// The planners of one vertex gain spans. While they change the vertex has an item without planners, and so it is after
+/// want of memory.
 fn gain_at<P: Planner + Drop, L: Ledger>(
     alloc: Global,
     items: &mut Pages<Item<P>>,
@@ -147,17 +157,14 @@ fn gain_at<P: Planner + Drop, L: Ledger>(
         slice_get x k ≡ Some p → renew_cost P.settle_cost P.change_cost p ≤ most) →
         steps.new ≤ steps.old + (4 * dig (length items.old + 1) + count_some row.now * most) }
 {
-    let item = match items.get(vertex as u64, steps) {
-        Some(item) => item.gained(alloc, moment, window, row, steps)?,
-        None => unreachable!(),
-    };
-    match items.put(alloc, vertex as u64, item, steps) {
-        Ok(()) => return Ok(()),
-        Err((_, refused)) => return Err(refused),
-    }
+    let mut item = Item::none(alloc);
+    items.swap(alloc, vertex as u64, &mut item, steps)?;
+    let mut item = item.gained(alloc, moment, window, row, steps)?;
+    items.swap(alloc, vertex as u64, &mut item, steps)
 }
 
-/// The planners of one vertex lose spans.
+/// The planners of one vertex lose spans. While they change the vertex has an item without planners, and so it is after
+/// want of memory.
 fn lose_at<P: Planner + Drop, L: Ledger>(
     alloc: Global,
     items: &mut Pages<Item<P>>,
@@ -180,12 +187,8 @@ fn lose_at<P: Planner + Drop, L: Ledger>(
         slice_get x k ≡ Some p → renew_cost P.settle_cost P.change_cost p ≤ most) →
         steps.new ≤ steps.old + (4 * dig (length items.old + 1) + count_some row.now * most) }
 {
-    let item = match items.get(vertex as u64, steps) {
-        Some(item) => item.lost(alloc, moment, window, row, steps)?,
-        None => unreachable!(),
-    };
-    match items.put(alloc, vertex as u64, item, steps) {
-        Ok(()) => return Ok(()),
-        Err((_, refused)) => return Err(refused),
-    }
+    let mut item = Item::none(alloc);
+    items.swap(alloc, vertex as u64, &mut item, steps)?;
+    let mut item = item.lost(alloc, moment, window, row, steps)?;
+    items.swap(alloc, vertex as u64, &mut item, steps)
 }

@@ -12,6 +12,6 @@ returns-clause-book g c = λ e accepted.
     let job = c.args.job.now in
     let of = c.requires.book in
     book_accepted journal
-    e c.args.book.now c.in_ok-next.next of job accepted c.requires.may.fresh c.in_ok-next.ensures.moment
-    (c.in_ok-next.ensures.rows ∙ ap (λ n. insert (rows_of c.args.book.now) job.id (live_row n)) c.len.ensures)
+    e c.args.book c.in_ok-next.next of job accepted c.requires.may.fresh c.in_ok-next.ensures.moment
+    (c.in_ok-next.ensures.rows ∙ ap (λ n. insert (rows_of c.args.book) job.id (live_row n)) c.len.ensures)
     (c.in_ok-next.ensures.jobs (left_by journal).jobs of.jobs)

@@ -9,27 +9,27 @@ use Rattle.sched_core.proofs.JobLaws.{is_there, live_of}
 use Rattle.sched_core.proofs.Grown.{book_cancelled}
 use Rattle.sched_core.proofs.following.after_cancelled.Goals as goal
 
-pub after_remove-requires-clause-there : goal.after_remove-requires-clause-there
-after_remove-requires-clause-there g c =
+pub into_removed-requires-clause-there : goal.into_removed-requires-clause-there
+into_removed-requires-clause-there g c =
     let s = left_by c.args.entries.now in
     let of = c.requires.book in
     (s.jobs, of.jobs, (is_there c.args.id s.jobs c.in-Some.job.now (sym c.in-Some.ensures)).0)
 
-pub after_remove-requires-clause-live : goal.after_remove-requires-clause-live
-after_remove-requires-clause-live g c =
+pub into_removed-requires-clause-live : goal.into_removed-requires-clause-live
+into_removed-requires-clause-live g c =
     let s = left_by c.args.entries.now in
     let of = c.requires.book in
     let job : Job = c.in-Some.job.now in
     let there = is_there c.args.id s.jobs job (sym c.in-Some.ensures) in
     let live = live_of c.args.entries.now s c.args.id job
-    (sym c.in-Some.ensures) (get (rows_of c.args.book.now) c.args.id) (of.table c.args.id) in
-    (live.0, subst (λ (n : ℕ). get (rows_of c.args.book.now) n ≡ Some (live_row live.0)) (sym there.1) live.1)
+    (sym c.in-Some.ensures) (get (rows_of c.args.book) c.args.id) (of.table c.args.id) in
+    (live.0, subst (λ (n : ℕ). get (rows_of c.args.book) n ≡ Some (live_row live.0)) (sym there.1) live.1)
 
 pub returns-clause-book : goal.returns-clause-book
 returns-clause-book g c = λ e commanded replied.
     let journal = c.args.entries.now in
     let s = left_by journal in
-    let book = c.args.book.now in
+    let book = c.args.book in
     let next = c.in_ok-next-in-Some.next in
     let of = c.requires.book in
     let id = c.args.id in

@@ -4,5 +4,6 @@ use Rattle.sched_core.proofs.following.after_moved.Goals as goal
 
 pub returns-clause-book : goal.returns-clause-book
 returns-clause-book c = λ journal e of moved.
-    book_moved journal e c.args.book.now c.in_ok-next.next of c.args.to moved
-    c.in_ok-next.ensures.moment c.in_ok-next.ensures.rows (c.in_ok-next.ensures.jobs (left_by journal).jobs of.jobs)
+    let next = c.into_advanced.ensures in
+    book_moved journal e c.args.book c.into_advanced.result of c.args.to moved next.moment next.rows
+    (next.jobs (left_by journal).jobs of.jobs)

@@ -1,119 +1,39 @@
-use Rattle.std.proofs.Common.{◌<◌, ◌++◌, ◌∷◌, [], length, sym, ◌∙◌, ap, subst, ◌+◌, ◌*◌, ◌≤◌, arith}
-use Rattle.std.specs.List.{AllByRecursion}
-use Rattle.std.specs.FinMap.{insert, len}
-use Rattle.flux_defs.specs.declared.claims.Job.{Job}
-use Rattle.flux_defs.specs.Jobs.{vertex_of}
-use Rattle.resource_graph.specs.NamedGraph.{NamedGraph}
+use Rattle.std.proofs.Common.{ℕ, ◌+◌, ◌≤◌, length, subst, ◌∙◌, ap}
+use Rattle.std.proofs.lemmas.Result.{IfOk-weaker}
+use Rattle.std.specs.Ordering.{nat_cmp}
+use Rattle.std.specs.FinMap.{FinMap, insert}
+use Rattle.job_table.specs.declared.tables.Row.{Row}
 use Rattle.job_table.specs.Rows.{live_row}
-use Rattle.planner_min_tree.specs.Plans as Plans
-use Rattle.planner_min_tree.specs.Plans.{Plan}
-use Rattle.vertex_accounts.specs.declared.books.Accounts.{Accounts}
-use Rattle.vertex_accounts.specs.Books.{AreAccounts, HasTotals, types_of}
-use Rattle.book_state.specs.declared.held.Kept.{Kept}
-use Rattle.book_state.specs.Filtered.{Filtered}
-use Rattle.book_state.specs.Books.{graph_of, rules_of, rows_of, accounts_of}
-use Rattle.book_state.proofs.BookLaws.{moved, added}
-use Rattle.book_state.proofs.ViewLaws.{accounts_at, fair_with, change_at}
-use Rattle.flux_defs.specs.Digits.{dig}
+use Rattle.book_state.proofs.ShareLaws.{stands_along, may_along, cost_along, one_setting}
 use Rattle.book_state.proofs.held.BookState.after_add.Goals as goal
 
-pub with_job-requires-clause-on_graph : goal.with_job-requires-clause-on_graph
-with_job-requires-clause-on_graph g c = record {
-  begins = c.requires.begins;
-  on_vertices =
-      subst (λ (h : NamedGraph). AllByRecursion (λ d. vertex_of d < length h.resources.vertices) c.args.job.now.claims)
-      (sym c.graph-graph.ensures.value) c.requires.on_vertices;
-}
+pub into_added-requires : goal.into_added-requires
+into_added-requires g c =
+    may_along c.args.self.now c.in_ok-same.same c.in_ok-same.ensures.setting c.in_ok-same.ensures.rows
+    c.in_ok-same.ensures.parts c.args.job.now c.requires
 
-pub with_job-requires-clause-there : goal.with_job-requires-clause-there
-with_job-requires-clause-there g c =
-    let is = c.accounts-old.ensures.book in (
-      is.0,
-      accounts_at c.graph-graph.result.now
-          c.accounts-old.result.now c.args.self.now c.graph-graph.ensures.value c.accounts-old.ensures.value is.0 is.1,
-      fair_with c.graph-graph.result.now
-          c.args.self.now c.graph-graph.ensures.value c.graph-graph.ensures.valid c.args.job.now c.requires is.0 is.1,
-    )
+pub returns-clause-setting : goal.returns-clause-setting
+returns-clause-setting g c =
+    IfOk-weaker c.into_added.result _ _ (λ b one. one_setting c.args.self.now c.in_ok-same.same b
+    c.in_ok-same.ensures.setting one) c.into_added.ensures.setting
+
+pub returns-clause-moment : goal.returns-clause-moment
+returns-clause-moment g c =
+    IfOk-weaker c.into_added.result _ _ (λ b e. e ∙ c.in_ok-same.ensures.moment) c.into_added.ensures.moment
+
+pub returns-clause-rows : goal.returns-clause-rows
+returns-clause-rows g c =
+    IfOk-weaker c.into_added.result _ _ (λ b e. e ∙ ap (λ (t : FinMap nat_cmp Row). insert t c.args.job.now.id
+    (live_row c.args.at)) c.in_ok-same.ensures.rows) c.into_added.ensures.rows
 
 pub returns-clause-jobs : goal.returns-clause-jobs
-returns-clause-jobs g c = λ jobs x.
-    let k = c.args.self.now in
-    let job : Job = c.args.job.now in
-    let G = c.graph-graph.result.now in
-    let eg = c.graph-graph.ensures.value in
-    let ea = c.accounts-old.ensures.value in
-    let new : Accounts Plan = c.in_ok-accounts.accounts in
-    let acc = subst (λ (h : NamedGraph).
-    AreAccounts (λ (p : Plan). p.total) Plans.StandsFor h.resources.vertices (jobs ++ job ∷ []) new) eg
-    (c.in_ok-accounts.ensures.accounts jobs (accounts_at G c.accounts-old.result.now k eg ea jobs x)
-    (fair_with G k eg c.graph-graph.ensures.valid job c.requires jobs x)) in
-    moved (graph_of k) _ (rules_of k) _ new _ (insert (rows_of k) job.id (live_row c.args.at)) _ (jobs ++ job ∷ [])
-    (ap (λ (x : Filtered). x.graph) c.in_ok-try_clone.ensures ∙ ap graph_of c.self.view_is)
-    (ap (λ (x : Filtered). x.rules) c.in_ok-try_clone.ensures ∙ ap rules_of c.self.view_is)
-    c.in_ok-new.ensures.ok
-    (c.in_ok-with_new.ensures.added ∙ ap (λ (b : Kept). insert (rows_of b) job.id (live_row c.args.at)) c.self.view_is)
-    (added (graph_of k) (rules_of k) (accounts_of k) new (rows_of k) jobs job c.args.at c.requires.fresh acc
-    (λ kind h. c.in_ok-accounts.ensures.kinds kind (subst (λ (a : Accounts Plan). HasTotals a kind) (sym ea) h))
-    (c.in_ok-accounts.ensures.types ∙ ap (λ (a : Accounts Plan). types_of a) ea) x)
-
-pub invariant_of-result : goal.invariant_of-result
-invariant_of-result g c =
-    let (jobs, x) = c.accounts-old.ensures.book in
-    let k = c.args.self.now in
-    let job : Job = c.args.job.now in
-    let G = c.graph-graph.result.now in
-    let eg = c.graph-graph.ensures.value in
-    let ea = c.accounts-old.ensures.value in
-    let new : Accounts Plan = c.in_ok-accounts.accounts in
-    let acc = subst (λ (h : NamedGraph).
-    AreAccounts (λ (p : Plan). p.total) Plans.StandsFor h.resources.vertices (jobs ++ job ∷ []) new) eg
-    (c.in_ok-accounts.ensures.accounts jobs (accounts_at G c.accounts-old.result.now k eg ea jobs x)
-    (fair_with G k eg c.graph-graph.ensures.valid job c.requires jobs x)) in (
-      jobs ++ job ∷ [],
-      moved (graph_of k) _ (rules_of k) _ new _ (insert (rows_of k) job.id (live_row c.args.at)) _ (jobs ++ job ∷ [])
-          (ap (λ (x : Filtered). x.graph) c.in_ok-try_clone.ensures ∙ ap graph_of c.self.view_is)
-          (ap (λ (x : Filtered). x.rules) c.in_ok-try_clone.ensures ∙ ap rules_of c.self.view_is)
-          c.in_ok-new.ensures.ok
-          (c.in_ok-with_new.ensures.added
-          ∙ ap (λ (b : Kept). insert (rows_of b) job.id (live_row c.args.at)) c.self.view_is)
-          (added (graph_of k) (rules_of k) (accounts_of k) new (rows_of k) jobs job c.args.at c.requires.fresh acc
-          (λ kind h. c.in_ok-accounts.ensures.kinds kind (subst (λ (a : Accounts Plan). HasTotals a kind) (sym ea) h))
-          (c.in_ok-accounts.ensures.types ∙ ap (λ (a : Accounts Plan). types_of a) ea) x),
-    )
-
-pub returns-in_err-accounts-clause-work : goal.returns-in_err-accounts-clause-work
-returns-in_err-accounts-clause-work g c =
-    change_at c.graph-graph.result.now c.accounts-old.result.now c.args.self.now
-    c.graph-graph.ensures.value c.accounts-old.ensures.value c.accounts-old.ensures.book c.graph-graph.ensures.valid
-    (length c.args.job.now.claims)
-    c.args.steps.now c.with_job.new.steps c.with_job.new.steps c.with_job.ensures.work (omega arith)
-
-pub returns-in_err-try_clone-clause-work : goal.returns-in_err-try_clone-clause-work
-returns-in_err-try_clone-clause-work g c =
-    change_at c.graph-graph.result.now c.accounts-old.result.now c.args.self.now
-    c.graph-graph.ensures.value c.accounts-old.ensures.value c.accounts-old.ensures.book c.graph-graph.ensures.valid
-    (length c.args.job.now.claims)
-    c.args.steps.now c.with_job.new.steps c.with_job.new.steps c.with_job.ensures.work (omega arith)
-
-pub returns-in_err-new-clause-work : goal.returns-in_err-new-clause-work
-returns-in_err-new-clause-work g c =
-    change_at c.graph-graph.result.now c.accounts-old.result.now c.args.self.now
-    c.graph-graph.ensures.value c.accounts-old.ensures.value c.accounts-old.ensures.book c.graph-graph.ensures.valid
-    (length c.args.job.now.claims)
-    c.args.steps.now c.with_job.new.steps c.with_job.new.steps c.with_job.ensures.work (omega arith)
-
-pub returns-in_err-with_new-clause-work : goal.returns-in_err-with_new-clause-work
-returns-in_err-with_new-clause-work g c =
-    change_at c.graph-graph.result.now c.accounts-old.result.now c.args.self.now
-    c.graph-graph.ensures.value c.accounts-old.ensures.value c.accounts-old.ensures.book c.graph-graph.ensures.valid
-    (length c.args.job.now.claims) c.args.steps.now c.with_job.new.steps c.with_new.new.steps c.with_job.ensures.work
-    (subst (λ (b : Kept). c.with_new.new.steps ≤ c.with_job.new.steps + 256 * dig (len (rows_of b) + 2))
-    c.self.view_is c.with_new.ensures.work)
+returns-clause-jobs g c =
+    IfOk-weaker c.into_added.result _ _ (λ b f jobs x. f jobs
+    (stands_along c.args.self.now c.in_ok-same.same c.in_ok-same.ensures.setting c.in_ok-same.ensures.rows
+    c.in_ok-same.ensures.parts jobs x)) c.into_added.ensures.jobs
 
 pub returns-clause-work : goal.returns-clause-work
 returns-clause-work g c =
-    change_at c.graph-graph.result.now c.accounts-old.result.now c.args.self.now
-    c.graph-graph.ensures.value c.accounts-old.ensures.value c.accounts-old.ensures.book c.graph-graph.ensures.valid
-    (length c.args.job.now.claims) c.args.steps.now c.with_job.new.steps c.with_new.new.steps c.with_job.ensures.work
-    (subst (λ (b : Kept). c.with_new.new.steps ≤ c.with_job.new.steps + 256 * dig (len (rows_of b) + 2))
-    c.self.view_is c.with_new.ensures.work)
+    let same = cost_along c.args.self.now c.in_ok-same.same c.in_ok-same.ensures.setting c.in_ok-same.ensures.rows
+    c.in_ok-same.ensures.parts (length c.args.job.now.claims) in
+    subst (λ (n : ℕ). c.into_added.new.steps ≤ c.args.steps.now + n) same c.into_added.ensures.work

@@ -1,156 +1,55 @@
-use Rattle.std.proofs.Common.{◌≡◌, ◌++◌, ◌∷◌, Some, sym, ◌∙◌, ap, subst, ◌+◌, ◌*◌, ◌≤◌, length, arith}
-use Rattle.std.specs.FinMap.{get, insert, len}
-use Rattle.flux_defs.specs.declared.claims.Job.{Job}
-use Rattle.flux_defs.specs.Scheduler.{without_job}
-use Rattle.resource_graph.specs.NamedGraph.{NamedGraph}
-use Rattle.job_table.specs.Rows.{live_row, cancelled_row}
-use Rattle.planner_min_tree.specs.Plans as Plans
-use Rattle.planner_min_tree.specs.Plans.{Plan}
-use Rattle.vertex_accounts.specs.declared.books.Accounts.{Accounts}
-use Rattle.vertex_accounts.specs.Books.{AreAccounts, HasTotals, IsOnGraph, types_of}
-use Rattle.book_state.specs.declared.held.Kept.{Kept}
-use Rattle.book_state.specs.Filtered.{Filtered}
-use Rattle.book_state.specs.Books.{graph_of, vertices_of, rules_of, rows_of, accounts_of, StandsFor}
-use Rattle.book_state.proofs.BookLaws.{moved, moved_to, removed, split_at}
-use Rattle.book_state.proofs.TieLaws.{without_middle}
-use Rattle.book_state.proofs.ViewLaws.{accounts_at, change_at}
-use Rattle.flux_defs.specs.Digits.{dig}
-use Rattle.list_laws.proofs.Lists.{all_at_middle}
+use Rattle.std.proofs.Common.{◌≡◌, ℕ, ◌+◌, ◌≤◌, ◌++◌, ◌∷◌, Some, length, sym, subst, ◌∙◌, ap}
+use Rattle.std.proofs.lemmas.Result.{IfOk-weaker}
+use Rattle.std.specs.Ordering.{nat_cmp}
+use Rattle.std.specs.FinMap.{FinMap, get, insert}
+use Rattle.job_table.specs.declared.tables.Row.{Row}
+use Rattle.job_table.specs.Rows.{live_row, cancelled_row, HasLiveRow}
+use Rattle.book_state.proofs.ShareLaws.{stands_along, cost_along, one_setting}
 use Rattle.book_state.proofs.held.BookState.after_remove.Goals as goal
 
-pub without_job-requires-clause-on_graph : goal.without_job-requires-clause-on_graph
-without_job-requires-clause-on_graph g c =
-    let (jobs, x, has) = c.requires.there in
-    let (before, after, e) = split_at jobs c.args.job.now has in
-    let y = subst (StandsFor c.args.self.now) e x in
-    subst (λ (h : NamedGraph). IsOnGraph h.resources.vertices c.args.job.now) (sym c.graph-graph.ensures.value)
-    (all_at_middle (IsOnGraph (vertices_of c.args.self.now)) before c.args.job.now after y.accounts_are.on_graph)
-
-pub without_job-requires-clause-there : goal.without_job-requires-clause-there
-without_job-requires-clause-there g c =
-    let (jobs, x, has) = c.requires.there in
-    let (before, after, e) = split_at jobs c.args.job.now has in (
-      before,
-      after,
-      accounts_at c.graph-graph.result.now
-          c.accounts-old.result.now c.args.self.now c.graph-graph.ensures.value c.accounts-old.ensures.value
-          (before ++ c.args.job.now ∷ after) (subst (StandsFor c.args.self.now) e x),
+pub into_removed-requires-clause-there : goal.into_removed-requires-clause-there
+into_removed-requires-clause-there g c =
+    let (jobs, x, has) = c.requires.there in (
+      jobs,
+      stands_along c.args.self.now c.in_ok-same.same c.in_ok-same.ensures.setting c.in_ok-same.ensures.rows
+          c.in_ok-same.ensures.parts jobs x,
+      has,
     )
 
-pub returns-clause-once : goal.returns-clause-once
-returns-clause-once g c = λ before after x.
-    let k = c.args.self.now in
-    let job : Job = c.args.job.now in
-    let eg = c.graph-graph.ensures.value in
-    let ea = c.accounts-old.ensures.value in
-    let new : Accounts Plan = c.in_ok-accounts.accounts in
-    let (at, live) = c.requires.live in
-    let acc = subst (λ (h : NamedGraph).
-    AreAccounts (λ (p : Plan). p.total) Plans.StandsFor h.resources.vertices (before ++ after) new) eg
-    (c.in_ok-accounts.ensures.accounts before after
-    (accounts_at c.graph-graph.result.now c.accounts-old.result.now k eg ea (before ++ job ∷ after) x)) in
-    moved (graph_of k) _ (rules_of k) _ new _ (insert (rows_of k) job.id (cancelled_row at)) _ (before ++ after)
-    (ap (λ (x : Filtered). x.graph) c.in_ok-try_clone.ensures ∙ ap graph_of c.self.view_is)
-    (ap (λ (x : Filtered). x.rules) c.in_ok-try_clone.ensures ∙ ap rules_of c.self.view_is)
-    c.in_ok-new.ensures.ok
-    (c.in_ok-with_cancelled.ensures.cancelled at
-    (subst (λ (b : Kept). get (rows_of b) job.id ≡ Some (live_row at)) (sym c.self.view_is) live)
-    ∙ ap (λ (b : Kept). insert (rows_of b) job.id (cancelled_row at)) c.self.view_is)
-    (removed (graph_of k) (rules_of k) (accounts_of k) new (rows_of k) before job after at live acc
-    (λ kind h. c.in_ok-accounts.ensures.kinds kind (subst (λ (a : Accounts Plan). HasTotals a kind) (sym ea) h))
-    (c.in_ok-accounts.ensures.types ∙ ap (λ (a : Accounts Plan). types_of a) ea) x)
+pub into_removed-requires-clause-live : goal.into_removed-requires-clause-live
+into_removed-requires-clause-live g c =
+    subst (λ (t : FinMap nat_cmp Row). HasLiveRow t c.args.job.now.id) (sym c.in_ok-same.ensures.rows) c.requires.live
+
+pub returns-clause-setting : goal.returns-clause-setting
+returns-clause-setting g c =
+    IfOk-weaker c.into_removed.result _ _ (λ b one. one_setting c.args.self.now c.in_ok-same.same b
+    c.in_ok-same.ensures.setting one) c.into_removed.ensures.setting
+
+pub returns-clause-moment : goal.returns-clause-moment
+returns-clause-moment g c =
+    IfOk-weaker c.into_removed.result _ _ (λ b e. e ∙ c.in_ok-same.ensures.moment) c.into_removed.ensures.moment
+
+pub returns-clause-rows : goal.returns-clause-rows
+returns-clause-rows g c =
+    let rows = c.in_ok-same.ensures.rows in
+    IfOk-weaker c.into_removed.result _ _ (λ b f at live. f at
+    (subst (λ (t : FinMap nat_cmp Row). get t c.args.job.now.id ≡ Some (live_row at)) (sym rows) live)
+    ∙ ap (λ (t : FinMap nat_cmp Row). insert t c.args.job.now.id (cancelled_row at)) rows) c.into_removed.ensures.rows
 
 pub returns-clause-jobs : goal.returns-clause-jobs
-returns-clause-jobs g c = λ jobs y has.
-    let (before, after, e) = split_at jobs c.args.job.now has in
-    let x = subst (StandsFor c.args.self.now) e y in
-    let same : without_job c.args.job.now.id jobs ≡ before ++ after =
-    ap (without_job c.args.job.now.id) e ∙ without_middle before after c.args.job.now x.ties.own in
-    let k = c.args.self.now in
-    let job : Job = c.args.job.now in
-    let eg = c.graph-graph.ensures.value in
-    let ea = c.accounts-old.ensures.value in
-    let new : Accounts Plan = c.in_ok-accounts.accounts in
-    let (at, live) = c.requires.live in
-    let acc = subst (λ (h : NamedGraph).
-    AreAccounts (λ (p : Plan). p.total) Plans.StandsFor h.resources.vertices (before ++ after) new) eg
-    (c.in_ok-accounts.ensures.accounts before after
-    (accounts_at c.graph-graph.result.now c.accounts-old.result.now k eg ea (before ++ job ∷ after) x)) in
-    moved_to (graph_of k) _ (rules_of k) _ new _
-    (insert (rows_of k) job.id (cancelled_row at)) _ (before ++ after) (without_job job.id jobs) same
-    (ap (λ (x : Filtered). x.graph) c.in_ok-try_clone.ensures ∙ ap graph_of c.self.view_is)
-    (ap (λ (x : Filtered). x.rules) c.in_ok-try_clone.ensures ∙ ap rules_of c.self.view_is)
-    c.in_ok-new.ensures.ok
-    (c.in_ok-with_cancelled.ensures.cancelled at
-    (subst (λ (b : Kept). get (rows_of b) job.id ≡ Some (live_row at)) (sym c.self.view_is) live)
-    ∙ ap (λ (b : Kept). insert (rows_of b) job.id (cancelled_row at)) c.self.view_is)
-    (removed (graph_of k) (rules_of k) (accounts_of k) new (rows_of k) before job after at live acc
-    (λ kind h. c.in_ok-accounts.ensures.kinds kind (subst (λ (a : Accounts Plan). HasTotals a kind) (sym ea) h))
-    (c.in_ok-accounts.ensures.types ∙ ap (λ (a : Accounts Plan). types_of a) ea) x)
+returns-clause-jobs g c =
+    IfOk-weaker c.into_removed.result _ _ (λ b f jobs x has. f jobs
+    (stands_along c.args.self.now c.in_ok-same.same c.in_ok-same.ensures.setting c.in_ok-same.ensures.rows
+    c.in_ok-same.ensures.parts jobs x) has) c.into_removed.ensures.jobs
 
-pub invariant_of-result : goal.invariant_of-result
-invariant_of-result g c =
-    let (jobs, y, has) = c.requires.there in
-    let (before, after, e) = split_at jobs c.args.job.now has in
-    let x = subst (StandsFor c.args.self.now) e y in
-    let k = c.args.self.now in
-    let job : Job = c.args.job.now in
-    let eg = c.graph-graph.ensures.value in
-    let ea = c.accounts-old.ensures.value in
-    let new : Accounts Plan = c.in_ok-accounts.accounts in
-    let (at, live) = c.requires.live in
-    let acc = subst (λ (h : NamedGraph).
-    AreAccounts (λ (p : Plan). p.total) Plans.StandsFor h.resources.vertices (before ++ after) new) eg
-    (c.in_ok-accounts.ensures.accounts before after
-    (accounts_at c.graph-graph.result.now c.accounts-old.result.now k eg ea (before ++ job ∷ after) x)) in (
-      before ++ after,
-      moved (graph_of k) _ (rules_of k) _ new _ (insert (rows_of k) job.id (cancelled_row at)) _ (before ++ after)
-          (ap (λ (x : Filtered). x.graph) c.in_ok-try_clone.ensures ∙ ap graph_of c.self.view_is)
-          (ap (λ (x : Filtered). x.rules) c.in_ok-try_clone.ensures ∙ ap rules_of c.self.view_is)
-          c.in_ok-new.ensures.ok
-          (c.in_ok-with_cancelled.ensures.cancelled at
-          (subst (λ (b : Kept). get (rows_of b) job.id ≡ Some (live_row at)) (sym c.self.view_is) live)
-          ∙ ap (λ (b : Kept). insert (rows_of b) job.id (cancelled_row at)) c.self.view_is)
-          (removed (graph_of k) (rules_of k) (accounts_of k) new (rows_of k) before job after at live acc
-          (λ kind h. c.in_ok-accounts.ensures.kinds kind (subst (λ (a : Accounts Plan). HasTotals a kind) (sym ea) h))
-          (c.in_ok-accounts.ensures.types ∙ ap (λ (a : Accounts Plan). types_of a) ea) x),
-    )
-
-pub returns-in_err-accounts-clause-work : goal.returns-in_err-accounts-clause-work
-returns-in_err-accounts-clause-work g c =
-    change_at c.graph-graph.result.now c.accounts-old.result.now c.args.self.now
-    c.graph-graph.ensures.value c.accounts-old.ensures.value c.accounts-old.ensures.book c.graph-graph.ensures.valid
-    (length c.args.job.now.claims)
-    c.args.steps.now c.without_job.new.steps c.without_job.new.steps c.without_job.ensures.work (omega arith)
-
-pub returns-in_err-try_clone-clause-work : goal.returns-in_err-try_clone-clause-work
-returns-in_err-try_clone-clause-work g c =
-    change_at c.graph-graph.result.now c.accounts-old.result.now c.args.self.now
-    c.graph-graph.ensures.value c.accounts-old.ensures.value c.accounts-old.ensures.book c.graph-graph.ensures.valid
-    (length c.args.job.now.claims)
-    c.args.steps.now c.without_job.new.steps c.without_job.new.steps c.without_job.ensures.work (omega arith)
-
-pub returns-in_err-new-clause-work : goal.returns-in_err-new-clause-work
-returns-in_err-new-clause-work g c =
-    change_at c.graph-graph.result.now c.accounts-old.result.now c.args.self.now
-    c.graph-graph.ensures.value c.accounts-old.ensures.value c.accounts-old.ensures.book c.graph-graph.ensures.valid
-    (length c.args.job.now.claims)
-    c.args.steps.now c.without_job.new.steps c.without_job.new.steps c.without_job.ensures.work (omega arith)
-
-pub returns-in_err-with_cancelled-clause-work : goal.returns-in_err-with_cancelled-clause-work
-returns-in_err-with_cancelled-clause-work g c =
-    change_at c.graph-graph.result.now c.accounts-old.result.now c.args.self.now
-    c.graph-graph.ensures.value c.accounts-old.ensures.value c.accounts-old.ensures.book c.graph-graph.ensures.valid
-    (length c.args.job.now.claims)
-    c.args.steps.now c.without_job.new.steps c.with_cancelled.new.steps c.without_job.ensures.work
-    (subst (λ (b : Kept). c.with_cancelled.new.steps ≤ c.without_job.new.steps + 256 * dig (len (rows_of b) + 2))
-    c.self.view_is c.with_cancelled.ensures.work)
+pub returns-clause-once : goal.returns-clause-once
+returns-clause-once g c =
+    IfOk-weaker c.into_removed.result _ _ (λ b f before after x. f before after
+    (stands_along c.args.self.now c.in_ok-same.same c.in_ok-same.ensures.setting c.in_ok-same.ensures.rows
+    c.in_ok-same.ensures.parts (before ++ c.args.job.now ∷ after) x)) c.into_removed.ensures.once
 
 pub returns-clause-work : goal.returns-clause-work
 returns-clause-work g c =
-    change_at c.graph-graph.result.now c.accounts-old.result.now c.args.self.now
-    c.graph-graph.ensures.value c.accounts-old.ensures.value c.accounts-old.ensures.book c.graph-graph.ensures.valid
-    (length c.args.job.now.claims)
-    c.args.steps.now c.without_job.new.steps c.with_cancelled.new.steps c.without_job.ensures.work
-    (subst (λ (b : Kept). c.with_cancelled.new.steps ≤ c.without_job.new.steps + 256 * dig (len (rows_of b) + 2))
-    c.self.view_is c.with_cancelled.ensures.work)
+    let same = cost_along c.args.self.now c.in_ok-same.same c.in_ok-same.ensures.setting c.in_ok-same.ensures.rows
+    c.in_ok-same.ensures.parts (length c.args.job.now.claims) in
+    subst (λ (n : ℕ). c.into_removed.new.steps ≤ c.args.steps.now + n) same c.into_removed.ensures.work

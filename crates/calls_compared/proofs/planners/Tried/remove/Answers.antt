@@ -4,19 +4,19 @@ use Rattle.planner_min_tree.specs.Plans.{StandsFor}
 use Rattle.calls_compared.proofs.Places.{split}
 use Rattle.calls_compared.proofs.planners.Tried.remove.Goals as goal
 
-pub without_span-requires-clause-span : goal.without_span-requires-clause-span
-without_span-requires-clause-span g c =
+pub into_without_span-requires-clause-span : goal.into_without_span-requires-clause-span
+into_without_span-requires-clause-span g c =
     let items = c.self.inside.spans.items in
     let inside : c.args.at < length items = let f = c.if-at-len.false in let n = c.len.ensures in omega arith in
     let s = split items c.args.at c.remove-span.result inside c.remove-span.ensures.value in
     (s.0, s.1, subst (StandsFor c.self.inside.tree) s.2 c.self.invariant.0)
 
-pub without_span-requires-2-clause-span : goal.without_span-requires-2-clause-span
-without_span-requires-2-clause-span g c =
+pub into_without_span-requires-2-clause-span : goal.into_without_span-requires-2-clause-span
+into_without_span-requires-2-clause-span g c =
     let items = c.self.inside.spans.items in
     let inside : c.args.at < length items = let f = c.if-at-len.false in let n = c.len.ensures in omega arith in
     let s = split items c.args.at c.remove-span.result inside c.remove-span.ensures.value in
-    (s.0, s.1, subst (AreSame c.self.inside.plain.spans.items) s.2 c.self.invariant.1)
+    (s.0, s.1, subst (AreSame c.self.inside.plain.spans) s.2 c.self.invariant.1)
 
 pub invariant_of-result : goal.invariant_of-result
 invariant_of-result g c =
@@ -25,6 +25,6 @@ invariant_of-result g c =
     let s = split items c.args.at c.remove-span.result inside c.remove-span.ensures.value in
     let tree = c.in_ok-tree.ensures.spans s.0 s.1 (subst (StandsFor c.self.inside.tree) s.2 c.self.invariant.0) in
     let plain = c.in_ok-plain.ensures.spans s.0 s.1
-    (subst (AreSame c.self.inside.plain.spans.items) s.2 c.self.invariant.1) in
+    (subst (AreSame c.self.inside.plain.spans) s.2 c.self.invariant.1) in
     let e = sym (c.remove-span.ensures.items ∙ s.3) in
-    (subst (StandsFor c.in_ok-tree.tree) e tree, subst (AreSame c.in_ok-plain.plain.spans.items) e plain)
+    (subst (StandsFor c.in_ok-tree.tree) e tree, subst (AreSame c.in_ok-plain.plain.spans) e plain)

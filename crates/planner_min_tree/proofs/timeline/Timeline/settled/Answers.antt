@@ -6,13 +6,19 @@ pub returns-then-not-are_over-clause-work : goal.returns-then-not-are_over-claus
 returns-then-not-are_over-clause-work g c =
     let low =
     low_both _ _ _ _ _ c.self.view_is c.self.invariant c.height-past.ensures.low c.height-coming.ensures.low in
-    omega (arith, low.0, low.1, c.get-chunk.ensures.work, c.look.ensures.work)
+    omega (arith, low.0, low.1, c.get-first.ensures.work, c.look.ensures.work)
+
+pub returns-in_err-chunk-clause-work : goal.returns-in_err-chunk-clause-work
+returns-in_err-chunk-clause-work g c =
+    let low =
+    low_both _ _ _ _ _ c.self.view_is c.self.invariant c.height-past.ensures.low c.height-coming.ensures.low in
+    omega (arith, low.0, low.1, c.get-first.ensures.work, c.look.ensures.work)
 
 pub returns-in_err-past-clause-work : goal.returns-in_err-past-clause-work
 returns-in_err-past-clause-work g c =
     let low =
     low_both _ _ _ _ _ c.self.view_is c.self.invariant c.height-past.ensures.low c.height-coming.ensures.low in
-    omega (arith, low.0, low.1, c.get-chunk.ensures.work, c.look.ensures.work, c.with_behind.ensures.work)
+    omega (arith, low.0, low.1, c.get-first.ensures.work, c.look.ensures.work, c.with_behind.ensures.work)
 
 pub returns-in_err-coming-clause-work : goal.returns-in_err-coming-clause-work
 returns-in_err-coming-clause-work g c =
@@ -22,7 +28,7 @@ returns-in_err-coming-clause-work g c =
       arith,
       low.0,
       low.1,
-      c.get-chunk.ensures.work,
+      c.get-first.ensures.work,
       c.look.ensures.work,
       c.with_behind.ensures.work,
       c.without_first.ensures.work,
@@ -36,7 +42,7 @@ returns-clause-work g c =
       arith,
       low.0,
       low.1,
-      c.get-chunk.ensures.work,
+      c.get-first.ensures.work,
       c.look.ensures.work,
       c.with_behind.ensures.work,
       c.without_first.ensures.work,

@@ -6,8 +6,8 @@ use Rattle.planner_points.proofs.span_list.SpanList.first_left.Given as goal
 abbrev pub invariant-seconds : goal.invariant-seconds
 invariant-seconds l = record {
   later : l.from ≤ l.t;
-  less : LessFrom l.self.total l.self.spans.items l.quantity l.from l.t;
-  at : (l.t ≡ l.from) ⊎ IsEnd l.self.spans.items l.t;
+  less : LessFrom l.self.total l.self.spans l.quantity l.from l.t;
+  at : (l.t ≡ l.from) ⊎ IsEnd l.self.spans l.t;
 }
 
 abbrev pub decreases-seconds : goal.decreases-seconds

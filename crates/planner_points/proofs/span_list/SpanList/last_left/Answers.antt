@@ -4,12 +4,12 @@ use Rattle.planner_points.proofs.span_list.SpanList.last_left.Goals as goal
 
 pub stretches-preserved-then-left_at-quantity : goal.stretches-preserved-then-left_at-quantity
 stretches-preserved-then-left_at-quantity c =
-    let same = rw c.as_slice-spans.ensures.value at c.stretch_end-end.ensures.same in
-    let free = rw c.as_slice-spans.ensures.value at c.left_at.ensures in
+    let same = rw c.items-spans.ensures at c.stretch_end-end.ensures.same in
+    let free = rw c.items-spans.ensures at c.left_at.ensures in
     record {
       later = omega (arith, c.stretches.invariant.later, c.stretch_end-end.ensures.later);
       within = c.stretch_end-end.ensures.within;
-      last = last_here c.args.self.now.total c.args.self.now.spans.items c.args.window.from c.args.quantity
+      last = last_here c.args.self.now.total c.args.self.now.spans c.args.window.from c.args.quantity
           c.stretches.t
           c.stretch_end-end.result c.stretches.invariant.later c.stretch_end-end.ensures.later same
           (let f = c.if-left_at-quantity.true in omega arith);
@@ -17,12 +17,12 @@ stretches-preserved-then-left_at-quantity c =
 
 pub stretches-preserved : goal.stretches-preserved
 stretches-preserved c =
-    let same = rw c.as_slice-spans.ensures.value at c.stretch_end-end.ensures.same in
-    let free = rw c.as_slice-spans.ensures.value at c.left_at.ensures in
+    let same = rw c.items-spans.ensures at c.stretch_end-end.ensures.same in
+    let free = rw c.items-spans.ensures at c.left_at.ensures in
     record {
       later = omega (arith, c.stretches.invariant.later, c.stretch_end-end.ensures.later);
       within = c.stretch_end-end.ensures.within;
-      last = last_before c.args.self.now.total c.args.self.now.spans.items c.args.window.from c.args.quantity
+      last = last_before c.args.self.now.total c.args.self.now.spans c.args.window.from c.args.quantity
           c.stretches.t
           c.stretch_end-end.result c.stretches.invariant.later c.stretch_end-end.ensures.later same
           (let f = c.if-left_at-quantity.false in omega arith) c.stretches.last c.stretches.invariant.last;

@@ -6,7 +6,7 @@ abbrev pub invariant-stretches : goal.invariant-stretches
 invariant-stretches l = record {
   later : l.window.from ≤ l.t;
   within : l.t ≤ l.window.to;
-  last : IsLast l.self.total l.self.spans.items (up_to l.window.from l.t) l.quantity l.last;
+  last : IsLast l.self.total l.self.spans (up_to l.window.from l.t) l.quantity l.last;
 }
 
 abbrev pub decreases-stretches : goal.decreases-stretches

@@ -6,7 +6,7 @@ abbrev pub invariant-loop-next : goal.invariant-loop-next
 invariant-loop-next l = record {
   later : l.window.from ≤ l.t;
   inside : l.t < l.window.to;
-  least : IsLeastTo l.self.total l.self.spans.items l.window.from l.t l.least;
+  least : IsLeastTo l.self.total l.self.spans l.window.from l.t l.least;
 }
 
 abbrev pub decreases-loop-next : goal.decreases-loop-next

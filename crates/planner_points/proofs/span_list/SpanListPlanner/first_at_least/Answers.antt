@@ -3,6 +3,6 @@ use Rattle.planner_points.proofs.span_list.SpanListPlanner.first_at_least.Goals 
 
 pub returns : goal.returns
 returns g c = record {
-  first = λ spans same. first_same c.args.self.now.total c.args.self.now.horizon c.args.self.now.spans.items spans
+  first = λ spans same. first_same c.args.self.now.total c.args.self.now.horizon c.args.self.now.spans spans
       c.args.from c.args.duration c.args.quantity same _ c.first_start.ensures;
 }

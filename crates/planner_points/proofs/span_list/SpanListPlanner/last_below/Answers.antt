@@ -3,5 +3,5 @@ use Rattle.planner_points.proofs.span_list.SpanListPlanner.last_below.Goals as g
 
 pub returns-clause-last : goal.returns-clause-last
 returns-clause-last g c = λ spans same.
-    last_same c.args.self.now.total c.args.self.now.spans.items spans c.args.window c.args.quantity same _
+    last_same c.args.self.now.total c.args.self.now.spans spans c.args.window c.args.quantity same _
     c.last_left.ensures

@@ -3,4 +3,4 @@ use Rattle.planner_points.proofs.span_list.SpanListPlanner.min_over.Goals as goa
 
 pub returns-clause-least : goal.returns-clause-least
 returns-clause-least g c = λ spans same.
-    least_same c.args.self.now.total c.args.self.now.spans.items spans c.args.window _ same c.least_over.ensures
+    least_same c.args.self.now.total c.args.self.now.spans spans c.args.window _ same c.least_over.ensures

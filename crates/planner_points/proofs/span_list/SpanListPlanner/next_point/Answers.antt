@@ -3,4 +3,4 @@ use Rattle.planner_points.proofs.span_list.SpanListPlanner.next_point.Goals as g
 
 pub returns-clause-next : goal.returns-clause-next
 returns-clause-next g c = λ spans same.
-    next_same c.args.self.now.spans.items spans c.args.after same _ (rw (← c.as_slice.ensures.value) c.next_end.ensures)
+    next_same c.args.self.now.spans spans c.args.after same _ (rw (← c.items.ensures) c.next_end.ensures)

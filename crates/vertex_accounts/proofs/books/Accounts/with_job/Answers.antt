@@ -1,4 +1,4 @@
-use Rattle.std.proofs.Common.{◌≡◌, false, ◌+◌, ◌*◌, ◌≤◌, ◌∷◌, ◌++◌, [], ℕ, List, length, ◌∙◌, ap, subst, arith}
+use Rattle.std.proofs.Common.{◌≡◌, refl, false, ◌+◌, ◌*◌, ◌≤◌, ◌∷◌, ◌++◌, [], ℕ, List, length, ◌∙◌, ap, subst, arith}
 use Rattle.std.specs.List.{AllByRecursion, sum_by}
 use Rattle.flux_defs.specs.declared.claims.Claim.{Claim}
 use Rattle.flux_defs.specs.declared.claims.Job.{Job}
@@ -25,14 +25,14 @@ gained-requires-clause-room g c =
     let (jobs, is, fair) = c.requires.there in
     let quantities = c.items-quantities.ensures ∙ ap (λ (k : Counted). k.quantities) c.counted.ensures in
     let numbers = subst (λ (cs : List Claim). AreNumbers vertices
-    (counted_of c.args.self.now).quantities cs (places_of c.in_ok-rows.rows)) c.items-claims.ensures
+    (counted_of c.args.self).quantities cs (places_of c.in_ok-rows.rows)) c.items-claims.ensures
     (subst (λ (qs : List Quantity). AreNumbers vertices qs c.items-claims.result.now (places_of c.in_ok-rows.rows))
     quantities c.in_ok-rows.ensures.numbers) in
     room_in g.P.Planner.total_of g.P.Planner.stands_for
     g.met.P.Planner.same_free c.args.graph.now.resources c.is_valid.ensures.valid.preorder jobs c.args.job.now fair
-    (few_claims jobs c.args.job.now c.args.self.now.count c.len.result is.count c.len.ensures
+    (few_claims jobs c.args.job.now c.args.self.count c.len.result is.count c.len.ensures
     (omega (arith, c.in-Some.ensures.0)))
-    (counted_of c.args.self.now) (items_of c.args.self.now.planners) (places_of c.in_ok-rows.rows) numbers is.kept
+    (counted_of c.args.self) (items_of c.args.self.planners) (places_of c.in_ok-rows.rows) numbers is.kept
 
 pub returns-clause-accounts : goal.returns-clause-accounts
 returns-clause-accounts g c = λ jobs is fair.
@@ -40,26 +40,26 @@ returns-clause-accounts g c = λ jobs is fair.
     let job = c.args.job.now in
     let quantities = c.items-quantities.ensures ∙ ap (λ (k : Counted). k.quantities) c.counted.ensures in
     let numbers = subst (λ (cs : List Claim). AreNumbers vertices
-    (counted_of c.args.self.now).quantities cs (places_of c.in_ok-rows.rows)) c.items-claims.ensures
+    (counted_of c.args.self).quantities cs (places_of c.in_ok-rows.rows)) c.items-claims.ensures
     (subst (λ (qs : List Quantity). AreNumbers vertices qs c.items-claims.result.now (places_of c.in_ok-rows.rows))
     quantities c.in_ok-rows.ensures.numbers) in
     let new = items_of c.in_ok-planners.planners in
     let wide = subst (λ (n : ℕ). AreWide n new) numbers.len c.in_ok-planners.ensures.places in
-    joined g.P.Planner.total_of g.P.Planner.stands_for vertices job c.args.self.now
+    joined g.P.Planner.total_of g.P.Planner.stands_for vertices job c.args.self
     (record {
-      counted = c.in_ok-try_clone.field-0;
+      counted = c.args.self.counted;
       planners = c.in_ok-planners.planners;
       times = c.in_ok-times.times;
       count = c.in-Some.count;
       holds_parents = c.holding-holds_parents.result;
     })
-    c.in_ok-try_clone.ensures c.in_ok-planners.ensures.len wide jobs c.requires.on_graph fair
+    refl c.in_ok-planners.ensures.len wide jobs c.requires.on_graph fair
     (joined_kept g.P.Planner.total_of g.P.Planner.stands_for vertices jobs job []
-    (counted_of c.args.self.now) (places_of c.in_ok-rows.rows) numbers (items_of c.args.self.now.planners) new
+    (counted_of c.args.self) (places_of c.in_ok-rows.rows) numbers (items_of c.args.self.planners) new
     c.in_ok-planners.ensures.len is.graph.places wide c.in_ok-planners.ensures.gains)
-    c.in_ok-times.ensures.spans (c.in-Some.ensures.1 ∙ ap (λ n. c.args.self.now.count + n) c.len.ensures)
+    c.in_ok-times.ensures.spans (c.in-Some.ensures.1 ∙ ap (λ n. c.args.self.count + n) c.len.ensures)
     (subst (λ (cs : List Claim). c.holding-holds_parents.result ≡ false →
-    (c.args.self.now.holds_parents ≡ false) × AllByRecursion (HoldsNoParent vertices) cs) c.items-claims.ensures
+    (c.args.self.holds_parents ≡ false) × AllByRecursion (HoldsNoParent vertices) cs) c.items-claims.ensures
     c.holding-holds_parents.ensures) is
 
 pub returns-in_err-planners-clause-work : goal.returns-in_err-planners-clause-work
@@ -67,11 +67,11 @@ returns-in_err-planners-clause-work g c = λ most within.
     let (jobs, is, fair) = c.requires.there in
     let quantities = c.items-quantities.ensures ∙ ap (λ (k : Counted). k.quantities) c.counted.ensures in
     let few = subst (λ (cs : List Claim). count_all (places_of c.in_ok-rows.rows) ≤ sum_by reach_of
-    (counted_of c.args.self.now).quantities * length cs) c.items-claims.ensures
+    (counted_of c.args.self).quantities * length cs) c.items-claims.ensures
     (subst (λ (qs : List Quantity). count_all (places_of c.in_ok-rows.rows) ≤ sum_by
     reach_of qs * length c.items-claims.result.now) quantities c.in_ok-rows.ensures.few) in
-    let all = numbers_cost (length (items_of c.args.self.now.planners)) (length c.args.graph.now.resources.vertices)
-    most (types_of c.args.self.now) (sum_by reach_of (counted_of c.args.self.now).quantities)
+    let all = numbers_cost (length (items_of c.args.self.planners)) (length c.args.graph.now.resources.vertices)
+    most (types_of c.args.self) (sum_by reach_of (counted_of c.args.self).quantities)
     (length c.args.job.now.claims) (count_all (places_of c.in_ok-rows.rows)) c.args.steps.now
     c.gained.new.steps is.graph.len is.graph.counts.reach few (c.gained.ensures.work most within) in
     omega (arith, all)
@@ -81,26 +81,11 @@ returns-in_err-times-clause-work g c = λ most within.
     let (jobs, is, fair) = c.requires.there in
     let quantities = c.items-quantities.ensures ∙ ap (λ (k : Counted). k.quantities) c.counted.ensures in
     let few = subst (λ (cs : List Claim). count_all (places_of c.in_ok-rows.rows) ≤ sum_by reach_of
-    (counted_of c.args.self.now).quantities * length cs) c.items-claims.ensures
+    (counted_of c.args.self).quantities * length cs) c.items-claims.ensures
     (subst (λ (qs : List Quantity). count_all (places_of c.in_ok-rows.rows) ≤ sum_by
     reach_of qs * length c.items-claims.result.now) quantities c.in_ok-rows.ensures.few) in
-    let all = numbers_cost (length (items_of c.args.self.now.planners)) (length c.args.graph.now.resources.vertices)
-    most (types_of c.args.self.now) (sum_by reach_of (counted_of c.args.self.now).quantities)
-    (length c.args.job.now.claims) (count_all (places_of c.in_ok-rows.rows)) c.args.steps.now
-    c.gained.new.steps is.graph.len is.graph.counts.reach few (c.gained.ensures.work most within) in
-    let times = c.renewed_with.ensures.work in
-    omega (arith, all, times)
-
-pub returns-in_err-try_clone-clause-work : goal.returns-in_err-try_clone-clause-work
-returns-in_err-try_clone-clause-work g c = λ most within.
-    let (jobs, is, fair) = c.requires.there in
-    let quantities = c.items-quantities.ensures ∙ ap (λ (k : Counted). k.quantities) c.counted.ensures in
-    let few = subst (λ (cs : List Claim). count_all (places_of c.in_ok-rows.rows) ≤ sum_by reach_of
-    (counted_of c.args.self.now).quantities * length cs) c.items-claims.ensures
-    (subst (λ (qs : List Quantity). count_all (places_of c.in_ok-rows.rows) ≤ sum_by
-    reach_of qs * length c.items-claims.result.now) quantities c.in_ok-rows.ensures.few) in
-    let all = numbers_cost (length (items_of c.args.self.now.planners)) (length c.args.graph.now.resources.vertices)
-    most (types_of c.args.self.now) (sum_by reach_of (counted_of c.args.self.now).quantities)
+    let all = numbers_cost (length (items_of c.args.self.planners)) (length c.args.graph.now.resources.vertices)
+    most (types_of c.args.self) (sum_by reach_of (counted_of c.args.self).quantities)
     (length c.args.job.now.claims) (count_all (places_of c.in_ok-rows.rows)) c.args.steps.now
     c.gained.new.steps is.graph.len is.graph.counts.reach few (c.gained.ensures.work most within) in
     let times = c.renewed_with.ensures.work in
@@ -111,11 +96,11 @@ returns-clause-work g c = λ most within.
     let (jobs, is, fair) = c.requires.there in
     let quantities = c.items-quantities.ensures ∙ ap (λ (k : Counted). k.quantities) c.counted.ensures in
     let few = subst (λ (cs : List Claim). count_all (places_of c.in_ok-rows.rows) ≤ sum_by reach_of
-    (counted_of c.args.self.now).quantities * length cs) c.items-claims.ensures
+    (counted_of c.args.self).quantities * length cs) c.items-claims.ensures
     (subst (λ (qs : List Quantity). count_all (places_of c.in_ok-rows.rows) ≤ sum_by
     reach_of qs * length c.items-claims.result.now) quantities c.in_ok-rows.ensures.few) in
-    let all = numbers_cost (length (items_of c.args.self.now.planners)) (length c.args.graph.now.resources.vertices)
-    most (types_of c.args.self.now) (sum_by reach_of (counted_of c.args.self.now).quantities)
+    let all = numbers_cost (length (items_of c.args.self.planners)) (length c.args.graph.now.resources.vertices)
+    most (types_of c.args.self) (sum_by reach_of (counted_of c.args.self).quantities)
     (length c.args.job.now.claims) (count_all (places_of c.in_ok-rows.rows)) c.args.steps.now
     c.gained.new.steps is.graph.len is.graph.counts.reach few (c.gained.ensures.work most within) in
     let times = c.renewed_with.ensures.work in

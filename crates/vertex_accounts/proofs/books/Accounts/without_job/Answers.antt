@@ -20,18 +20,18 @@ lost-requires-clause-span g c =
     let (before, after, is) = c.requires.there in
     let quantities = c.items-quantities.ensures ∙ ap (λ (k : Counted). k.quantities) c.counted.ensures in
     let numbers = subst (λ (cs : List Claim). AreNumbers vertices
-    (counted_of c.args.self.now).quantities cs (places_of c.in_ok-rows.rows)) c.items-claims.ensures
+    (counted_of c.args.self).quantities cs (places_of c.in_ok-rows.rows)) c.items-claims.ensures
     (subst (λ (qs : List Quantity). AreNumbers vertices qs c.items-claims.result.now (places_of c.in_ok-rows.rows))
     quantities c.in_ok-rows.ensures.numbers) in
     spans_in g.P.Planner.total_of g.P.Planner.stands_for vertices before c.args.job.now after
-    (counted_of c.args.self.now) (places_of c.in_ok-rows.rows) numbers (items_of c.args.self.now.planners) is.kept
+    (counted_of c.args.self) (places_of c.in_ok-rows.rows) numbers (items_of c.args.self.planners) is.kept
 
 pub renewed_without-requires-clause-span : goal.renewed_without-requires-clause-span
 renewed_without-requires-clause-span g c =
     let (before, after, is) = c.requires.there in (
       times_of before,
       times_of after,
-      subst (g.P.Planner.stands_for c.args.self.now.times) (times_append before (c.args.job.now ∷ after)) is.times,
+      subst (g.P.Planner.stands_for c.args.self.times) (times_append before (c.args.job.now ∷ after)) is.times,
     )
 
 pub returns-clause-accounts : goal.returns-clause-accounts
@@ -40,35 +40,35 @@ returns-clause-accounts g c = λ before after is.
     let job = c.args.job.now in
     let quantities = c.items-quantities.ensures ∙ ap (λ (k : Counted). k.quantities) c.counted.ensures in
     let numbers = subst (λ (cs : List Claim). AreNumbers vertices
-    (counted_of c.args.self.now).quantities cs (places_of c.in_ok-rows.rows)) c.items-claims.ensures
+    (counted_of c.args.self).quantities cs (places_of c.in_ok-rows.rows)) c.items-claims.ensures
     (subst (λ (qs : List Quantity). AreNumbers vertices qs c.items-claims.result.now (places_of c.in_ok-rows.rows))
     quantities c.in_ok-rows.ensures.numbers) in
     let new = items_of c.in_ok-planners.planners in
     let wide = subst (λ (n : ℕ). AreWide n new) numbers.len c.in_ok-planners.ensures.places in
-    left g.P.Planner.total_of g.P.Planner.stands_for vertices job c.args.self.now
+    left g.P.Planner.total_of g.P.Planner.stands_for vertices job c.args.self
     (record {
-      counted = c.in_ok-try_clone.field-0;
+      counted = c.args.self.counted;
       planners = c.in_ok-planners.planners;
       times = c.in_ok-times.times;
-      count = c.args.self.now.count - c.len.result;
-      holds_parents = c.args.self.now.holds_parents;
+      count = c.args.self.count - c.len.result;
+      holds_parents = c.args.self.holds_parents;
     })
-    c.in_ok-try_clone.ensures c.in_ok-planners.ensures.len wide before after
+    refl c.in_ok-planners.ensures.len wide before after
     (left_kept g.P.Planner.total_of g.P.Planner.stands_for vertices before job after
-    (counted_of c.args.self.now) (places_of c.in_ok-rows.rows) numbers (items_of c.args.self.now.planners) new
+    (counted_of c.args.self) (places_of c.in_ok-rows.rows) numbers (items_of c.args.self.planners) new
     c.in_ok-planners.ensures.len is.graph.places wide c.in_ok-planners.ensures.loses)
-    c.in_ok-times.ensures.spans (ap (λ n. c.args.self.now.count - n) c.len.ensures) refl is
+    c.in_ok-times.ensures.spans (ap (λ n. c.args.self.count - n) c.len.ensures) refl is
 
 pub returns-in_err-planners-clause-work : goal.returns-in_err-planners-clause-work
 returns-in_err-planners-clause-work g c = λ most within.
     let (before, after, is) = c.requires.there in
     let quantities = c.items-quantities.ensures ∙ ap (λ (k : Counted). k.quantities) c.counted.ensures in
     let few = subst (λ (cs : List Claim). count_all (places_of c.in_ok-rows.rows) ≤ sum_by reach_of
-    (counted_of c.args.self.now).quantities * length cs) c.items-claims.ensures
+    (counted_of c.args.self).quantities * length cs) c.items-claims.ensures
     (subst (λ (qs : List Quantity). count_all (places_of c.in_ok-rows.rows) ≤ sum_by
     reach_of qs * length c.items-claims.result.now) quantities c.in_ok-rows.ensures.few) in
-    let all = numbers_cost (length (items_of c.args.self.now.planners)) (length c.args.graph.now.resources.vertices)
-    most (types_of c.args.self.now) (sum_by reach_of (counted_of c.args.self.now).quantities)
+    let all = numbers_cost (length (items_of c.args.self.planners)) (length c.args.graph.now.resources.vertices)
+    most (types_of c.args.self) (sum_by reach_of (counted_of c.args.self).quantities)
     (length c.args.job.now.claims) (count_all (places_of c.in_ok-rows.rows))
     c.args.steps.now c.lost.new.steps is.graph.len is.graph.counts.reach few (c.lost.ensures.work most within) in
     omega (arith, all)
@@ -78,26 +78,11 @@ returns-in_err-times-clause-work g c = λ most within.
     let (before, after, is) = c.requires.there in
     let quantities = c.items-quantities.ensures ∙ ap (λ (k : Counted). k.quantities) c.counted.ensures in
     let few = subst (λ (cs : List Claim). count_all (places_of c.in_ok-rows.rows) ≤ sum_by reach_of
-    (counted_of c.args.self.now).quantities * length cs) c.items-claims.ensures
+    (counted_of c.args.self).quantities * length cs) c.items-claims.ensures
     (subst (λ (qs : List Quantity). count_all (places_of c.in_ok-rows.rows) ≤ sum_by
     reach_of qs * length c.items-claims.result.now) quantities c.in_ok-rows.ensures.few) in
-    let all = numbers_cost (length (items_of c.args.self.now.planners)) (length c.args.graph.now.resources.vertices)
-    most (types_of c.args.self.now) (sum_by reach_of (counted_of c.args.self.now).quantities)
-    (length c.args.job.now.claims) (count_all (places_of c.in_ok-rows.rows))
-    c.args.steps.now c.lost.new.steps is.graph.len is.graph.counts.reach few (c.lost.ensures.work most within) in
-    let times = c.renewed_without.ensures.work in
-    omega (arith, all, times)
-
-pub returns-in_err-try_clone-clause-work : goal.returns-in_err-try_clone-clause-work
-returns-in_err-try_clone-clause-work g c = λ most within.
-    let (before, after, is) = c.requires.there in
-    let quantities = c.items-quantities.ensures ∙ ap (λ (k : Counted). k.quantities) c.counted.ensures in
-    let few = subst (λ (cs : List Claim). count_all (places_of c.in_ok-rows.rows) ≤ sum_by reach_of
-    (counted_of c.args.self.now).quantities * length cs) c.items-claims.ensures
-    (subst (λ (qs : List Quantity). count_all (places_of c.in_ok-rows.rows) ≤ sum_by
-    reach_of qs * length c.items-claims.result.now) quantities c.in_ok-rows.ensures.few) in
-    let all = numbers_cost (length (items_of c.args.self.now.planners)) (length c.args.graph.now.resources.vertices)
-    most (types_of c.args.self.now) (sum_by reach_of (counted_of c.args.self.now).quantities)
+    let all = numbers_cost (length (items_of c.args.self.planners)) (length c.args.graph.now.resources.vertices)
+    most (types_of c.args.self) (sum_by reach_of (counted_of c.args.self).quantities)
     (length c.args.job.now.claims) (count_all (places_of c.in_ok-rows.rows))
     c.args.steps.now c.lost.new.steps is.graph.len is.graph.counts.reach few (c.lost.ensures.work most within) in
     let times = c.renewed_without.ensures.work in
@@ -108,11 +93,11 @@ returns-clause-work g c = λ most within.
     let (before, after, is) = c.requires.there in
     let quantities = c.items-quantities.ensures ∙ ap (λ (k : Counted). k.quantities) c.counted.ensures in
     let few = subst (λ (cs : List Claim). count_all (places_of c.in_ok-rows.rows) ≤ sum_by reach_of
-    (counted_of c.args.self.now).quantities * length cs) c.items-claims.ensures
+    (counted_of c.args.self).quantities * length cs) c.items-claims.ensures
     (subst (λ (qs : List Quantity). count_all (places_of c.in_ok-rows.rows) ≤ sum_by
     reach_of qs * length c.items-claims.result.now) quantities c.in_ok-rows.ensures.few) in
-    let all = numbers_cost (length (items_of c.args.self.now.planners)) (length c.args.graph.now.resources.vertices)
-    most (types_of c.args.self.now) (sum_by reach_of (counted_of c.args.self.now).quantities)
+    let all = numbers_cost (length (items_of c.args.self.planners)) (length c.args.graph.now.resources.vertices)
+    most (types_of c.args.self) (sum_by reach_of (counted_of c.args.self).quantities)
     (length c.args.job.now.claims) (count_all (places_of c.in_ok-rows.rows))
     c.args.steps.now c.lost.new.steps is.graph.len is.graph.counts.reach few (c.lost.ensures.work most within) in
     let times = c.renewed_without.ensures.work in

@@ -1,37 +1,39 @@
-use Rattle.std.proofs.Common.{◌≡◌, [], ◌∷◌, ◌++◌, length, length-append, slice_get, ap, sym, ◌∙◌, arith}
+use Rattle.std.proofs.Common.{sym, arith}
 use Rattle.vertex_planners.specs.Kept.{Gains}
-use Rattle.vertex_planners.proofs.ItemLaws.{one_more, steps_more, steps_all}
+use Rattle.vertex_planners.proofs.ItemLaws.{still_there, one_more, all_changed, steps_more, steps_all, steps_within}
 use Rattle.vertex_planners.proofs.items.Item.gained.Goals as goal
 
-pub returns-in_err-planner-clause-work : goal.returns-in_err-planner-clause-work
-returns-in_err-planner-clause-work g c = λ most within.
-    let got = ap (λ l. slice_get l c.loop-place.place) (sym c.self.view_is) ∙ sym c.in-Some.ensures.value in
-    let number = sym c.in-Some-get.ensures.value in
-    steps_all c.args.row.now c.loop-place.place _ most c.args.steps.now c.loop-place.steps c.gain.new.steps _ number
-    (within c.loop-place.place _ got) c.gain.ensures.none c.gain.ensures.work (c.loop-place.invariant.work most within)
-
-pub returns-in-Err-clause-work : goal.returns-in-Err-clause-work
-returns-in-Err-clause-work g c = λ most within.
-    let got = ap (λ l. slice_get l c.loop-place.place) (sym c.self.view_is) ∙ sym c.in-Some.ensures.value in
-    let number = sym c.in-Some-get.ensures.value in
-    steps_all c.args.row.now c.loop-place.place _ most c.args.steps.now c.loop-place.steps c.gain.new.steps _ number
-    (within c.loop-place.place _ got) c.gain.ensures.none c.gain.ensures.work (c.loop-place.invariant.work most within)
+pub returns-in_err-gain-clause-work : goal.returns-in_err-gain-clause-work
+returns-in_err-gain-clause-work g c = λ most within.
+    let (p, is, was) = still_there (Gains g.P.Planner.total_of g.P.Planner.stands_for c.args.window) c.args.row.now
+    c.args.self c.loop-place.planners c.loop-place.place c.loop-place.invariant.each c.in-Some.ensures.within
+    c.requires.places in
+    steps_all c.args.row.now c.loop-place.place _ most c.args.steps.now c.loop-place.steps c.gain.new.steps _
+    (sym c.in-Some.ensures.value) (within c.loop-place.place p was) c.gain.ensures.none (c.gain.ensures.work p is)
+    (c.loop-place.invariant.work most within)
 
 pub loop-place-preserved : goal.loop-place-preserved
-loop-place-preserved g c =
-    let now = c.loop-place.planners in
-    let got = ap (λ l. slice_get l c.loop-place.place) (sym c.self.view_is) ∙ sym c.in-Some.ensures.value in
-    let number = sym c.in-Some-get.ensures.value in
-    let more : c.push.new.self ≡ now ++ c.in_ok-planner.planner ∷ [] = c.in-Ok.ensures.ok in
-    record {
-      places = ap length more ∙ (let l = length-append now (c.in_ok-planner.planner ∷ []) in
-          let p = c.loop-place.invariant.places in omega (arith, l, p));
-      each = one_more (Gains g.P.Planner.total_of g.P.Planner.stands_for c.args.window)
-          c.args.row.now c.args.self.now now c.push.new.self c.loop-place.place _ _ _
-          c.loop-place.invariant.places c.loop-place.invariant.each number got c.in_ok-planner.ensures.gains more;
-      work = λ most within.
-          steps_more c.args.row.now
-          c.loop-place.place _ most c.args.steps.now c.loop-place.steps c.gain.new.steps _ number
-          (within c.loop-place.place _ got) c.gain.ensures.none c.gain.ensures.work
-          (c.loop-place.invariant.work most within);
-    }
+loop-place-preserved g c = record {
+  each = one_more (Gains g.P.Planner.total_of g.P.Planner.stands_for c.args.window) c.args.row.now c.args.self
+      c.loop-place.planners c.loop-place.place c.loop-place.invariant.each c.gain.new.planners c.in-Some.number.now
+      (sym c.in-Some.ensures.value) c.in_ok-gain.ensures.len c.in_ok-gain.ensures.here c.in_ok-gain.ensures.others;
+  work = λ most within.
+      let (p, is, was) = still_there (Gains g.P.Planner.total_of g.P.Planner.stands_for c.args.window) c.args.row.now
+      c.args.self c.loop-place.planners c.loop-place.place c.loop-place.invariant.each c.in-Some.ensures.within
+      c.requires.places in
+      steps_more c.args.row.now c.loop-place.place _ most c.args.steps.now c.loop-place.steps c.gain.new.steps _
+      (sym c.in-Some.ensures.value) (within c.loop-place.place p was) c.gain.ensures.none (c.gain.ensures.work p is)
+      (c.loop-place.invariant.work most within);
+}
+
+pub returns-clause-gains : goal.returns-clause-gains
+returns-clause-gains g c =
+    let done = c.loop-place-test.false in
+    let end = c.len-place-end.ensures in
+    all_changed (Gains g.P.Planner.total_of g.P.Planner.stands_for c.args.window) c.args.row.now c.args.self
+    c.loop-place.planners c.loop-place.place c.loop-place.invariant.each (omega (arith, done, end))
+
+pub returns-clause-work : goal.returns-clause-work
+returns-clause-work g c = λ most within.
+    steps_within c.args.row.now c.loop-place.place most c.args.steps.now c.loop-place.steps
+    (c.loop-place.invariant.work most within)

@@ -10,8 +10,8 @@ use Rattle.vertex_planners.proofs.planners.VertexPlanners.gained.Goals as goal
 
 pub loop-left-init : goal.loop-left-init
 loop-left-init g c = record {
-  walked = rw c.in_ok-items.ensures
-      (walk_begins (Gains g.P.Planner.total_of g.P.Planner.stands_for c.args.window) (items_of c.args.self.now)
+  walked =
+      (walk_begins (Gains g.P.Planner.total_of g.P.Planner.stands_for c.args.window) (items_of c.args.self)
       (places_of c.args.rows) (gains_none g.P.Planner.total_of g.P.Planner.stands_for c.args.window) c.requires.keys);
   work = λ most within. omega arith;
 }
@@ -19,91 +19,91 @@ loop-left-init g c = record {
 pub gain_at-requires-clause-vertex : goal.gain_at-requires-clause-vertex
 gain_at-requires-clause-vertex g c =
     vertex_there (Gains g.P.Planner.total_of g.P.Planner.stands_for c.args.window)
-    (items_of c.args.self.now) (places_of c.args.rows)
+    (items_of c.args.self) (places_of c.args.rows)
     c.loop-left.items (places_of c.loop-left.left)
     (places_of c.pop.new.self) c.in-Some.vertex c.in-Some.row c.loop-left.invariant.walked
     (row_of (Gains g.P.Planner.total_of g.P.Planner.stands_for c.args.window)
-    (items_of c.args.self.now) (places_of c.args.rows) (places_of c.loop-left.left) (places_of c.pop.new.self)
+    (items_of c.args.self) (places_of c.args.rows) (places_of c.loop-left.left) (places_of c.pop.new.self)
     c.in_ok-vertex.field-0 c.in-Some.vertex c.in-Some.row c.in-Some.is c.in_ok-vertex.ensures.taken)
 
 pub gain_at-requires-clause-places : goal.gain_at-requires-clause-places
 gain_at-requires-clause-places g c =
     row_places (Gains g.P.Planner.total_of g.P.Planner.stands_for c.args.window)
-    (items_of c.args.self.now) (places_of c.args.rows)
+    (items_of c.args.self) (places_of c.args.rows)
     c.loop-left.items (places_of c.loop-left.left)
     (places_of c.pop.new.self) c.in-Some.vertex c.in-Some.row c.loop-left.invariant.walked
-    (row_of (Gains g.P.Planner.total_of g.P.Planner.stands_for c.args.window) (items_of c.args.self.now)
+    (row_of (Gains g.P.Planner.total_of g.P.Planner.stands_for c.args.window) (items_of c.args.self)
     (places_of c.args.rows) (places_of c.loop-left.left) (places_of c.pop.new.self) c.in_ok-vertex.field-0
     c.in-Some.vertex c.in-Some.row c.in-Some.is c.in_ok-vertex.ensures.taken) c.requires.places
 
 pub gain_at-requires-clause-room : goal.gain_at-requires-clause-room
 gain_at-requires-clause-room g c =
     row_before (Gains g.P.Planner.total_of g.P.Planner.stands_for c.args.window)
-    (items_of c.args.self.now) (places_of c.args.rows)
+    (items_of c.args.self) (places_of c.args.rows)
     c.loop-left.items (places_of c.loop-left.left)
     (places_of c.pop.new.self) c.in-Some.vertex c.in-Some.row c.loop-left.invariant.walked
     (row_of (Gains g.P.Planner.total_of g.P.Planner.stands_for c.args.window)
-    (items_of c.args.self.now) (places_of c.args.rows) (places_of c.loop-left.left) (places_of c.pop.new.self)
+    (items_of c.args.self) (places_of c.args.rows) (places_of c.loop-left.left) (places_of c.pop.new.self)
     c.in_ok-vertex.field-0 c.in-Some.vertex c.in-Some.row c.in-Some.is c.in_ok-vertex.ensures.taken)
     (HasRoomFor g.P.Planner.total_of g.P.Planner.stands_for c.args.window) c.requires.places c.requires.room
 
 pub loop-left-preserved : goal.loop-left-preserved
 loop-left-preserved g c =
     let off = row_of (Gains g.P.Planner.total_of g.P.Planner.stands_for c.args.window)
-    (items_of c.args.self.now) (places_of c.args.rows) (places_of c.loop-left.left) (places_of c.pop.new.self)
+    (items_of c.args.self) (places_of c.args.rows) (places_of c.loop-left.left) (places_of c.pop.new.self)
     c.in_ok-vertex.field-0 c.in-Some.vertex c.in-Some.row c.in-Some.is c.in_ok-vertex.ensures.taken in
     record {
       walked = walk_steps (Gains g.P.Planner.total_of g.P.Planner.stands_for c.args.window)
-          (items_of c.args.self.now) (places_of c.args.rows)
+          (items_of c.args.self) (places_of c.args.rows)
           c.loop-left.items (places_of c.loop-left.left)
           (places_of c.pop.new.self) c.in-Some.vertex c.in-Some.row c.loop-left.invariant.walked off
           c.gain_at.new.items c.in_ok-gain_at.ensures.len c.in_ok-gain_at.ensures.here c.in_ok-gain_at.ensures.others;
       work = λ most within.
           walk_counts (Gains g.P.Planner.total_of g.P.Planner.stands_for c.args.window)
-          (items_of c.args.self.now) (places_of c.args.rows)
+          (items_of c.args.self) (places_of c.args.rows)
           c.loop-left.items (places_of c.loop-left.left)
           (places_of c.pop.new.self) c.in-Some.vertex c.in-Some.row c.loop-left.invariant.walked off
           (renew_cost g.P.Planner.settle_cost g.P.Planner.change_cost) most c.loop-left.steps c.gain_at.new.steps
           (c.args.steps.now + count_all
-          (places_of c.args.rows) * change_most (length (items_of c.args.self.now)) most)
+          (places_of c.args.rows) * change_most (length (items_of c.args.self)) most)
           within (c.gain_at.ensures.work most) (c.loop-left.invariant.work most within);
     }
 
 pub loop-left-smaller : goal.loop-left-smaller
 loop-left-smaller g c =
     let off = row_of (Gains g.P.Planner.total_of g.P.Planner.stands_for c.args.window)
-    (items_of c.args.self.now) (places_of c.args.rows) (places_of c.loop-left.left) (places_of c.pop.new.self)
+    (items_of c.args.self) (places_of c.args.rows) (places_of c.loop-left.left) (places_of c.pop.new.self)
     c.in_ok-vertex.field-0 c.in-Some.vertex c.in-Some.row c.in-Some.is c.in_ok-vertex.ensures.taken in
     off.row_is.less off.was
 
 pub returns-in_err-gain_at-clause-work : goal.returns-in_err-gain_at-clause-work
 returns-in_err-gain_at-clause-work g c = λ most within.
     let counts = walk_counts (Gains g.P.Planner.total_of g.P.Planner.stands_for c.args.window)
-    (items_of c.args.self.now) (places_of c.args.rows)
+    (items_of c.args.self) (places_of c.args.rows)
     c.loop-left.items (places_of c.loop-left.left)
     (places_of c.pop.new.self) c.in-Some.vertex c.in-Some.row c.loop-left.invariant.walked
     (row_of (Gains g.P.Planner.total_of g.P.Planner.stands_for c.args.window)
-    (items_of c.args.self.now) (places_of c.args.rows) (places_of c.loop-left.left) (places_of c.pop.new.self)
+    (items_of c.args.self) (places_of c.args.rows) (places_of c.loop-left.left) (places_of c.pop.new.self)
     c.in_ok-vertex.field-0 c.in-Some.vertex c.in-Some.row c.in-Some.is c.in_ok-vertex.ensures.taken)
     (renew_cost g.P.Planner.settle_cost g.P.Planner.change_cost) most c.loop-left.steps c.gain_at.new.steps
-    (c.args.steps.now + count_all (places_of c.args.rows) * change_most (length (items_of c.args.self.now)) most)
+    (c.args.steps.now + count_all (places_of c.args.rows) * change_most (length (items_of c.args.self)) most)
     within (c.gain_at.ensures.work most) (c.loop-left.invariant.work most within) in
     omega (arith, counts)
 
 pub returns-clause-places : goal.returns-clause-places
 returns-clause-places g c =
     still_wide (Gains g.P.Planner.total_of g.P.Planner.stands_for c.args.window)
-    (items_of c.args.self.now) (places_of c.args.rows)
+    (items_of c.args.self) (places_of c.args.rows)
     c.loop-left.items (places_of c.loop-left.left) c.loop-left.invariant.walked
     (none_of (Gains g.P.Planner.total_of g.P.Planner.stands_for c.args.window)
-    (items_of c.args.self.now) (places_of c.args.rows) (places_of c.loop-left.left)
+    (items_of c.args.self) (places_of c.args.rows) (places_of c.loop-left.left)
     c.in_ok-vertex.field-0 c.in_default.is c.in_ok-vertex.ensures.none) c.requires.places
 
 pub returns-clause-gains : goal.returns-clause-gains
 returns-clause-gains g c =
     walk_ends (Gains g.P.Planner.total_of g.P.Planner.stands_for c.args.window)
-    (items_of c.args.self.now) (places_of c.args.rows)
+    (items_of c.args.self) (places_of c.args.rows)
     c.loop-left.items (places_of c.loop-left.left) c.loop-left.invariant.walked
     (none_of (Gains g.P.Planner.total_of g.P.Planner.stands_for c.args.window)
-    (items_of c.args.self.now) (places_of c.args.rows) (places_of c.loop-left.left)
+    (items_of c.args.self) (places_of c.args.rows) (places_of c.loop-left.left)
     c.in_ok-vertex.field-0 c.in_default.is c.in_ok-vertex.ensures.none) c.requires.places

@@ -1,7 +1,7 @@
 use Rattle.std.proofs.Common.{[], ◌∷◌}
 use Rattle.planner_points.specs.Spans.{span_of}
 use Rattle.planner_min_tree.proofs.PlanFacts.{marks_with}
-use Rattle.planner_min_tree.proofs.planner.MinTreePlanner.with_span.Goals as goal
+use Rattle.planner_min_tree.proofs.planner.MinTreePlanner.into_with_span.Goals as goal
 
 pub invariant_of-result : goal.invariant_of-result
 invariant_of-result g c =

@@ -1,4 +1,4 @@
-use Rattle.commit_book.proofs.books.Book.search_and_commit.Given as goal
+use Rattle.commit_book.proofs.books.Book.searched.Given as goal
 
 abbrev pub ghosts-search_in : goal.ghosts-search_in
 ghosts-search_in g a = record { name = a.blank.name; parts = a.blank.parts }

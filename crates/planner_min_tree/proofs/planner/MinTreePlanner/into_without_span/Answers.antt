@@ -1,6 +1,6 @@
 use Rattle.std.proofs.Common.{◌++◌}
 use Rattle.planner_min_tree.proofs.PlanFacts.{marks_without}
-use Rattle.planner_min_tree.proofs.planner.MinTreePlanner.without_span.Goals as goal
+use Rattle.planner_min_tree.proofs.planner.MinTreePlanner.into_without_span.Goals as goal
 
 pub invariant_of-result : goal.invariant_of-result
 invariant_of-result g c =
