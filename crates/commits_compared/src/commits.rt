@@ -1,9 +1,10 @@
 //! A search at one place of a history, and a commit at a later one.
-ghost use Rattle.std.specs.Prelude.{◌≡◌, IfOk};
+ghost use Rattle.std.specs.Prelude.{◌≡◌, IfOk, OnOk};
 ghost use Rattle.std.specs.Arc.{arc_value};
 ghost use Rattle.flux_defs.specs.Scheduler.{IsProper};
 ghost use Rattle.flux_defs.specs.Verdicts.{IsSearchable};
 ghost use Rattle.sched_core.specs.Candidates.{IsFor};
+ghost use Rattle.sched_core.specs.Searched.{Searched};
 
 use crate::overtaking;
 use flux_defs::{ClientLine, Command, Steps};
@@ -32,6 +33,15 @@ pub struct Outcome {
     pub told: Option<Cause>,
     pub plain: Option<Cause>,
     pub core: Core,
+}
+
+/// A scheduler, and what was found in its state for a line of a client.
+#[derive(Drop)]
+struct Asked {
+    core: Core,
+    client: u32,
+    line: u32,
+    candidate: Candidate,
 }
 
 /// A scheduler that has played the lines of an input.
@@ -106,6 +116,59 @@ fn commit<L: Ledger>(
     }
 }
 
+/// The first line of an input, which is one that is searched for.
+fn asked_line(alloc: Global, graph: &Graph, text: &[u8]) -> Result<ClientLine, Unmade>
+    ensures proper { IfOk result (λ line. IsProper graph.now.resources.vertices line.command) }
+    ensures searchable { IfOk result (λ line. IsSearchable line.command) }
+{
+    let line = line_in(alloc, graph, text)?;
+    if !is_searched_for(&line.command) {
+        return Err(Unmade::Line);
+    }
+    Ok(line)
+}
+
+/// The scheduler that has played the front, and what is found in its state for the line that is searched for.
+fn searched<L: Ledger>(
+    alloc: Global,
+    graph: &Arc<Graph, Global>,
+    bounds: Bounds,
+    parts: Parts<'_>,
+    steps: &mut Steps<L>,
+) -> Result<Asked, Unmade>
+    ensures graph { IfOk result (λ asked. asked.core.setting.graph ≡ (arc_value graph.now).resources) }
+    ensures searched { IfOk result (λ asked. IsFor asked.core asked.candidate) }
+{
+    let core = after(alloc, graph, bounds, parts.front)?;
+    let ClientLine {
+        client,
+        line,
+        command,
+    } = asked_line(alloc, graph, parts.asked)?;
+    let candidate = search(&core, command, steps)?;
+    Ok(Asked {
+        core,
+        client,
+        line,
+        candidate,
+    })
+}
+
+/// Plays the lines of an input. What was searched before may be committed after them.
+fn play_on(
+    alloc: Global,
+    graph: &Arc<Graph, Global>,
+    core: &mut Core,
+    text: &[u8],
+) -> Result<(), Unmade>
+    requires graph { core.old.setting.graph ≡ (arc_value graph.now).resources }
+    ensures later { OnOk result ((c : Searched) → IsFor core.old c → IsFor core.new c) }
+{
+    let lines = lines_in(alloc, graph, text)?;
+    play(core, lines.into_vec())?;
+    Ok(())
+}
+
 /// What comes of a search behind the front and a commit behind the later lines.
 pub fn tried<L: Ledger>(
     alloc: Global,
@@ -114,18 +177,13 @@ pub fn tried<L: Ledger>(
     parts: Parts<'_>,
     steps: &mut Steps<L>,
 ) -> Result<Outcome, Unmade> {
-    let mut core = after(alloc, graph, bounds, parts.front)?;
-    let ClientLine {
+    let Asked {
+        mut core,
         client,
         line,
-        command,
-    } = line_in(alloc, graph, parts.asked)?;
-    if !is_searched_for(&command) {
-        return Err(Unmade::Line);
-    }
-    let candidate = search(&core, command, steps)?;
-    let later = lines_in(alloc, graph, parts.later)?;
-    play(&mut core, later.into_vec())?;
+        candidate,
+    } = searched(alloc, graph, bounds, parts, steps)?;
+    play_on(alloc, graph, &mut core, parts.later)?;
     let verdict = format!(in alloc; "{:?}", candidate.verdict())?;
     let plain = overtaking::cause(alloc, graph, &core, bounds.horizon, &candidate, steps)?;
     let told = commit(&mut core, client, line, candidate, steps)?;

@@ -1,14 +1,16 @@
 //! Events of several clients on one history, beside a plain account of what each client has done, and beside a
 //! scheduler of one thread that plays the same lines in the same order.
-ghost use Rattle.std.specs.Prelude.{◌≡◌, [], IfOk};
+ghost use Rattle.std.specs.Prelude.{◌≡◌, [], IfOk, OnOk};
 ghost use Rattle.std.specs.Arc.{arc_value};
+ghost use Rattle.flux_defs.specs.Scheduler.{IsProper};
 ghost use Rattle.sched_core.specs.Played.{AreProper};
 ghost use Rattle.interleave_law.specs.Machines.{HasProperLines};
 
-use flux_defs::{ClientLine, Event, Limits, List, Script};
+use flux_defs::{ClientLine, Command, Event, Limits, List, Script};
 use fluxion_lines::{Form, InputFault, read_input};
 use history_scenes::{Bounds, Unmade, core_over, lines_in};
 use interleave_law::Machine;
+use prune_filters::FilterFault;
 use random_lines::{ONE_CORE, line_with, random_line, spec};
 use resource_graph::Graph;
 use sched_core::{Core, is_searched_for};
@@ -130,6 +132,11 @@ fn count(counts: &mut Counts, event: Event, was_open: bool, has_entry: bool, is_
     }
 }
 
+/// The machine's answer to an event.
+fn step(machine: &mut Machine, event: Event) -> Result<bool, AllocError> {
+    machine.step(event)
+}
+
 /// Plays an event on the machine and in the plain accounts.
 fn play(
     machine: &mut Machine,
@@ -140,7 +147,7 @@ fn play(
 ) -> Result<(), AllocError> {
     let client = client_of(event);
     let place = machine.core().len();
-    let told = machine.step(event)?;
+    let told = step(machine, event)?;
     let has_entry = machine.core().len() > place;
     let Some(account) = accounts.get_mut(client as usize) else {
         count(counts, event, false, has_entry, !told && !has_entry);
@@ -188,11 +195,38 @@ fn script_in(alloc: Global, graph: &Graph, text: &[u8]) -> Result<Script, InputF
     read_input(alloc, graph, Form::Rfc14, text, &Limits::shipped())
 }
 
+/// A scheduler without an entry.
+fn first_core(alloc: Global, graph: &Arc<Graph, Global>) -> Result<Core, FilterFault>
+    ensures graph { IfOk result (λ core. core.setting.graph ≡ (arc_value graph.now).resources) }
+    ensures new { IfOk result (λ core. core.journal ≡ []) }
+{
+    core_over(alloc, graph, BOUNDS)
+}
+
+/// The machine of a script on a scheduler without an entry.
+fn machine_on(alloc: Global, core: Core, script: Script) -> Result<Machine, AllocError>
+    requires empty { core.journal ≡ [] }
+    requires proper { HasProperLines core.setting.graph.vertices script }
+{
+    Machine::new(alloc, core, script)
+}
+
 /// The machine of an input, on a scheduler without an entry.
 fn machine_of(alloc: Global, graph: &Arc<Graph, Global>, input: &[u8]) -> Result<Machine, Unmade> {
-    let core = core_over(alloc, graph, BOUNDS)?;
+    let core = first_core(alloc, graph)?;
     let script = script_in(alloc, graph, input)?;
-    Ok(Machine::new(alloc, core, script)?)
+    Ok(machine_on(alloc, core, script)?)
+}
+
+/// Decides a command.
+fn decide(core: &mut Core, client: u32, line: u32, command: Command) -> Result<(), AllocError>
+    requires proper { IsProper core.old.setting.graph.vertices command }
+    ensures graph { OnOk result (core.new.setting.graph ≡ core.old.setting.graph) }
+{
+    match core.decide(client, line, command) {
+        Ok(_) => Ok(()),
+        Err((_, fault)) => Err(fault),
+    }
 }
 
 /// The lines of a history, decided in its order by another scheduler.
@@ -204,7 +238,7 @@ fn replayed(
 ) -> Result<Core, Unmade>
     requires { AreProper (arc_value graph.now).resources.vertices lines.now }
 {
-    let mut again = core_over(alloc, graph, BOUNDS)?;
+    let mut again = first_core(alloc, graph)?;
     for at in 0..core.len() {
         let Some(entry) = core.entry(at) else {
             return Err(Unmade::Line);
@@ -213,12 +247,16 @@ fn replayed(
             return Err(Unmade::Line);
         };
         let command = line.command.copy(alloc)?;
-        match again.decide(line.client, line.line, command) {
-            Ok(_) => {}
-            Err((_, fault)) => return Err(Unmade::from(fault)),
-        }
+        decide(&mut again, line.client, line.line, command)?;
     }
     Ok(again)
+}
+
+/// The lines of an input, in its order.
+fn listed(alloc: Global, graph: &Graph, text: &[u8]) -> Result<List<ClientLine>, InputFault>
+    ensures { IfOk result (AreProper graph.now.resources.vertices) }
+{
+    lines_in(alloc, graph, text)
 }
 
 /// All entries, as a text.
@@ -230,16 +268,16 @@ fn history(alloc: Global, core: &Core) -> Result<String, AllocError> {
     Ok(text)
 }
 
-/// Plays a random list of events of random lines.
-fn run(
+/// The machine after a random list of events of the lines of an input.
+fn events_played(
     alloc: Global,
     graph: &Arc<Graph, Global>,
     seed: &mut Seed,
+    input: &[u8],
     counts: &mut Counts,
-) -> Result<(), Unmade> {
-    let input = random_input(alloc, seed)?;
-    let mut machine = machine_of(alloc, graph, input.as_slice())?;
-    let script = script_in(alloc, graph, input.as_slice())?;
+) -> Result<Machine, Unmade> {
+    let mut machine = machine_of(alloc, graph, input)?;
+    let script = script_in(alloc, graph, input)?;
     let first = Account {
         done: 0,
         stage: Stage::Idle,
@@ -249,9 +287,31 @@ fn run(
         let event = random_event(seed);
         play(&mut machine, &script, &mut accounts, event, counts)?;
     }
-    let lines = lines_in(alloc, graph, input.as_slice())?;
-    let again = replayed(alloc, graph, &lines, machine.core())?;
-    if history(alloc, machine.core())? != history(alloc, &again)? {
+    Ok(machine)
+}
+
+/// Whether a scheduler that decides a history's lines in its order comes to the same history.
+fn is_decided_alike(
+    alloc: Global,
+    graph: &Arc<Graph, Global>,
+    input: &[u8],
+    core: &Core,
+) -> Result<bool, Unmade> {
+    let lines = listed(alloc, graph, input)?;
+    let again = replayed(alloc, graph, &lines, core)?;
+    Ok(history(alloc, core)? == history(alloc, &again)?)
+}
+
+/// Plays a random list of events of random lines.
+fn run(
+    alloc: Global,
+    graph: &Arc<Graph, Global>,
+    seed: &mut Seed,
+    counts: &mut Counts,
+) -> Result<(), Unmade> {
+    let input = random_input(alloc, seed)?;
+    let machine = events_played(alloc, graph, seed, input.as_slice(), counts)?;
+    if !is_decided_alike(alloc, graph, input.as_slice(), machine.core())? {
         counts.histories = counts.histories.wrapping_add(1);
     }
     Ok(())
@@ -298,7 +358,7 @@ pub fn of_two(alloc: Global) -> Result<([bool; 8], String), Unmade> {
     let mut machine = machine_of(alloc, &graph, input.as_slice())?;
     let mut answers = [false; 8];
     for (at, event) in OF_TWO.iter().enumerate() {
-        answers[at] = machine.step(*event)?;
+        answers[at] = step(&mut machine, *event)?;
     }
     let mut text = String::new(alloc);
     for at in 0..machine.core().len() {

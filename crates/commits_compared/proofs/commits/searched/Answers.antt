@@ -1,7 +1,7 @@
 use Rattle.std.proofs.Common.{◌≡◌, rules, sym, subst}
 use Rattle.flux_defs.specs.Graph.{ResourceGraph}
 use Rattle.flux_defs.specs.Scheduler.{IsProper}
-use Rattle.commits_compared.proofs.commits.tried.Goals as goal
+use Rattle.commits_compared.proofs.commits.searched.Goals as goal
 
 pub search-requires-clause-proper : goal.search-requires-clause-proper
 search-requires-clause-proper g c =
