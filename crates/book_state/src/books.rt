@@ -167,7 +167,7 @@ impl BookState {
             table,
         } = self.kept;
         let accounts = accounts.with_job(alloc, filtered.graph(), moment, job, steps)?;
-        let table = table.with_new(alloc, job.id, at, steps)?;
+        let table = table.into_new(alloc, job.id, at, steps)?;
         Ok(BookState {
             kept: Kept {
                 filtered,
@@ -229,7 +229,7 @@ impl BookState {
             table,
         } = self.kept;
         let accounts = accounts.without_job(alloc, filtered.graph(), moment, job, steps)?;
-        let table = table.with_cancelled(alloc, job.id, steps)?;
+        let table = table.into_cancelled(alloc, job.id, steps)?;
         Ok(BookState {
             kept: Kept {
                 filtered,

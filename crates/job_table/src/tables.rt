@@ -18,8 +18,9 @@ pub struct Row {
     pub live: bool,
 }
 
-/// A map from ids of jobs to rows, as a shared tree. No table changes: a call that changes something gives a new one,
-/// which holds in common with the old one what the change doesn't lead through.
+/// A map from ids of jobs to rows, as a shared tree. No table changes: a call that changes something gives a new one.
+/// The calls that begin with `with` keep the old one too, and hold in common with it what the change doesn't lead
+/// through.
 ///
 /// A look at a row takes at most a step for each of the 16 hexadecimal digits of an id. Where the last digits of n ids
 /// are spread it takes about as many as n has hexadecimal digits, as for ids that count up.
@@ -71,7 +72,45 @@ impl JobTable {
         Ok(JobTable { root })
     }
 
-    /// The table with a live row for a new id, whose job the entry at place `at` accepted.
+    /// The table with a live row for a new id, whose job the entry at place `at` accepted. What no other table shares
+    /// is written in place. Where no memory is left there is no table.
+    pub fn into_new<L: Ledger>(
+        self,
+        alloc: Global,
+        id: u64,
+        at: u64,
+        steps: &mut Steps<L>,
+    ) -> Result<JobTable, AllocError>
+        requires { map.get self id ≡ None }
+        ensures added { IfOk result (λ table. table ≡ map.insert self id (live_row at)) }
+        ensures work { steps.new ≤ steps.old + 256 * dig (map.len self + 2) }
+    {
+        self.into_row(alloc, id, Row { at, live: true }, steps)
+    }
+
+    /// The table in which the id's row is not live, made as by `into_new`.
+    pub fn into_cancelled<L: Ledger>(
+        self,
+        alloc: Global,
+        id: u64,
+        steps: &mut Steps<L>,
+    ) -> Result<JobTable, AllocError>
+        requires { HasLiveRow self id }
+        ensures cancelled { IfOk result (λ table. (at : ℕ) → map.get self id ≡ Some (live_row at) →
+            table ≡ map.insert self id (cancelled_row at)) }
+        ensures work { steps.new ≤ steps.old + 256 * dig (map.len self + 2) }
+    {
+        let Some(row) = self.find(id, steps) else {
+            unreachable!()
+        };
+        let cancelled = Row {
+            at: row.at,
+            live: false,
+        };
+        self.into_row(alloc, id, cancelled, steps)
+    }
+
+    /// The table with a live row for a new id, beside this one.
     pub fn with_new<L: Ledger>(
         &self,
         alloc: Global,
@@ -83,10 +122,11 @@ impl JobTable {
         ensures added { IfOk result (λ table. table ≡ map.insert self.now id (live_row at)) }
         ensures work { steps.new ≤ steps.old + 256 * dig (map.len self.now + 2) }
     {
-        self.with_row(alloc, id, Row { at, live: true }, steps)
+        let same = self.share()?;
+        same.into_new(alloc, id, at, steps)
     }
 
-    /// The table in which the id's row is not live.
+    /// The table in which the id's row is not live, beside this one.
     pub fn with_cancelled<L: Ledger>(
         &self,
         alloc: Global,
@@ -98,28 +138,22 @@ impl JobTable {
             table ≡ map.insert self.now id (cancelled_row at)) }
         ensures work { steps.new ≤ steps.old + 256 * dig (map.len self.now + 2) }
     {
-        let Some(row) = self.find(id, steps) else {
-            unreachable!()
-        };
-        let cancelled = Row {
-            at: row.at,
-            live: false,
-        };
-        self.with_row(alloc, id, cancelled, steps)
+        let same = self.share()?;
+        same.into_cancelled(alloc, id, steps)
     }
 
-    /// The table with this row at the id, in place of the one that it may have: a change in place of a share.
-    fn with_row<L: Ledger>(
-        &self,
+    /// The table with this row at the id, in place of the one that it may have.
+    fn into_row<L: Ledger>(
+        self,
         alloc: Global,
         id: u64,
         row: Row,
         steps: &mut Steps<L>,
     ) -> Result<JobTable, AllocError>
-        ensures row { IfOk result (λ table. table ≡ map.insert self.now id row) }
+        ensures row { IfOk result (λ table. table ≡ map.insert self id row) }
         ensures work { steps.new ≤ steps.old + 16 }
     {
-        let mut root = self.root.share()?;
+        let JobTable { mut root } = self;
         match root.set(alloc, 16, id, row, steps) {
             Ok(()) => Ok(JobTable { root }),
             Err(refused) => Err(refused),

@@ -134,7 +134,13 @@ has_item page at width part e p l g =
     let some = some_width page.below in
     let it = holds page.below width (parts_in page) (at / width) (at % width) at part e p.packed (rows at width) l
     (mod-lt at (omega arith)) g in
-    record { inside = it.inside; low = it.fits.high; same = it.same; items = it.items; packed = it.packed }
+    record {
+      inside = it.inside;
+      high = it.fits.tall (omega (arith, it.inside));
+      same = it.same;
+      items = it.items;
+      packed = it.packed;
+    }
 
 pub item_place : {E : Type 0} (page : Page E) (at width : ℕ) → width ≡ 2 ^ (4 * page.below) → IsPage page →
     at < length (items_in (parts_in page)) → at / width < 16

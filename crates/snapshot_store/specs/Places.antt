@@ -7,7 +7,7 @@ use Rattle.snapshot_store.specs.declared.parts.Page.{Page}
 -- the part at `place` has at `rest` the item that the page has at `at`
 pub record HasItem {E : Type 0} (page : Page E) (at : ℕ) (part : List E × ℕ) (place rest : ℕ) : Type 0 where
   pub inside : rest < length part.0
-  pub low : part.1 ≤ page.below
+  pub high : part.1 ≡ page.below
   pub same : slice_get (items_in (parts_in page)) at ≡ slice_get part.0 rest
   pub items : (x : E) → items_in (slice_set (parts_in page) place (slice_set part.0 rest x, part.1)) ≡ slice_set
       (items_in (parts_in page)) at x

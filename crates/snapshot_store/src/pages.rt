@@ -127,7 +127,7 @@ impl<T: Drop> Pages<T> {
         if at >= self.len {
             return None;
         }
-        Some(self.root.get(at, steps))
+        Some(self.root.get(self.height, at, steps))
     }
 
     /// The same list. It costs one shared node, whatever the list's length.

@@ -99,28 +99,16 @@ impl<T: Drop> Page<T> {
         }
     }
 
-    /// The quotient and the remainder of a place by the number of items that each part has room for, which is a power
-    /// of two: no division is made.
-    #[inline(always)]
-    fn split(&self, at: u64) -> (u64, u64)
-        requires { self.now.below < 16 }
-        ensures place { result.0 ≡ at / 2 ^ (4 * self.now.below) }
-        ensures rest { result.1 ≡ at % 2 ^ (4 * self.now.below) }
-    {
-        let bits = 4 * self.below;
-        let place = at >> bits;
-        (place, at - (place << bits))
-    }
-
-    /// The place of the part that has the item, and the item's place in it.
-    fn place_of(&self, at: u64) -> (u64, u64)
+    /// The place of the part that has the item, and the item's place in it; `below` is the height of the parts.
+    fn place_of(&self, below: u64, at: u64) -> (u64, u64)
         requires page { IsPage self.now }
+        requires below { below ≡ self.now.below }
         requires inside { at < length (items_in (parts_in self.now)) }
         ensures place { result.0 < 16 }
         ensures item { (part : List T × ℕ) → slice_get (parts_in self.now) result.0 ≡ Some part →
             HasItem self.now at part result.0 result.1 }
     {
-        self.split(at)
+        split(below, at)
     }
 
     /// The place of the part that has room for the next item, and how many items that part has.
@@ -132,20 +120,34 @@ impl<T: Drop> Page<T> {
         ensures room { (part : List T × ℕ) → slice_get (parts_in self.now) result.0 ≡ Some part →
             HasRoom self.now part result.0 result.1 }
     {
-        self.split(at)
+        split(self.below, at)
     }
 
-    /// The part that has the item, and the item's place in it.
-    fn find(&self, at: u64) -> (&Part<T>, u64)
+    /// The part that has the item, and the item's place in it; `below` is the height of the parts.
+    fn find(&self, below: u64, at: u64) -> (&Part<T>, u64)
         requires page { IsPage self.now }
+        requires below { below ≡ self.now.below }
         requires inside { at < length (items_in (parts_in self.now)) }
         ensures inside { result.1 < length result.0.now.0 }
-        ensures low { result.0.now.1 ≤ self.now.below }
+        ensures height { result.0.now.1 ≡ below }
         ensures same { slice_get (items_in (parts_in self.now)) at ≡ slice_get result.0.now.0 result.1 }
     {
-        let (place, rest) = self.place_of(at);
+        let (place, rest) = self.place_of(below, at);
         (self.parts.get(place), rest)
     }
+}
+
+/// The quotient and the remainder of a place by the number of items that a part of this height has room for, which is a
+/// power of two: no division is made.
+#[inline(always)]
+fn split(below: u64, at: u64) -> (u64, u64)
+    requires { below < 16 }
+    ensures place { result.0 ≡ at / 2 ^ (4 * below) }
+    ensures rest { result.1 ≡ at % 2 ^ (4 * below) }
+{
+    let bits = 4 * below;
+    let place = at >> bits;
+    (place, at - (place << bits))
 }
 
 /// From now on the node holds the item that is given, which is taken. Where no memory is left it isn't taken, and the
@@ -225,7 +227,7 @@ impl<T: Share + Drop> Part<T> {
                 let Some(page) = node.get_mut() else {
                     return Err(AllocError);
                 };
-                let (place, rest) = page.place_of(at);
+                let (place, rest) = page.place_of(page.below, at);
                 match page.parts.get_mut(place).swap(alloc, rest, item, steps) {
                     Ok(()) => return Ok(()),
                     Err(refused) => return Err(refused),
@@ -238,9 +240,11 @@ impl<T: Share + Drop> Part<T> {
 impl<T: Drop> Part<T> {
     ghost use Rattle.snapshot_store.specs.Parts.{IsPart};
 
-    /// The item at a place. It takes a step for each page on the way to it, and one for the item.
-    pub fn get<L: Ledger>(&self, at: u64, steps: &mut Steps<L>) -> &T
-        requires { at < length self.now.0 }
+    /// The item at a place of a part of this height. It takes a step for each page on the way to it, and one for the
+    /// item. The pages' own heights, which lie in other cache lines than their parts, aren't read.
+    pub fn get<L: Ledger>(&self, height: u64, at: u64, steps: &mut Steps<L>) -> &T
+        requires within { at < length self.now.0 }
+        requires height { height ≡ self.now.1 }
         ensures value { slice_get self.now.0 at ≡ Some result.now }
         ensures work { steps.new ≤ steps.old + self.now.1 + 1 }
         ensures counted { steps.old ≤ steps.new }
@@ -250,8 +254,8 @@ impl<T: Drop> Part<T> {
             Body::Item(node) => node.look(steps),
             Body::Fork(node) => {
                 let page = node.look(steps);
-                let (part, rest) = page.find(at);
-                part.get(rest, steps)
+                let (part, rest) = page.find(height - 1, at);
+                part.get(height - 1, rest, steps)
             }
         }
     }
@@ -287,7 +291,7 @@ impl<T: Drop> Part<T> {
                 let Some(page) = node.get_mut() else {
                     return Err(AllocError);
                 };
-                let (place, rest) = page.place_of(at);
+                let (place, rest) = page.place_of(page.below, at);
                 match page.parts.get_mut(place).put(alloc, rest, given, steps) {
                     Ok(()) => return Ok(()),
                     Err(refused) => return Err(refused),

@@ -103,9 +103,9 @@ returns-in_err-table-clause-work g c =
     let is = subst IsBook c.self.view_is c.self.invariant in
     change_at c.graph.result.now c.self.inside.kept.accounts c.args.self
     eg ea is c.graph.ensures.valid
-    (length c.args.job.now.claims) c.args.steps.now c.with_job.new.steps c.with_new.new.steps c.with_job.ensures.work
-    (subst (λ (b : Kept). c.with_new.new.steps ≤ c.with_job.new.steps + 256 * dig (len (rows_of b) + 2))
-    c.self.view_is c.with_new.ensures.work)
+    (length c.args.job.now.claims) c.args.steps.now c.with_job.new.steps c.into_new.new.steps c.with_job.ensures.work
+    (subst (λ (b : Kept). c.into_new.new.steps ≤ c.with_job.new.steps + 256 * dig (len (rows_of b) + 2))
+    c.self.view_is c.into_new.ensures.work)
 
 pub returns-clause-work : goal.returns-clause-work
 returns-clause-work g c =
@@ -114,6 +114,6 @@ returns-clause-work g c =
     let is = subst IsBook c.self.view_is c.self.invariant in
     change_at c.graph.result.now c.self.inside.kept.accounts c.args.self
     eg ea is c.graph.ensures.valid
-    (length c.args.job.now.claims) c.args.steps.now c.with_job.new.steps c.with_new.new.steps c.with_job.ensures.work
-    (subst (λ (b : Kept). c.with_new.new.steps ≤ c.with_job.new.steps + 256 * dig (len (rows_of b) + 2))
-    c.self.view_is c.with_new.ensures.work)
+    (length c.args.job.now.claims) c.args.steps.now c.with_job.new.steps c.into_new.new.steps c.with_job.ensures.work
+    (subst (λ (b : Kept). c.into_new.new.steps ≤ c.with_job.new.steps + 256 * dig (len (rows_of b) + 2))
+    c.self.view_is c.into_new.ensures.work)

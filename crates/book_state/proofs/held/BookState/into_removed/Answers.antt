@@ -137,9 +137,9 @@ returns-in_err-table-clause-work g c =
     change_at c.graph.result.now c.self.inside.kept.accounts c.args.self
     eg ea is c.graph.ensures.valid
     (length c.args.job.now.claims)
-    c.args.steps.now c.without_job.new.steps c.with_cancelled.new.steps c.without_job.ensures.work
-    (subst (λ (b : Kept). c.with_cancelled.new.steps ≤ c.without_job.new.steps + 256 * dig (len (rows_of b) + 2))
-    c.self.view_is c.with_cancelled.ensures.work)
+    c.args.steps.now c.without_job.new.steps c.into_cancelled.new.steps c.without_job.ensures.work
+    (subst (λ (b : Kept). c.into_cancelled.new.steps ≤ c.without_job.new.steps + 256 * dig (len (rows_of b) + 2))
+    c.self.view_is c.into_cancelled.ensures.work)
 
 pub returns-clause-work : goal.returns-clause-work
 returns-clause-work g c =
@@ -149,6 +149,6 @@ returns-clause-work g c =
     change_at c.graph.result.now c.self.inside.kept.accounts c.args.self
     eg ea is c.graph.ensures.valid
     (length c.args.job.now.claims)
-    c.args.steps.now c.without_job.new.steps c.with_cancelled.new.steps c.without_job.ensures.work
-    (subst (λ (b : Kept). c.with_cancelled.new.steps ≤ c.without_job.new.steps + 256 * dig (len (rows_of b) + 2))
-    c.self.view_is c.with_cancelled.ensures.work)
+    c.args.steps.now c.without_job.new.steps c.into_cancelled.new.steps c.without_job.ensures.work
+    (subst (λ (b : Kept). c.into_cancelled.new.steps ≤ c.without_job.new.steps + 256 * dig (len (rows_of b) + 2))
+    c.self.view_is c.into_cancelled.ensures.work)

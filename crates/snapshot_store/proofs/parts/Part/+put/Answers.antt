@@ -7,7 +7,7 @@ pub put-requires : goal.put-requires
 put-requires g t c κs within =
     let it = c.place_of-place.ensures.item _ c.get_mut-in-Fork.ensures.value in
     let inside = it.inside in
-    let low = it.low in
+    let high = it.high in
     search rules
 
 pub invariant_of-self-in-Ok : goal.invariant_of-self-in-Ok
@@ -26,7 +26,7 @@ returns-in-Ok-clause-new g t c = λ item is.
 pub returns-in-Ok-clause-work : goal.returns-in-Ok-clause-work
 returns-in-Ok-clause-work g t c =
     let it = c.place_of-place.ensures.item _ c.get_mut-in-Fork.ensures.value in
-    let low = it.low in
+    let high = it.high in
     search rules
 
 pub invariant_of-self-in-Err-put : goal.invariant_of-self-in-Err-put
@@ -44,5 +44,5 @@ returns-in-Err-put-clause-same g t c =
 pub returns-in-Err-put-clause-work : goal.returns-in-Err-put-clause-work
 returns-in-Err-put-clause-work g t c =
     let it = c.place_of-place.ensures.item _ c.get_mut-in-Fork.ensures.value in
-    let low = it.low in
+    let high = it.high in
     search rules

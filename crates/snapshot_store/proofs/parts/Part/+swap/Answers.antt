@@ -7,7 +7,7 @@ pub swap-requires : goal.swap-requires
 swap-requires g t c κs within =
     let it = c.place_of-place.ensures.item _ c.get_mut-in-Fork.ensures.value in
     let inside = it.inside in
-    let low = it.low in
+    let high = it.high in
     search rules
 
 pub invariant_of-self-in-Ok : goal.invariant_of-self-in-Ok
@@ -31,7 +31,7 @@ returns-in-Ok-clause-item g t c =
 pub returns-in-Ok-clause-work : goal.returns-in-Ok-clause-work
 returns-in-Ok-clause-work g t c =
     let it = c.place_of-place.ensures.item _ c.get_mut-in-Fork.ensures.value in
-    let low = it.low in
+    let high = it.high in
     search rules
 
 pub invariant_of-self-in-Err-swap : goal.invariant_of-self-in-Err-swap
@@ -49,5 +49,5 @@ returns-in-Err-swap-clause-same g t c =
 pub returns-in-Err-swap-clause-work : goal.returns-in-Err-swap-clause-work
 returns-in-Err-swap-clause-work g t c =
     let it = c.place_of-place.ensures.item _ c.get_mut-in-Fork.ensures.value in
-    let low = it.low in
+    let high = it.high in
     search rules
