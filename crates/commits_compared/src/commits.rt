@@ -169,6 +169,56 @@ fn play_on(
     Ok(())
 }
 
+/// The scheduler that has played the lines of an input too.
+fn gone_on(
+    alloc: Global,
+    graph: &Arc<Graph, Global>,
+    asked: Asked,
+    text: &[u8],
+) -> Result<Asked, Unmade>
+    requires graph { asked.core.setting.graph ≡ (arc_value graph.now).resources }
+    requires searched { IsFor asked.core asked.candidate }
+    ensures searched { IfOk result (λ asked. IsFor asked.core asked.candidate) }
+{
+    let Asked {
+        mut core,
+        client,
+        line,
+        candidate,
+    } = asked;
+    play_on(alloc, graph, &mut core, text)?;
+    Ok(Asked {
+        core,
+        client,
+        line,
+        candidate,
+    })
+}
+
+/// The outcome of a commit of what was found.
+fn settled<L: Ledger>(
+    asked: Asked,
+    verdict: String,
+    plain: Option<Cause>,
+    steps: &mut Steps<L>,
+) -> Result<Outcome, AllocError>
+    requires searched { IsFor asked.core asked.candidate }
+{
+    let Asked {
+        mut core,
+        client,
+        line,
+        candidate,
+    } = asked;
+    let told = commit(&mut core, client, line, candidate, steps)?;
+    Ok(Outcome {
+        verdict,
+        told,
+        plain,
+        core,
+    })
+}
+
 /// What comes of a search behind the front and a commit behind the later lines.
 pub fn tried<L: Ledger>(
     alloc: Global,
@@ -177,20 +227,10 @@ pub fn tried<L: Ledger>(
     parts: Parts<'_>,
     steps: &mut Steps<L>,
 ) -> Result<Outcome, Unmade> {
-    let Asked {
-        mut core,
-        client,
-        line,
-        candidate,
-    } = searched(alloc, graph, bounds, parts, steps)?;
-    play_on(alloc, graph, &mut core, parts.later)?;
+    let front = searched(alloc, graph, bounds, parts, steps)?;
+    let asked = gone_on(alloc, graph, front, parts.later)?;
+    let (core, candidate) = (&asked.core, &asked.candidate);
     let verdict = format!(in alloc; "{:?}", candidate.verdict())?;
-    let plain = overtaking::cause(alloc, graph, &core, bounds.horizon, &candidate, steps)?;
-    let told = commit(&mut core, client, line, candidate, steps)?;
-    Ok(Outcome {
-        verdict,
-        told,
-        plain,
-        core,
-    })
+    let plain = overtaking::cause(alloc, graph, core, bounds.horizon, candidate, steps)?;
+    Ok(settled(asked, verdict, plain, steps)?)
 }
