@@ -79,6 +79,57 @@ fn count(
     Ok(())
 }
 
+/// Tries a line at a pair of places of a history, beside a scheduler that decides it at the second.
+fn try_pair<L: Ledger>(
+    alloc: Global,
+    graph: &Arc<Graph, Global>,
+    parts: Parts<'_>,
+    fresh: &Core,
+    counts: &mut Counts,
+    steps: &mut Steps<L>,
+) -> Result<(), Unmade> {
+    let outcome = tried(alloc, graph, BOUNDS, parts, steps)?;
+    count(alloc, counts, &outcome, fresh)?;
+    Ok(())
+}
+
+/// A scheduler that has decided the lines before an index, and the line that is tried.
+fn decided(
+    alloc: Global,
+    graph: &Arc<Graph, Global>,
+    lines: &[Text],
+    to: usize,
+    asked: &[u8],
+) -> Result<Core, Unmade> {
+    let mut whole = joined(alloc, lines, 0, to)?;
+    push_bytes(&mut whole, asked)?;
+    after(alloc, graph, BOUNDS, whole.as_slice())
+}
+
+/// Tries a line at each first place before this second one.
+fn try_before<L: Ledger>(
+    alloc: Global,
+    graph: &Arc<Graph, Global>,
+    lines: &[Text],
+    asked: &[u8],
+    to: usize,
+    counts: &mut Counts,
+    steps: &mut Steps<L>,
+) -> Result<(), Unmade> {
+    let fresh = decided(alloc, graph, lines, to, asked)?;
+    for from in 0..=to {
+        let front = joined(alloc, lines, 0, from)?;
+        let later = joined(alloc, lines, from, to)?;
+        let parts = Parts {
+            front: front.as_slice(),
+            asked,
+            later: later.as_slice(),
+        };
+        try_pair(alloc, graph, parts, &fresh, counts, steps)?;
+    }
+    Ok(())
+}
+
 /// Tries a line at each pair of places of a history.
 fn try_line<L: Ledger>(
     alloc: Global,
@@ -89,20 +140,7 @@ fn try_line<L: Ledger>(
     steps: &mut Steps<L>,
 ) -> Result<(), Unmade> {
     for to in 0..=LINES {
-        let mut whole = joined(alloc, lines, 0, to)?;
-        push_bytes(&mut whole, asked)?;
-        let fresh = after(alloc, graph, BOUNDS, whole.as_slice())?;
-        for from in 0..=to {
-            let front = joined(alloc, lines, 0, from)?;
-            let later = joined(alloc, lines, from, to)?;
-            let parts = Parts {
-                front: front.as_slice(),
-                asked,
-                later: later.as_slice(),
-            };
-            let outcome = tried(alloc, graph, BOUNDS, parts, steps)?;
-            count(alloc, counts, &outcome, &fresh)?;
-        }
+        try_before(alloc, graph, lines, asked, to, counts, steps)?;
     }
     Ok(())
 }
