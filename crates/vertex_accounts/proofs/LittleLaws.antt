@@ -15,7 +15,7 @@ use Rattle.flux_defs.specs.Jobs.{is_live, some_live_claim, SomeMoment}
 use Rattle.flux_defs.specs.Closed.{no_bars, is_closed, IsClosedOver}
 use Rattle.flux_defs.specs.Free.{total_at, IsTotalOver, IsTooLittle, IsTooLittleAt}
 use Rattle.graph_laws.proofs.Preorder.{parents_first}
-use Rattle.graph_laws.proofs.Containment.{ParentsFirst, up, steps_of, falls_up}
+use Rattle.graph_laws.proofs.Containment.{ParentsFirst, below_parent, below_trans}
 use Rattle.planner_points.specs.declared.spans.Span.{Span}
 use Rattle.planner_points.specs.Spans.{free_at, HasRoom, IsLeastFree}
 use Rattle.book_laws.specs.Amounts.{is_hold, holds_along, capacity, part_within}
@@ -29,7 +29,7 @@ use Rattle.book_laws.proofs.Views.{NeverClosed, left_in_total}
 use Rattle.vertex_accounts.specs.declared.quantities.Quantity.TheVariants.{Holds}
 use Rattle.vertex_accounts.specs.Quantities.{amount_in, total_in, part_count, most_claims}
 use Rattle.vertex_accounts.specs.Moments.{IsMomentOrNone}
-use Rattle.vertex_accounts.specs.Books.{HoldsNoParent, HoldNoParents}
+use Rattle.vertex_accounts.specs.Books.{IsWider, HoldsNoWider, HoldNoWider}
 use Rattle.vertex_accounts.proofs.AskingLaws.{BelowOrNone, held_is, held_here, held_above}
 use Rattle.vertex_accounts.proofs.OwnLaws.{counts_all, part_less}
 
@@ -111,61 +111,55 @@ not_both a b e = elim (cases_Bool a) [
   | inr never ↦ subst (λ x. (x && b) ≡ false) (sym never) refl
 ]
 
-module _ (vertices : List Vertex) (m : ℕ) where
-  -- a claim that holds no vertex that contains another holds none above a vertex
-  holds_none : (c : Claim) → HoldsNoParent vertices c → (most : ℕ) (from : Option ℕ) →
-      ((v : ℕ) → from ≡ Some v → (u : ℕ) × (parent_of vertices u ≡ Some v)) →
-      holds_along (chain vertices most from) c ≡ false
-  holds_none c free zero from up = refl
-  holds_none c free (suc most) None up = refl
-  holds_none c free (suc most) (Some v) up =
-      let (u, parent) = up v refl in
-      neither (is_hold v c) (holds_along (chain vertices most (parent_of vertices v)) c) (free u v parent)
-      (holds_none c free most (parent_of vertices v) (λ w e. (v, e)))
+module _ (vertices : List Vertex) (first : ParentsFirst vertices) (wide : ℕ) where
+  -- what contains a wide vertex is as wide
+  wider_up : (v p : ℕ) → parent_of vertices v ≡ Some p → IsWider vertices wide v → IsWider vertices wide p
+  wider_up v p parent (k, le, lt, below) =
+      let up = first v p parent in
+      let same : v + k ≡ p + (v + k - p) = omega (arith, up) in
+      let down = below_trans vertices first (v + k) v p lt below
+      (below_parent vertices first v p (omega (arith, lt)) parent) in (
+        v + k - p,
+        omega (arith, le, up),
+        omega (arith, lt, up),
+        subst (λ (n : ℕ). IsTrue (is_at_or_below vertices n p)) same down,
+      )
 
-  claims_none : (cs : List Claim) → AllByRecursion (HoldsNoParent vertices) cs → (most : ℕ) (from : Option ℕ) →
-      ((v : ℕ) → from ≡ Some v → (u : ℕ) × (parent_of vertices u ≡ Some v)) →
-      list_any (holds_along (chain vertices most from)) cs ≡ false
-  claims_none [] free most from up = refl
-  claims_none (c ∷ cs) free most from up =
-      neither (holds_along (chain vertices most from) c) (list_any (holds_along (chain vertices most from)) cs)
-      (holds_none c free.0 most from up) (claims_none cs free.1 most from up)
+  module _ (m : ℕ) where
+    -- a claim that holds no wide vertex holds none from one on upward
+    holds_none : (c : Claim) → HoldsNoWider vertices wide c → (most : ℕ) (from : Option ℕ) →
+        ((v : ℕ) → from ≡ Some v → IsWider vertices wide v) → holds_along (chain vertices most from) c ≡ false
+    holds_none c free zero from wider = refl
+    holds_none c free (suc most) None wider = refl
+    holds_none c free (suc most) (Some v) wider =
+        let here = wider v refl in
+        neither (is_hold v c) (holds_along (chain vertices most (parent_of vertices v)) c) (free v here)
+        (holds_none c free most (parent_of vertices v) (λ p e. wider_up v p e here))
 
-  -- where no job holds a vertex that contains another none is held above a vertex
-  pub jobs_none : (jobs : List Job) → HoldNoParents vertices jobs → (most : ℕ) (from : Option ℕ) →
-      ((v : ℕ) → from ≡ Some v → (u : ℕ) × (parent_of vertices u ≡ Some v)) →
-      some_live_claim jobs m (holds_along (chain vertices most from)) ≡ false
-  jobs_none [] free most from up = refl
-  jobs_none (job ∷ jobs) free most from up =
-      neither (is_live m job && list_any (holds_along (chain vertices most from)) job.claims)
-      (some_live_claim jobs m (holds_along (chain vertices most from)))
-      (not_both (is_live m job) (list_any (holds_along (chain vertices most from)) job.claims)
-      (claims_none job.claims free.0 most from up)) (jobs_none jobs free.1 most from up)
+    claims_none : (cs : List Claim) → AllByRecursion (HoldsNoWider vertices wide) cs → (most : ℕ) (from : Option ℕ) →
+        ((v : ℕ) → from ≡ Some v → IsWider vertices wide v) →
+        list_any (holds_along (chain vertices most from)) cs ≡ false
+    claims_none [] free most from wider = refl
+    claims_none (c ∷ cs) free most from wider =
+        neither (holds_along (chain vertices most from) c) (list_any (holds_along (chain vertices most from)) cs)
+        (holds_none c free.0 most from wider) (claims_none cs free.1 most from wider)
 
--- nor is one closed then by what is held above it
-pub above_none : (vertices : List Vertex) (jobs : List Job) (w : Window) (v most : ℕ) → HoldNoParents vertices jobs →
-    IsMomentOrNone w (along_at jobs vertices most (parent_of vertices v)) None
-above_none vertices jobs w v most free = λ (m, lo, hi, h).
-    true≢false (sym h ∙ jobs_none vertices m jobs free most (parent_of vertices v) (λ u e. (v, e)))
+    jobs_none : (jobs : List Job) → HoldNoWider vertices wide jobs → (most : ℕ) (from : Option ℕ) →
+        ((v : ℕ) → from ≡ Some v → IsWider vertices wide v) →
+        some_live_claim jobs m (holds_along (chain vertices most from)) ≡ false
+    jobs_none [] free most from wider = refl
+    jobs_none (job ∷ jobs) free most from wider =
+        neither (is_live m job && list_any (holds_along (chain vertices most from)) job.claims)
+        (some_live_claim jobs m (holds_along (chain vertices most from)))
+        (not_both (is_live m job) (list_any (holds_along (chain vertices most from)) job.claims)
+        (claims_none job.claims free.0 most from wider)) (jobs_none jobs free.1 most from wider)
 
--- nor is a vertex that contains another held itself
-pub parent_none : (vertices : List Vertex) (jobs : List Job) (w : Window) (u v most : ℕ) → HoldNoParents vertices jobs →
-    parent_of vertices u ≡ Some v → IsMomentOrNone w (along_at jobs vertices most (Some v)) None
-parent_none vertices jobs w u v most free parent = λ (m, lo, hi, h).
-    true≢false (sym h ∙ jobs_none vertices m jobs free most (Some v)
-    (λ x e. (u, (let is : v ≡ x = cc in subst (λ (y : ℕ). parent_of vertices u ≡ Some y) is parent))))
-
--- the next vertex that stands below this one is its child
-pub next_child : (vertices : List Vertex) → ParentsFirst vertices → (v : ℕ) →
-    IsTrue (is_at_or_below vertices (v + 1) v) → parent_of vertices (v + 1) ≡ Some v
-next_child vertices first v below =
-    let (n, e) = steps_of vertices first (v + 1) v below in
-    one_step n (let le = falls_up vertices first n (v + 1) v e in omega (arith, le)) e
-  where
-    one_step : (n : ℕ) → n ≤ 1 → up vertices n (Some (v + 1)) ≡ Some v → parent_of vertices (v + 1) ≡ Some v
-    one_step zero le e = absurd (let same : v + 1 ≡ v = cc in omega (arith, same))
-    one_step (suc zero) le e = e
-    one_step (suc (suc n)) le e = absurd (omega (arith, le))
+  -- where no job holds a wide vertex neither such a one is held nor one above it
+  pub wide_none : (jobs : List Job) (w : Window) (v most : ℕ) → HoldNoWider vertices wide jobs →
+      IsWider vertices wide v → IsMomentOrNone w (along_at jobs vertices most (Some v)) None
+  wide_none jobs w v most free wider = λ (m, lo, hi, h).
+      true≢false (sym h ∙ jobs_none m jobs free most (Some v)
+      (λ x e. (let is : v ≡ x = cc in subst (IsWider vertices wide) is wider)))
 
 -- closed is held along the chain
 pub closed_moment_is : (vertices : List Vertex) (jobs : List Job) (w : Window) (v : ℕ) (found : Option ℕ) →

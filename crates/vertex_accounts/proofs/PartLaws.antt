@@ -9,7 +9,7 @@ use Rattle.vertex_accounts.specs.declared.counted.Counted.{Counted}
 use Rattle.vertex_accounts.specs.declared.books.Accounts.{Accounts}
 use Rattle.vertex_accounts.specs.Counts.{types_in}
 use Rattle.vertex_accounts.specs.Books.{counted_of, types_of, ArePlanned, AreAllKept, AreAccounts, HasTotals}
-use Rattle.vertex_accounts.specs.Books.{HaveSameParts}
+use Rattle.vertex_accounts.specs.Books.{HaveSameParts, HoldNoWider}
 
 pub parts_back : {P : Type 0} (a b : Accounts P) → HaveSameParts a b → HaveSameParts b a
 parts_back a b same = record {
@@ -17,7 +17,7 @@ parts_back a b same = record {
   planners = sym same.planners;
   times = sym same.times;
   count = sym same.count;
-  parents = sym same.parents;
+  widest = sym same.widest;
 }
 
 -- they stand for the same jobs, and keep the same totals
@@ -33,7 +33,7 @@ same_accounts {P = P} total_of stands_for vertices jobs a b same x = record {
       (sym same.planners) x.kept);
   times = subst (λ (p : P). stands_for p (times_of jobs)) (sym same.times) x.times;
   count = same.count ∙ x.count;
-  parents = λ e. x.parents (sym same.parents ∙ e);
+  widths = subst (λ (n : ℕ). HoldNoWider vertices n jobs) (sym same.widest) x.widths;
   fair = x.fair;
   on_graph = x.on_graph;
 }

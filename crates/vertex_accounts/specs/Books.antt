@@ -1,11 +1,11 @@
 -- Which jobs a book of accounts stands for.
-use Rattle.std.specs.Prelude.{◌≡◌, ℕ, ◌<◌, false, List, length, Some, slice_get}
+use Rattle.std.specs.Prelude.{◌≡◌, ℕ, ◌+◌, ◌<◌, ◌≤◌, false, IsTrue, List, length, Some, slice_get}
 use Rattle.std.specs.List.{AllByRecursion}
 use Rattle.std.specs.Arc.{arc_value}
 use Rattle.flux_defs.specs.declared.vertices.Vertex.{Vertex}
 use Rattle.flux_defs.specs.declared.claims.Claim.{Claim}
 use Rattle.flux_defs.specs.declared.claims.Job.{Job}
-use Rattle.flux_defs.specs.Graph.{parent_of}
+use Rattle.flux_defs.specs.Graph.{is_at_or_below}
 use Rattle.flux_defs.specs.Jobs.{vertex_of}
 use Rattle.planner_points.specs.declared.spans.Span.{Span}
 use Rattle.book_laws.specs.Amounts.{is_hold}
@@ -56,23 +56,28 @@ pub record IsOnGraph (vertices : List Vertex) (job : Job) : Type 0 where
   pub begins : job.start < job.end
   pub on_vertices : AllByRecursion (λ c. vertex_of c < length vertices) job.claims
 
--- the claim holds no vertex that contains another
-abbrev pub HoldsNoParent : List Vertex → Claim → Type 0
-HoldsNoParent vertices c = (u v : ℕ) → parent_of vertices u ≡ Some v → is_hold v c ≡ false
+-- v has more than so many vertices at or below it: one of those that stand so far behind it is
+abbrev pub IsWider : List Vertex → ℕ → ℕ → Type 0
+IsWider vertices most v =
+    (k : ℕ) × (most ≤ k) × (v + k < length vertices) × IsTrue (is_at_or_below vertices (v + k) v)
 
--- no job holds a vertex that contains another
-abbrev pub HoldNoParents : List Vertex → List Job → Type 0
-HoldNoParents vertices jobs = AllByRecursion (λ job. AllByRecursion (HoldsNoParent vertices) job.claims) jobs
+-- the claim holds no vertex that has
+abbrev pub HoldsNoWider : List Vertex → ℕ → Claim → Type 0
+HoldsNoWider vertices most c = (v : ℕ) → IsWider vertices most v → is_hold v c ≡ false
+
+-- no job holds one
+abbrev pub HoldNoWider : List Vertex → ℕ → List Job → Type 0
+HoldNoWider vertices most jobs = AllByRecursion (λ job. AllByRecursion (HoldsNoWider vertices most) job.claims) jobs
 
 -- the planners have what the claims of the jobs amount to, the planner of times has the time of each, their claims are
--- counted, and it is noted where one may hold a vertex that contains another
+-- counted, and it is noted how wide the vertices are at most that they hold
 pub record AreAccounts {P : Type 0} (total_of : P → ℕ)
     (stands_for : P → List Span → Type 0) (vertices : List Vertex) (jobs : List Job) (book : Accounts P) : Type 0 where
   pub graph : AreAccountsOf vertices book
   pub kept : AreAllKept total_of stands_for vertices jobs (arc_value book.counted) (items_of book.planners)
   pub times : stands_for book.times (times_of jobs)
   pub count : book.count ≡ count_claims jobs
-  pub parents : book.holds_parents ≡ false → HoldNoParents vertices jobs
+  pub widths : HoldNoWider vertices book.widest jobs
   pub fair : AreFair vertices jobs
   pub on_graph : AllByRecursion (IsOnGraph vertices) jobs
 
@@ -82,4 +87,4 @@ pub record HaveSameParts {P : Type 0} (book other : Accounts P) : Type 0 where
   pub planners : items_of other.planners ≡ items_of book.planners
   pub times : other.times ≡ book.times
   pub count : other.count ≡ book.count
-  pub parents : other.holds_parents ≡ book.holds_parents
+  pub widest : other.widest ≡ book.widest

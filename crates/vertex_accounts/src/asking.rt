@@ -11,7 +11,6 @@ ghost use Rattle.flux_defs.specs.Free.{IsFreeOver, IsTotalOver, IsTooLittleAt};
 ghost use Rattle.planner_points.specs.Spans.{IsLeastFree, HasRoom, IsLastBelow};
 ghost use Rattle.book_laws.specs.Amounts.{is_hold, holds_along};
 ghost use Rattle.book_laws.specs.Grouped.{grouped};
-ghost use Rattle.vertex_planners.specs.Chains.{ParentsIn};
 ghost use Rattle.prune_filters.specs.Amples.{IsNextAmpleOrNone};
 ghost use Rattle.vertex_planners.specs.Lists.{items_of};
 ghost use Rattle.vertex_planners.specs.Work.{CostWithin};
@@ -22,67 +21,81 @@ ghost use Rattle.vertex_accounts.specs.Moments.{IsMomentOrNone};
 
 use crate::books::Accounts;
 use crate::counted::{CLAIMS, HOLDS, TAKES};
-use flux_defs::{Steps, Vertex, Window};
+use flux_defs::{Steps, Window};
 use planner_points::Planner;
 use resource_graph::Graph;
 use std::sync::ledger::Ledger;
 use vertex_planners::{Item, parent_in};
 
 impl<P: Planner + Drop> Accounts<P> {
-    ghost use Rattle.vertex_accounts.specs.Books.{AreAccountsOf, AreAccounts, HasPlace, HasTotals, counted_of};
+    ghost use Rattle.vertex_accounts.specs.Books.{AreAccountsOf, AreAccounts, HasPlace, HasTotals, IsWider, counted_of};
 
     /// A moment of the window at which a job holds one of the first so many vertices on the way up from this one;
-    /// `None` exactly where there is none.
+    /// `None` exactly where there is none. It looks at none that is wider than those that jobs hold.
     fn held_up<L: Ledger>(
         &self,
-        vertices: &[Vertex],
+        graph: &Graph,
         most: usize,
         from: Option<u32>,
         window: Window,
         steps: &mut Steps<L>,
     ) -> Option<u64>
-        requires graph { AreAccountsOf vertices.now self.now }
+        requires graph { AreAccountsOf graph.now.resources.vertices self.now }
         requires window { window.from < window.to }
-        requires parents { ParentsIn vertices.now }
-        requires inside { IfSome from (λ v. v < length vertices.now) }
-        ensures answer { (jobs : List Job) → AreAccounts P.total_of P.stands_for vertices.now jobs self.now →
-            IsMomentOrNone window
-            (λ m. IsTrue (some_live_claim jobs m (holds_along (chain vertices.now most from)))) result }
+        requires inside { IfSome from (λ v. v < length graph.now.resources.vertices) }
+        ensures answer { (jobs : List Job) →
+            AreAccounts P.total_of P.stands_for graph.now.resources.vertices jobs self.now →
+            IsMomentOrNone window (λ m. IsTrue (some_live_claim jobs m
+            (holds_along (chain graph.now.resources.vertices most from)))) result }
         ensures counted { steps.old ≤ steps.new }
         ensures work { (most_looks : ℕ) → CostWithin P.look_cost most_looks (items_of self.now.planners) →
-            steps.new ≤ steps.old + length (chain vertices.now most from) * look_most (length vertices.now) most_looks }
+            steps.new ≤ steps.old + length (chain graph.now.resources.vertices most from)
+            * look_most (length graph.now.resources.vertices) most_looks }
     {
+        graph.is_valid();
         let Some(vertex) = from else {
             return None;
         };
         if most == 0 {
             return None;
         }
-        match self.held_over(vertices, vertex, window, steps) {
+        if self.is_wider(graph, vertex) {
+            return None;
+        }
+        match self.held_over(graph, vertex, window, steps) {
             Some(moment) => Some(moment),
             None => {
-                let above = parent_in(vertices, vertex);
-                self.held_up(vertices, most - 1, above, window, steps)
+                let upper = upper(graph, vertex);
+                self.held_up(graph, most - 1, upper, window, steps)
             }
         }
+    }
+
+    /// Whether the vertex is wider than those that jobs hold, as is each above it then.
+    fn is_wider(&self, graph: &Graph, vertex: u32) -> bool
+        requires { vertex < length graph.now.resources.vertices }
+        ensures { IsTrue result → IsWider graph.now.resources.vertices self.now.widest vertex }
+    {
+        graph.past(vertex) - vertex > self.widest
     }
 
     /// The last moment of the window at which a job holds the vertex itself; `None` exactly where there is none.
     fn held_over<L: Ledger>(
         &self,
-        vertices: &[Vertex],
+        graph: &Graph,
         vertex: u32,
         window: Window,
         steps: &mut Steps<L>,
     ) -> Option<u64>
-        requires graph { AreAccountsOf vertices.now self.now }
+        requires graph { AreAccountsOf graph.now.resources.vertices self.now }
         requires window { window.from < window.to }
-        requires inside { vertex < length vertices.now }
-        ensures answer { (jobs : List Job) → AreAccounts P.total_of P.stands_for vertices.now jobs self.now →
+        requires inside { vertex < length graph.now.resources.vertices }
+        ensures answer { (jobs : List Job) →
+            AreAccounts P.total_of P.stands_for graph.now.resources.vertices jobs self.now →
             IsMomentOrNone window (λ m. IsTrue (some_live_claim jobs m (is_hold vertex))) result }
         ensures counted { steps.old ≤ steps.new }
         ensures work { (most_looks : ℕ) → CostWithin P.look_cost most_looks (items_of self.now.planners) →
-            steps.new ≤ steps.old + look_most (length vertices.now) most_looks }
+            steps.new ≤ steps.old + look_most (length graph.now.resources.vertices) most_looks }
     {
         let item = self.planners.at(vertex, steps);
         self.below_in(item, vertex, HOLDS, window, u64::MAX, steps)
@@ -139,7 +152,7 @@ impl<P: Planner + Drop> Accounts<P> {
     }
 
     /// A moment of the window at which a job holds the vertex, whose item this is, or one above it; `None` exactly
-    /// where there is none. Where no job holds a vertex with others below it, it doesn't look at one.
+    /// where there is none. It looks at no vertex that is wider than those that jobs hold.
     fn closed_moment<L: Ledger>(
         &self,
         graph: &Graph,
@@ -160,24 +173,16 @@ impl<P: Planner + Drop> Accounts<P> {
         ensures work { (most_looks : ℕ) → CostWithin P.look_cost most_looks (items_of self.now.planners) →
             steps.new ≤ steps.old + rest_most (length graph.now.resources.vertices) most_looks }
     {
-        if !self.holds_parents && has_below(graph, vertex) {
+        graph.is_valid();
+        if self.is_wider(graph, vertex) {
             return None;
         }
         match self.below_in(item, vertex, HOLDS, window, u64::MAX, steps) {
             Some(moment) => Some(moment),
             None => {
-                if !self.holds_parents {
-                    return None;
-                }
-                let vertices = graph.vertices().items();
-                let above = parent_in(vertices, vertex);
-                self.held_up(
-                    vertices,
-                    vertices.len().saturating_sub(1),
-                    above,
-                    window,
-                    steps,
-                )
+                let most = (graph.len() as usize).saturating_sub(1);
+                let upper = upper(graph, vertex);
+                self.held_up(graph, most, upper, window, steps)
             }
         }
     }
@@ -388,11 +393,10 @@ fn is_pool_vertex(graph: &Graph, vertex: u32) -> bool
     }
 }
 
-/// Whether the vertex has others below it.
-fn has_below(graph: &Graph, vertex: u32) -> bool
-    requires { vertex < length graph.now.resources.vertices }
-    ensures { IsTrue result → parent_of graph.now.resources.vertices (vertex + 1) ≡ Some vertex }
+/// The vertex that contains this one, if one does.
+fn upper(graph: &Graph, vertex: u32) -> Option<u32>
+    ensures value { result ≡ parent_of graph.now.resources.vertices vertex }
+    ensures inside { IfSome result (λ v. v < length graph.now.resources.vertices) }
 {
-    graph.is_valid();
-    graph.past(vertex) - vertex > 1
+    parent_in(graph.vertices().items(), vertex)
 }

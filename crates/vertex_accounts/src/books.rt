@@ -6,16 +6,17 @@ use std::sync::Arc;
 use vertex_planners::VertexPlanners;
 
 /// What jobs have of a graph over time: at each vertex a planner of holds, of claims and of takes side by side, and of
-/// the units of each type of which totals are kept; the times of the jobs, how many claims they have, and whether a job
-/// may hold a vertex with others below it. A call that adds or removes a job makes the new accounts of the old ones,
-/// in place where no others share them; `share` keeps the old ones.
+/// the units of each type of which totals are kept; the times of the jobs, how many claims they have, and how wide the
+/// vertices are at most that jobs hold. A call that adds or removes a job makes the new accounts of the old ones, in
+/// place where no others share them; `share` keeps the old ones.
 #[derive(Drop)]
 pub struct Accounts<P: Planner + Drop> {
     pub(crate) counted: Arc<Counted, Global>,
     pub(crate) planners: VertexPlanners<P>,
     pub(crate) times: P,
     pub(crate) count: u64,
-    pub(crate) holds_parents: bool,
+    /// No job holds a vertex with more than so many vertices at or below it.
+    pub(crate) widest: u32,
 }
 
 impl<P: Planner + Drop> Accounts<P> {

@@ -6,7 +6,7 @@ ghost use Rattle.planner_points.specs.Work.{renew_cost};
 ghost use Rattle.vertex_planners.specs.Lists.{items_of};
 ghost use Rattle.vertex_planners.specs.Work.{CostWithin};
 ghost use Rattle.std.specs.List.{AllByRecursion};
-ghost use Rattle.vertex_accounts.specs.Books.{IsOnGraph, HoldsNoParent, AreAccounts, HasTotals, types_of};
+ghost use Rattle.vertex_accounts.specs.Books.{IsOnGraph, HoldsNoWider, AreAccounts, HasTotals, types_of};
 ghost use Rattle.vertex_accounts.specs.Books.{HaveSameParts};
 ghost use Rattle.vertex_accounts.specs.Costs.{accounts_most};
 
@@ -29,7 +29,7 @@ impl<P: Planner + Drop> Accounts<P> {
             planners: self.planners.share()?,
             times: self.times.share()?,
             count: self.count,
-            holds_parents: self.holds_parents,
+            widest: self.widest,
         })
     }
 
@@ -70,7 +70,7 @@ impl<P: Planner + Drop> Accounts<P> {
         let quantities = self.counted().quantities.items();
         let claims = job.claims.items();
         let rows = rows_of(alloc, graph, quantities, claims)?;
-        let holds_parents = self.holding(graph, claims);
+        let widest = self.widest_with(graph, claims);
         let Accounts {
             counted,
             planners,
@@ -84,16 +84,20 @@ impl<P: Planner + Drop> Accounts<P> {
             planners,
             times,
             count,
-            holds_parents,
+            widest,
         })
     }
 
-    /// Whether a job may hold a vertex with others below it, where one of these claims comes to the others.
-    fn holding(&self, graph: &Graph, claims: &[Claim]) -> bool
-        ensures { result ≡ false → (self.now.holds_parents ≡ false)
-            × AllByRecursion (HoldsNoParent graph.now.resources.vertices) claims.now }
+    /// How wide the vertices are at most that jobs hold, where one with these claims comes to the others.
+    fn widest_with(&self, graph: &Graph, claims: &[Claim]) -> u32
+        ensures { (self.now.widest ≤ result)
+            × AllByRecursion (HoldsNoWider graph.now.resources.vertices result) claims.now }
     {
-        self.holds_parents || hold_parents(graph, claims)
+        let mut widest = self.widest;
+        for at in 0..claims.len() {
+            widest = widest.max(width_held(graph, &claims[at]));
+        }
+        widest
     }
 
     /// The accounts of one job less. The planners that change are made ready before for questions from that second on.
@@ -130,7 +134,7 @@ impl<P: Planner + Drop> Accounts<P> {
             counted,
             planners,
             times,
-            holds_parents,
+            widest,
             ..
         } = self;
         let planners = planners.lost(alloc, moment, window, rows, steps)?;
@@ -140,30 +144,22 @@ impl<P: Planner + Drop> Accounts<P> {
             planners,
             times,
             count,
-            holds_parents,
+            widest,
         })
     }
 }
 
-/// Whether the claim holds a vertex with others below it.
-fn holds_parent(graph: &Graph, claim: &Claim) -> bool
-    ensures { result ≡ false → HoldsNoParent graph.now.resources.vertices claim.now }
+/// How many vertices are at or below the one that the claim holds; 0 where it holds none.
+fn width_held(graph: &Graph, claim: &Claim) -> u32
+    ensures { HoldsNoWider graph.now.resources.vertices result claim.now }
 {
-    graph.is_valid();
     match claim {
-        Claim::Hold { vertex } => *vertex >= graph.len() || graph.past(*vertex) - *vertex > 1,
-        Claim::Take { .. } | Claim::Pass { .. } => false,
-    }
-}
-
-/// Whether one of the claims holds a vertex with others below it.
-fn hold_parents(graph: &Graph, claims: &[Claim]) -> bool
-    ensures { result ≡ false → AllByRecursion (HoldsNoParent graph.now.resources.vertices) claims.now }
-{
-    for at in 0..claims.len() {
-        if holds_parent(graph, &claims[at]) {
-            return true;
+        Claim::Hold { vertex } => {
+            if *vertex >= graph.len() {
+                return 0;
+            }
+            graph.past(*vertex) - *vertex
         }
+        Claim::Take { .. } | Claim::Pass { .. } => 0,
     }
-    false
 }

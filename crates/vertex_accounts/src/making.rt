@@ -65,7 +65,7 @@ impl<P: Planner + Drop> Accounts<P> {
             planners,
             times,
             count: 0,
-            holds_parents: false,
+            widest: 0,
         })
     }
 }

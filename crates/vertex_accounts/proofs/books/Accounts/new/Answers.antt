@@ -25,7 +25,7 @@ returns-clause-accounts g c =
           (new_kept g.P.Planner.total_of g.P.Planner.stands_for vertices counted items wide new);
       times = c.in_ok-times.ensures.spans;
       count = refl;
-      parents = λ _. tt;
+      widths = tt;
       fair = fair_none vertices;
       on_graph = tt;
     }

@@ -1,4 +1,4 @@
-use Rattle.std.proofs.Common.{◌≡◌, refl, false, ◌+◌, ◌*◌, ◌≤◌, ◌∷◌, ◌++◌, [], ℕ, List, length, ◌∙◌, ap, subst, arith}
+use Rattle.std.proofs.Common.{◌≡◌, refl, ◌+◌, ◌*◌, ◌≤◌, ◌∷◌, ◌++◌, [], ℕ, List, length, ◌∙◌, ap, subst, arith}
 use Rattle.std.specs.List.{AllByRecursion, sum_by}
 use Rattle.flux_defs.specs.declared.claims.Claim.{Claim}
 use Rattle.flux_defs.specs.declared.claims.Job.{Job}
@@ -10,7 +10,7 @@ use Rattle.vertex_accounts.specs.declared.counted.Counted.{Counted}
 use Rattle.vertex_accounts.specs.Quantities.{most_claims}
 use Rattle.vertex_accounts.specs.Counts.{AreNumbers}
 use Rattle.vertex_accounts.specs.Costs.{reach_of}
-use Rattle.vertex_accounts.specs.Books.{counted_of, types_of, HoldsNoParent}
+use Rattle.vertex_accounts.specs.Books.{counted_of, types_of, HoldsNoWider}
 use Rattle.vertex_accounts.proofs.JoinLaws.{room_in, joined_kept, joined, count_push}
 use Rattle.vertex_accounts.proofs.WorkLaws.{numbers_cost}
 use Rattle.vertex_accounts.proofs.books.Accounts.with_job.Goals as goal
@@ -51,16 +51,16 @@ returns-clause-accounts g c = λ jobs is fair.
       planners = c.in_ok-planners.planners;
       times = c.in_ok-times.times;
       count = c.in-Some.count;
-      holds_parents = c.holding-holds_parents.result;
+      widest = c.widest_with-widest.result;
     })
     refl c.in_ok-planners.ensures.len wide jobs c.requires.on_graph fair
     (joined_kept g.P.Planner.total_of g.P.Planner.stands_for vertices jobs job []
     (counted_of c.args.self) (places_of c.in_ok-rows.rows) numbers (items_of c.args.self.planners) new
     c.in_ok-planners.ensures.len is.graph.places wide c.in_ok-planners.ensures.gains)
     c.in_ok-times.ensures.spans (c.in-Some.ensures.1 ∙ ap (λ n. c.args.self.count + n) c.len.ensures)
-    (subst (λ (cs : List Claim). c.holding-holds_parents.result ≡ false →
-    (c.args.self.holds_parents ≡ false) × AllByRecursion (HoldsNoParent vertices) cs) c.items-claims.ensures
-    c.holding-holds_parents.ensures) is
+    c.widest_with-widest.ensures.0
+    (subst (AllByRecursion (HoldsNoWider vertices c.widest_with-widest.result)) c.items-claims.ensures
+    c.widest_with-widest.ensures.1) is
 
 pub returns-in_err-planners-clause-work : goal.returns-in_err-planners-clause-work
 returns-in_err-planners-clause-work g c = λ most within.

@@ -51,7 +51,7 @@ returns-clause-accounts g c = λ before after is.
       planners = c.in_ok-planners.planners;
       times = c.in_ok-times.times;
       count = c.args.self.count - c.len.result;
-      holds_parents = c.args.self.holds_parents;
+      widest = c.args.self.widest;
     })
     refl c.in_ok-planners.ensures.len wide before after
     (left_kept g.P.Planner.total_of g.P.Planner.stands_for vertices before job after
