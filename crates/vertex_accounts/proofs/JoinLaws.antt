@@ -49,8 +49,8 @@ jobs_wider : (vertices : List Vertex) (few more : ℕ) → few ≤ more → (job
 jobs_wider vertices few more le jobs free =
     all_along (λ (j : Job). AllByRecursion (HoldsNoWider vertices few) j.claims)
     (λ (j : Job). AllByRecursion (HoldsNoWider vertices more) j.claims)
-    (λ j. all_along (HoldsNoWider vertices few) (HoldsNoWider vertices more) (claim_wider vertices few more le) j.claims)
-    jobs free
+    (λ j. all_along (HoldsNoWider vertices few) (HoldsNoWider vertices more) (claim_wider vertices few more le)
+    j.claims) jobs free
 
 -- a number of at most 1 for each claim sums to at most the number of claims
 few_sum : (f : Claim → ℕ) → ((c : Claim) → f c ≤ 1) → (cs : List Claim) → sum_by f cs ≤ length cs

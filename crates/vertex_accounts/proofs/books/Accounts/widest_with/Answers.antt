@@ -30,5 +30,6 @@ returns g c =
     let end = c.loop-at-test.false in (
       c.loop-at.invariant.more,
       all_from (HoldsNoWider vertices c.loop-at.widest) claims (λ k x at.
-          (let within = slice_get_within claims k x at in c.loop-at.invariant.free k (omega (arith, within, end)) x at)),
+          let within = slice_get_within claims k x at in
+          c.loop-at.invariant.free k (omega (arith, within, end)) x at),
     )
