@@ -60,8 +60,13 @@ read-no_float (Err e) = tt
 
 -- the value of bytes that are their own plain form
 pub tree_standing : (bytes : List ℕ) (j : Json) →
-    IsUtf8 bytes → json_in bytes ≡ Some j → Stays j → value_of bytes ≡ Some (data_of j)
-unfolding value_of
+    IsUtf8 bytes → json_in bytes ≡ Some j → Stays j → value_in bytes ≡ Some (data_of j)
 tree_standing bytes j utf8 found stay =
     let same : plain_of bytes ≡ bytes = stands bytes j found stay in
-    rw same (value_in-tree bytes j utf8 (rw same at (plain_whole bytes)) found)
+    value_in-tree bytes j utf8 (rw same at (plain_whole bytes)) found
+
+pub value_standing : (bytes : List ℕ) (j : Json) → json_in bytes ≡ Some j → Stays j → value_of bytes ≡ value_in bytes
+unfolding value_of
+value_standing bytes j found stay =
+    let same : plain_of bytes ≡ bytes = stands bytes j found stay in
+    rw same refl

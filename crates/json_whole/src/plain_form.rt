@@ -1,5 +1,5 @@
 //! The plain form of a text.
-ghost use Rattle.std.specs.Prelude.{◌≡◌, ◌<◌, ◌≤◌, ◌++◌, IsTrue, length, slice_index, drop, IfOk, unwrap_or};
+ghost use Rattle.std.specs.Prelude.{◌≡◌, ◌<◌, ◌≤◌, ◌++◌, IsTrue, length, slice_index, drop, IfOk, OnOk, unwrap_or};
 ghost use Rattle.json_whole.specs.Run.{begins_run, first_run, written};
 ghost use Rattle.json_whole.specs.Plain.{in_string, outside, plain_of};
 ghost use Rattle.json_whole.specs.Forms.{plain_behind, written_as};
@@ -72,20 +72,36 @@ fn kept_front(text: &[u8]) -> (usize, Form)
     (at, Form::Same)
 }
 
-/// Adds the plain form of bytes at the front of a text, and says how many they were: those that stay, and the run
-/// behind them.
-fn write_piece(out: &mut Vec<u8>, text: &[u8]) -> Result<usize, AllocError>
-    requires { 0 < length text.now }
+/// Adds the plain form of bytes at the front of a text, and says how many they were: so many that stay, and the run
+/// behind them, which has this form.
+fn write_front(out: &mut Vec<u8>, text: &[u8], len: usize, form: Form) -> Result<usize, AllocError>
+    requires some { 0 < length text.now }
+    requires within { len ≤ length text.now }
+    requires same { plain_of text.now ≡ plain_behind outside len text.now }
+    requires run { len < length text.now → IsTrue (begins_run (slice_index text.now len)) }
+    requires form { let run = first_run (drop len text.now) in written_as form run ≡ written run }
     ensures some { IfOk result (λ n. 0 < n) }
     ensures within { IfOk result (λ n. n ≤ length text.now) }
     ensures written { IfOk result
         (λ n. out.new.items ++ plain_of (drop n text.now) ≡ out.old.items ++ plain_of text.now) }
 {
-    let (len, form) = kept_front(text);
     let run = first_run(&text[len..]);
     out.extend_from_slice(&text[..len])?;
     write_run(out, form, run)?;
     Ok(len + run.len())
+}
+
+/// Adds the plain form of a text.
+fn write_plain(out: &mut Vec<u8>, text: &[u8]) -> Result<(), AllocError>
+    ensures { OnOk result (out.new.items ≡ out.old.items ++ plain_of text.now) }
+{
+    let mut at = 0;
+    'pieces: while at < text.len() {
+        let rest = &text[at..];
+        let (len, form) = kept_front(rest);
+        at += write_front(out, rest, len, form)?;
+    }
+    Ok(())
 }
 
 /// The plain form of a text: strings and all else stay, and a run of number bytes outside strings is written as
@@ -95,10 +111,7 @@ pub fn plain(alloc: Global, bytes: &[u8]) -> Result<Text, AllocError>
     ensures { IfOk result (λ text. text ≡ plain_of bytes.now) }
 {
     let mut out = Vec::with_capacity(alloc, bytes.len())?;
-    let mut at = 0;
-    'pieces: while at < bytes.len() {
-        at += write_piece(&mut out, &bytes[at..])?;
-    }
+    write_plain(&mut out, bytes)?;
     Ok(Text::of_vec(out))
 }
 
@@ -106,10 +119,12 @@ pub fn plain(alloc: Global, bytes: &[u8]) -> Result<Text, AllocError>
 pub(crate) fn plain_if_other(alloc: Global, bytes: &[u8]) -> Result<Option<Text>, AllocError>
     ensures { IfOk result (λ form. unwrap_or form bytes.now ≡ plain_of bytes.now) }
 {
-    let (len, _) = kept_front(bytes);
+    let (len, form) = kept_front(bytes);
     if len == bytes.len() {
         return Ok(None);
     }
-    let text = plain(alloc, bytes)?;
-    Ok(Some(text))
+    let mut out = Vec::with_capacity(alloc, bytes.len())?;
+    let at = write_front(&mut out, bytes, len, form)?;
+    write_plain(&mut out, &bytes[at..])?;
+    Ok(Some(Text::of_vec(out)))
 }

@@ -5,7 +5,7 @@ ghost use Rattle.json.specs.Value.{value_view};
 ghost use Rattle.json_whole.specs.Plain.{plain_of};
 ghost use Rattle.json_whole.specs.Values.{view};
 ghost use Rattle.json_whole.specs.Parts.{IsPartOf};
-ghost use Rattle.json_whole.specs.Whole.{json_in, value_of};
+ghost use Rattle.json_whole.specs.Whole.{json_in, value_in, value_of};
 
 use crate::parsing::{TreeFault, Unfinished};
 use crate::parts::{Wanted, read_part};
@@ -111,29 +111,44 @@ pub fn read_value<'a>(
 #[derive(Drop)]
 pub struct Room<'b> {
     scratch: Scratch,
-    others: Vec<(PlainText<'b>, Scratch)>,
+    others: Others<'b>,
+}
+
+/// What a value borrows that is read by its plain form: that text, and room for two reads of it.
+#[derive(Drop)]
+struct Others<'b> {
+    texts: Vec<PlainText<'b>>,
+    part: Scratch,
+    whole: Scratch,
 }
 
 impl<'b> Room<'b> {
     /// A room in which nothing stands. It takes no memory.
     pub fn new(alloc: Global) -> Room<'b>
-        ensures { result.others.items ≡ [] }
+        ensures { result.others.texts.items ≡ [] }
     {
+        let others = Others {
+            texts: Vec::new(alloc),
+            part: Scratch::new(alloc),
+            whole: Scratch::new(alloc),
+        };
         Room {
             scratch: Scratch::new(alloc),
-            others: Vec::new(alloc),
+            others,
         }
     }
 }
 
-/// The wanted part of the value of a text that is its own plain form.
+/// The wanted part of the value of a text that is its own plain form. Other where it is no such text, or where what is
+/// wanted isn't there in it.
 fn read_as_it_stands<'a>(
     alloc: Global,
     bytes: &'a [u8],
     wanted: &[Wanted],
     scratch: &'a mut Scratch,
 ) -> Result<Value<'a>, TreeFault>
-    ensures { IfOk result (λ v. IsPartOf wanted.now (value_of bytes.now) (view v)) }
+    ensures stands { IfOk result (λ v. IsPartOf wanted.now (value_in bytes.now) (view v)) }
+    ensures value { IfOk result (λ v. IsPartOf wanted.now (value_of bytes.now) (view v)) }
 {
     let Ok(text) = std::str::from_utf8(bytes) else {
         return Err(TreeFault::Other);
@@ -152,27 +167,33 @@ fn read_as_it_stands<'a>(
     }
 }
 
-/// The value of the plain form of bytes, which is made first.
-#[cold]
+/// The wanted part of the value of the plain form of bytes, which is made first and then read as it stands. Where that
+/// tells nothing, the whole of it is read.
 #[inline(never)]
 fn read_other<'a, 'b: 'a>(
     alloc: Global,
     bytes: &'b [u8],
-    others: &'a mut Vec<(PlainText<'b>, Scratch)>,
+    wanted: &[Wanted],
+    others: &'a mut Others<'b>,
 ) -> Result<Value<'a>, ValueFault>
-    ensures value { IfOk result (λ v. value_of bytes.now ≡ Some (view v)) }
+    ensures value { IfOk result (λ v. IsPartOf wanted.now (value_of bytes.now) (view v)) }
     ensures whole { IfOk result (λ v. has_float (view v) ≡ false) }
     ensures not_json { IsErrOf result ValueFault.NotJson → value_of bytes.now ≡ None }
 {
+    let Others { texts, part, whole } = others;
+    texts.clear();
     let Ok(text) = PlainText::of(alloc, bytes) else {
         return Err(ValueFault::Memory);
     };
-    let at = others.len();
-    if others.push((text, Scratch::new(alloc))).is_err() {
+    if texts.push(text).is_err() {
         return Err(ValueFault::Memory);
     }
-    let (text, scratch) = &mut others[at];
-    read_value(alloc, text, scratch)
+    let text = &texts[0];
+    match read_as_it_stands(alloc, text.plain(), wanted, part) {
+        Ok(value) => Ok(value),
+        Err(TreeFault::Memory) => Err(ValueFault::Memory),
+        Err(TreeFault::Other) => read_value(alloc, text, whole),
+    }
 }
 
 /// The value of the plain form of bytes, as `read_value` says. A text that is its own plain form is read as it stands,
@@ -202,10 +223,9 @@ pub fn read_bytes_part<'a, 'b: 'a>(
     ensures not_json { IsErrOf result ValueFault.NotJson → value_of bytes.now ≡ None }
 {
     let Room { scratch, others } = room;
-    others.clear();
     match read_as_it_stands(alloc, bytes, wanted, scratch) {
         Ok(value) => Ok(value),
         Err(TreeFault::Memory) => Err(ValueFault::Memory),
-        Err(TreeFault::Other) => read_other(alloc, bytes, others),
+        Err(TreeFault::Other) => read_other(alloc, bytes, wanted, others),
     }
 }
