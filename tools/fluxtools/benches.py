@@ -69,9 +69,9 @@ def slots(count, cores, memory=0):
     return {"type": "slot", "count": count, "label": "task", "with": within}
 
 
-def nodes_of(count, cores):
-    """So many nodes with a slot of cores in each."""
-    return {"type": "node", "count": count, "with": [slots(1, cores)]}
+def nodes_of(count, cores, slots_each=1, **more):
+    """So many nodes with slots of cores in each."""
+    return {"type": "node", "count": count, **more, "with": [slots(slots_each, cores)]}
 
 
 # ---- benches
@@ -112,6 +112,49 @@ def mixed_lines(size, most_cores, longest):
             yield f"a {verb} {line} {jobspec(request, dice.randrange(60, longest))}"
 
 
+def site(size):
+    """Jobs of many sizes, some of them on whole nodes, on a cluster of 50,241 vertices that they about fill."""
+    return Bench(["serve"], tree_text(64, 16, 48), site_lines(size, longest_pause=600))
+
+
+def crowded(size):
+    """The same jobs four times as soon after one another, which is three times what the cluster has."""
+    return Bench(["serve"], tree_text(64, 16, 48), site_lines(size, longest_pause=150))
+
+
+def site_lines(size, longest_pause):
+    """Lines of a site's users: of a hundred some ten cancel a job of late, and ten advance by up to so many seconds."""
+    dice = random.Random(64)
+    second = 0
+    for line in range(1, size + 1):
+        seconds = 60 * dice.choice((1, 2, 5, 10, 30, 60, 120, 240, 720))
+        chance = dice.randrange(100)
+        if chance < 10:
+            yield f"a cancel {dice.randint(max(1, line - 2_000), line)}"
+        elif chance < 20:
+            second += dice.randint(0, longest_pause)
+            yield f"a advance {second}"
+        else:
+            verb, request = site_request(dice)
+            yield f"a {verb} {line} {jobspec(request, seconds)}"
+
+
+def site_request(dice):
+    """What is asked for: parts of nodes, slots anywhere, nodes for oneself, and all cores of nodes."""
+    chance = dice.randrange(80)
+    if chance < 30:
+        return "reserve", nodes_of(dice.choice((1, 1, 1, 2, 2, 4, 8)), dice.randint(1, 24))
+    if chance < 45:
+        return "reserve", slots(dice.randint(1, 64), dice.choice((1, 2, 4)))
+    if chance < 53:
+        return "reserve", nodes_of(dice.choice((1, 4, 16, 64, 128)), 1, exclusive=True)
+    if chance < 57:
+        return "reserve", nodes_of(dice.choice((4, 8, 16)), 48)
+    if chance < 70:
+        return "allocate", nodes_of(dice.choice((1, 2, 4)), dice.randint(1, 16), slots_each=2)
+    return "allocate", slots(dice.randint(1, 48), 1)
+
+
 def backlog(size):
     """Jobs that each want the whole of a small cluster, one behind the other."""
     for_all = jobspec(nodes_of(16, 4), 60)
@@ -143,6 +186,28 @@ def json_lines(size):
     return Bench(["serve"], tree_text(1, 2, 4), (f"a satisfy {spec}" for _ in range(size)))
 
 
+def written(size):
+    """Lines of a kilobyte as people and shells write them: with spaces, escapes, fractions and a long environment."""
+    dice = random.Random(11)
+    words = ("alpha", "beta", "module-env", "/usr/lib/x86_64", "caf\\u00e9", "a\\tb\\\\c")
+
+    def lines():
+        for line in range(1, size + 1):
+            names = ", ".join(
+                f'"VARIABLE_{at}" : "{" ".join(dice.choice(words) for _ in range(3))}"' for at in range(dice.randint(9, 13)))
+            numbers = ",".join(dice.choice(("1.5", "2e3", "0", "-7", "12.0", "true", "null")) for _ in range(12))
+            request = json.dumps(nodes_of(dice.randint(1, 3), dice.randint(1, 9)))
+            seconds = dice.choice(("60", "3600.0", "120.000"))
+            yield (
+                f'a satisfy {{"resources" : [{request}], "tasks" : [{{"command" : ["app", "--input", "file{line}"], '
+                '"slot" : "task", "count" : {"per_slot" : 1}}], "attributes" : {"system" : {"duration" : '
+                f'{seconds}, "cwd" : "/home/user{line % 97}/run", "environment" : {{{names}}}, '
+                f'"shell" : {{"options" : {{"load" : [{numbers}]}}}}, "job" : {{"name" : "run-{line}"}}}}}}, "version" : 1}}'
+            )
+
+    return Bench(["serve"], tree_text(2, 4, 8), lines())
+
+
 def satisfy(size):
     """Questions whether a cluster of 1,097 vertices could ever serve a request."""
 
@@ -158,9 +223,12 @@ BENCHES = {
     "load": (load, 20_000, "commands"),
     "wide": (wide, 20_000, "lines"),
     "overfull": (overfull, 20_000, "lines"),
+    "site": (site, 20_000, "lines"),
+    "crowded": (crowded, 20_000, "lines"),
     "backlog": (backlog, 5_000, "lines"),
     "gaps": (gaps, 5_000, "lines"),
     "graph": (graph, 60_000, "vertices"),
     "json": (json_lines, 20_000, "lines"),
+    "written": (written, 50_000, "lines"),
     "satisfy": (satisfy, 20_000, "lines"),
 }

@@ -6,7 +6,7 @@ import tempfile
 
 from helper import ToolTest, run, tool
 
-KINDS = ("load", "wide", "overfull", "backlog", "gaps", "graph", "json", "satisfy")
+KINDS = ("load", "wide", "overfull", "site", "crowded", "backlog", "gaps", "graph", "json", "written", "satisfy")
 
 
 class Bench(ToolTest):
@@ -48,6 +48,7 @@ class Bench(ToolTest):
                    for name in KINDS if name != "load"}
         sizes = {name: len(graph["graph"]["nodes"]) for name, graph in counted.items()}
         self.assertEqual((sizes["wide"], sizes["overfull"], sizes["satisfy"]), (50_651, 50_651, 1_097))
+        self.assertEqual((sizes["site"], sizes["crowded"]), (50_241, 50_241))
         self.assertTrue(55_000 < sizes["graph"] < 61_000, sizes["graph"])
         for graph in counted.values():
             self.assertEqual(len(graph["graph"]["edges"]), len(graph["graph"]["nodes"]) - 1)
