@@ -2,9 +2,11 @@
 ghost use Rattle.std.specs.Prelude.{◌≡◌, ℕ, ◌+◌, ◌<◌, ◌≤◌, ◌↔◌, [], IsTrue, length, List, MatchOption, IfSome, IfNone};
 ghost use Rattle.flux_defs.specs.declared.vertices.Vertex.{Vertex};
 ghost use Rattle.flux_defs.specs.declared.claims.Job.{Job};
+ghost use Rattle.flux_defs.specs.declared.claims.Window.{Window};
 ghost use Rattle.flux_defs.specs.Jobs.{IsPoint, IsNextPoint};
 ghost use Rattle.flux_defs.specs.Closed.{IsClosedOver, IsTouchedOver};
 ghost use Rattle.flux_defs.specs.Free.{IsFreeOver, IsTotalOver, IsTooLittle, IsTooLittleAt};
+ghost use Rattle.flux_defs.specs.Later.{IsSoUntil, ReachesOver};
 
 use crate::claims::Window;
 use crate::lists::List;
@@ -40,12 +42,44 @@ pub trait FreeView {
         ensures some_work { steps.old < steps.new }
         ensures work { steps.new ≤ steps.old + cost self.now };
 
+    /// Until when a job holds the vertex or one above it, in seconds: at some moment of each window that begins then or
+    /// before and ends no sooner than this one. `None` exactly where none does at a moment of this one.
+    fn closed_until<L: Ledger>(
+        &self,
+        vertex: u32,
+        window: Window,
+        steps: &mut Steps<L>,
+    ) -> Option<u64>
+        requires vertex { vertex < length (graph self.now) }
+        requires window { window.from < window.to }
+        ensures answer { (jobs : List Job) → stands_for self.now jobs →
+            IsSoUntil (λ w. IsClosedOver (graph self.now) jobs w vertex) window result }
+        ensures within { IfSome result (λ m. window.from ≤ m) }
+        ensures some_work { steps.old < steps.new }
+        ensures work { steps.new ≤ steps.old + cost self.now };
+
     /// Whether a job has a claim on the vertex or below it at some moment of the window.
     fn touched_over<L: Ledger>(&self, vertex: u32, window: Window, steps: &mut Steps<L>) -> bool
         requires vertex { vertex < length (graph self.now) }
         requires window { window.from < window.to }
         ensures answer { (jobs : List Job) →
             stands_for self.now jobs → (IsTrue result ↔ IsTouchedOver (graph self.now) jobs window vertex) }
+        ensures some_work { steps.old < steps.new }
+        ensures work { steps.new ≤ steps.old + cost self.now };
+
+    /// Until when a job has a claim on the vertex or below it, in seconds: at some moment of each window that begins then
+    /// or before and ends no sooner than this one. `None` exactly where none has at a moment of this one.
+    fn touched_until<L: Ledger>(
+        &self,
+        vertex: u32,
+        window: Window,
+        steps: &mut Steps<L>,
+    ) -> Option<u64>
+        requires vertex { vertex < length (graph self.now) }
+        requires window { window.from < window.to }
+        ensures answer { (jobs : List Job) → stands_for self.now jobs →
+            IsSoUntil (λ w. IsTouchedOver (graph self.now) jobs w vertex) window result }
+        ensures within { IfSome result (λ m. window.from ≤ m) }
         ensures some_work { steps.old < steps.new }
         ensures work { steps.new ≤ steps.old + cost self.now };
 
@@ -97,6 +131,28 @@ pub trait FreeView {
         ensures some_work { steps.old < steps.new }
         ensures work { steps.new ≤ steps.old + cost self.now };
 
+    /// Until when the total of the kind, over its vertices at this one or below it, is below the amount, in seconds: at
+    /// some moment of each window that begins then or before and ends no sooner than this one. `None` exactly where it is
+    /// so at no moment of this one, or the view's filter rules keep no such total.
+    fn total_until<L: Ledger>(
+        &self,
+        vertex: u32,
+        kind: u32,
+        amount: u64,
+        window: Window,
+        steps: &mut Steps<L>,
+    ) -> Option<u64>
+        requires vertex { vertex < length (graph self.now) }
+        requires window { window.from < window.to }
+        ensures answer { (jobs : List Job) → stands_for self.now jobs →
+            MatchOption result
+            (keeps self.now vertex kind → IsTooLittle (graph self.now) jobs window vertex kind amount → ⊥)
+            (λ m. (w : Window) → ReachesOver window m w → IsTooLittle (graph self.now) jobs w vertex kind amount) }
+        ensures within { IfSome result (λ m. window.from ≤ m) }
+        ensures kept { IfSome result (λ _. keeps self.now vertex kind) }
+        ensures some_work { steps.old < steps.new }
+        ensures work { steps.new ≤ steps.old + cost self.now };
+
     /// The least start or end of a job that is later than the moment; `None` exactly where there is none.
     fn next_point<L: Ledger>(&self, after: u64, steps: &mut Steps<L>) -> Option<u64>
         ensures later { IfSome result (λ p. after < p) }
@@ -141,9 +197,29 @@ impl<'a> FreeView for NoJobs<'a> {
         false
     }
 
+    fn closed_until<L: Ledger>(
+        &self,
+        _vertex: u32,
+        _window: Window,
+        steps: &mut Steps<L>,
+    ) -> Option<u64> {
+        steps.tick();
+        None
+    }
+
     fn touched_over<L: Ledger>(&self, _vertex: u32, _window: Window, steps: &mut Steps<L>) -> bool {
         steps.tick();
         false
+    }
+
+    fn touched_until<L: Ledger>(
+        &self,
+        _vertex: u32,
+        _window: Window,
+        steps: &mut Steps<L>,
+    ) -> Option<u64> {
+        steps.tick();
+        None
     }
 
     /// All of a pool, and 1 of any other vertex, whose size is 1.
@@ -165,6 +241,18 @@ impl<'a> FreeView for NoJobs<'a> {
     }
 
     fn total_below<L: Ledger>(
+        &self,
+        _vertex: u32,
+        _kind: u32,
+        _amount: u64,
+        _window: Window,
+        steps: &mut Steps<L>,
+    ) -> Option<u64> {
+        steps.tick();
+        None
+    }
+
+    fn total_until<L: Ledger>(
         &self,
         _vertex: u32,
         _kind: u32,
