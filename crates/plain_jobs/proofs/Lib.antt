@@ -1,4 +1,5 @@
 pub mod Spans
 pub mod Points
 pub mod Free
+pub mod Later
 pub mod AnyNumbers

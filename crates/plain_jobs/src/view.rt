@@ -44,9 +44,35 @@ impl<'a> FreeView for PlainJobs<'a> {
         is_closed(self.graph, self.jobs.items(), window, vertex)
     }
 
+    /// Until the window's start, where it is so at a moment of the window: no later one is looked for.
+    fn closed_until<L: Ledger>(
+        &self,
+        vertex: u32,
+        window: Window,
+        steps: &mut Steps<L>,
+    ) -> Option<u64> {
+        if self.closed_over(vertex, window, steps) {
+            return Some(window.from);
+        }
+        None
+    }
+
     fn touched_over<L: Ledger>(&self, vertex: u32, window: Window, steps: &mut Steps<L>) -> bool {
         steps.tick();
         is_touched(self.graph, self.jobs.items(), window, vertex)
+    }
+
+    /// Until the window's start, where it is so at a moment of the window: no later one is looked for.
+    fn touched_until<L: Ledger>(
+        &self,
+        vertex: u32,
+        window: Window,
+        steps: &mut Steps<L>,
+    ) -> Option<u64> {
+        if self.touched_over(vertex, window, steps) {
+            return Some(window.from);
+        }
+        None
     }
 
     fn free_over<L: Ledger>(&self, vertex: u32, window: Window, steps: &mut Steps<L>) -> u64 {
@@ -75,6 +101,18 @@ impl<'a> FreeView for PlainJobs<'a> {
     }
 
     fn total_below<L: Ledger>(
+        &self,
+        _vertex: u32,
+        _kind: u32,
+        _amount: u64,
+        _window: Window,
+        steps: &mut Steps<L>,
+    ) -> Option<u64> {
+        steps.tick();
+        None
+    }
+
+    fn total_until<L: Ledger>(
         &self,
         _vertex: u32,
         _kind: u32,
