@@ -34,16 +34,16 @@ use Rattle.vertex_accounts.proofs.AskingLaws.{BelowOrNone, held_is, held_here, h
 use Rattle.vertex_accounts.proofs.OwnLaws.{counts_all, part_less}
 
 -- the window of one moment
-abbrev second : ℕ → Window
+abbrev pub second : ℕ → Window
 second m = record { from = m; to = m + 1 }
 
-there : (P : ℕ → Type 0) (m : ℕ) → P m → SomeMoment (second m) P
+pub there : (P : ℕ → Type 0) (m : ℕ) → P m → SomeMoment (second m) P
 there P m p = (m, omega arith, omega arith, p)
 
-here : (P : ℕ → Type 0) (m : ℕ) → SomeMoment (second m) P → P m
+pub here : (P : ℕ → Type 0) (m : ℕ) → SomeMoment (second m) P → P m
 here P m (k, lo, hi, p) = let e : k ≡ m = omega (arith, lo, hi) in subst P e p
 
-least_there : (total : ℕ) (spans : List Span) (m : ℕ) → IsLeastFree total spans (second m) (free_at total spans m)
+pub least_there : (total : ℕ) (spans : List Span) (m : ℕ) → IsLeastFree total spans (second m) (free_at total spans m)
 least_there total spans m = record {
   each = λ k lo hi.
       let e : m ≡ k = omega (arith, lo, hi) in
@@ -51,7 +51,7 @@ least_there total spans m = record {
   reached = (m, omega arith, omega arith, refl);
 }
 
-abbrev held_at : List Job → ℕ → ℕ → Type 0
+abbrev pub held_at : List Job → ℕ → ℕ → Type 0
 held_at jobs v m = IsTrue (some_live_claim jobs m (is_hold v))
 
 -- where the planner of holds has less than all last, the vertex is held

@@ -6,9 +6,9 @@ ghost use Rattle.flux_defs.specs.declared.claims.Job.{Job};
 ghost use Rattle.flux_defs.specs.Digits.{dig};
 ghost use Rattle.flux_defs.specs.Graph.{chain, is_pool, parent_of};
 ghost use Rattle.flux_defs.specs.Jobs.{some_live_claim, IsPoint, IsNextPoint};
-ghost use Rattle.flux_defs.specs.Closed.{no_bars, is_closed, IsClosedOver, IsTouchedOver};
+ghost use Rattle.flux_defs.specs.Closed.{no_bars, is_closed, is_touched, IsClosedOver, IsTouchedOver};
 ghost use Rattle.flux_defs.specs.Free.{IsFreeOver, IsTotalOver, IsTooLittleAt};
-ghost use Rattle.planner_points.specs.Spans.{IsLeastFree, HasRoom, IsLastBelow};
+ghost use Rattle.planner_points.specs.Spans.{free_at, IsLeastFree, HasRoom, IsLastBelow};
 ghost use Rattle.book_laws.specs.Amounts.{is_hold, holds_along};
 ghost use Rattle.book_laws.specs.Grouped.{grouped};
 ghost use Rattle.prune_filters.specs.Amples.{IsNextAmpleOrNone};
@@ -17,7 +17,7 @@ ghost use Rattle.vertex_planners.specs.Work.{CostWithin};
 ghost use Rattle.vertex_accounts.specs.declared.quantities.Quantity.{Quantity};
 ghost use Rattle.vertex_accounts.specs.Quantities.{amount_in, total_in};
 ghost use Rattle.vertex_accounts.specs.Costs.{look_most, rest_most, closed_most};
-ghost use Rattle.vertex_accounts.specs.Moments.{IsMomentOrNone};
+ghost use Rattle.vertex_accounts.specs.Moments.{IsMomentOrNone, IsThroughOrNone};
 
 use crate::books::Accounts;
 use crate::counted::{CLAIMS, HOLDS, TAKES};
@@ -230,10 +230,143 @@ impl<P: Planner + Drop> Accounts<P> {
     {
         graph.is_valid();
         let item = self.planners.at(vertex, steps);
-        if self.least_in(item, vertex, CLAIMS, window, steps) < u64::MAX {
+        if self.least_in(item, vertex, HOLDS, window, steps) < u64::MAX {
             return true;
         }
-        self.least_in(item, vertex, HOLDS, window, steps) < u64::MAX
+        self.least_in(item, vertex, CLAIMS, window, steps) < u64::MAX
+    }
+
+    /// Through which moment, after this one of the window, jobs leave less than the amount of a quantity at the vertex,
+    /// whose item this is. It isn't looked for where this moment isn't the window's last one.
+    fn through<L: Ledger>(
+        &self,
+        item: &Item<P>,
+        vertex: u32,
+        place: usize,
+        moment: u64,
+        window: Window,
+        amount: u64,
+        steps: &mut Steps<L>,
+    ) -> u64
+        requires item { slice_get (items_of self.now.planners) vertex ≡ Some item.now }
+        requires place { place < length item.now }
+        requires window { window.from < window.to }
+        ensures later { moment ≤ result }
+        ensures less { (vertices : List Vertex) (jobs : List Job) (q : Quantity) →
+            AreAccounts P.total_of P.stands_for vertices jobs self.now →
+            slice_get (counted_of self.now).quantities place ≡ Some q → (m : ℕ) → moment < m → m ≤ result →
+            free_at (total_in vertices q vertex) (grouped (amount_in vertices q vertex) jobs) m < amount }
+        ensures counted { steps.old ≤ steps.new }
+        ensures work { (most_looks : ℕ) →
+            CostWithin P.look_cost most_looks (items_of self.now.planners) → steps.new ≤ steps.old + most_looks }
+    {
+        if moment < window.to - 1 {
+            return moment;
+        }
+        match item.first_free(place, moment, amount, steps) {
+            None => u64::MAX,
+            Some(first) => moment.max(first.saturating_sub(1)),
+        }
+    }
+
+    /// A moment through which, from one of the window on, a job holds the vertex, whose item this is, or one above it;
+    /// `None` exactly where none does at a moment of the window.
+    fn closed_through<L: Ledger>(
+        &self,
+        graph: &Graph,
+        item: &Item<P>,
+        vertex: u32,
+        window: Window,
+        steps: &mut Steps<L>,
+    ) -> Option<u64>
+        requires graph { AreAccountsOf graph.now.resources.vertices self.now }
+        requires item { slice_get (items_of self.now.planners) vertex ≡ Some item.now }
+        requires window { window.from < window.to }
+        requires inside { vertex < length graph.now.resources.vertices }
+        ensures answer { (jobs : List Job) →
+            AreAccounts P.total_of P.stands_for graph.now.resources.vertices jobs self.now →
+            IsThroughOrNone window
+            (λ m. IsTrue (is_closed (no_bars graph.now.resources.vertices jobs) m vertex)) result }
+        ensures counted { steps.old ≤ steps.new }
+        ensures work { (most_looks : ℕ) → CostWithin P.look_cost most_looks (items_of self.now.planners) →
+            steps.new ≤ steps.old + (rest_most (length graph.now.resources.vertices) most_looks + most_looks) }
+    {
+        match self.closed_moment(graph, item, vertex, window, steps) {
+            None => None,
+            Some(moment) => Some(self.through(
+                item,
+                vertex,
+                HOLDS,
+                moment,
+                window,
+                u64::MAX,
+                steps,
+            )),
+        }
+    }
+
+    /// A moment through which, from one of the window on, a job holds the vertex or one above it; `None` exactly where
+    /// none does at a moment of the window.
+    pub fn closed_until<L: Ledger>(
+        &self,
+        graph: &Graph,
+        vertex: u32,
+        window: Window,
+        steps: &mut Steps<L>,
+    ) -> Option<u64>
+        requires graph { AreAccountsOf graph.now.resources.vertices self.now }
+        requires window { window.from < window.to }
+        requires inside { vertex < length graph.now.resources.vertices }
+        ensures answer { (jobs : List Job) →
+            AreAccounts P.total_of P.stands_for graph.now.resources.vertices jobs self.now →
+            IsThroughOrNone window
+            (λ m. IsTrue (is_closed (no_bars graph.now.resources.vertices jobs) m vertex)) result }
+        ensures some_work { steps.old < steps.new }
+        ensures work { (most_looks : ℕ) → CostWithin P.look_cost most_looks (items_of self.now.planners) →
+            steps.new ≤ steps.old + (closed_most (length graph.now.resources.vertices) most_looks + most_looks) }
+    {
+        graph.is_valid();
+        let item = self.planners.at(vertex, steps);
+        self.closed_through(graph, item, vertex, window, steps)
+    }
+
+    /// A moment through which, from one of the window on, a job has a claim on the vertex or below it; `None` exactly
+    /// where none has at a moment of the window.
+    pub fn touched_until<L: Ledger>(
+        &self,
+        graph: &Graph,
+        vertex: u32,
+        window: Window,
+        steps: &mut Steps<L>,
+    ) -> Option<u64>
+        requires graph { AreAccountsOf graph.now.resources.vertices self.now }
+        requires window { window.from < window.to }
+        requires inside { vertex < length graph.now.resources.vertices }
+        ensures answer { (jobs : List Job) →
+            AreAccounts P.total_of P.stands_for graph.now.resources.vertices jobs self.now →
+            IsThroughOrNone window
+            (λ m. IsTrue (is_touched (no_bars graph.now.resources.vertices jobs) m vertex)) result }
+        ensures some_work { steps.old < steps.new }
+        ensures work { (most_looks : ℕ) → CostWithin P.look_cost most_looks (items_of self.now.planners) →
+            steps.new ≤ steps.old + (closed_most (length graph.now.resources.vertices) most_looks + most_looks) }
+    {
+        graph.is_valid();
+        let item = self.planners.at(vertex, steps);
+        if let Some(moment) = self.below_in(item, vertex, HOLDS, window, u64::MAX, steps) {
+            return Some(self.through(item, vertex, HOLDS, moment, window, u64::MAX, steps));
+        }
+        match self.below_in(item, vertex, CLAIMS, window, u64::MAX, steps) {
+            None => None,
+            Some(moment) => Some(self.through(
+                item,
+                vertex,
+                CLAIMS,
+                moment,
+                window,
+                u64::MAX,
+                steps,
+            )),
+        }
     }
 
     /// The least that is free of the vertex at a moment of the window.
@@ -299,6 +432,39 @@ impl<P: Planner + Drop> Accounts<P> {
             return None;
         }
         self.closed_moment(graph, item, vertex, window, steps)
+    }
+
+    /// A moment through which, from one of the window on, the total at the vertex of the type whose units have this place
+    /// is below the amount; `None` exactly where it is so at no moment of the window.
+    pub fn total_until<L: Ledger>(
+        &self,
+        graph: &Graph,
+        vertex: u32,
+        place: usize,
+        amount: u64,
+        window: Window,
+        steps: &mut Steps<L>,
+    ) -> Option<u64>
+        requires graph { AreAccountsOf graph.now.resources.vertices self.now }
+        requires place { (kind : ℕ) × HasPlace self.now kind place }
+        requires window { window.from < window.to }
+        requires inside { vertex < length graph.now.resources.vertices }
+        ensures answer { (kind : ℕ) (jobs : List Job) → HasPlace self.now kind place →
+            AreAccounts P.total_of P.stands_for graph.now.resources.vertices jobs self.now →
+            IsThroughOrNone window (IsTooLittleAt graph.now.resources.vertices jobs vertex kind amount) result }
+        ensures some_work { steps.old < steps.new }
+        ensures work { (most_looks : ℕ) → CostWithin P.look_cost most_looks (items_of self.now.planners) →
+            steps.new ≤ steps.old + (closed_most (length graph.now.resources.vertices) most_looks + 2 * most_looks) }
+    {
+        graph.is_valid();
+        let item = self.planners.at(vertex, steps);
+        if let Some(moment) = self.below_in(item, vertex, place, window, amount, steps) {
+            return Some(self.through(item, vertex, place, moment, window, amount, steps));
+        }
+        if amount == 0 {
+            return None;
+        }
+        self.closed_through(graph, item, vertex, window, steps)
     }
 
     /// The least total at the vertex, over a moment of the window, of the type whose units have this place. Where jobs

@@ -12,17 +12,17 @@ pub least_in-requires-clause-place : goal.least_in-requires-clause-place
 least_in-requires-clause-place g c =
     place_in c.args.graph.now.resources.vertices
     (counted_of c.args.self.now) (items_of c.args.self.now.planners) c.requires.graph
-    c.args.vertex c.at-item.result.now c.at-item.ensures.item 1 Claims c.requires.graph.counts.claims
+    c.args.vertex c.at-item.result.now c.at-item.ensures.item 0 Holds c.requires.graph.counts.holds
 
 pub returns-then-least_in-lt18446744073709551615-clause-answer :
     goal.returns-then-least_in-lt18446744073709551615-clause-answer
 returns-then-least_in-lt18446744073709551615-clause-answer g c = λ jobs is.
     let resources = c.args.graph.now.resources in
-    let some = counted_is resources.vertices jobs c.args.window c.args.vertex c.least_in.result
-    (c.least_in.ensures.least resources.vertices jobs Claims is is.graph.counts.claims) in
+    let some = held_is resources.vertices jobs c.args.window c.args.vertex c.least_in.result
+    (c.least_in.ensures.least resources.vertices jobs Holds is is.graph.counts.holds) in
     let either = touched_either resources.vertices (parents_first resources c.is_valid.ensures.valid.preorder)
     c.args.vertex c.requires.inside jobs c.args.window in
-    (λ h. either.0 (inl (some.0 c.if-least_in-lt18446744073709551615.true)), λ t. refl)
+    (λ h. either.0 (inr (some.0 c.if-least_in-lt18446744073709551615.true)), λ t. refl)
 
 pub returns-then-least_in-lt18446744073709551615-clause-work :
     goal.returns-then-least_in-lt18446744073709551615-clause-work
@@ -35,23 +35,23 @@ returns-then-least_in-lt18446744073709551615-clause-work g c = λ n looks.
 pub least_in-requires-2-clause-place : goal.least_in-requires-2-clause-place
 least_in-requires-2-clause-place g c =
     place_in c.args.graph.now.resources.vertices (counted_of c.args.self.now) (items_of c.args.self.now.planners)
-    c.requires.graph c.args.vertex c.at-item.result.now c.at-item.ensures.item 0 Holds c.requires.graph.counts.holds
+    c.requires.graph c.args.vertex c.at-item.result.now c.at-item.ensures.item 1 Claims c.requires.graph.counts.claims
 
 pub returns-clause-answer : goal.returns-clause-answer
 returns-clause-answer g c = λ jobs is.
     let resources = c.args.graph.now.resources in
     let over = c.if-least_in-lt18446744073709551615.false in
-    let some = counted_is resources.vertices jobs c.args.window c.args.vertex c.least_in.result
-    (c.least_in.ensures.least resources.vertices jobs Claims is is.graph.counts.claims) in
-    let held = less_tells c.least_in-2.result most_claims _
-    (held_is resources.vertices jobs c.args.window c.args.vertex c.least_in-2.result
-    (c.least_in-2.ensures.least resources.vertices jobs Holds is is.graph.counts.holds)) in
+    let some = held_is resources.vertices jobs c.args.window c.args.vertex c.least_in.result
+    (c.least_in.ensures.least resources.vertices jobs Holds is is.graph.counts.holds) in
+    let claimed = less_tells c.least_in-2.result most_claims _
+    (counted_is resources.vertices jobs c.args.window c.args.vertex c.least_in-2.result
+    (c.least_in-2.ensures.least resources.vertices jobs Claims is is.graph.counts.claims)) in
     let either = touched_either resources.vertices (parents_first resources c.is_valid.ensures.valid.preorder)
     c.args.vertex c.requires.inside jobs c.args.window in (
-      λ b. either.0 (inr (held.0 b)),
+      λ b. either.0 (inl (claimed.0 b)),
       λ t. elim (either.1 t) [
-        | inl counts ↦ absurd (let lt = some.1 counts in omega (arith, lt, over))
-        | inr holds ↦ held.1 holds
+        | inl counts ↦ claimed.1 counts
+        | inr holds ↦ absurd (let lt = some.1 holds in omega (arith, lt, over))
       ],
     )
 
