@@ -8,4 +8,4 @@ mod shorts;
 
 pub use amples::TotalsView;
 pub use rules::{FilterFault, Rule, Rules};
-pub use shorts::{Demand, Shortage, first_short, short};
+pub use shorts::{Demand, Shortage, first_short, short_until};

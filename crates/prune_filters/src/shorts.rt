@@ -1,7 +1,8 @@
 //! Whether a kept total is below a demand.
 ghost use Rattle.std.specs.Prelude.{◌+◌, ◌*◌, ◌<◌, ◌≤◌, length, List, MatchOption, IfSome};
 ghost use Rattle.flux_defs.specs.declared.claims.Job.{Job};
-ghost use Rattle.prune_filters.specs.Shorts.{IsShortOf, IsShortOfAt, IsShortInAt};
+ghost use Rattle.flux_defs.specs.Later.{IsSoUntil};
+ghost use Rattle.prune_filters.specs.Shorts.{IsShortOf, IsShortInAt};
 
 use flux_defs::{FreeView, List, Steps, Window};
 use std::sync::ledger::Ledger;
@@ -20,9 +21,10 @@ pub struct Shortage {
     pub moment: u64,
 }
 
-/// A moment of the window at which the vertex is short of some of the demands: the view tells a total below its amount.
-/// `None` exactly where there is none. It takes no memory.
-pub fn short<F: FreeView, L: Ledger>(
+/// Until when the vertex is short of some of the demands, in seconds: over each window that begins then or before and
+/// ends no sooner than this one the view's total is below what one of them wants. `None` exactly where it is short of none
+/// over this window. It takes no memory.
+pub fn short_until<F: FreeView, L: Ledger>(
     view: &F,
     vertex: u32,
     demands: &List<Demand>,
@@ -32,16 +34,16 @@ pub fn short<F: FreeView, L: Ledger>(
     requires vertex { vertex < length (F.graph view.now) }
     requires opens { window.from < window.to }
     ensures answer { (jobs : List Job) → F.stands_for view.now jobs →
-        MatchOption result
-        (IsShortOf (F.graph view.now) jobs window (F.keeps view.now) demands.now vertex → ⊥)
-        (IsShortOfAt (F.graph view.now) jobs (F.keeps view.now) demands.now vertex) }
-    ensures within { IfSome result (λ m. (window.from ≤ m) × (m < window.to)) }
+        IsSoUntil (λ w. IsShortOf (F.graph view.now) jobs w (F.keeps view.now) demands.now vertex) window result }
+    ensures within { IfSome result (λ m. window.from ≤ m) }
     ensures work { steps.new ≤ steps.old + length demands.now * F.cost view.now }
 {
-    match first_short(view, vertex, demands, window, steps) {
-        None => None,
-        Some(shortage) => Some(shortage.moment),
+    for demand in demands.items() {
+        if let Some(moment) = view.total_until(vertex, demand.kind, demand.amount, window, steps) {
+            return Some(moment);
+        }
     }
+    None
 }
 
 /// The first of the demands of which the vertex is short at a moment of the window, and such a moment; `None` exactly
