@@ -47,7 +47,7 @@ dig_few k n lt = few_digits n k n lt
 
 -- the looks of one answer, over at most 65,536 vertices
 pub looks_cost : (vertices b looks : ℕ) →
-    vertices ≤ MOST_VERTICES → 3 ≤ b → looks ≤ 16 * b → closed_most vertices looks + looks ≤ 512 * b
+    vertices ≤ MOST_VERTICES → 3 ≤ b → looks ≤ 16 * b → closed_most vertices looks + 2 * looks ≤ 512 * b
 looks_cost vertices b looks few some le =
     let d = dig_few 16 (vertices + 1) (let p : 2 ^ 17 ≡ 131072 = refl in omega (arith, few, p)) in
     omega (arith, d, some, le)
@@ -109,7 +109,7 @@ four_digits = refl
 
 -- an answer about a vertex, and the next point, within the cost of the book
 pub answer_covered : (vertices count g : ℕ) → vertices ≤ MOST_VERTICES →
-    closed_most vertices (16 * dig (2 * count + 2)) + 16 * dig (2 * count + 2) ≤ 512 * dig (2 * count + g + 4)
+    closed_most vertices (16 * dig (2 * count + 2)) + 2 * (16 * dig (2 * count + 2)) ≤ 512 * dig (2 * count + g + 4)
 answer_covered vertices count g few =
     let four = four_digits in
     let some = dig_mono 4 (2 * count + g + 4) (omega arith) in

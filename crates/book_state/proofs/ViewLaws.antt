@@ -8,7 +8,10 @@ use Rattle.flux_defs.specs.declared.vertices.Vertex.{Vertex}
 use Rattle.flux_defs.specs.declared.claims.Job.{Job}
 use Rattle.flux_defs.specs.declared.claims.Window.{Window}
 use Rattle.flux_defs.specs.Digits.{dig}
+use Rattle.flux_defs.specs.Jobs.{SomeMoment}
 use Rattle.flux_defs.specs.Free.{IsTooLittle, IsTooLittleAt}
+use Rattle.flux_defs.specs.Later.{IsSoUntil, ReachesOver}
+use Rattle.plain_jobs.proofs.Later.{so_through}
 use Rattle.resource_graph.specs.NamedGraph.{NamedGraph, IsWhole}
 use Rattle.prune_filters.specs.Filters.{IsKept}
 use Rattle.prune_filters.specs.Amples.{IsNextAmpleOrNone}
@@ -19,7 +22,7 @@ use Rattle.vertex_planners.specs.Work.{CostWithin}
 use Rattle.vertex_accounts.specs.declared.books.Accounts.{Accounts}
 use Rattle.vertex_accounts.specs.Costs.{look_most, closed_most, accounts_most}
 use Rattle.vertex_accounts.specs.Books.{AreAccountsOf, AreAccounts, HasPlace, HasTotals, types_of}
-use Rattle.vertex_accounts.specs.Moments.{IsMomentOrNone}
+use Rattle.vertex_accounts.specs.Moments.{IsMomentOrNone, IsThroughOrNone}
 use Rattle.book_state.specs.declared.held.Kept.{Kept}
 use Rattle.book_state.specs.Books.{graph_of, vertices_of, rules_of, accounts_of, rows_of, IsPairKept, IsTotalKept}
 use Rattle.book_state.specs.Books.{StandsFor, IsBook, MayAdd, cost_of, change_cost_of}
@@ -49,6 +52,11 @@ module _ (g : NamedGraph) (a : Accounts Plan) (book : Kept) (eg : g ≡ graph_of
       (jobs : List Job) → StandsFor book jobs → Q (vertices_of book) jobs
   answer_at Q f jobs x = subst (λ (h : NamedGraph). Q h.resources.vertices jobs) eg (f jobs (accounts_at jobs x))
 
+  -- what follows from any jobs for which the book stands
+  pub any_at : IsBook book → (Q : Type 0) → ((jobs : List Job) →
+      AreAccounts (λ (p : Plan). p.total) Plans.StandsFor g.resources.vertices jobs a → Q) → Q
+  any_at is Q f = f is.0 (accounts_at is.0 is.1)
+
   pub place_at : (kind place : ℕ) → HasPlace (accounts_of book) kind place → HasPlace a kind place
   place_at kind place is = subst (λ (x : Accounts Plan). HasPlace x kind place) (sym ea) is
 
@@ -57,7 +65,7 @@ module _ (g : NamedGraph) (a : Accounts Plan) (book : Kept) (eg : g ≡ graph_of
 
   pub work_at : IsBook book → IsWhole g → (old new : ℕ) →
       ((n : ℕ) → CostWithin (λ (p : Plan). 16 * dig (length p.points + 2)) n (items_of a.planners) →
-      new ≤ old + (closed_most (length g.resources.vertices) n + n)) → new ≤ old + cost_of book
+      new ≤ old + (closed_most (length g.resources.vertices) n + 2 * n)) → new ≤ old + cost_of book
   work_at is whole old new work =
       let at = accounts_at is.0 is.1 in
       let w = work (16 * dig (2 * a.count + 2)) (all_cost a g.resources.vertices is.0 at) in
@@ -132,6 +140,26 @@ module _ (w : Window) (vertices : List Vertex) (jobs : List Job) (v kind amount 
   pub little_within : (found : Option ℕ) → LittleOrNone found → IfSome found (λ m. (w.from ≤ m) × (m < w.to))
   little_within None none = tt
   little_within (Some m) some = (some.0, some.1)
+
+-- until when it is so, of what is so from a moment of the window through another one
+module _ (w : Window) (P : ℕ → Type 0) where
+  pub so_until : (found : Option ℕ) → IsThroughOrNone w P found → IsSoUntil (λ other. SomeMoment other P) w found
+  so_until None none = none
+  so_until (Some m) so = λ other reach. so_through P w other so.0 m so.2 so.3 so.4 reach
+
+  -- the same where it is only told of what is kept that it is so at no moment
+  pub kept_until : (Keeps : Type 0) → (found : Option ℕ) → IsThroughOrNone w P found →
+      MatchOption found (Keeps → SomeMoment w P → ⊥)
+      (λ m. (other : Window) → ReachesOver w m other → SomeMoment other P)
+  kept_until Keeps None none = λ keeps. none
+  kept_until Keeps (Some m) so = so_until (Some m) so
+
+  pub until_within : (found : Option ℕ) → IsThroughOrNone w P found → IfSome found (λ m. w.from ≤ m)
+  until_within None none = tt
+  until_within (Some m) so =
+      let low : w.from ≤ so.0 = so.1 in
+      let le : so.0 ≤ m = so.3 in
+      omega (arith, low, le)
 
 pub if_some : (found : Option ℕ) (A : Type 0) → A → IfSome found (λ _. A)
 if_some None A a = tt

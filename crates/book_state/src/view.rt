@@ -34,10 +34,32 @@ impl FreeView for BookState {
         accounts.closed_over(graph, vertex, window, steps)
     }
 
+    fn closed_until<L: Ledger>(
+        &self,
+        vertex: u32,
+        window: Window,
+        steps: &mut Steps<L>,
+    ) -> Option<u64> {
+        let graph = self.graph();
+        let accounts = self.accounts();
+        accounts.closed_until(graph, vertex, window, steps)
+    }
+
     fn touched_over<L: Ledger>(&self, vertex: u32, window: Window, steps: &mut Steps<L>) -> bool {
         let graph = self.graph();
         let accounts = self.accounts();
         accounts.touched_over(graph, vertex, window, steps)
+    }
+
+    fn touched_until<L: Ledger>(
+        &self,
+        vertex: u32,
+        window: Window,
+        steps: &mut Steps<L>,
+    ) -> Option<u64> {
+        let graph = self.graph();
+        let accounts = self.accounts();
+        accounts.touched_until(graph, vertex, window, steps)
     }
 
     fn free_over<L: Ledger>(&self, vertex: u32, window: Window, steps: &mut Steps<L>) -> u64 {
@@ -77,6 +99,23 @@ impl FreeView for BookState {
         let graph = self.graph();
         let accounts = self.accounts();
         accounts.total_below(graph, vertex, place, amount, window, steps)
+    }
+
+    fn total_until<L: Ledger>(
+        &self,
+        vertex: u32,
+        kind: u32,
+        amount: u64,
+        window: Window,
+        steps: &mut Steps<L>,
+    ) -> Option<u64> {
+        let Some(place) = self.place_kept(vertex, kind) else {
+            steps.tick();
+            return None;
+        };
+        let graph = self.graph();
+        let accounts = self.accounts();
+        accounts.total_until(graph, vertex, place, amount, window, steps)
     }
 
     fn next_point<L: Ledger>(&self, after: u64, steps: &mut Steps<L>) -> Option<u64> {

@@ -59,4 +59,4 @@ returns-clause-work g c =
     work_at c.graph-graph.result.now
     c.accounts-accounts.result.now c.args.self.now c.graph-graph.ensures.value c.accounts-accounts.ensures.value
     c.accounts-accounts.ensures.book c.graph-graph.ensures.valid c.args.steps.now c.total_below.new.steps
-    c.total_below.ensures.work
+    (λ n looks. let w = c.total_below.ensures.work n looks in omega (arith, w))

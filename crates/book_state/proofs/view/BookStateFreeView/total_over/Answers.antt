@@ -42,4 +42,4 @@ returns-clause-work g c =
     work_at c.graph-graph.result.now
     c.accounts-accounts.result.now c.args.self.now c.graph-graph.ensures.value c.accounts-accounts.ensures.value
     c.accounts-accounts.ensures.book c.graph-graph.ensures.valid c.args.steps.now c.total_over.new.steps
-    c.total_over.ensures.work
+    (λ n looks. let w = c.total_over.ensures.work n looks in omega (arith, w))
