@@ -5,7 +5,7 @@ use Rattle.std.proofs.Common.{append_assoc, refl, sym, ◌∙◌, ap, subst, ari
 use Rattle.std.proofs.lemmas.Bool.{cases_lt, or_cases, or_left, or_right, eqb-true, eq-eqb}
 use Rattle.std.specs.Prelude.{Any, Contains, map}
 use Rattle.prune_filters.specs.declared.shorts.Demand.{Demand}
-use Rattle.prune_filters.specs.Shorts.{AreDemandsOf, IsBelow, IsShortOf, IsShortOfAt, IsShortFor, IsShortForAt}
+use Rattle.prune_filters.specs.Shorts.{AreDemandsOf, IsBelow, IsShortOf, IsShortFor}
 use Rattle.flux_defs.specs.declared.claims.Job.{Job}
 use Rattle.flux_defs.specs.declared.claims.Window.{Window}
 use Rattle.std.proofs.lemmas.List.{get_or-map, length-map, take_more}
@@ -13,7 +13,7 @@ use Rattle.flux_defs.specs.declared.vertices.Vertex.{Vertex}
 use Rattle.flux_defs.specs.declared.requests.Need.{Need, Vert, Vert', Pool, Spread, Spread', Row_of-Need, end_of-Need}
 use Rattle.flux_defs.specs.declared.requests.Need.{more_of-Need, items-the_row-Need, items_hidden-the_row-Need-0}
 use Rattle.flux_defs.specs.declared.requests.Need.TheBlock.{hidden-the_row-Need-0}
-use Rattle.flux_defs.specs.Free.{total_at, IsTooLittle, IsTooLittleAt}
+use Rattle.flux_defs.specs.Free.{total_at, IsTooLittle}
 use Rattle.flux_defs.specs.Needs.{amount_of}
 use Rattle.prune_filters.specs.Demands.{one_if, is_node_kind, demand, row_demand, needs_demand, capped}
 use Rattle.std.specs.List.{AllZip, list_any}
@@ -279,17 +279,6 @@ module _ (vertices : List Vertex) (jobs : List Job) (w : Window) (keeps : ℕ �
   pub short_from : IsShortFor vertices jobs w keeps need v → IsShortOf vertices jobs w keeps demands v
   short_from is = below_from vertices jobs w keeps v (λ kind. demand vertices kind 1 need) demands are.each are.all is.0
       is.1
-
-  -- and the same at a moment
-  pub short_to_at : (m : ℕ) → IsShortOfAt vertices jobs keeps demands v m → IsShortForAt vertices jobs keeps need v m
-  short_to_at m any =
-      let d = any.1 in (
-        d.kind,
-        (
-          any.4.0,
-          subst (λ amount. IsTooLittleAt vertices jobs v d.kind amount m) (are.each d (any.0, any.2, any.3)) any.4.1,
-        ),
-      )
 
 -- counted in numbers of 64 bits
 pub count_Vert : (kind count : ℕ) (hold : Bool) (needs : List Need) (inner r : ℕ) →

@@ -4,6 +4,7 @@ use Rattle.std.proofs.Common.{length, Option, Some, None, refl, sym, ◌∙◌, 
 use Rattle.std.specs.List.{list_any}
 use Rattle.std.specs.Option.{IsSomeAnd}
 use Rattle.std.proofs.lemmas.Bool.{and_parts, or_cases, or_left, or_right}
+use Rattle.std.proofs.Math.Bool.{or-false}
 use Rattle.flux_defs.specs.declared.vertices.Vertex.{Vertex}
 use Rattle.flux_defs.specs.declared.claims.Claim.{Claim}
 use Rattle.flux_defs.specs.declared.claims.Claim.TheVariants.{Take, Hold, Pass}
@@ -11,7 +12,8 @@ use Rattle.flux_defs.specs.declared.claims.Job.{Job}
 use Rattle.flux_defs.specs.declared.claims.Window.{Window}
 use Rattle.flux_defs.specs.Graph.{parent_of, is_at_or_below}
 use Rattle.flux_defs.specs.Jobs.{some_live_claim, holds_over, is_on_or_below}
-use Rattle.flux_defs.specs.Closed.{Scene, is_touched, IsClosedIn, IsTouchedIn}
+use Rattle.flux_defs.specs.Closed.{Scene, is_closed, is_touched, IsClosedIn, IsTouchedIn, IsClosedOver}
+use Rattle.flux_defs.specs.Closed.{IsTouchedOver}
 use Rattle.flux_defs.specs.Available.{IsAvailable}
 use Rattle.list_laws.proofs.Lists.{any_either}
 use Rattle.flux_laws.proofs.Live.{live_either}
@@ -20,6 +22,39 @@ use Rattle.graph_laws.proofs.Containment.{below_trans, not_to}
 use Rattle.graph_laws.proofs.Preorder.{has_parent}
 use Rattle.match_laws.proofs.ViewLaws.{available_hold, admits_none, admits_pass}
 use Rattle.dfu_match.specs.Searches.{meets, claim_on}
+
+-- what the jobs close and touch is closed and touched where an ask bars some too
+module _ (vertices : List Vertex) (jobs : List Job) (barred : List ℕ) (w : Window) (v : ℕ) where
+  pub closed_too : IsClosedOver vertices jobs w v → IsClosedIn (meets vertices jobs barred) w v
+  closed_too (m, lo, hi, h) = (
+    m,
+    lo,
+    hi,
+    or_left (some_live_claim jobs m (holds_over vertices v)) (list_any (is_at_or_below vertices v) barred)
+        (sym (or-false (some_live_claim jobs m (holds_over vertices v))) ∙ h),
+  )
+
+  pub touched_too : IsTouchedOver vertices jobs w v → IsTouchedIn (meets vertices jobs barred) w v
+  touched_too (m, lo, hi, h) = (
+    m,
+    lo,
+    hi,
+    or_left (some_live_claim jobs m (is_on_or_below vertices v)) (list_any (λ u. is_at_or_below vertices u v) barred)
+        (sym (or-false (some_live_claim jobs m (is_on_or_below vertices v))) ∙ h),
+  )
+
+-- a closed vertex is neither held nor passed, and a touched one not held
+module _ (scene : Scene) (w : Window) (v : ℕ) where
+  pub closed_admits_none : (hold : Bool) → IsClosedIn scene w v → IsAvailable scene w (claim_on hold v) → ⊥
+  closed_admits_none true (m, lo, hi, h) each =
+      not_to (is_closed scene m v) (and_parts _ _ (each m lo hi)).0 h
+  closed_admits_none false (m, lo, hi, h) each = not_to (is_closed scene m v) (each m lo hi) h
+
+  pub touched_holds_none : (hold : Bool) → hold ≡ true → IsTouchedIn scene w v →
+      IsAvailable scene w (claim_on hold v) → ⊥
+  touched_holds_none true holds (m, lo, hi, h) each =
+      not_to (is_touched scene m v) (and_parts _ _ (each m lo hi)).1 h
+  touched_holds_none false holds h each = true≢false (sym holds)
 
 -- the vertex above is one of the graph
 pub above_inside : (vertices : List Vertex) →

@@ -11,4 +11,9 @@ pub mod StepLaws
 pub mod MatchedLaws
 pub mod HoldLaws
 pub mod ReachLaws
-pub mod NoteLaws
+pub mod RowLaws
+pub mod NotingLaws
+pub mod ApartLaws
+pub mod AskedLaws
+pub mod LookLaws
+pub mod AskLaws

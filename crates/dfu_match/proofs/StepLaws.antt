@@ -1,10 +1,10 @@
 -- How many steps a search takes: of a walk over the vertices of a need, and of the needs of a list.
-use Rattle.std.proofs.Common.{◌≡◌, ◌≢◌, ℕ, zero, suc, ◌+◌, ◌-◌, ◌*◌, ◌<◌, ◌≤◌, Bool, List, [], ◌∷◌, append-nil, inl}
+use Rattle.std.proofs.Common.{◌≡◌, ◌≢◌, ℕ, zero, suc, ◌+◌, ◌*◌, ◌<◌, ◌≤◌, Bool, List, [], ◌∷◌, append-nil, inl}
 use Rattle.std.proofs.Common.{inr, Option, Some, None, length, length-append, take, drop, get_or, sym}
 use Rattle.std.proofs.Common.{ap, subst, arith}
 use Rattle.std.specs.Prelude.{Contains, IfSome, IfNone, MatchOption}
 use Rattle.std.specs.List.{AllByRecursion}
-use Rattle.std.proofs.Math.Nat.{mul-le-mul, mul-le-mul_right, mul-le-mul_left}
+use Rattle.std.proofs.Math.Nat.{mul-le-mul_right, mul-le-mul_left}
 use Rattle.flux_defs.specs.declared.vertices.Vertex.{Vertex}
 use Rattle.flux_defs.specs.declared.claims.Job.{Job}
 use Rattle.flux_defs.specs.declared.claims.Window.{Window}
@@ -37,16 +37,6 @@ use Rattle.dfu_match.proofs.OpenLaws.{clear_Spread, clear_Vert, clear_next, clea
 pub look_costs : (k m cost : ℕ) → k ≤ m → k * cost + 2 * cost ≤ (m + 2) * cost
 look_costs k m cost le = let few : (k + 2) * cost ≤ (m + 2) * cost = mul-le-mul_right cost (omega arith) in
     omega (arith, few)
-
--- the same where more looks are taken for what is written twice
-pub bound_costs : (times k m cost : ℕ) → 1 ≤ times → k ≤ m →
-    k * cost + (2 * cost + (times - 1) * ((k + 1) * cost)) ≤ times * ((m + 2) * cost)
-bound_costs (suc more) k m cost some le =
-    let one = look_costs k m cost le in
-    let each : (k + 1) * cost ≤ (m + 2) * cost = mul-le-mul_right cost (omega (arith, le)) in
-    let all : (suc more - 1) * ((k + 1) * cost) ≤ more * ((m + 2) * cost) = mul-le-mul (omega arith) each in
-    omega (arith, one, all)
-bound_costs zero k m cost some le = absurd (omega arith)
 
 pub times_costs : (times steps : ℕ) → 1 ≤ times → steps ≤ times * steps
 times_costs times steps some = let few : 1 * steps ≤ times * steps = mul-le-mul_right steps some in omega (arith, few)
@@ -85,13 +75,6 @@ module _ (each : List Pair → Type 0) where
       TakesEach each steps mid new first after from to → TakesEach each steps old new first past from to
   takes_later steps old mid new first after past from to le e t pairs has =
       let u = subst (λ n. TakesEach each steps mid new first n from to) e t pairs has in omega (arith, u, le)
-
-  -- more steps behind them
-  pub takes_after : (steps old mid new own more first after from to : ℕ) → new ≤ mid + more →
-      TakesEach each steps (old + own) mid first after from to →
-      TakesEach each steps (old + (own + more)) new first after from to
-  takes_after steps old mid new own more first after from to le t pairs has =
-      let u = t pairs has in omega (arith, u, le)
 
   -- once is no more than so many times
   pub takes_times : (times steps old new first after from to : ℕ) → 1 ≤ times →

@@ -5,4 +5,5 @@ pub mod Walks
 pub mod Reaches
 pub mod Pairs
 pub mod Matches
-pub mod Notes
+pub mod Rows
+pub mod Asked

@@ -95,6 +95,12 @@ abbrev pub TakesEach : (List Pair → Type 0) → ℕ → ℕ → ℕ → ℕ �
 TakesEach each steps old new first after from to =
     (pairs : List Pair) → each pairs → new ≤ old + steps * count_among first after from to pairs
 
+-- the same with other numbers for each pair of the first of the needs and for each of the others
+abbrev pub TakesApart : (List Pair → Type 0) → ℕ → ℕ → ℕ → ℕ → ℕ → ℕ → ℕ → ℕ → Type 0
+TakesApart each own inner old new first after from to =
+    (x : ℕ) × (y : ℕ) × (new ≤ old + (x + y)) × TakesEach each own 0 x first (first + 1) from to
+    × TakesEach each inner 0 y (first + 1) after from to
+
 -- writing looks twice at what stands within a spread, and once where there is none
 abbrev pub AreLooks : ℕ → Need → Type 0
 AreLooks times need = (times ≡ 2) ⊎ ((times ≡ 1) × HasNoSpread need)

@@ -6,13 +6,9 @@ use Rattle.flux_defs.specs.declared.claims.Job.{Job}
 use Rattle.flux_defs.specs.declared.claims.Window.{Window}
 use Rattle.flux_defs.specs.declared.requests.Need.{Need}
 use Rattle.flux_defs.specs.Graph.{Scope}
+use Rattle.flux_defs.specs.Later.{ReachesOver}
 use Rattle.flux_defs.specs.Lowest.{CanServe}
 use Rattle.dfu_match.specs.Searches.{open_to}
-
--- the other window, which isn't empty, begins at `until` or before and ends no sooner than this one: it has each moment
--- of this one from `until` on
-abbrev pub ReachesOver : Window → ℕ → Window → Type 0
-ReachesOver w until other = (other.from ≤ until) × (w.to ≤ other.to) × (other.from < other.to)
 
 -- a moment falls, and not below the window's start where it was not
 abbrev pub FallsWithin : Window → ℕ → ℕ → Type 0

@@ -1,10 +1,7 @@
-//! How much a vertex serves at most over later windows too, by the totals that are kept there.
-ghost use Rattle.std.specs.Prelude.{◌≡◌, ℕ, ◌+◌, ◌-◌, ◌*◌, ◌<◌, ◌≤◌, length};
-ghost use Rattle.std.specs.Option.{option_map_or};
-ghost use Rattle.flux_defs.specs.Graph.{Scope};
+//! How many copies of a spread a vertex serves at most over later windows too, by the totals that are kept there.
+ghost use Rattle.std.specs.Prelude.{◌+◌, ◌*◌, ◌<◌, ◌≤◌, length};
 ghost use Rattle.flux_defs.specs.Needs.{IsValidNeed};
 ghost use Rattle.dfu_match.specs.Tables.{all_of, needs_all, StandsAt};
-ghost use Rattle.dfu_match.specs.Pairs.{AreLooks};
 ghost use Rattle.dfu_match.specs.Reaches.{AreMostServed, FallsWithin};
 
 use crate::demanding::{Kinds, demand_of};
@@ -20,38 +17,10 @@ struct Room {
     copies: u64,
 }
 
-/// How much of the need the vertex serves at most, over each window that reaches over what is left of this one from
-/// `until` on, which falls to a moment that tells so. None where that isn't asked, or where no total tells it.
-pub(crate) fn most_served<F: FreeView, L: Ledger>(
-    s: &Search<F>,
-    need: &Need,
-    index: usize,
-    vertex: u32,
-    asked: bool,
-    until: &mut u64,
-    steps: &mut Steps<L>,
-) -> Option<u64>
-    requires stands { StandsAt (needs_all s.now.needs.now) s.now.wanted.now index need.now }
-    requires vertex { vertex < length s.now.graph.now.resources.vertices }
-    requires valid { IsValidNeed s.now.graph.now.resources.vertices need.now }
-    ensures most { AreMostServed s.now.graph.now.resources.vertices (F.stands_for s.now.view.now) s.now.barred.now
-        s.now.window until.new need.now vertex result }
-    ensures falls { FallsWithin s.now.window until.old until.new }
-    ensures work { (times : ℕ) → AreLooks times need.now →
-        steps.new ≤ steps.old + (times - 1) * ((length (all_of need.now) + 1) * F.cost s.now.view.now) }
-{
-    if !asked {
-        return None;
-    }
-    match need {
-        Need::Vert { .. } => Some(1),
-        Need::Pool { .. } => None,
-        Need::Spread { .. } => most_copies(s, need, index, vertex, until, steps),
-    }
-}
-
-/// The same of a spread: the total that leaves room for the fewest copies tells how many there are at most.
-fn most_copies<F: FreeView, L: Ledger>(
+/// How many copies of a spread the vertex serves at most, over each window that reaches over what is left of this one
+/// from `until` on, which falls to a moment that tells so: by the total that leaves room for the fewest. None where no
+/// total tells it.
+pub(crate) fn most_copies<F: FreeView, L: Ledger>(
     s: &Search<F>,
     need: &Need,
     index: usize,
@@ -80,7 +49,7 @@ fn most_copies<F: FreeView, L: Ledger>(
         return None;
     };
     let more = demand_of(&kinds, room.kind, room.copies.saturating_add(1), need);
-    match s.view.total_below(vertex, room.kind, more, s.window, steps) {
+    match s.view.total_until(vertex, room.kind, more, s.window, steps) {
         None => None,
         Some(moment) => {
             *until = moment.min(*until);
@@ -144,15 +113,5 @@ fn fewer(one: Option<Room>, other: Option<Room>) -> Option<Room> {
                 Some(one)
             }
         }
-    }
-}
-
-/// What is lacking after a vertex that serves so much at most; nothing where that isn't known.
-pub(crate) fn lacking_after(lacking: u128, most: Option<u64>) -> u128
-    ensures { result ≡ option_map_or (λ n. lacking - n) most 0 }
-{
-    match most {
-        None => 0,
-        Some(n) => lacking.saturating_sub(u128::from(n)),
     }
 }

@@ -1,122 +1,164 @@
-//! What matches of one ask found short, and until when that is so.
-ghost use Rattle.std.specs.Prelude.{◌≡◌, ◌⊎◌, ◌≤◌, ◌<◌, ◌++◌, ◌∷◌, [], Contains, IfSome, IsTrue};
-ghost use Rattle.dfu_match.specs.Notes.{IsNoteOf};
+//! How much vertices serve of one own need of an ask, as matches over windows before have found it.
+ghost use Rattle.std.specs.Prelude.{◌≡◌, ◌⊎◌, ◌≤◌, [], Contains, IfSome, IsTrue};
+ghost use Rattle.dfu_match.specs.declared.knowing.Row.{Row};
+ghost use Rattle.dfu_match.specs.Rows.{IsNoted, IsPut};
 
 use std::alloc::Global;
-use std::mem;
 
-/// The vertices from `top` on and before `past` lie in a subtree that is short for the need with this index over each
-/// window that reaches over what is left of the one before from `moment` on.
+/// The vertex serves at most so much of a need over each window that reaches over what is left of the one before from
+/// `moment` on, unless that is all that is ever asked of one vertex.
 #[derive(Clone, Copy, Debug)]
-pub(crate) struct Short {
-    pub(crate) index: usize,
-    pub(crate) top: u32,
-    pub(crate) past: u32,
+pub(crate) struct Row {
+    pub(crate) vertex: u32,
+    pub(crate) most: u64,
     pub(crate) moment: u64,
 }
 
-/// What matches of one ask over windows, each later than the one before, found short, in the order of the walk.
+/// What matches of one ask over windows, each later than the one before, found of one of its own needs.
 #[derive(Drop)]
 pub struct Known {
     /// Whether anything is noted.
     notes: bool,
-    /// How many of the notes before are passed.
-    next: usize,
-    /// What the match before noted.
-    before: Vec<Short>,
-    /// What this one noted.
-    fresh: Vec<Short>,
+    /// Which of the ask's own needs it is.
+    own: usize,
+    /// A row for each vertex of the need before `end`, in their order.
+    rows: Vec<Row>,
+    end: u32,
 }
 
 impl Known {
     /// Nothing yet. It takes no memory.
     pub fn nothing(alloc: Global) -> Known
-        ensures before { result.before.items ≡ [] }
-        ensures fresh { result.fresh.items ≡ [] }
+        ensures rows { result.rows.items ≡ [] }
+        ensures end { result.end ≡ 0 }
     {
         Known {
             notes: true,
-            next: 0,
-            before: Vec::new(alloc),
-            fresh: Vec::new(alloc),
+            own: 0,
+            rows: Vec::new(alloc),
+            end: 0,
         }
     }
 
     /// Nothing, where nothing will be noted. It takes no memory.
     pub fn never(alloc: Global) -> Known
-        ensures before { result.before.items ≡ [] }
-        ensures fresh { result.fresh.items ≡ [] }
+        ensures rows { result.rows.items ≡ [] }
+        ensures end { result.end ≡ 0 }
     {
         Known {
             notes: false,
-            next: 0,
-            before: Vec::new(alloc),
-            fresh: Vec::new(alloc),
+            own: 0,
+            rows: Vec::new(alloc),
+            end: 0,
         }
     }
 
-    /// Makes it ready for the next match.
-    pub(crate) fn begin(&mut self)
-        ensures before { self.new.before.items ≡ self.old.fresh.items }
-        ensures fresh { self.new.fresh.items ≡ [] }
+    /// Which of the ask's own needs it is.
+    pub(crate) fn own(&self) -> usize
+        ensures { result ≡ self.now.own }
     {
-        mem::swap(&mut self.before, &mut self.fresh);
-        self.fresh.clear();
-        self.next = 0;
+        self.own
     }
 
-    /// Notes one more, where there is memory for it.
-    pub(crate) fn note(&mut self, short: Short)
-        ensures before { self.new.before.items ≡ self.old.before.items }
-        ensures fresh { (self.new.fresh.items ≡ self.old.fresh.items)
-            ⊎ (self.new.fresh.items ≡ self.old.fresh.items ++ short ∷ []) }
+    /// The rows.
+    pub(crate) fn rows(&self) -> &[Row]
+        ensures { result.now ≡ self.now.rows.items }
     {
-        if self.notes {
-            let _ = self.fresh.push(short);
-        }
+        self.rows.as_slice()
     }
 
-    /// A note of the match before on this vertex, of a subtree whose top is not before `low`, for windows that begin at
-    /// this second.
-    pub(crate) fn of(&mut self, index: usize, low: u32, vertex: u32, from: u64) -> Option<Short>
-        ensures before { self.new.before.items ≡ self.old.before.items }
-        ensures fresh { self.new.fresh.items ≡ self.old.fresh.items }
-        ensures told { IfSome result (λ short. Contains self.old.before.items short
-            × IsNoteOf index low vertex from short) }
+    /// The row at the index.
+    pub(crate) fn row_at(&self, at: usize) -> Option<Row>
+        ensures { IfSome result (λ row. Contains self.now.rows.items row) }
     {
-        self.next = self.first_left(index, vertex);
-        if self.next >= self.before.len() {
-            return None;
+        if at < self.rows.len() {
+            Some(self.rows[at])
+        } else {
+            None
         }
-        let short = self.before[self.next];
-        if !tells_of(short, index, low, vertex, from) {
-            return None;
-        }
-        Some(short)
     }
 
-    /// The index of the first note from the next one on that isn't passed.
-    fn first_left(&self, index: usize, vertex: u32) -> usize {
-        let mut at = self.next;
-        while at < self.before.len() && lies_before(self.before[at], index, vertex) {
-            at += 1;
-        }
-        at
+    /// Whether there is a row for each vertex of the need before this one.
+    pub(crate) fn reaches(&self, end: u32) -> bool
+        ensures { IsTrue result → self.now.end ≡ end }
+    {
+        self.end == end
     }
-}
 
-/// Whether the walk is past what the note tells of.
-fn lies_before(short: Short, index: usize, vertex: u32) -> bool {
-    short.index < index || (short.index == index && short.past <= vertex)
-}
+    /// Whether what is found of this own need is noted.
+    pub(crate) fn notes_of(&self, own: usize) -> bool
+        ensures { IsTrue result → self.now.own ≡ own }
+    {
+        self.notes && self.own == own
+    }
 
-/// Whether the note tells of this vertex.
-fn tells_of(short: Short, index: usize, low: u32, vertex: u32, from: u64) -> bool
-    ensures { IsTrue result → IsNoteOf index low vertex from short }
-{
-    short.index == index
-        && low <= short.top
-        && short.top <= vertex
-        && vertex < short.past
-        && from <= short.moment
+    /// Whether the row at the index tells that the vertex serves nothing over windows that begin at this second.
+    pub(crate) fn serves_none(&self, own: usize, at: usize, vertex: u32, from: u64) -> bool
+        ensures { IsTrue result → (self.now.own ≡ own) × ((row : Row) × Contains self.now.rows.items row
+            × (row.vertex ≡ vertex) × (row.most ≡ 0) × (from ≤ row.moment)) }
+    {
+        if self.own != own || at >= self.rows.len() {
+            return false;
+        }
+        let row = self.rows[at];
+        row.vertex == vertex && row.most == 0 && from <= row.moment
+    }
+
+    /// Puts the row where one of its vertex stands at the index, if the need is this one.
+    pub(crate) fn put(&mut self, own: usize, at: usize, row: Row)
+        ensures own { self.new.own ≡ self.old.own }
+        ensures put { IsPut own row self.old self.new }
+    {
+        if self.own != own || at >= self.rows.len() {
+            return;
+        }
+        if self.rows[at].vertex != row.vertex {
+            return;
+        }
+        self.rows[at] = row;
+    }
+
+    /// The same; or adds it, where the rows reach to `from` and there is memory for it: then they reach to `past`.
+    pub(crate) fn note(&mut self, own: usize, at: usize, from: u32, row: Row, past: u32)
+        ensures own { self.new.own ≡ self.old.own }
+        ensures noted { IsNoted own from past row self.old self.new }
+    {
+        if at < self.rows.len() {
+            self.put(own, at, row);
+            return;
+        }
+        if !self.notes_of(own) || self.end != from {
+            return;
+        }
+        match self.rows.push(row) {
+            Ok(()) => self.end = past,
+            Err(_) => {}
+        }
+    }
+
+    /// The rows that reach to `from` reach to `to`.
+    pub(crate) fn pass(&mut self, own: usize, from: u32, to: u32)
+        ensures own { self.new.own ≡ self.old.own }
+        ensures rows { self.new.rows.items ≡ self.old.rows.items }
+        ensures end { (self.new.end ≡ self.old.end)
+            ⊎ ((self.old.end ≡ from) × (self.new.end ≡ to) × (self.old.own ≡ own)) }
+    {
+        if self.own == own && self.end == from {
+            self.end = to;
+        }
+    }
+
+    /// Goes over to this own need, of which nothing is known where it was another one.
+    pub(crate) fn turn_to(&mut self, own: usize)
+        ensures own { self.new.own ≡ own }
+        ensures turned { ((self.old.own ≡ own) × (self.new.rows.items ≡ self.old.rows.items)
+            × (self.new.end ≡ self.old.end)) ⊎ ((self.new.rows.items ≡ []) × (self.new.end ≡ 0)) }
+    {
+        if self.own == own {
+            return;
+        }
+        self.own = own;
+        self.rows.clear();
+        self.end = 0;
+    }
 }

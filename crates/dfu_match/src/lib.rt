@@ -3,15 +3,18 @@
 //! no subtree whose top is short for the need: where a kept total is below what one of the need demands.
 #![tactic(auto)]
 
+mod asking;
 mod bars;
 mod bounding;
 mod counting;
 mod demanding;
 mod knowing;
 mod matching;
+mod refuting;
 mod scopes;
 mod search;
 mod singles;
+mod spreads;
 mod topmost;
 mod walking;
 mod wanting;

@@ -9,12 +9,14 @@ ghost use Rattle.dfu_match.specs.Bars.{BarsAll};
 ghost use Rattle.dfu_match.specs.Tables.{needs_all, AreWantedBy, AreDemandsOfAll};
 ghost use Rattle.dfu_match.specs.Pairs.{Pair, HasEachOpen, IsRootShort, IsEnoughFor};
 ghost use Rattle.dfu_match.specs.Matches.{IsMatched, IsKeptShort};
-ghost use Rattle.dfu_match.specs.Notes.{Knows};
+ghost use Rattle.dfu_match.specs.Rows.{Knows};
 
+use crate::asking::refuted_first;
 use crate::bars::bars_all;
 use crate::counting::copies;
 use crate::demanding::{Kinds, demands_in_full};
 use crate::knowing::Known;
+use crate::refuting::refuted_known;
 use crate::search::Search;
 use crate::topmost::write_top;
 use crate::wanting::{Wanted, table_of};
@@ -108,8 +110,9 @@ impl<'a> Matcher<'a> {
     }
 
     /// What the match comes to over the window, in seconds, where `view` tells what is free of the graph. The only
-    /// error is want of memory. It looks as often as `match_at`, and not again at what is known to be short. What it
-    /// finds short is known then, to later matches over windows that end no sooner.
+    /// error is want of memory. It looks as often as `match_at` at most. How much vertices serve of the need for which
+    /// there is no group is known then, to later matches over windows that end no sooner, and isn't asked again while
+    /// it is so.
     pub fn over<F: FreeView, L: Ledger>(
         &self,
         alloc: Global,
@@ -121,13 +124,13 @@ impl<'a> Matcher<'a> {
         requires over { F.graph view.now ≡ self.now.graph.now.resources.vertices }
         requires proper { IsProperAsk self.now.graph.now.resources.vertices self.now.ask.now }
         requires opens { window.from < window.to }
-        requires known { Knows self.now.graph.now.resources.vertices (F.stands_for view.now) self.now.wanted
-            (F.keeps view.now) (needs_all self.now.ask.now.needs) window known.old }
+        requires known { Knows self.now.graph.now.resources.vertices (F.stands_for view.now) self.now.ask.now.barred
+            self.now.ask.now.needs window known.old }
         ensures matched { IfOk result (λ matched. (jobs : List Job) → F.stands_for view.now jobs →
             IsMatched self.now.graph.now.resources.vertices jobs (F.keeps view.now) self.now.ask.now window matched) }
         ensures kept { IfOk result (IsKeptShort (F.keeps view.now) window.from) }
-        ensures known { Knows self.now.graph.now.resources.vertices (F.stands_for view.now) self.now.wanted
-            (F.keeps view.now) (needs_all self.now.ask.now.needs) window known.new }
+        ensures known { Knows self.now.graph.now.resources.vertices (F.stands_for view.now) self.now.ask.now.barred
+            self.now.ask.now.needs window known.new }
         ensures work { (jobs : List Job) → F.stands_for view.now jobs → (looks : ℕ) →
             IsEnoughFor self.now.graph.now.resources.vertices jobs window (F.keeps view.now) self.now.ask.now.needs
             looks → steps.new ≤ steps.old + looks * F.cost view.now }
@@ -154,13 +157,13 @@ impl<'a> Matcher<'a> {
         requires enough { (jobs : List Job) → F.stands_for view.now jobs →
             IsRootShort self.now.graph.now.resources.vertices jobs window (F.keeps view.now) self.now.ask.now.needs
             → ⊥ }
-        requires known { Knows self.now.graph.now.resources.vertices (F.stands_for view.now) self.now.wanted
-            (F.keeps view.now) (needs_all self.now.ask.now.needs) window known.old }
+        requires known { Knows self.now.graph.now.resources.vertices (F.stands_for view.now) self.now.ask.now.barred
+            self.now.ask.now.needs window known.old }
         ensures matched { IfOk result (λ matched. (jobs : List Job) → F.stands_for view.now jobs →
             IsMatched self.now.graph.now.resources.vertices jobs (F.keeps view.now) self.now.ask.now window matched) }
         ensures kept { IfOk result (IsKeptShort (F.keeps view.now) window.from) }
-        ensures known { Knows self.now.graph.now.resources.vertices (F.stands_for view.now) self.now.wanted
-            (F.keeps view.now) (needs_all self.now.ask.now.needs) window known.new }
+        ensures known { Knows self.now.graph.now.resources.vertices (F.stands_for view.now) self.now.ask.now.barred
+            self.now.ask.now.needs window known.new }
         ensures work { (jobs : List Job) → F.stands_for view.now jobs → (pairs : List Pair) →
             (let all : List Need = needs_all self.now.ask.now.needs in
             HasEachOpen self.now.graph.now.resources.vertices jobs window (F.keeps view.now) all pairs →
@@ -175,13 +178,25 @@ impl<'a> Matcher<'a> {
             shut: self.shut,
             window,
         };
+        if let Some(until) = refuted_first(&search, known, steps) {
+            return Ok(Matched::NoFit(until));
+        }
         let mut claims = Vec::new(alloc);
-        let mut until = window.from;
-        known.begin();
-        if !write_top(&search, known, &mut claims, &mut until, steps)? {
+        if !write_top(&search, known, &mut claims, steps)? {
+            let until = told_or(refuted_known(&search, known), window.from);
             return Ok(Matched::NoFit(until));
         }
         Ok(Matched::Fits(List::of_vec(claims)))
+    }
+}
+
+/// The moment that is told, or this one.
+fn told_or(told: Option<u64>, from: u64) -> u64
+    ensures { MatchOption told (result ≡ from) (λ until. result ≡ until) }
+{
+    match told {
+        None => from,
+        Some(until) => until,
     }
 }
 

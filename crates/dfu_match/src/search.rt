@@ -3,10 +3,13 @@ ghost use Rattle.std.specs.Prelude.{◌≡◌, ◌≢◌, ◌+◌, ◌*◌, ◌^
 ghost use Rattle.std.specs.List.{list_any};
 ghost use Rattle.flux_defs.specs.declared.claims.Job.{Job};
 ghost use Rattle.flux_defs.specs.declared.claims.Claim.{Claim};
+ghost use Rattle.flux_defs.specs.declared.claims.Window.{Window};
 ghost use Rattle.std.specs.Option.{IsSomeAnd};
 ghost use Rattle.flux_defs.specs.Graph.{is_at_or_below, parent_of};
 ghost use Rattle.flux_defs.specs.Closed.{IsClosedIn, IsTouchedIn};
 ghost use Rattle.flux_defs.specs.Free.{IsFreeIn};
+ghost use Rattle.flux_defs.specs.Later.{ReachesOver};
+ghost use Rattle.dfu_match.specs.Reaches.{FallsWithin};
 ghost use Rattle.dfu_match.specs.Searches.{meets, open_to, claim_on};
 ghost use Rattle.std.specs.List.Sorted.{IsStrictlyIncreasing};
 ghost use Rattle.dfu_match.specs.Bars.{AreNodesOf, BarsAll};
@@ -154,5 +157,87 @@ fn above(graph: &Graph, vertex: u32) -> Option<u32>
     match graph.vertices().get(vertex as usize) {
         Some(found) => return found.parent,
         None => return None,
+    }
+}
+
+/// Whether it is known that the vertex is closed over all windows that reach over what is left of this one from
+/// `until` on, which falls to such a moment.
+fn closed_until<F: FreeView, L: Ledger>(
+    s: &Search<F>,
+    vertex: u32,
+    until: &mut u64,
+    steps: &mut Steps<L>,
+) -> bool
+    requires { vertex < length s.now.graph.now.resources.vertices }
+    ensures closed { IsTrue result → (jobs : List Job) → F.stands_for s.now.view.now jobs → (w : Window) →
+        ReachesOver s.now.window until.new w →
+        IsClosedIn (meets s.now.graph.now.resources.vertices jobs s.now.barred.now) w vertex }
+    ensures falls { FallsWithin s.now.window until.old until.new }
+    ensures work { steps.new ≤ steps.old + F.cost s.now.view.now }
+{
+    if bars_over(s, vertex) {
+        return true;
+    }
+    match s.view.closed_until(vertex, s.window, steps) {
+        None => false,
+        Some(moment) => {
+            *until = moment.min(*until);
+            true
+        }
+    }
+}
+
+/// The same of whether it is touched.
+fn touched_until<F: FreeView, L: Ledger>(
+    s: &Search<F>,
+    vertex: u32,
+    until: &mut u64,
+    steps: &mut Steps<L>,
+) -> bool
+    requires { vertex < length s.now.graph.now.resources.vertices }
+    ensures touched { IsTrue result → (jobs : List Job) → F.stands_for s.now.view.now jobs → (w : Window) →
+        ReachesOver s.now.window until.new w →
+        IsTouchedIn (meets s.now.graph.now.resources.vertices jobs s.now.barred.now) w vertex }
+    ensures falls { FallsWithin s.now.window until.old until.new }
+    ensures work { steps.new ≤ steps.old + F.cost s.now.view.now }
+{
+    if bars_below(s, vertex) {
+        return true;
+    }
+    match s.view.touched_until(vertex, s.window, steps) {
+        None => false,
+        Some(moment) => {
+            *until = moment.min(*until);
+            true
+        }
+    }
+}
+
+/// Whether it is known that the vertex may not be held, or passed, over all windows that reach over what is left of
+/// this one from `until` on, which falls to such a moment. Where that isn't known it may be over this window.
+pub(crate) fn refuses_until<F: FreeView, L: Ledger>(
+    s: &Search<F>,
+    hold: bool,
+    vertex: u32,
+    until: &mut u64,
+    steps: &mut Steps<L>,
+) -> bool
+    requires { vertex < length s.now.graph.now.resources.vertices }
+    ensures refuses { IsTrue result → (jobs : List Job) → F.stands_for s.now.view.now jobs → (w : Window) →
+        ReachesOver s.now.window until.new w →
+        open_to s.now.graph.now.resources.vertices jobs s.now.barred.now w (claim_on hold vertex) → ⊥ }
+    ensures falls { FallsWithin s.now.window until.old until.new }
+    ensures work { steps.new ≤ steps.old + 2 * F.cost s.now.view.now }
+{
+    if !hold {
+        return closed_until(s, vertex, until, steps);
+    }
+    if touched_until(s, vertex, until, steps) {
+        return true;
+    }
+    s.graph.is_valid();
+    match above(s.graph, vertex) {
+        None => false,
+        Some(upper) => closed_until(s, upper, until, steps),
     }
 }

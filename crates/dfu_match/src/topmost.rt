@@ -1,217 +1,144 @@
-//! Writes the lowest-first claims of an ask's own needs, and notes which vertices are short for them.
-ghost use Rattle.std.specs.Prelude.{◌≡◌, ℕ, ◌+◌, ◌*◌, ◌<◌, ◌≤◌, false, length, List, IfOk, IfSome, IsTrue};
-ghost use Rattle.std.specs.Prelude.{MatchBool, MatchOption, None, Some};
+//! Writes the lowest-first claims of an ask's own needs, and notes how much each vertex serves of one of them.
+ghost use Rattle.std.specs.Prelude.{◌≡◌, ℕ, ◌+◌, ◌*◌, ◌<◌, ◌≤◌, ◌∷◌, [], length, List, IfOk, IfSome, Some};
+ghost use Rattle.std.specs.Prelude.{MatchBool, MatchOption, None, slice_get};
 ghost use Rattle.flux_defs.specs.declared.vertices.Vertex.{Vertex};
 ghost use Rattle.flux_defs.specs.declared.claims.Job.{Job};
 ghost use Rattle.flux_defs.specs.declared.claims.Claim.{Claim};
 ghost use Rattle.flux_defs.specs.declared.claims.Window.{Window};
 ghost use Rattle.flux_defs.specs.declared.requests.Need.{Need};
-ghost use Rattle.flux_defs.specs.Graph.{Everywhere, HasKind, is_at_or_below};
-ghost use Rattle.flux_defs.specs.Needs.{amount_of, IsValidNeed, AreValidNeeds};
+ghost use Rattle.flux_defs.specs.Graph.{Everywhere, HasKind};
+ghost use Rattle.flux_defs.specs.Later.{ReachesOver};
+ghost use Rattle.flux_defs.specs.Needs.{amount_of, IsOfNeed, IsValidNeed, AreValidNeeds};
 ghost use Rattle.flux_defs.specs.Lowest.{Lowest};
 ghost use Rattle.match_laws.specs.Offers.{Extends, SomeGroup, SomeFits, LowestGroup};
-ghost use Rattle.prune_filters.specs.Shorts.{IsShortFor};
 ghost use Rattle.dfu_match.specs.Searches.{open_to, IsKindOfNeed};
 ghost use Rattle.dfu_match.specs.Tables.{all_of, needs_all, StandsAt};
 ghost use Rattle.dfu_match.specs.Walks.{ServesNone};
-ghost use Rattle.dfu_match.specs.Pairs.{HasEachOpen, IsClear, IsClearBetween, IsClearBefore, IsClearScope, IsPlaceOf};
-ghost use Rattle.dfu_match.specs.Pairs.{IsPlaceOfAll, IsSpanOf, AreLooks, AreLooksAll, TakesEach, asked_totals};
-ghost use Rattle.dfu_match.specs.Reaches.{FallsWithin, NoneUntil, ReachesOver};
-ghost use Rattle.dfu_match.specs.Notes.{IsNoteOf, IsTold, Knows};
+ghost use Rattle.dfu_match.specs.Pairs.{HasEachOpen, IsClear, IsClearBefore, IsClearScope, IsPlaceOf};
+ghost use Rattle.dfu_match.specs.Pairs.{Pair, IsPlaceOfAll, IsSpanOf, AreLooks, AreLooksAll, TakesEach, TakesApart};
+ghost use Rattle.dfu_match.specs.Pairs.{asked_totals};
+ghost use Rattle.dfu_match.specs.Rows.{IsRowOf, Knows, whole_of};
 ghost use Rattle.std.specs.List.{AllByRecursion};
 
-use crate::bounding::{lacking_after, most_served};
-use crate::knowing::{Known, Short};
+use crate::knowing::{Known, Row};
 use crate::scopes::{kind_of, span_of};
 use crate::search::Search;
-use crate::walking::{index_after, parent_from, top_short};
-use crate::writing::{offer, until_when};
+use crate::walking::{index_after, top_short};
+use crate::writing::offer;
 use flux_defs::{Claim, FreeView, Need, Steps};
 use std::alloc::AllocError;
 use std::sync::ledger::Ledger;
 
-/// The top of the noted subtree, in which the vertex lies, or a vertex above it, from `low` on, that is short too, the
-/// uppermost one: it looks at those alone. It is short over all windows that reach over what is left of this one from
-/// `until` on, which falls to such a moment.
-fn top_told<F: FreeView, L: Ledger>(
-    s: &Search<F>,
-    need: &Need,
-    index: usize,
-    low: u32,
-    vertex: u32,
-    told: Short,
-    until: &mut u64,
-    steps: &mut Steps<L>,
-) -> u32
-    requires stands { StandsAt (needs_all s.now.needs.now) s.now.wanted.now index need.now }
-    requires vertex { vertex < length s.now.graph.now.resources.vertices }
-    requires low { low ≤ vertex }
-    requires told { IsTold s.now.graph.now.resources.vertices (F.stands_for s.now.view.now)
-        s.now.wanted.now (F.keeps s.now.view.now) (needs_all s.now.needs.now) s.now.window told }
-    requires of { IsNoteOf index low vertex s.now.window.from told }
-    ensures above { (low ≤ result) × IsTrue (is_at_or_below s.now.graph.now.resources.vertices vertex result) }
-    ensures short { (jobs : List Job) → F.stands_for s.now.view.now jobs → (w : Window) →
-        ReachesOver s.now.window until.new w →
-        IsShortFor s.now.graph.now.resources.vertices jobs w
-        (asked_totals s.now.wanted.now (F.keeps s.now.view.now)) need.now result }
-    ensures clear { (jobs : List Job) → F.stands_for s.now.view.now jobs →
-        IsClearBetween s.now.graph.now.resources.vertices jobs s.now.window
-        (asked_totals s.now.wanted.now (F.keeps s.now.view.now)) need.now vertex low result }
-    ensures falls { FallsWithin s.now.window until.old until.new }
-    ensures work { (jobs : List Job) → F.stands_for s.now.view.now jobs → (place : ℕ) →
-        (let vs : List Vertex = s.now.graph.now.resources.vertices in
-        let keeps : ℕ → ℕ → Type 0 = asked_totals s.now.wanted.now (F.keeps s.now.view.now) in
-        let all : List Need = needs_all s.now.needs.now in
-        IsPlaceOf all place need.now → IsClearBetween vs jobs s.now.window keeps need.now vertex 0 low →
-        TakesEach (HasEachOpen vs jobs s.now.window keeps all)
-        (length (all_of need.now) * F.cost s.now.view.now) steps.old steps.new place (place + 1) low (vertex + 1)) }
+/// As much of the need as is ever asked of one vertex.
+pub(crate) fn whole_of(need: &Need) -> u64
+    ensures { result ≡ whole_of need.now }
 {
-    s.graph.is_valid();
-    let Some(parent) = parent_from(s.graph, told.top, low) else {
-        *until = told.moment.min(*until);
-        return told.top;
-    };
-    match top_short(s, need, index, low, parent, until, steps) {
-        Some(upper) => upper,
-        None => {
-            *until = told.moment.min(*until);
-            told.top
-        }
+    match need {
+        Need::Vert { .. } => 1,
+        Need::Pool { quantity, .. } => *quantity,
+        Need::Spread { count, .. } => *count,
     }
 }
 
-/// The uppermost of the vertex and those above it, from `low` on, that is short for the need, as `top_short` tells it,
-/// or a note, where there is one.
-fn top_noted<F: FreeView, L: Ledger>(
-    s: &Search<F>,
-    need: &Need,
-    index: usize,
-    low: u32,
-    vertex: u32,
-    told: Option<Short>,
-    until: &mut u64,
-    steps: &mut Steps<L>,
-) -> Option<u32>
-    requires stands { StandsAt (needs_all s.now.needs.now) s.now.wanted.now index need.now }
-    requires vertex { vertex < length s.now.graph.now.resources.vertices }
-    requires low { low ≤ vertex }
-    requires told { IfSome told (IsTold s.now.graph.now.resources.vertices (F.stands_for s.now.view.now)
-        s.now.wanted.now (F.keeps s.now.view.now) (needs_all s.now.needs.now) s.now.window) }
-    requires of { IfSome told (IsNoteOf index low vertex s.now.window.from) }
-    ensures above { IfSome result (λ top. (low ≤ top)
-        × IsTrue (is_at_or_below s.now.graph.now.resources.vertices vertex top)) }
-    ensures short { (jobs : List Job) → F.stands_for s.now.view.now jobs → (w : Window) →
-        ReachesOver s.now.window until.new w →
-        IfSome result (IsShortFor s.now.graph.now.resources.vertices jobs w
-        (asked_totals s.now.wanted.now (F.keeps s.now.view.now)) need.now) }
-    ensures clear { (jobs : List Job) → F.stands_for s.now.view.now jobs →
-        (let clear : ℕ → ℕ → Type 0 = IsClearBetween s.now.graph.now.resources.vertices jobs s.now.window
-        (asked_totals s.now.wanted.now (F.keeps s.now.view.now)) need.now vertex in
-        MatchOption result (clear low (vertex + 1)) (clear low)) }
-    ensures falls { FallsWithin s.now.window until.old until.new }
-    ensures work { (jobs : List Job) → F.stands_for s.now.view.now jobs → (place : ℕ) →
-        (let vs : List Vertex = s.now.graph.now.resources.vertices in
-        let keeps : ℕ → ℕ → Type 0 = asked_totals s.now.wanted.now (F.keeps s.now.view.now) in
-        let all : List Need = needs_all s.now.needs.now in
-        IsPlaceOf all place need.now → IsClearBetween vs jobs s.now.window keeps need.now vertex 0 low →
-        TakesEach (HasEachOpen vs jobs s.now.window keeps all)
-        (length (all_of need.now) * F.cost s.now.view.now) steps.old steps.new place (place + 1) low (vertex + 1)) }
+/// The row of a vertex of which no more is known than that it seems to serve all that is asked of it, or that it may
+/// serve more than it did over this window.
+fn unknown<F: FreeView>(s: &Search<F>, need: &Need, vertex: u32, serves: bool) -> Row
+    requires of_need { IsOfNeed s.now.graph.now.resources.vertices need.now vertex }
+    ensures row { IsRowOf s.now.graph.now.resources.vertices (F.stands_for s.now.view.now) s.now.barred.now
+        s.now.window need.now result }
+    ensures same { result.vertex ≡ vertex }
 {
-    match told {
-        None => top_short(s, need, index, low, vertex, until, steps),
-        Some(told) => Some(top_told(s, need, index, low, vertex, told, until, steps)),
-    }
-}
-
-/// The same, by what is known, and what it tells is noted.
-fn top_known<F: FreeView, L: Ledger>(
-    s: &Search<F>,
-    need: &Need,
-    index: usize,
-    low: u32,
-    vertex: u32,
-    known: &mut Known,
-    until: &mut u64,
-    steps: &mut Steps<L>,
-) -> Option<u32>
-    requires stands { StandsAt (needs_all s.now.needs.now) s.now.wanted.now index need.now }
-    requires vertex { vertex < length s.now.graph.now.resources.vertices }
-    requires low { low ≤ vertex }
-    requires known { Knows s.now.graph.now.resources.vertices (F.stands_for s.now.view.now)
-        s.now.wanted.now (F.keeps s.now.view.now) (needs_all s.now.needs.now) s.now.window known.old }
-    ensures above { IfSome result (λ top. (low ≤ top)
-        × IsTrue (is_at_or_below s.now.graph.now.resources.vertices vertex top)) }
-    ensures short { (jobs : List Job) → F.stands_for s.now.view.now jobs → (w : Window) →
-        ReachesOver s.now.window until.new w →
-        IfSome result (IsShortFor s.now.graph.now.resources.vertices jobs w
-        (asked_totals s.now.wanted.now (F.keeps s.now.view.now)) need.now) }
-    ensures clear { (jobs : List Job) → F.stands_for s.now.view.now jobs →
-        (let clear : ℕ → ℕ → Type 0 = IsClearBetween s.now.graph.now.resources.vertices jobs s.now.window
-        (asked_totals s.now.wanted.now (F.keeps s.now.view.now)) need.now vertex in
-        MatchOption result (clear low (vertex + 1)) (clear low)) }
-    ensures falls { FallsWithin s.now.window until.old until.new }
-    ensures known { Knows s.now.graph.now.resources.vertices (F.stands_for s.now.view.now)
-        s.now.wanted.now (F.keeps s.now.view.now) (needs_all s.now.needs.now) s.now.window known.new }
-    ensures work { (jobs : List Job) → F.stands_for s.now.view.now jobs → (place : ℕ) →
-        (let vs : List Vertex = s.now.graph.now.resources.vertices in
-        let keeps : ℕ → ℕ → Type 0 = asked_totals s.now.wanted.now (F.keeps s.now.view.now) in
-        let all : List Need = needs_all s.now.needs.now in
-        IsPlaceOf all place need.now → IsClearBetween vs jobs s.now.window keeps need.now vertex 0 low →
-        TakesEach (HasEachOpen vs jobs s.now.window keeps all)
-        (length (all_of need.now) * F.cost s.now.view.now) steps.old steps.new place (place + 1) low (vertex + 1)) }
-{
-    s.graph.is_valid();
-    let told = known.of(index, low, vertex, s.window.from);
-    let mut moment = s.window.to - 1;
-    let Some(top) = top_noted(s, need, index, low, vertex, told, &mut moment, steps) else {
-        return None;
-    };
-    let past = s.graph.past(top);
-    known.note(Short {
-        index,
-        top,
-        past,
+    let moment = if serves { u64::MAX } else { 0 };
+    Row {
+        vertex,
+        most: whole_of(need),
         moment,
-    });
-    *until = moment.min(*until);
-    Some(top)
+    }
+}
+
+/// Notes that the vertices of the need's kind from `from` on and before `past` serve nothing until this moment, if any
+/// are noted.
+fn note_short<F: FreeView>(
+    s: &Search<F>,
+    need: &Need,
+    own: usize,
+    kind: u32,
+    from: u32,
+    past: u32,
+    moment: u64,
+    known: &mut Known,
+    count: &mut usize,
+)
+    requires valid { IsValidNeed s.now.graph.now.resources.vertices need.now }
+    requires of_kind { IsKindOfNeed s.now.graph.now.resources.vertices need.now (Some kind) }
+    requires within { past ≤ length s.now.graph.now.resources.vertices }
+    requires of_own { slice_get s.now.needs.now own ≡ Some need.now }
+    requires none { (jobs : List Job) → F.stands_for s.now.view.now jobs → (w : Window) →
+        ReachesOver s.now.window moment w → ServesNone s.now.graph.now.resources.vertices
+        (open_to s.now.graph.now.resources.vertices jobs s.now.barred.now w) need.now from past }
+    requires known { Knows s.now.graph.now.resources.vertices (F.stands_for s.now.view.now) s.now.barred.now
+        s.now.needs.now s.now.window known.old }
+    ensures known { Knows s.now.graph.now.resources.vertices (F.stands_for s.now.view.now) s.now.barred.now
+        s.now.needs.now s.now.window known.new }
+    ensures own { known.new.own ≡ known.old.own }
+{
+    if !known.notes_of(own) {
+        return;
+    }
+    s.graph.is_valid();
+    let mut at = from;
+    'each: loop {
+        let Some(vertex) = s.graph.next_of_kind(kind, at, past) else {
+            known.pass(own, at, past);
+            return;
+        };
+        let next = s.graph.past(vertex);
+        let row = Row {
+            vertex,
+            most: 0,
+            moment,
+        };
+        known.note(own, *count, at, row, next);
+        *count = count.saturating_add(1);
+        at = next;
+    }
 }
 
 /// The least vertex of the need's kind from `from` on and before `to` that lies in no subtree which is short for the
-/// need. Those passed over can't serve it over any window that reaches over what is left of this one from `until` on,
-/// which falls to the least moment that tells so. What is known to be short isn't asked again.
+/// need, and of which isn't known that it serves nothing. Those passed over can't serve it. What is found is noted.
 fn next_open_known<F: FreeView, L: Ledger>(
     s: &Search<F>,
     need: &Need,
     index: usize,
+    own: usize,
     kind: u32,
     from: u32,
     to: u32,
     known: &mut Known,
-    until: &mut u64,
+    count: &mut usize,
     steps: &mut Steps<L>,
 ) -> Option<u32>
     requires stands { StandsAt (needs_all s.now.needs.now) s.now.wanted.now index need.now }
     requires valid { IsValidNeed s.now.graph.now.resources.vertices need.now }
     requires of_kind { IsKindOfNeed s.now.graph.now.resources.vertices need.now (Some kind) }
     requires within { to ≤ length s.now.graph.now.resources.vertices }
-    requires known { Knows s.now.graph.now.resources.vertices (F.stands_for s.now.view.now)
-        s.now.wanted.now (F.keeps s.now.view.now) (needs_all s.now.needs.now) s.now.window known.old }
+    requires of_own { slice_get s.now.needs.now own ≡ Some need.now }
+    requires known { Knows s.now.graph.now.resources.vertices (F.stands_for s.now.view.now) s.now.barred.now
+        s.now.needs.now s.now.window known.old }
     ensures of_kind { IfSome result (λ vertex. HasKind s.now.graph.now.resources.vertices kind vertex
         × (from ≤ vertex) × (vertex < to)) }
-    ensures skipped { (jobs : List Job) → F.stands_for s.now.view.now jobs → (w : Window) →
-        ReachesOver s.now.window until.new w →
+    ensures skipped { (jobs : List Job) → F.stands_for s.now.view.now jobs →
         (let vs : List Vertex = s.now.graph.now.resources.vertices in
-        let ok : Claim → Type 0 = open_to vs jobs s.now.barred.now w in
+        let ok : Claim → Type 0 = open_to vs jobs s.now.barred.now s.now.window in
         MatchOption result (ServesNone vs ok need.now from to) (ServesNone vs ok need.now from)) }
     ensures clear { (jobs : List Job) → F.stands_for s.now.view.now jobs →
         (let vs : List Vertex = s.now.graph.now.resources.vertices in
         let keeps : ℕ → ℕ → Type 0 = asked_totals s.now.wanted.now (F.keeps s.now.view.now) in
         IsClearBefore vs jobs s.now.window keeps need.now from to →
         IfSome result (IsClear vs jobs s.now.window keeps need.now)) }
-    ensures known { Knows s.now.graph.now.resources.vertices (F.stands_for s.now.view.now)
-        s.now.wanted.now (F.keeps s.now.view.now) (needs_all s.now.needs.now) s.now.window known.new }
-    ensures falls { FallsWithin s.now.window until.old until.new }
+    ensures known { Knows s.now.graph.now.resources.vertices (F.stands_for s.now.view.now) s.now.barred.now
+        s.now.needs.now s.now.window known.new }
+    ensures own { known.new.own ≡ known.old.own }
     ensures work { (jobs : List Job) → F.stands_for s.now.view.now jobs → (place : ℕ) →
         (let vs : List Vertex = s.now.graph.now.resources.vertices in
         let keeps : ℕ → ℕ → Type 0 = asked_totals s.now.wanted.now (F.keeps s.now.view.now) in
@@ -223,35 +150,54 @@ fn next_open_known<F: FreeView, L: Ledger>(
 {
     s.graph.is_valid();
     let mut at = from;
+    let mut low = from;
     'look: loop {
         let Some(vertex) = s.graph.next_of_kind(kind, at, to) else {
+            known.pass(own, at, to);
             return None;
         };
         if s.shut && s.graph.rank_at(vertex).is_some() {
             return None;
         }
-        match top_known(s, need, index, at, vertex, known, until, steps) {
-            None => return Some(vertex),
-            Some(top) => at = s.graph.past(top),
+        let next = s.graph.past(vertex);
+        if known.serves_none(own, *count, vertex, s.window.from) {
+            *count = count.saturating_add(1);
+            at = next;
+        } else {
+            let mut moment = u64::MAX;
+            match top_short(s, need, index, low, vertex, &mut moment, steps) {
+                None => {
+                    let row = unknown(s, need, vertex, false);
+                    known.note(own, *count, at, row, next);
+                    return Some(vertex);
+                }
+                Some(top) => {
+                    let past = s.graph.past(top);
+                    note_short(s, need, own, kind, at, past, moment, known, count);
+                    at = past;
+                    low = past;
+                }
+            }
         }
     }
 }
 
-/// Writes the need's lowest-first group of its amount. `false` exactly where there is none; what was written by then is
-/// of no use, and there is none over windows that reach over what is left of this one from `until` on.
+/// Writes the need's lowest-first group of its amount. `false` exactly where there is none; what was written by then
+/// is of no use. It looks at each vertex of the need once, and within it as `offer` does.
 fn write_top_group<F: FreeView, L: Ledger>(
     s: &Search<F>,
     need: &Need,
     index: usize,
+    own: usize,
     known: &mut Known,
     out: &mut Vec<Claim>,
-    until: &mut u64,
     steps: &mut Steps<L>,
 ) -> Result<bool, AllocError>
     requires stands { StandsAt (needs_all s.now.needs.now) s.now.wanted.now index need.now }
     requires valid { IsValidNeed s.now.graph.now.resources.vertices need.now }
-    requires known { Knows s.now.graph.now.resources.vertices (F.stands_for s.now.view.now)
-        s.now.wanted.now (F.keeps s.now.view.now) (needs_all s.now.needs.now) s.now.window known.old }
+    requires of_own { slice_get s.now.needs.now own ≡ Some need.now }
+    requires known { Knows s.now.graph.now.resources.vertices (F.stands_for s.now.view.now) s.now.barred.now
+        s.now.needs.now s.now.window known.old }
     ensures written { IfOk result (λ filled. Extends out.old.items out.new.items
         (λ claims. (jobs : List Job) → F.stands_for s.now.view.now jobs →
         (let vs : List Vertex = s.now.graph.now.resources.vertices in
@@ -259,61 +205,56 @@ fn write_top_group<F: FreeView, L: Ledger>(
         MatchBool filled
         (LowestGroup vs ok Everywhere need.now (1 * amount_of need.now) claims)
         (SomeGroup vs ok Everywhere need.now (1 * amount_of need.now) → ⊥)))) }
-    ensures later { IfOk result (λ filled. filled ≡ false → (s.now.window.from ≤ until.new) × ((jobs : List Job) →
-        F.stands_for s.now.view.now jobs → NoneUntil (λ w. SomeGroup s.now.graph.now.resources.vertices
-        (open_to s.now.graph.now.resources.vertices jobs s.now.barred.now w) Everywhere need.now
-        (1 * amount_of need.now)) s.now.window until.new)) }
-    ensures known { Knows s.now.graph.now.resources.vertices (F.stands_for s.now.view.now)
-        s.now.wanted.now (F.keeps s.now.view.now) (needs_all s.now.needs.now) s.now.window known.new }
+    ensures known { Knows s.now.graph.now.resources.vertices (F.stands_for s.now.view.now) s.now.barred.now
+        s.now.needs.now s.now.window known.new }
     ensures work { (jobs : List Job) → F.stands_for s.now.view.now jobs → (place from to times : ℕ) →
         (let vs : List Vertex = s.now.graph.now.resources.vertices in
         let keeps : ℕ → ℕ → Type 0 = asked_totals s.now.wanted.now (F.keeps s.now.view.now) in
         let all : List Need = needs_all s.now.needs.now in
+        let look : ℕ = (length all + 2) * F.cost s.now.view.now in
         IsPlaceOf all place need.now → IsClearScope vs jobs s.now.window keeps None need.now →
         IsSpanOf vs None from to → AreLooks times need.now →
-        TakesEach (HasEachOpen vs jobs s.now.window keeps all) (times * ((length all + 2) * F.cost s.now.view.now))
+        TakesApart (HasEachOpen vs jobs s.now.window keeps all) look (times * look)
         steps.old steps.new place (place + length (all_of need.now)) from to) }
 {
     s.graph.is_valid();
-    *until = s.window.from;
     let Some(kind) = kind_of(s.graph, need) else {
         return Ok(false);
     };
+    let whole = whole_of(need);
     let mut missing = u128::from(need.amount());
-    let mut lacking = missing;
-    let mut last = s.window.to - 1;
     let span = span_of(s.graph, None);
     let mut at = span.from;
+    let mut count = 0;
     while missing > 0 {
         let Some(vertex) = next_open_known(
-            s, need, index, kind, at, span.to, known, &mut last, steps,
+            s, need, index, own, kind, at, span.to, known, &mut count, steps,
         ) else {
-            *until = until_when(lacking, last, s.window.from);
             return Ok(false);
         };
         let next = s.graph.past(vertex);
         let served = offer(s, need, index, vertex, missing, out, steps)?;
+        let all = served >= whole || u128::from(served) >= missing;
+        let row = unknown(s, need, vertex, all);
+        known.put(own, count, row);
+        count = count.saturating_add(1);
         missing -= u128::from(served);
-        let asked = missing > 0 && lacking > 0;
-        let most = most_served(s, need, index, vertex, asked, &mut last, steps);
-        lacking = lacking_after(lacking, most);
         at = next;
     }
     Ok(true)
 }
 
-/// Writes the lowest-first claims of the ask's own needs. `false` exactly where no claims fit; what was written by then
-/// is of no use, and none fit over windows that reach over what is left of this one from `until` on.
+/// Writes the lowest-first claims of the ask's own needs. `false` exactly where no claims fit; what was written by
+/// then is of no use, and what is known is of the need for which there is no group.
 pub(crate) fn write_top<F: FreeView, L: Ledger>(
     s: &Search<F>,
     known: &mut Known,
     out: &mut Vec<Claim>,
-    until: &mut u64,
     steps: &mut Steps<L>,
 ) -> Result<bool, AllocError>
     requires valid { AreValidNeeds s.now.graph.now.resources.vertices s.now.needs.now }
-    requires known { Knows s.now.graph.now.resources.vertices (F.stands_for s.now.view.now)
-        s.now.wanted.now (F.keeps s.now.view.now) (needs_all s.now.needs.now) s.now.window known.old }
+    requires known { Knows s.now.graph.now.resources.vertices (F.stands_for s.now.view.now) s.now.barred.now
+        s.now.needs.now s.now.window known.old }
     ensures written { IfOk result (λ fit. Extends out.old.items out.new.items
         (λ claims. (jobs : List Job) → F.stands_for s.now.view.now jobs →
         (let vs : List Vertex = s.now.graph.now.resources.vertices in
@@ -321,29 +262,31 @@ pub(crate) fn write_top<F: FreeView, L: Ledger>(
         MatchBool fit
         (Lowest vs ok 1 Everywhere s.now.needs.now claims)
         (SomeFits vs ok Everywhere s.now.needs.now 1 → ⊥)))) }
-    ensures later { IfOk result (λ fit. fit ≡ false → (s.now.window.from ≤ until.new) × ((jobs : List Job) →
-        F.stands_for s.now.view.now jobs → NoneUntil (λ w. SomeFits s.now.graph.now.resources.vertices
-        (open_to s.now.graph.now.resources.vertices jobs s.now.barred.now w) Everywhere s.now.needs.now 1)
-        s.now.window until.new)) }
-    ensures known { Knows s.now.graph.now.resources.vertices (F.stands_for s.now.view.now)
-        s.now.wanted.now (F.keeps s.now.view.now) (needs_all s.now.needs.now) s.now.window known.new }
+    ensures known { Knows s.now.graph.now.resources.vertices (F.stands_for s.now.view.now) s.now.barred.now
+        s.now.needs.now s.now.window known.new }
     ensures work { (jobs : List Job) → F.stands_for s.now.view.now jobs → (place from to times : ℕ) →
         (let vs : List Vertex = s.now.graph.now.resources.vertices in
         let keeps : ℕ → ℕ → Type 0 = asked_totals s.now.wanted.now (F.keeps s.now.view.now) in
         let all : List Need = needs_all s.now.needs.now in
+        let look : ℕ = (length all + 2) * F.cost s.now.view.now in
+        let each : List Pair → Type 0 = HasEachOpen vs jobs s.now.window keeps all in
         IsPlaceOfAll all place s.now.needs.now →
         AllByRecursion (IsClearScope vs jobs s.now.window keeps None) s.now.needs.now → IsSpanOf vs None from to →
         AreLooksAll times s.now.needs.now →
-        TakesEach (HasEachOpen vs jobs s.now.window keeps all) (times * ((length all + 2) * F.cost s.now.view.now))
-        steps.old steps.new place (place + length (needs_all s.now.needs.now)) from to) }
+        TakesEach each (times * look) steps.old steps.new place (place + length (needs_all s.now.needs.now)) from to
+        × ((need : Need) → s.now.needs.now ≡ need ∷ [] →
+        TakesApart each look (times * look) steps.old steps.new place (place + length (all_of need)) from to)) }
 {
     let mut at = 0;
+    let mut own: usize = 0;
     for need in s.needs.items() {
-        let filled = write_top_group(s, need, at, known, out, until, steps)?;
+        let filled = write_top_group(s, need, at, own, known, out, steps)?;
         if !filled {
+            known.turn_to(own);
             return Ok(false);
         }
         at = index_after(s, need, at);
+        own = own.saturating_add(1);
     }
     Ok(true)
 }

@@ -8,22 +8,23 @@ ghost use Rattle.flux_defs.specs.declared.requests.Need.{Need};
 ghost use Rattle.flux_defs.specs.Graph.{HasKind, is_at_or_below};
 ghost use Rattle.flux_defs.specs.Needs.{IsValidNeed};
 ghost use Rattle.flux_defs.specs.declared.claims.Window.{Window};
-ghost use Rattle.prune_filters.specs.Shorts.{IsShortFor, IsShortForAt};
+ghost use Rattle.prune_filters.specs.Shorts.{IsShortFor};
 ghost use Rattle.dfu_match.specs.Searches.{open_to, IsKindOfNeed};
 ghost use Rattle.dfu_match.specs.Tables.{all_of, needs_all, StandsAt};
 ghost use Rattle.dfu_match.specs.Walks.{IsParentFrom, ServesNone};
 ghost use Rattle.dfu_match.specs.Pairs.{HasEachOpen, IsClear, IsClearBetween, IsClearBefore, IsPlaceOf, TakesEach};
 ghost use Rattle.dfu_match.specs.Pairs.{asked_totals};
-ghost use Rattle.dfu_match.specs.Reaches.{FallsWithin, ReachesOver};
+ghost use Rattle.flux_defs.specs.Later.{IsSoUntil, ReachesOver};
+ghost use Rattle.dfu_match.specs.Reaches.{FallsWithin};
 
 use crate::search::Search;
 use flux_defs::{FreeView, Need, Steps};
-use prune_filters::short;
+use prune_filters::short_until;
 use resource_graph::Graph;
 use std::sync::ledger::Ledger;
 
-/// A moment of the window at which the vertex is short for the need at this index of all needs; none where it never is,
-/// as where there is no table.
+/// Until when the vertex is short for the need at this index of all needs: over each window that reaches over what is
+/// left of this one from that moment on; none where it isn't over this one, as where there is no table.
 fn short_at<F: FreeView, L: Ledger>(
     s: &Search<F>,
     need: &Need,
@@ -34,17 +35,14 @@ fn short_at<F: FreeView, L: Ledger>(
     requires stands { StandsAt (needs_all s.now.needs.now) s.now.wanted.now index need.now }
     requires vertex { vertex < length s.now.graph.now.resources.vertices }
     ensures short { (jobs : List Job) → F.stands_for s.now.view.now jobs →
-        MatchOption result
-        (IsShortFor s.now.graph.now.resources.vertices jobs s.now.window
-        (asked_totals s.now.wanted.now (F.keeps s.now.view.now)) need.now vertex → ⊥)
-        (IsShortForAt s.now.graph.now.resources.vertices jobs
-        (asked_totals s.now.wanted.now (F.keeps s.now.view.now)) need.now vertex) }
-    ensures within { IfSome result (λ m. (s.now.window.from ≤ m) × (m < s.now.window.to)) }
+        IsSoUntil (λ w. IsShortFor s.now.graph.now.resources.vertices jobs w
+        (asked_totals s.now.wanted.now (F.keeps s.now.view.now)) need.now vertex) s.now.window result }
+    ensures within { IfSome result (λ m. s.now.window.from ≤ m) }
     ensures work { steps.new ≤ steps.old + length (all_of need.now) * F.cost s.now.view.now }
 {
     match s.wanted.get(index) {
         None => None,
-        Some(wanted) => short(s.view, vertex, &wanted.demands, s.window, steps),
+        Some(wanted) => short_until(s.view, vertex, &wanted.demands, s.window, steps),
     }
 }
 

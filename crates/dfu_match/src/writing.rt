@@ -11,12 +11,10 @@ ghost use Rattle.dfu_match.specs.Searches.{open_to, scope_of, IsScope, MayAsk, M
 ghost use Rattle.dfu_match.specs.Tables.{all_of, needs_all, StandsAt, StandAt};
 ghost use Rattle.dfu_match.specs.Pairs.{HasEachOpen, IsClear, IsClearScope, IsPlaceOf, IsPlaceOfAll, IsSpanOf};
 ghost use Rattle.dfu_match.specs.Pairs.{AreLooks, AreLooksAll, TakesEach, asked_totals};
-ghost use Rattle.dfu_match.specs.Reaches.{NoneUntil};
 ghost use Rattle.flux_defs.specs.declared.requests.Need.{Need};
 ghost use Rattle.resource_graph.specs.Tables.{IsPast};
 ghost use Rattle.std.specs.List.{AllByRecursion};
 
-use crate::bounding::{lacking_after, most_served};
 use crate::counting::{copies, serves};
 use crate::scopes::{kind_of, span_of};
 use crate::search::{Search, admits};
@@ -27,8 +25,7 @@ use std::sync::ledger::Ledger;
 use text_forms::push;
 
 /// Writes the lowest-first claims of the needs scaled by `k` in the scope. `false` exactly where no claims fit; what
-/// was written by then is of no use, and none fit over windows that reach over what is left of this one from `until`
-/// on.
+/// was written by then is of no use.
 #[cycle(writing)]
 pub(crate) fn write_needs<F: FreeView, L: Ledger>(
     s: &Search<F>,
@@ -37,7 +34,6 @@ pub(crate) fn write_needs<F: FreeView, L: Ledger>(
     k: u64,
     scope: Option<u32>,
     out: &mut Vec<Claim>,
-    until: &mut u64,
     steps: &mut Steps<L>,
 ) -> Result<bool, AllocError>
     requires stand { StandAt (needs_all s.now.needs.now) s.now.wanted.now index needs.now }
@@ -52,10 +48,6 @@ pub(crate) fn write_needs<F: FreeView, L: Ledger>(
         MatchBool fit
         (Lowest vs ok k (scope_of scope) needs.now claims)
         (SomeFits vs ok (scope_of scope) needs.now k → ⊥)))) }
-    ensures later { IfOk result (λ fit. fit ≡ false → (s.now.window.from ≤ until.new) × ((jobs : List Job) →
-        F.stands_for s.now.view.now jobs → NoneUntil (λ w. SomeFits s.now.graph.now.resources.vertices
-        (open_to s.now.graph.now.resources.vertices jobs s.now.barred.now w) (scope_of scope) needs.now k)
-        s.now.window until.new)) }
     ensures work { (jobs : List Job) → F.stands_for s.now.view.now jobs → (place from to times : ℕ) →
         (let vs : List Vertex = s.now.graph.now.resources.vertices in
         let keeps : ℕ → ℕ → Type 0 = asked_totals s.now.wanted.now (F.keeps s.now.view.now) in
@@ -68,7 +60,7 @@ pub(crate) fn write_needs<F: FreeView, L: Ledger>(
 {
     let mut at = index;
     for need in needs.items() {
-        let filled = write_group(s, need, at, k, scope, out, until, steps)?;
+        let filled = write_group(s, need, at, k, scope, out, steps)?;
         if !filled {
             return Ok(false);
         }
@@ -78,8 +70,7 @@ pub(crate) fn write_needs<F: FreeView, L: Ledger>(
 }
 
 /// Writes the need's lowest-first group of `k` times its amount in the scope. `false` exactly where there is no such
-/// group; what was written by then is of no use, and there is none over windows that reach over what is left of this
-/// one from `until` on.
+/// group; what was written by then is of no use.
 #[cycle(writing)]
 fn write_group<F: FreeView, L: Ledger>(
     s: &Search<F>,
@@ -88,7 +79,6 @@ fn write_group<F: FreeView, L: Ledger>(
     k: u64,
     scope: Option<u32>,
     out: &mut Vec<Claim>,
-    until: &mut u64,
     steps: &mut Steps<L>,
 ) -> Result<bool, AllocError>
     requires stands { StandsAt (needs_all s.now.needs.now) s.now.wanted.now index need.now }
@@ -103,10 +93,6 @@ fn write_group<F: FreeView, L: Ledger>(
         MatchBool filled
         (LowestGroup vs ok (scope_of scope) need.now (k * amount_of need.now) claims)
         (SomeGroup vs ok (scope_of scope) need.now (k * amount_of need.now) → ⊥)))) }
-    ensures later { IfOk result (λ filled. filled ≡ false → (s.now.window.from ≤ until.new) × ((jobs : List Job) →
-        F.stands_for s.now.view.now jobs → NoneUntil (λ w. SomeGroup s.now.graph.now.resources.vertices
-        (open_to s.now.graph.now.resources.vertices jobs s.now.barred.now w) (scope_of scope) need.now
-        (k * amount_of need.now)) s.now.window until.new)) }
     ensures work { (jobs : List Job) → F.stands_for s.now.view.now jobs → (place from to times : ℕ) →
         (let vs : List Vertex = s.now.graph.now.resources.vertices in
         let keeps : ℕ → ℕ → Type 0 = asked_totals s.now.wanted.now (F.keeps s.now.view.now) in
@@ -117,38 +103,24 @@ fn write_group<F: FreeView, L: Ledger>(
         steps.old steps.new place (place + length (all_of need.now)) from to) }
 {
     s.graph.is_valid();
-    *until = s.window.from;
     let Some(kind) = kind_of(s.graph, need) else {
         return Ok(false);
     };
     let mut missing = u128::from(k) * u128::from(need.amount());
-    let mut lacking = missing;
-    let mut last = s.window.to - 1;
     let span = span_of(s.graph, scope);
     let mut at = span.from;
     while missing > 0 {
-        let Some(vertex) = next_open_until(s, need, index, kind, at, span.to, &mut last, steps)
+        let mut until = s.window.from;
+        let Some(vertex) = next_open_until(s, need, index, kind, at, span.to, &mut until, steps)
         else {
-            *until = until_when(lacking, last, s.window.from);
             return Ok(false);
         };
         let next = s.graph.past(vertex);
         let served = offer(s, need, index, vertex, missing, out, steps)?;
         missing -= u128::from(served);
-        let asked = missing > 0 && lacking > 0;
-        let most = most_served(s, need, index, vertex, asked, &mut last, steps);
-        lacking = lacking_after(lacking, most);
         at = next;
     }
     Ok(true)
-}
-
-/// Until when there is nothing that fits: `last` where something is still lacking, else no longer than from `first` on.
-pub(crate) fn until_when(lacking: u128, last: u64, first: u64) -> u64
-    ensures some { 0 < lacking → result ≡ last }
-    ensures none { lacking ≡ 0 → result ≡ first }
-{
-    if lacking > 0 { last } else { first }
 }
 
 /// Lets the vertex serve as much of the need as it can, at most so much, and writes its piece.
@@ -288,8 +260,7 @@ fn write_shared<F: FreeView, L: Ledger>(
 {
     let mark = out.len();
     push(out, Claim::Pass { vertex })?;
-    let mut until = s.window.from;
-    let fit = write_needs(s, needs, index, k, Some(vertex), out, &mut until, steps)?;
+    let fit = write_needs(s, needs, index, k, Some(vertex), out, steps)?;
     if fit {
         return Ok(true);
     }

@@ -2,10 +2,10 @@ use Rattle.std.proofs.Common.{◌≡◌, ◌<◌, List, Some, length, refl, sym,
 use Rattle.std.proofs.lemmas.Bool.{ltb-true}
 use Rattle.std.proofs.lemmas.Option.{slice_get_read}
 use Rattle.flux_defs.specs.declared.vertices.Vertex.{Vertex}
-use Rattle.flux_defs.specs.Free.{IsTooLittleAt}
+use Rattle.flux_defs.specs.Free.{IsTooLittle}
 use Rattle.prune_filters.specs.Demands.{capped, demand}
 use Rattle.dfu_match.specs.Tables.{needs_all, IsWantedBy}
-use Rattle.dfu_match.proofs.ReachLaws.{entry_tells, few_copies, there}
+use Rattle.dfu_match.proofs.ReachLaws.{entry_tells, few_copies, reach_later}
 use Rattle.dfu_match.proofs.ScopeLaws.{nodes_told}
 use Rattle.dfu_match.proofs.bounding.most_copies.Goals as goal
 
@@ -17,19 +17,18 @@ invariant_of-kinds g c =
           c.kind_of-nodes.ensures;
     }
 
-pub returns-in-Some-total_below-clause-most : goal.returns-in-Some-total_below-clause-most
-returns-in-Some-total_below-clause-most g c = λ jobs stands w reach.
+pub returns-in-Some-total_until-clause-most : goal.returns-in-Some-total_until-clause-most
+returns-in-Some-total_until-clause-most g c = λ jobs stands w reach.
     let s = c.args.s.now in
     let graph = s.graph.now in
     let need = c.args.need.now in
     let room = c.in-Some-least_room.room in
-    let within = c.in-Some-total_below.ensures.within in
-    let at = there s.window w c.min.result c.in-Some-total_below.moment (omega arith) within.1 reach in
+    let later = reach_later s.window w c.min.result c.in-Some-total_until.moment (omega (arith, c.min.ensures)) reach in
     few_copies graph.resources graph.names c.is_valid.ensures.valid jobs s.barred.now w need c.requires.valid room.kind
-    c.args.vertex room.copies c.saturating_add.result c.in-Some-total_below.moment (omega arith) at.0 at.1
-    (subst (λ (us : List Vertex). IsTooLittleAt us jobs c.args.vertex room.kind
-    (capped (demand graph.resources.vertices room.kind c.saturating_add.result need)) c.in-Some-total_below.moment)
-    s.over (rw c.demand_of-more.ensures at (c.in-Some-total_below.ensures.answer jobs stands)))
+    c.args.vertex room.copies c.saturating_add.result (omega arith)
+    (subst (λ (us : List Vertex). IsTooLittle us jobs w c.args.vertex room.kind
+    (capped (demand graph.resources.vertices room.kind c.saturating_add.result need)))
+    s.over (rw c.demand_of-more.ensures at (c.in-Some-total_until.ensures.answer jobs stands w later)))
 
 pub least_room-requires-clause-few : goal.least_room-requires-clause-few
 least_room-requires-clause-few g c =

@@ -1,5 +1,4 @@
-use Rattle.dfu_match.specs.Tables.{needs_all}
-use Rattle.dfu_match.proofs.NoteLaws.{knows_nothing}
+use Rattle.dfu_match.proofs.RowLaws.{knows_nothing}
 use Rattle.dfu_match.proofs.matching.match_at.Goals as goal
 
 pub returns-in_err-claims-clause-work : goal.returns-in_err-claims-clause-work
@@ -21,6 +20,6 @@ returns-clause-work g c = λ jobs stands looks enough.
 pub over-requires-clause-known : goal.over-requires-clause-known
 over-requires-clause-known g c =
     let matcher = c.in_ok-matcher.matcher in
-    knows_nothing matcher.graph.now.resources.vertices (g.F.FreeView.stands_for c.args.view.now) matcher.wanted
-    (g.F.FreeView.keeps c.args.view.now) (needs_all matcher.ask.now.needs) c.args.window c.never-known.result
-    c.never-known.ensures.before c.never-known.ensures.fresh
+    knows_nothing matcher.graph.now.resources.vertices (g.F.FreeView.stands_for c.args.view.now)
+    matcher.ask.now.barred matcher.ask.now.needs c.args.window c.never-known.result c.never-known.ensures.rows
+    c.never-known.ensures.end

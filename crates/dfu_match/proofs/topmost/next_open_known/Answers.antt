@@ -1,132 +1,144 @@
-use Rattle.std.proofs.Common.{◌+◌, ◌*◌, length, min, arith, ap, sym, ◌∙◌, is_some}
+use Rattle.std.proofs.Common.{◌≡◌, ◌+◌, ◌*◌, ◌≤◌, length, min, arith, ap, sym, subst, ◌∙◌, is_some, inl, inr, refl}
+use Rattle.std.proofs.lemmas.Bool.{cases_lt}
 use Rattle.graph_laws.proofs.Containment.{below_le}
 use Rattle.graph_laws.proofs.Preorder.{parents_first}
+use Rattle.flux_defs.specs.Lowest.{CanServe}
 use Rattle.dfu_match.proofs.BarLaws.{rank_node}
 use Rattle.dfu_match.proofs.WalkLaws as laws
 use Rattle.dfu_match.specs.Pairs.{asked_totals}
+use Rattle.dfu_match.specs.Searches.{open_to}
 use Rattle.dfu_match.specs.Tables.{all_of}
-use Rattle.dfu_match.proofs.OpenLaws.{clear_found, clear_past}
-use Rattle.dfu_match.proofs.PairLaws.{takes_none, takes_upto, takes_within}
-use Rattle.dfu_match.proofs.ReachLaws.{falls_twice, reach_later}
+use Rattle.dfu_match.proofs.NotingLaws.{none_to, none_before, none_below}
+use Rattle.dfu_match.proofs.OpenLaws.{clear_found, clear_past, none_inside}
+use Rattle.dfu_match.proofs.PairLaws.{takes_upto, takes_within}
+use Rattle.dfu_match.proofs.ReachLaws.{reach_all}
+use Rattle.dfu_match.proofs.RowLaws.{knows_noted, knows_passed, row_known, row_none}
 use Rattle.dfu_match.proofs.topmost.next_open_known.Goals as goal
 
 pub returns-in_default-clause-skipped : goal.returns-in_default-clause-skipped
-returns-in_default-clause-skipped g c = λ jobs stands w reach.
+returns-in_default-clause-skipped g c = λ jobs stands.
     let s = c.args.s.now in
     let graph = s.graph.now in
-    laws.skipped_all graph.resources graph.names c.is_valid.ensures.valid jobs s.barred.now w c.args.need.now
+    laws.skipped_all graph.resources graph.names c.is_valid.ensures.valid jobs s.barred.now s.window c.args.need.now
     c.args.kind c.requires.of_kind c.args.from c.look.at c.args.to c.in_default.ensures
-    (c.look.invariant.skipped jobs stands w reach)
+    (c.look.invariant.skipped jobs stands)
 
-pub returns-in-None-clause-skipped : goal.returns-in-None-clause-skipped
-returns-in-None-clause-skipped g c = λ jobs stands w reach.
+pub returns-in_default-clause-known : goal.returns-in_default-clause-known
+returns-in_default-clause-known g c =
     let s = c.args.s.now in
     let graph = s.graph.now in
-    laws.skipped_to graph.resources graph.names c.is_valid.ensures.valid jobs s.barred.now w c.args.need.now
-    c.args.kind c.requires.of_kind c.args.from c.look.at c.args.to c.in-Some.vertex
-    (rw c.in-Some.is at c.next_of_kind.ensures)
-    (c.look.invariant.skipped jobs stands w (reach_later s.window w c.top_known.new.until c.look.until
-    c.in-None.ensures.falls.0 reach))
-
-pub past-at-requires : goal.past-at-requires
-past-at-requires g c =
-    let graph = c.args.s.now.graph.now in
-    let next = rw c.in-Some.is at c.next_of_kind.ensures in
-    let high = next.high in
-    let within = c.requires.within in
-    let le = below_le graph.resources.vertices (parents_first graph.resources c.is_valid.ensures.valid.preorder)
-    c.in-Some.vertex c.in-Some-top_known.top c.in-Some-top_known.ensures.above.1 in
-    omega arith
-
-pub look-preserved : goal.look-preserved
-look-preserved g c =
-    let s = c.args.s.now in
-    let graph = s.graph.now in
-    let next = rw c.in-Some.is at c.next_of_kind.ensures in
-    record {
-      later = (
-          let past = c.past-at.ensures.later in
-          let from = c.look.invariant.later in
-          let low = c.in-Some-top_known.ensures.above.0 in
-          let next = next.low in
-          omega (arith, past, from, low, next));
-      falls = falls_twice s.window c.args.until.now c.look.until c.top_known.new.until c.look.invariant.falls
-          c.top_known.ensures.falls;
-      skipped = λ jobs stands w reach. laws.skipped_past graph.resources graph.names c.is_valid.ensures.valid jobs
-          s.barred.now w c.args.need.now c.args.kind c.requires.of_kind
-          (asked_totals s.wanted.now (g.F.FreeView.keeps s.view.now)) c.requires.valid
-          c.args.from c.look.at c.in-Some.vertex c.in-Some-top_known.top c.past-at.result
-          c.in-Some-top_known.ensures.above.1
-          (c.in-Some-top_known.ensures.short jobs stands w reach) c.past-at.ensures
-          (laws.skipped_to graph.resources graph.names c.is_valid.ensures.valid jobs s.barred.now w
-          c.args.need.now c.args.kind c.requires.of_kind c.args.from c.look.at c.args.to c.in-Some.vertex next
-          (c.look.invariant.skipped jobs stands w (reach_later s.window w c.top_known.new.until c.look.until
-          c.top_known.ensures.falls.0 reach)));
-      known = c.top_known.ensures.known;
-      clear = λ jobs stands before. clear_past graph.resources graph.names c.is_valid.ensures.valid jobs s.window
-          (asked_totals s.wanted.now (g.F.FreeView.keeps s.view.now)) c.args.need.now c.look.at c.args.to
-          c.in-Some.vertex
-          c.in-Some-top_known.top c.past-at.result c.requires.within (c.look.invariant.clear jobs stands before)
-          (let above = c.in-Some-top_known.ensures.above.0 in let lo = next.low in omega (arith, above, lo)) next.high
-          (let hi = next.high in let most = c.requires.within in omega (arith, hi, most))
-          c.in-Some-top_known.ensures.above.1 (c.in-Some-top_known.ensures.clear jobs stands) c.past-at.ensures;
-      taken = λ jobs stands place at before.
-          let steps = length (all_of c.args.need.now) * g.F.FreeView.cost s.view.now in
-          let lo = next.low in
-          let hi = next.high in
-          let from = c.look.invariant.later in
-          let past = c.past-at.ensures.later in
-          let inside = c.past-at.ensures.whole c.in-Some.vertex
-          (let most = c.requires.within in omega (arith, hi, most)) c.in-Some-top_known.ensures.above.1 in
-          takes_within _ steps steps c.args.steps.now c.top_known.new.steps place (place + 1) c.args.from
-          (c.in-Some.vertex + 1) place (place + 1) c.args.from (min c.past-at.result c.args.to) (omega arith)
-          (omega arith) (omega arith) (omega arith) (omega (arith, inside, hi))
-          (takes_upto _ steps c.args.steps.now c.look.steps c.top_known.new.steps place (place + 1) c.args.from
-          (min c.look.at c.args.to) (c.in-Some.vertex + 1) (omega (arith, from, lo, hi)) (omega (arith, lo))
-          (c.look.invariant.taken jobs stands place at before)
-          (takes_within _ steps steps c.look.steps c.top_known.new.steps place (place + 1) c.look.at
-          (c.in-Some.vertex + 1) place (place + 1) (min c.look.at c.args.to) (c.in-Some.vertex + 1) (omega arith)
-          (omega arith) (omega arith) (omega arith) (omega arith)
-          (c.top_known.ensures.work jobs stands place at
-          (c.look.invariant.clear jobs stands before c.in-Some.vertex lo hi))));
-    }
-
-pub look-init : goal.look-init
-look-init g c =
-    let s = c.args.s.now in
-    let graph = s.graph.now in
-    record {
-      later = omega arith;
-      falls = (omega arith, λ le. le);
-      skipped = λ jobs stands w reach scope v q lo hi some can. omega (arith, lo, hi);
-      known = c.requires.known;
-      clear = λ jobs stands before. before;
-      taken = λ jobs stands place at before. takes_none _ _ c.args.steps.now place (place + 1) c.args.from
-          (min c.args.from c.args.to);
-    }
+    let need = c.args.need.now in
+    knows_passed graph.resources.vertices (g.F.FreeView.stands_for s.view.now) s.barred.now s.needs.now s.window
+    c.args.own c.look.at c.args.to c.look.known c.pass.new.self need c.requires.of_own c.pass.ensures.own
+    c.pass.ensures.rows c.pass.ensures.end
+    (none_to graph.resources graph.names c.is_valid.ensures.valid need c.args.kind c.requires.of_kind c.look.at
+    c.args.to c.in_default.ensures)
+    c.look.invariant.known
 
 pub returns-in_default-clause-work : goal.returns-in_default-clause-work
 returns-in_default-clause-work g c = λ jobs stands place at before.
     let steps = length (all_of c.args.need.now) * g.F.FreeView.cost c.args.s.now.view.now in
-    takes_within _ steps steps c.args.steps.now c.look.steps place (place + 1) c.args.from (min c.look.at c.args.to)
+    takes_within _ steps steps c.args.steps.now c.look.steps place (place + 1) c.args.from (min c.look.low c.args.to)
     place (place + 1) c.args.from c.args.to (omega arith) (omega arith) (omega arith) (omega arith) (omega arith)
     (c.look.invariant.taken jobs stands place at before)
 
 pub returns-then-is_some-clause-work : goal.returns-then-is_some-clause-work
 returns-then-is_some-clause-work g c = λ jobs stands place at before.
     let steps = length (all_of c.args.need.now) * g.F.FreeView.cost c.args.s.now.view.now in
-    takes_within _ steps steps c.args.steps.now c.look.steps place (place + 1) c.args.from (min c.look.at c.args.to)
+    takes_within _ steps steps c.args.steps.now c.look.steps place (place + 1) c.args.from (min c.look.low c.args.to)
     place (place + 1) c.args.from c.args.to (omega arith) (omega arith) (omega arith) (omega arith) (omega arith)
     (c.look.invariant.taken jobs stands place at before)
+
+pub returns-then-is_some-clause-skipped : goal.returns-then-is_some-clause-skipped
+returns-then-is_some-clause-skipped g c = λ jobs stands.
+    let s = c.args.s.now in
+    let graph = s.graph.now in
+    let next = rw c.in-Some.is at c.next_of_kind.ensures in
+    laws.skipped_shut graph.resources graph.names c.is_valid.ensures.valid jobs s.barred.now s.window c.args.need.now
+    c.args.kind c.requires.of_kind c.in-Some.vertex c.args.from c.look.at c.args.to s.opens (s.shuts c.if-s.true)
+    next.of_kind (rank_node graph.resources.vertices c.in-Some.vertex
+    (ap is_some (sym c.rank_at.ensures) ∙ (sym c.is_some.ensures ∙ c.if-is_some.true)))
+    (c.look.invariant.skipped jobs stands)
+
+-- a vertex of which is known that it serves nothing is passed over
+pub look-preserved-then-serves_none : goal.look-preserved-then-serves_none
+look-preserved-then-serves_none g c =
+    let s = c.args.s.now in
+    let graph = s.graph.now in
+    let vs = graph.resources.vertices in
+    let need = c.args.need.now in
+    let valid = c.is_valid.ensures.valid in
+    let next = rw c.in-Some.is at c.next_of_kind.ensures in
+    let low = next.low in
+    let later = c.past-next.ensures.later in
+    let order = c.look.invariant.order in
+    let told = c.if-serves_none.ensures refl in
+    record {
+      later = c.look.invariant.later;
+      order = omega (arith, order, low, later);
+      skipped = λ jobs stands scope u q lo hi some can.
+          let ok = open_to vs jobs s.barred.now s.window in
+          elim (cases_lt u c.in-Some.vertex) [
+            | inl before ↦ laws.skipped_to graph.resources graph.names valid jobs s.barred.now s.window need
+                c.args.kind c.requires.of_kind c.args.from c.look.at c.args.to c.in-Some.vertex next
+                (c.look.invariant.skipped jobs stands) scope u q lo before some can
+            | inr after ↦ elim (cases_lt c.in-Some.vertex u) [
+              | inl below ↦ none_inside graph.resources graph.names valid ok need c.args.kind c.in-Some.vertex
+                  c.past-next.result c.requires.of_kind next.of_kind c.past-next.ensures scope u q
+                  (omega (arith, below)) hi some can
+              | inr same ↦ (
+                  let row = told.1.0 in
+                  let here : row.vertex ≡ u = (let e = told.1.2 in omega (arith, e, after, same)) in
+                  row_none graph.resources (g.F.FreeView.stands_for s.view.now) s.barred.now s.window need row
+                  c.requires.valid
+                  (row_known vs (g.F.FreeView.stands_for s.view.now) s.barred.now s.needs.now s.window c.look.known
+                  c.args.own need row c.requires.of_own told.0 told.1.1 c.look.invariant.known)
+                  told.1.3 told.1.4 s.opens jobs stands scope q some
+                  (subst (λ v. CanServe vs ok scope need v q) (sym here) can))
+            ]
+          ];
+      known = c.look.invariant.known;
+      own = c.look.invariant.own;
+      clear = c.look.invariant.clear;
+      taken = c.look.invariant.taken;
+    }
+
+pub returns-in-None-clause-skipped : goal.returns-in-None-clause-skipped
+returns-in-None-clause-skipped g c = λ jobs stands.
+    let s = c.args.s.now in
+    let graph = s.graph.now in
+    laws.skipped_to graph.resources graph.names c.is_valid.ensures.valid jobs s.barred.now s.window c.args.need.now
+    c.args.kind c.requires.of_kind c.args.from c.look.at c.args.to c.in-Some.vertex
+    (rw c.in-Some.is at c.next_of_kind.ensures) (c.look.invariant.skipped jobs stands)
 
 pub returns-in-None-clause-clear : goal.returns-in-None-clause-clear
 returns-in-None-clause-clear g c = λ jobs stands before.
     let s = c.args.s.now in
     let graph = s.graph.now in
     let next = rw c.in-Some.is at c.next_of_kind.ensures in
+    let low = next.low in
+    let order = c.look.invariant.order in
     clear_found graph.resources graph.names c.is_valid.ensures.valid jobs s.window
-    (asked_totals s.wanted.now (g.F.FreeView.keeps s.view.now)) c.args.need.now c.look.at c.args.to c.in-Some.vertex
-    (c.look.invariant.clear jobs stands before) next.low next.high (c.in-None.ensures.clear jobs stands)
+    (asked_totals s.wanted.now (g.F.FreeView.keeps s.view.now)) c.args.need.now c.look.low c.args.to c.in-Some.vertex
+    (c.look.invariant.clear jobs stands before) (omega (arith, low, order)) next.high
+    (c.in-None.ensures.clear jobs stands)
+
+pub returns-in-None-clause-known : goal.returns-in-None-clause-known
+returns-in-None-clause-known g c =
+    let s = c.args.s.now in
+    let graph = s.graph.now in
+    let need = c.args.need.now in
+    let valid = c.is_valid.ensures.valid in
+    let next = rw c.in-Some.is at c.next_of_kind.ensures in
+    let same = c.unknown-row.ensures.same in
+    knows_noted graph.resources.vertices (g.F.FreeView.stands_for s.view.now) s.barred.now s.needs.now s.window
+    c.args.own c.look.at c.past-next.result c.unknown-row.result c.look.known c.note.new.self need c.requires.of_own
+    c.note.ensures.own c.note.ensures.noted
+    (rw same (none_before graph.resources graph.names valid need c.args.kind c.requires.of_kind c.look.at c.args.to
+    c.in-Some.vertex next))
+    (rw same (none_below graph.resources graph.names valid need c.args.kind c.requires.of_kind c.in-Some.vertex
+    c.past-next.result next.of_kind c.past-next.ensures))
+    c.unknown-row.ensures.row c.look.invariant.known
 
 pub returns-in-None-clause-work : goal.returns-in-None-clause-work
 returns-in-None-clause-work g c = λ jobs stands place at before.
@@ -134,24 +146,90 @@ returns-in-None-clause-work g c = λ jobs stands place at before.
     let next = rw c.in-Some.is at c.next_of_kind.ensures in
     let lo = next.low in
     let hi = next.high in
+    let order = c.look.invariant.order in
     let from = c.look.invariant.later in
     let steps = length (all_of c.args.need.now) * g.F.FreeView.cost s.view.now in
-    takes_upto _ steps c.args.steps.now c.look.steps c.top_known.new.steps place (place + 1) c.args.from
-    (min c.look.at c.args.to) (c.in-Some.vertex + 1) (omega (arith, from, lo, hi)) (omega (arith, lo))
+    takes_upto _ steps c.args.steps.now c.look.steps c.top_short.new.steps place (place + 1) c.args.from
+    (min c.look.low c.args.to) (c.in-Some.vertex + 1) (omega (arith, from, order, lo, hi)) (omega (arith, lo, order))
     (c.look.invariant.taken jobs stands place at before)
-    (takes_within _ steps steps c.look.steps c.top_known.new.steps place (place + 1) c.look.at
-    (c.in-Some.vertex + 1) place (place + 1) (min c.look.at c.args.to) (c.in-Some.vertex + 1) (omega arith)
-    (omega arith) (omega arith) (omega arith) (omega arith)
-    (c.top_known.ensures.work jobs stands place at
-    (c.look.invariant.clear jobs stands before c.in-Some.vertex lo hi)))
+    (takes_within _ steps steps c.look.steps c.top_short.new.steps place (place + 1) c.look.low
+    (c.in-Some.vertex + 1) place (place + 1) (min c.look.low c.args.to) (c.in-Some.vertex + 1) (omega arith)
+    (omega arith) (omega arith) (omega (arith, order, lo, hi)) (omega arith)
+    (c.top_short.ensures.work jobs stands place at
+    (c.look.invariant.clear jobs stands before c.in-Some.vertex (omega (arith, order, lo)) hi)))
 
-pub returns-then-is_some-clause-skipped : goal.returns-then-is_some-clause-skipped
-returns-then-is_some-clause-skipped g c = λ jobs stands w reach.
+pub past-past-requires : goal.past-past-requires
+past-past-requires g c =
+    let graph = c.args.s.now.graph.now in
+    let next = rw c.in-Some.is at c.next_of_kind.ensures in
+    let high = next.high in
+    let within = c.requires.within in
+    let le = below_le graph.resources.vertices (parents_first graph.resources c.is_valid.ensures.valid.preorder)
+    c.in-Some.vertex c.in-Some-top_short.top c.in-Some-top_short.ensures.above.1 in
+    omega arith
+
+pub note_short-requires-clause-none : goal.note_short-requires-clause-none
+note_short-requires-clause-none g c = λ jobs stands w reach.
     let s = c.args.s.now in
     let graph = s.graph.now in
+    let valid = c.is_valid.ensures.valid in
     let next = rw c.in-Some.is at c.next_of_kind.ensures in
-    laws.skipped_shut graph.resources graph.names c.is_valid.ensures.valid jobs s.barred.now w c.args.need.now
-    c.args.kind c.requires.of_kind c.in-Some.vertex c.args.from c.look.at c.args.to reach.2 (s.shuts c.if-s.true)
-    next.of_kind (rank_node graph.resources.vertices c.in-Some.vertex
-    (ap is_some (sym c.rank_at.ensures) ∙ (sym c.is_some.ensures ∙ c.if-is_some.true)))
-    (c.look.invariant.skipped jobs stands w reach)
+    laws.skipped_past graph.resources graph.names valid jobs s.barred.now w c.args.need.now c.args.kind
+    c.requires.of_kind (asked_totals s.wanted.now (g.F.FreeView.keeps s.view.now)) c.requires.valid
+    c.look.at c.look.at c.in-Some.vertex c.in-Some-top_short.top c.past-past.result
+    c.in-Some-top_short.ensures.above.1 (c.in-Some-top_short.ensures.short jobs stands w reach) c.past-past.ensures
+    (laws.skipped_to graph.resources graph.names valid jobs s.barred.now w c.args.need.now c.args.kind
+    c.requires.of_kind c.look.at c.look.at c.args.to c.in-Some.vertex next
+    (λ scope u q lo hi some can. omega (arith, lo, hi)))
+
+-- a short subtree is passed over
+pub look-preserved : goal.look-preserved
+look-preserved g c =
+    let s = c.args.s.now in
+    let graph = s.graph.now in
+    let valid = c.is_valid.ensures.valid in
+    let keeps = asked_totals s.wanted.now (g.F.FreeView.keeps s.view.now) in
+    let next = rw c.in-Some.is at c.next_of_kind.ensures in
+    let lo = next.low in
+    let hi = next.high in
+    let order = c.look.invariant.order in
+    let from = c.look.invariant.later in
+    let most = c.requires.within in
+    let above = c.in-Some-top_short.ensures.above in
+    let top = above.0 in
+    let past = c.past-past.ensures.later in
+    let inside = c.past-past.ensures.whole c.in-Some.vertex (omega (arith, hi, most)) above.1 in
+    record {
+      later = omega (arith, from, top, past);
+      order = omega arith;
+      skipped = λ jobs stands.
+          let within : s.window.from ≤ c.top_short.new.until = c.top_short.ensures.falls.1 (omega arith) in
+          laws.skipped_past graph.resources graph.names valid jobs s.barred.now s.window c.args.need.now c.args.kind
+          c.requires.of_kind keeps c.requires.valid c.args.from c.look.at c.in-Some.vertex c.in-Some-top_short.top
+          c.past-past.result above.1
+          (c.in-Some-top_short.ensures.short jobs stands s.window
+          (reach_all s.window c.top_short.new.until within s.opens))
+          c.past-past.ensures
+          (laws.skipped_to graph.resources graph.names valid jobs s.barred.now s.window c.args.need.now c.args.kind
+          c.requires.of_kind c.args.from c.look.at c.args.to c.in-Some.vertex next
+          (c.look.invariant.skipped jobs stands));
+      known = c.note_short.ensures.known;
+      own = c.note_short.ensures.own ∙ c.look.invariant.own;
+      clear = λ jobs stands before. clear_past graph.resources graph.names valid jobs s.window keeps c.args.need.now
+          c.look.low c.args.to c.in-Some.vertex c.in-Some-top_short.top c.past-past.result c.requires.within
+          (c.look.invariant.clear jobs stands before) (omega (arith, lo, order)) hi (omega (arith, hi, most)) above.1
+          (c.in-Some-top_short.ensures.clear jobs stands) c.past-past.ensures;
+      taken = λ jobs stands place at before.
+          let steps = length (all_of c.args.need.now) * g.F.FreeView.cost s.view.now in
+          takes_within _ steps steps c.args.steps.now c.top_short.new.steps place (place + 1) c.args.from
+          (c.in-Some.vertex + 1) place (place + 1) c.args.from (min c.past-past.result c.args.to) (omega arith)
+          (omega arith) (omega arith) (omega arith) (omega (arith, inside, hi))
+          (takes_upto _ steps c.args.steps.now c.look.steps c.top_short.new.steps place (place + 1) c.args.from
+          (min c.look.low c.args.to) (c.in-Some.vertex + 1) (omega (arith, from, order, lo, hi))
+          (omega (arith, lo, order)) (c.look.invariant.taken jobs stands place at before)
+          (takes_within _ steps steps c.look.steps c.top_short.new.steps place (place + 1) c.look.low
+          (c.in-Some.vertex + 1) place (place + 1) (min c.look.low c.args.to) (c.in-Some.vertex + 1) (omega arith)
+          (omega arith) (omega arith) (omega (arith, order, lo, hi)) (omega arith)
+          (c.top_short.ensures.work jobs stands place at
+          (c.look.invariant.clear jobs stands before c.in-Some.vertex (omega (arith, order, lo)) hi))));
+    }

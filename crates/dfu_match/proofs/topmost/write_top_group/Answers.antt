@@ -4,9 +4,7 @@ use Rattle.flux_defs.specs.declared.claims.Claim.{Claim}
 use Rattle.flux_defs.specs.Needs.{amount_of}
 use Rattle.flux_laws.proofs.Takes.{takes_less}
 use Rattle.flux_laws.proofs.FitLaws.{serves_less}
-use Rattle.match_laws.specs.Offers.{SomeGroup}
-use Rattle.match_laws.proofs.Walk.{filled_start, filled_over, filled_next, filled_done, filled_none, lacks_start}
-use Rattle.match_laws.proofs.Walk.{lacks_over, lacks_end}
+use Rattle.match_laws.proofs.Walk.{filled_start, filled_over, filled_next, filled_done, filled_none}
 use Rattle.match_laws.proofs.NeedLists.{group_to}
 use Rattle.prune_laws.proofs.Demanded.{amount_some}
 use Rattle.flux_defs.specs.Graph.{Everywhere}
@@ -19,8 +17,8 @@ use Rattle.dfu_match.specs.Tables.{all_of}
 use Rattle.dfu_match.specs.Pairs.{asked_totals}
 use Rattle.dfu_match.proofs.OpenLaws.{none_inside, span_same}
 use Rattle.dfu_match.proofs.PairLaws.{takes_none}
-use Rattle.dfu_match.proofs.ReachLaws.{at_most_in, falls_twice, lacks_past, none_until, not_before, reach_all}
-use Rattle.dfu_match.proofs.ReachLaws.{reach_later, still_within}
+use Rattle.dfu_match.proofs.ApartLaws.{visited_start, visited_next, visited_none, visited_end}
+use Rattle.dfu_match.proofs.RowLaws.{knows_put}
 use Rattle.dfu_match.proofs.StepLaws as steps
 use Rattle.dfu_match.proofs.topmost.write_top_group.Goals as goal
 
@@ -52,17 +50,11 @@ loop-missing-init g c =
           (none_before vs ok Everywhere c.args.need.now c.span_of-span.result.from
           c.span_of-span.result.to c.span_of-span.ensures.covers)));
       known = c.requires.known;
-      falls = (omega arith, λ le. le);
-      lacks = λ jobs stands w reach.
-          let vs = c.args.s.now.graph.now.resources.vertices in
-          let ok : Claim → Type 0 = open_to vs jobs c.args.s.now.barred.now w in
-          rw total (lacks_start _ (1 * amount_of c.args.need.now) c.span_of-span.result.from
-          (none_before vs ok Everywhere c.args.need.now c.span_of-span.result.from
-          c.span_of-span.result.to c.span_of-span.ensures.covers));
       walked = λ jobs stands place times here clear look.
           let s = c.args.s.now in
-          steps.walked_start s.graph.now.resources s.graph.now.names c.is_valid.ensures.valid jobs s.window
+          visited_start s.graph.now.resources s.graph.now.names c.is_valid.ensures.valid jobs s.window
           (asked_totals s.wanted.now (g.F.FreeView.keeps s.view.now)) (needs_all s.needs.now) c.args.need.now place
+          ((length (needs_all s.needs.now) + 2) * g.F.FreeView.cost s.view.now)
           (times * ((length (needs_all s.needs.now) + 2) * g.F.FreeView.cost s.view.now)) None
           c.args.steps.now c.span_of-span.result.from c.span_of-span.result.to c.span_of-span.ensures.span
           c.span_of-span.ensures.within clear;
@@ -79,42 +71,11 @@ returns-in_default-next_open_known-clause-written g c =
           let ok : Claim → Type 0 = open_to vs jobs c.args.s.now.barred.now c.args.s.now.window in
           let scope = Everywhere in
           let need = c.args.need.now in
-          let s = c.args.s.now in
-          let within = still_within s.window c.next_open_known.new.until s.opens (falls_twice s.window
-          (s.window.to - 1) c.loop-missing.last c.next_open_known.new.until c.loop-missing.invariant.falls
-          c.next_open_known.ensures.falls) in
           filled_none _ (serves_less vs ok (takes_less _ _) scope need) _ (1 * amount_of need)
           c.loop-missing.at c.loop-missing.missing wrote.0
           (none_after vs ok scope need c.span_of-span.result.from c.loop-missing.at c.span_of-span.result.to
-          c.span_of-span.ensures.covers (c.in_default-next_open_known.ensures.skipped jobs stands s.window
-          (reach_all s.window c.next_open_known.new.until within s.opens)))
+          c.span_of-span.ensures.covers (c.in_default-next_open_known.ensures.skipped jobs stands))
           c.loop-missing-test.true (wrote.2 jobs stands) (group_to vs ok scope need (1 * amount_of need) some),
-    )
-
--- the total can't be filled while something is lacking and no vertex is left
-pub returns-in_default-next_open_known-clause-later :
-    goal.returns-in_default-next_open_known-clause-later
-returns-in_default-next_open_known-clause-later g c = λ e.
-    let s = c.args.s.now in
-    let vs = s.graph.now.resources.vertices in
-    let scope = Everywhere in
-    let need = c.args.need.now in
-    let last = c.next_open_known.new.until in
-    let falls = c.next_open_known.ensures.falls in
-    let told = c.until_when.ensures in (
-      not_before s.window c.loop-missing.lacking last c.until_when.result told.some told.none
-          (still_within s.window last s.opens (falls_twice s.window (s.window.to - 1) c.loop-missing.last last
-          c.loop-missing.invariant.falls falls)),
-      λ jobs stands. none_until (λ w. SomeGroup vs (open_to vs jobs s.barred.now w) scope need
-          (1 * amount_of need)) s.window c.loop-missing.lacking last c.until_when.result told.some told.none
-          (λ some w reach is.
-          let ok : Claim → Type 0 = open_to vs jobs s.barred.now w in
-          lacks_end _ (serves_less vs ok (takes_less _ _) scope need) (1 * amount_of need) c.loop-missing.at
-          c.loop-missing.lacking
-          (none_after vs ok scope need c.span_of-span.result.from c.loop-missing.at c.span_of-span.result.to
-          c.span_of-span.ensures.covers (c.in_default-next_open_known.ensures.skipped jobs stands w reach)) some
-          (c.loop-missing.invariant.lacks jobs stands w (reach_later s.window w last c.loop-missing.last falls.0 reach))
-          (group_to vs ok scope need (1 * amount_of need) is)),
     )
 
 pub loop-missing-preserved : goal.loop-missing-preserved
@@ -134,9 +95,6 @@ loop-missing-preserved g c =
     c.loop-missing.invariant.from c.span_of-span.ensures.within of_kind next in
     let before = c.loop-missing.invariant.written in
     let wrote = c.in_ok-served.ensures.offers in
-    let sought = falls_twice s.window (s.window.to - 1) c.loop-missing.last c.next_open_known.new.until
-    c.loop-missing.invariant.falls c.next_open_known.ensures.falls in
-    let within = still_within s.window c.next_open_known.new.until s.opens sought in
     record {
       within = (let few = c.loop-missing.invariant.within in omega arith);
       from = (let lo = c.loop-missing.invariant.from in omega (arith, lo, low, later));
@@ -160,33 +118,13 @@ loop-missing-preserved g c =
             c.loop-missing-test.true
             (filled_over _ _ (1 * amount_of need) c.loop-missing.at v c.loop-missing.missing before.0 low
             (none_skipped vs ok scope need c.loop-missing.at v
-            (rw c.in-Some-next_open_known.is at (c.next_open_known.ensures.skipped jobs stands s.window
-            (reach_all s.window c.next_open_known.new.until within s.opens)))) (before.2 jobs stands))
+            (rw c.in-Some-next_open_known.is at (c.next_open_known.ensures.skipped jobs stands)))
+            (before.2 jobs stands))
             (wrote.2 jobs stands scope is.1))),
       );
-      known = c.next_open_known.ensures.known;
-      falls = falls_twice s.window (s.window.to - 1) c.next_open_known.new.until c.most_served-most.new.until sought
-          c.most_served-most.ensures.falls;
-      lacks = λ jobs stands w reach.
-          let ok : Claim → Type 0 = open_to vs jobs s.barred.now w in
-          let scope = Everywhere in
-          let total = 1 * amount_of need in
-          let mid = reach_later s.window w c.most_served-most.new.until c.next_open_known.new.until
-          c.most_served-most.ensures.falls.0 reach in
-          let far = reach_later s.window w c.next_open_known.new.until c.loop-missing.last
-          c.next_open_known.ensures.falls.0 mid in
-          lacks_over _ total (v + 1) c.past-next.result c.lacking_after-lacking.result
-          (none_skipped vs ok scope need (v + 1) c.past-next.result
-          (none_inside graph.resources graph.names c.is_valid.ensures.valid ok need c.in-Some.kind v
-          c.past-next.result of_kind next.0 past))
-          (lacks_past _ (serves_less vs ok (takes_less _ _) scope need) total v c.loop-missing.lacking
-          c.most_served-most.result c.lacking_after-lacking.result c.lacking_after-lacking.ensures
-          (at_most_in vs ok need v c.most_served-most.result scope
-          (c.most_served-most.ensures.most jobs stands w reach))
-          (lacks_over _ total c.loop-missing.at v c.loop-missing.lacking
-          (none_skipped vs ok scope need c.loop-missing.at v
-          (rw c.in-Some-next_open_known.is at (c.next_open_known.ensures.skipped jobs stands w mid)))
-          (c.loop-missing.invariant.lacks jobs stands w far)));
+      known = knows_put vs (g.F.FreeView.stands_for s.view.now) s.barred.now s.needs.now s.window c.args.own
+          c.unknown-row.result c.next_open_known.new.known c.put.new.self need c.requires.of_own c.put.ensures.own
+          c.put.ensures.put c.unknown-row.ensures.row c.next_open_known.ensures.known;
       walked = λ jobs stands place times here clear look.
           let keeps = asked_totals s.wanted.now (g.F.FreeView.keeps s.view.now) in
           let all = needs_all s.needs.now in
@@ -196,19 +134,13 @@ loop-missing-preserved g c =
           let walk = rw c.in-Some-next_open_known.is at
           (c.next_open_known.ensures.work jobs stands place here before.clear) in
           let few = tables.place_few all place need here in
-          let bound = (times - 1) * ((length (all_of need) + 1) * cost) in
-          steps.walked_next graph.resources graph.names c.is_valid.ensures.valid jobs s.window keeps all need place
-          (times * ((length all + 2) * cost)) None (length (all_of need) * cost) (2 * cost + bound)
-          c.args.steps.now c.loop-missing.steps c.next_open_known.new.steps c.most_served-most.new.steps
+          visited_next graph.resources graph.names c.is_valid.ensures.valid jobs s.window keeps all need place
+          ((length all + 2) * cost) (times * ((length all + 2) * cost)) None (length (all_of need) * cost) (2 * cost)
+          c.args.steps.now c.loop-missing.steps c.next_open_known.new.steps c.offer.new.steps
           c.span_of-span.result.from c.loop-missing.at c.span_of-span.result.to v c.past-next.result
           c.span_of-span.ensures.span c.span_of-span.ensures.within here
-          (steps.bound_costs times (length (all_of need)) (length all) cost (steps.looks_some times need look) few)
-          before next.1 next.2 alone past walk
-          (steps.takes_after _ (times * ((length all + 2) * cost)) c.next_open_known.new.steps c.offer.new.steps
-          c.most_served-most.new.steps (2 * cost) bound (place + 1) (place + length (all_of need)) (v + 1)
-          c.past-next.result
-          (c.most_served-most.ensures.work times look)
-          (c.offer.ensures.work jobs stands place c.past-next.result times here alone past look));
+          (steps.look_costs (length (all_of need)) (length all) cost few) before next.1 next.2 alone past walk
+          (c.offer.ensures.work jobs stands place c.past-next.result times here alone past look);
     }
 
 pub returns-clause-written : goal.returns-clause-written
@@ -223,7 +155,13 @@ returns-clause-written g c =
 
 pub returns-in_default-clause-work : goal.returns-in_default-clause-work
 returns-in_default-clause-work g c = λ jobs stands place from to times here clear span look.
-    takes_none _ _ c.args.steps.now place (place + length (all_of c.args.need.now)) from to
+    let need = c.args.need.now in (
+      0,
+      0,
+      omega arith,
+      takes_none _ _ 0 place (place + 1) from to,
+      takes_none _ _ 0 (place + 1) (place + length (all_of need)) from to,
+    )
 
 pub returns-in_default-next_open_known-clause-work :
     goal.returns-in_default-next_open_known-clause-work
@@ -240,12 +178,10 @@ returns-in_default-next_open_known-clause-work g c =
     let before = c.loop-missing.invariant.walked jobs stands place times here clear look in
     let walk = c.in_default-next_open_known.ensures.work jobs stands place here before.clear in
     let enough = steps.look_costs (length (all_of need)) (length all) cost (tables.place_few all place need here) in
-    let more = steps.times_costs times ((length all + 2) * cost) (steps.looks_some times need look) in
-    rw (same.0, same.1) (steps.walked_none graph.resources graph.names c.is_valid.ensures.valid jobs s.window keeps
-    all need place
-    (times * ((length all + 2) * cost)) (length (all_of need) * cost) c.args.steps.now c.loop-missing.steps
-    c.next_open_known.new.steps c.span_of-span.result.from c.loop-missing.at c.span_of-span.result.to
-    (omega (arith, enough, more)) before walk)
+    rw (same.0, same.1) (visited_none graph.resources graph.names c.is_valid.ensures.valid jobs s.window keeps
+    all need place ((length all + 2) * cost) (times * ((length all + 2) * cost)) (length (all_of need) * cost)
+    c.args.steps.now c.loop-missing.steps c.next_open_known.new.steps c.span_of-span.result.from c.loop-missing.at
+    c.span_of-span.result.to (omega (arith, enough)) before walk)
 
 pub returns-clause-work : goal.returns-clause-work
 returns-clause-work g c = λ jobs stands place from to times here clear span look.
@@ -257,9 +193,8 @@ returns-clause-work g c = λ jobs stands place from to times here clear span loo
     let cost = g.F.FreeView.cost s.view.now in
     let same = span_same graph.resources graph.names c.is_valid.ensures.valid None from to
     c.span_of-span.result.from c.span_of-span.result.to span c.span_of-span.ensures.span in
-    rw (same.0, same.1) (steps.walked_end graph.resources graph.names c.is_valid.ensures.valid jobs s.window keeps all
-    need place
-    (times * ((length all + 2) * cost)) c.args.steps.now c.loop-missing.steps
+    rw (same.0, same.1) (visited_end graph.resources graph.names c.is_valid.ensures.valid jobs s.window keeps all
+    need place ((length all + 2) * cost) (times * ((length all + 2) * cost)) c.args.steps.now c.loop-missing.steps
     c.span_of-span.result.from c.loop-missing.at c.span_of-span.result.to
     (c.loop-missing.invariant.walked jobs stands place times here clear look))
 
@@ -280,14 +215,12 @@ returns-in_err-served-clause-work g c = λ jobs stands place from to times here 
     let walk = rw c.in-Some-next_open_known.is at
     (c.next_open_known.ensures.work jobs stands place here before.clear) in
     let enough = steps.look_costs (length (all_of need)) (length all) cost (tables.place_few all place need here) in
-    let more = steps.times_costs times ((length all + 2) * cost) (steps.looks_some times need look) in
-    rw (same.0, same.1) (steps.walked_end graph.resources graph.names c.is_valid.ensures.valid jobs s.window keeps all
-    need place
-    (times * ((length all + 2) * cost)) c.args.steps.now c.offer.new.steps
+    rw (same.0, same.1) (visited_end graph.resources graph.names c.is_valid.ensures.valid jobs s.window keeps all
+    need place ((length all + 2) * cost) (times * ((length all + 2) * cost)) c.args.steps.now c.offer.new.steps
     c.span_of-span.result.from c.past-next.result c.span_of-span.result.to
-    (steps.walked_next graph.resources graph.names c.is_valid.ensures.valid jobs s.window keeps all need place
-    (times * ((length all + 2) * cost)) None (length (all_of need) * cost) (2 * cost) c.args.steps.now
-    c.loop-missing.steps c.next_open_known.new.steps c.offer.new.steps c.span_of-span.result.from c.loop-missing.at
-    c.span_of-span.result.to v c.past-next.result c.span_of-span.ensures.span c.span_of-span.ensures.within here
-    (omega (arith, enough, more)) before next.1 next.2 alone c.past-next.ensures walk
+    (visited_next graph.resources graph.names c.is_valid.ensures.valid jobs s.window keeps all need place
+    ((length all + 2) * cost) (times * ((length all + 2) * cost)) None (length (all_of need) * cost) (2 * cost)
+    c.args.steps.now c.loop-missing.steps c.next_open_known.new.steps c.offer.new.steps c.span_of-span.result.from
+    c.loop-missing.at c.span_of-span.result.to v c.past-next.result c.span_of-span.ensures.span
+    c.span_of-span.ensures.within here (omega (arith, enough)) before next.1 next.2 alone c.past-next.ensures walk
     (c.offer.ensures.work jobs stands place c.past-next.result times here alone c.past-next.ensures look)))

@@ -1,17 +1,15 @@
 use Rattle.std.proofs.Common.{◌-◌, ◌+◌, ◌*◌, ◌≤◌, ℕ, List, None, length}
 use Rattle.flux_defs.specs.declared.claims.Job.{Job}
-use Rattle.flux_defs.specs.declared.claims.Window.{Window}
 use Rattle.flux_defs.specs.Needs.{amount_of}
 use Rattle.flux_defs.specs.Graph.{Everywhere}
 use Rattle.flux_defs.specs.Lowest.{CanServe, LowestPiece}
 use Rattle.match_laws.specs.Offers.{Extends}
-use Rattle.match_laws.proofs.Walk.{Filled, Lacks}
+use Rattle.match_laws.proofs.Walk.{Filled}
 use Rattle.dfu_match.specs.Tables.{needs_all}
 use Rattle.dfu_match.specs.Pairs.{IsClearScope, IsPlaceOf, AreLooks}
 use Rattle.dfu_match.specs.Pairs.{asked_totals}
-use Rattle.dfu_match.specs.Notes.{Knows}
-use Rattle.dfu_match.specs.Reaches.{FallsWithin, ReachesOver}
-use Rattle.dfu_match.proofs.StepLaws.{Walked}
+use Rattle.dfu_match.specs.Rows.{Knows}
+use Rattle.dfu_match.proofs.ApartLaws.{Visited}
 use Rattle.dfu_match.specs.Searches.{open_to}
 use Rattle.dfu_match.proofs.topmost.write_top_group.Given as goal
 
@@ -27,19 +25,15 @@ invariant-loop-missing g l = record {
       (LowestPiece l.s.graph.now.resources.vertices
       (open_to l.s.graph.now.resources.vertices jobs l.s.barred.now l.s.window) l.need)
       (1 * amount_of l.need) l.at l.missing claims);
-  known : Knows l.s.graph.now.resources.vertices (g.F.FreeView.stands_for l.s.view.now) l.s.wanted.now
-      (g.F.FreeView.keeps l.s.view.now) (needs_all l.s.needs.now) l.s.window l.known;
-  falls : FallsWithin l.s.window (l.s.window.to - 1) l.last;
-  lacks : (jobs : List Job) → g.F.FreeView.stands_for l.s.view.now jobs → (w : Window) →
-      ReachesOver l.s.window l.last w → Lacks (CanServe l.s.graph.now.resources.vertices
-      (open_to l.s.graph.now.resources.vertices jobs l.s.barred.now w) Everywhere l.need)
-      (1 * amount_of l.need) l.at l.lacking;
+  known : Knows l.s.graph.now.resources.vertices (g.F.FreeView.stands_for l.s.view.now) l.s.barred.now l.s.needs.now
+      l.s.window l.known;
   walked : (jobs : List Job) → g.F.FreeView.stands_for l.s.view.now jobs → (place times : ℕ) →
       IsPlaceOf (needs_all l.s.needs.now) place l.need →
       IsClearScope l.s.graph.now.resources.vertices jobs l.s.window
       (asked_totals l.s.wanted.now (g.F.FreeView.keeps l.s.view.now)) None l.need → AreLooks times l.need →
-      Walked l.s.graph.now.resources.vertices jobs l.s.window
+      Visited l.s.graph.now.resources.vertices jobs l.s.window
       (asked_totals l.s.wanted.now (g.F.FreeView.keeps l.s.view.now)) (needs_all l.s.needs.now) l.need place
+      ((length (needs_all l.s.needs.now) + 2) * g.F.FreeView.cost l.s.view.now)
       (times * ((length (needs_all l.s.needs.now) + 2) * g.F.FreeView.cost l.s.view.now)) l.initial.steps l.steps
       l.span.from l.at l.span.to;
 }

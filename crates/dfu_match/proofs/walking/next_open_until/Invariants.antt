@@ -5,7 +5,8 @@ use Rattle.dfu_match.specs.Searches.{open_to}
 use Rattle.dfu_match.specs.Walks.{ServesNone}
 use Rattle.dfu_match.specs.Tables.{all_of, needs_all}
 use Rattle.dfu_match.specs.Pairs.{HasEachOpen, IsClearBefore, IsPlaceOf, TakesEach, asked_totals}
-use Rattle.dfu_match.specs.Reaches.{FallsWithin, ReachesOver}
+use Rattle.flux_defs.specs.Later.{ReachesOver}
+use Rattle.dfu_match.specs.Reaches.{FallsWithin}
 use Rattle.dfu_match.proofs.walking.next_open_until.Given as goal
 
 -- what the walk has passed over can't serve the need

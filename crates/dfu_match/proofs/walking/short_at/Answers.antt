@@ -1,12 +1,13 @@
-use Rattle.std.proofs.Common.{◌≡◌, ◌<◌, ◌≤◌, List, Some, MatchOption, length, slice_get, refl, sym, ap, subst, arith}
+use Rattle.std.proofs.Common.{◌≡◌, ◌<◌, ◌≤◌, List, Some, length, slice_get, refl, sym, ap, subst, arith}
 use Rattle.std.proofs.Math.Nat.{mul-le-mul_right}
 use Rattle.std.proofs.lemmas.Bool.{ltb-true, ltb-false}
 use Rattle.std.proofs.lemmas.Option.{slice_get_read}
 use Rattle.flux_defs.specs.declared.vertices.Vertex.{Vertex}
-use Rattle.prune_filters.specs.Shorts.{IsShortOf, IsShortOfAt}
+use Rattle.flux_defs.specs.Later.{IsSoUntil}
+use Rattle.prune_filters.specs.Shorts.{IsShortOf}
 use Rattle.dfu_match.specs.Tables.{needs_all}
 use Rattle.dfu_match.proofs.TableLaws.{need_there, none_past}
-use Rattle.dfu_match.proofs.ReachLaws.{told_at}
+use Rattle.dfu_match.proofs.ReachLaws.{told_until}
 use Rattle.dfu_match.proofs.walking.short_at.Goals as goal
 
 pub returns-in-None-clause-short : goal.returns-in-None-clause-short
@@ -32,12 +33,11 @@ returns-in-Some g c =
     c.requires.stands entry in
     let tells = s.tells c.args.index need c.in-Some.wanted.now there entry in
     record {
-      short = λ jobs stands. told_at vs jobs s.window kept need demands tells.demands c.args.vertex s.wanted.now
-          (λ none. (let zero = ap length none in omega (arith, zero, lt))) c.short.result
-          (subst (λ (us : List Vertex). MatchOption c.short.result
-          (IsShortOf us jobs s.window kept demands c.args.vertex → ⊥)
-          (IsShortOfAt us jobs kept demands c.args.vertex)) s.over (c.short.ensures.answer jobs stands));
-      within = c.short.ensures.within;
+      short = λ jobs stands. told_until vs jobs s.window kept need demands tells.demands c.args.vertex s.wanted.now
+          (λ none. (let zero = ap length none in omega (arith, zero, lt))) c.short_until.result
+          (subst (λ (us : List Vertex). IsSoUntil (λ w. IsShortOf us jobs w kept demands c.args.vertex) s.window
+          c.short_until.result) s.over (c.short_until.ensures.answer jobs stands));
+      within = c.short_until.ensures.within;
       work = (let few = mul-le-mul_right (g.F.FreeView.cost s.view.now) tells.few in
-          omega (arith, few, c.short.ensures.work));
+          omega (arith, few, c.short_until.ensures.work));
     }

@@ -10,9 +10,7 @@ use Rattle.flux_defs.proofs.requests.Need.TheLaws.{the_size}
 use Rattle.flux_defs.specs.Needs.{amount_of, AreValidNeeds}
 use Rattle.flux_laws.proofs.Takes.{takes_less}
 use Rattle.flux_laws.proofs.FitLaws.{serves_less}
-use Rattle.match_laws.specs.Offers.{SomeGroup}
-use Rattle.match_laws.proofs.Walk.{filled_start, filled_over, filled_next, filled_done, filled_none, lacks_start}
-use Rattle.match_laws.proofs.Walk.{lacks_over, lacks_end}
+use Rattle.match_laws.proofs.Walk.{filled_start, filled_over, filled_next, filled_done, filled_none}
 use Rattle.match_laws.proofs.NeedLists.{group_to, group_at, completes_next, completes_end}
 use Rattle.match_laws.proofs.Sizes.{size_Vert, size_Spread, size_item}
 use Rattle.prune_laws.proofs.Demanded.{amount_some}
@@ -26,8 +24,7 @@ use Rattle.dfu_match.specs.Tables.{all_of}
 use Rattle.dfu_match.specs.Pairs.{IsClearScope, asked_totals}
 use Rattle.dfu_match.proofs.OpenLaws.{none_inside, span_same}
 use Rattle.dfu_match.proofs.PairLaws.{takes_none}
-use Rattle.dfu_match.proofs.ReachLaws.{at_most_in, falls_twice, lacks_past, none_until, not_before, reach_all}
-use Rattle.dfu_match.proofs.ReachLaws.{reach_later, still_within}
+use Rattle.dfu_match.proofs.ReachLaws.{over_own}
 use Rattle.dfu_match.proofs.StepLaws as steps
 use Rattle.dfu_match.proofs.writing.+writing.Goals as goal
 
@@ -239,13 +236,6 @@ write_group-loop-missing-init g t c =
           rw total (filled_start _ _ (c.args.k * amount_of c.args.need.now) c.span_of-span.result.from
           (none_before vs ok (scope_of c.args.scope) c.args.need.now c.span_of-span.result.from
           c.span_of-span.result.to c.span_of-span.ensures.covers)));
-      falls = (omega arith, λ le. le);
-      lacks = λ jobs stands w reach.
-          let vs = c.args.s.now.graph.now.resources.vertices in
-          let ok : Claim → Type 0 = open_to vs jobs c.args.s.now.barred.now w in
-          rw total (lacks_start _ (c.args.k * amount_of c.args.need.now) c.span_of-span.result.from
-          (none_before vs ok (scope_of c.args.scope) c.args.need.now c.span_of-span.result.from
-          c.span_of-span.result.to c.span_of-span.ensures.covers));
       walked = λ jobs stands place times here clear look.
           let s = c.args.s.now in
           steps.walked_start s.graph.now.resources s.graph.now.names c.is_valid.ensures.valid jobs s.window
@@ -266,42 +256,13 @@ write_group-returns-in_default-next_open_until-clause-written g t c =
           let ok : Claim → Type 0 = open_to vs jobs c.args.s.now.barred.now c.args.s.now.window in
           let scope = scope_of c.args.scope in
           let need = c.args.need.now in
-          let s = c.args.s.now in
-          let within = still_within s.window c.next_open_until.new.until s.opens (falls_twice s.window
-          (s.window.to - 1) c.loop-missing.last c.next_open_until.new.until c.loop-missing.invariant.falls
-          c.next_open_until.ensures.falls) in
           filled_none _ (serves_less vs ok (takes_less _ _) scope need) _ (c.args.k * amount_of need)
           c.loop-missing.at c.loop-missing.missing wrote.0
           (none_after vs ok scope need c.span_of-span.result.from c.loop-missing.at c.span_of-span.result.to
-          c.span_of-span.ensures.covers (c.in_default-next_open_until.ensures.skipped jobs stands s.window
-          (reach_all s.window c.next_open_until.new.until within s.opens)))
+          c.span_of-span.ensures.covers (over_own c.args.s.now.window c.next_open_until.new.until
+          c.in_default-next_open_until.ensures.falls c.args.s.now.opens _
+          (c.in_default-next_open_until.ensures.skipped jobs stands)))
           c.loop-missing-test.true (wrote.2 jobs stands) (group_to vs ok scope need (c.args.k * amount_of need) some),
-    )
-
--- the total can't be filled while something is lacking and no vertex is left
-pub write_group-returns-in_default-next_open_until-clause-later :
-    goal.write_group-returns-in_default-next_open_until-clause-later
-write_group-returns-in_default-next_open_until-clause-later g t c = λ e.
-    let s = c.args.s.now in
-    let vs = s.graph.now.resources.vertices in
-    let scope = scope_of c.args.scope in
-    let need = c.args.need.now in
-    let last = c.next_open_until.new.until in
-    let falls = c.next_open_until.ensures.falls in
-    let told = c.until_when.ensures in (
-      not_before s.window c.loop-missing.lacking last c.until_when.result told.some told.none
-          (still_within s.window last s.opens (falls_twice s.window (s.window.to - 1) c.loop-missing.last last
-          c.loop-missing.invariant.falls falls)),
-      λ jobs stands. none_until (λ w. SomeGroup vs (open_to vs jobs s.barred.now w) scope need
-          (c.args.k * amount_of need)) s.window c.loop-missing.lacking last c.until_when.result told.some told.none
-          (λ some w reach is.
-          let ok : Claim → Type 0 = open_to vs jobs s.barred.now w in
-          lacks_end _ (serves_less vs ok (takes_less _ _) scope need) (c.args.k * amount_of need) c.loop-missing.at
-          c.loop-missing.lacking
-          (none_after vs ok scope need c.span_of-span.result.from c.loop-missing.at c.span_of-span.result.to
-          c.span_of-span.ensures.covers (c.in_default-next_open_until.ensures.skipped jobs stands w reach)) some
-          (c.loop-missing.invariant.lacks jobs stands w (reach_later s.window w last c.loop-missing.last falls.0 reach))
-          (group_to vs ok scope need (c.args.k * amount_of need) is)),
     )
 
 pub write_group-loop-missing-preserved : goal.write_group-loop-missing-preserved
@@ -321,9 +282,6 @@ write_group-loop-missing-preserved g t c =
     c.loop-missing.invariant.from c.span_of-span.ensures.within of_kind next in
     let before = c.loop-missing.invariant.written in
     let wrote = c.in_ok-served.ensures.offers in
-    let sought = falls_twice s.window (s.window.to - 1) c.loop-missing.last c.next_open_until.new.until
-    c.loop-missing.invariant.falls c.next_open_until.ensures.falls in
-    let within = still_within s.window c.next_open_until.new.until s.opens sought in
     record {
       within = (let few = c.loop-missing.invariant.within in omega arith);
       from = (let lo = c.loop-missing.invariant.from in omega (arith, lo, low, later));
@@ -347,32 +305,11 @@ write_group-loop-missing-preserved g t c =
             c.loop-missing-test.true
             (filled_over _ _ (c.args.k * amount_of need) c.loop-missing.at v c.loop-missing.missing before.0 low
             (none_skipped vs ok scope need c.loop-missing.at v
-            (rw c.in-Some-next_open_until.is at (c.next_open_until.ensures.skipped jobs stands s.window
-            (reach_all s.window c.next_open_until.new.until within s.opens)))) (before.2 jobs stands))
+            (rw c.in-Some-next_open_until.is at (over_own s.window c.next_open_until.new.until
+            c.next_open_until.ensures.falls s.opens _ (c.next_open_until.ensures.skipped jobs stands))))
+            (before.2 jobs stands))
             (wrote.2 jobs stands scope is.1))),
       );
-      falls = falls_twice s.window (s.window.to - 1) c.next_open_until.new.until c.most_served-most.new.until sought
-          c.most_served-most.ensures.falls;
-      lacks = λ jobs stands w reach.
-          let ok : Claim → Type 0 = open_to vs jobs s.barred.now w in
-          let scope = scope_of c.args.scope in
-          let total = c.args.k * amount_of need in
-          let mid = reach_later s.window w c.most_served-most.new.until c.next_open_until.new.until
-          c.most_served-most.ensures.falls.0 reach in
-          let far = reach_later s.window w c.next_open_until.new.until c.loop-missing.last
-          c.next_open_until.ensures.falls.0 mid in
-          lacks_over _ total (v + 1) c.past-next.result c.lacking_after-lacking.result
-          (none_skipped vs ok scope need (v + 1) c.past-next.result
-          (none_inside graph.resources graph.names c.is_valid.ensures.valid ok need c.in-Some.kind v
-          c.past-next.result of_kind next.0 past))
-          (lacks_past _ (serves_less vs ok (takes_less _ _) scope need) total v c.loop-missing.lacking
-          c.most_served-most.result c.lacking_after-lacking.result c.lacking_after-lacking.ensures
-          (at_most_in vs ok need v c.most_served-most.result scope
-          (c.most_served-most.ensures.most jobs stands w reach))
-          (lacks_over _ total c.loop-missing.at v c.loop-missing.lacking
-          (none_skipped vs ok scope need c.loop-missing.at v
-          (rw c.in-Some-next_open_until.is at (c.next_open_until.ensures.skipped jobs stands w mid)))
-          (c.loop-missing.invariant.lacks jobs stands w far)));
       walked = λ jobs stands place times here clear look.
           let keeps = asked_totals s.wanted.now (g.F.FreeView.keeps s.view.now) in
           let all = needs_all s.needs.now in
@@ -382,19 +319,15 @@ write_group-loop-missing-preserved g t c =
           let walk = rw c.in-Some-next_open_until.is at
           (c.next_open_until.ensures.work jobs stands place here before.clear) in
           let few = tables.place_few all place need here in
-          let bound = (times - 1) * ((length (all_of need) + 1) * cost) in
+          let enough = steps.look_costs (length (all_of need)) (length all) cost few in
+          let more = steps.times_costs times ((length all + 2) * cost) (steps.looks_some times need look) in
           steps.walked_next graph.resources graph.names c.is_valid.ensures.valid jobs s.window keeps all need place
-          (times * ((length all + 2) * cost)) c.args.scope (length (all_of need) * cost) (2 * cost + bound)
-          c.args.steps.now c.loop-missing.steps c.next_open_until.new.steps c.most_served-most.new.steps
+          (times * ((length all + 2) * cost)) c.args.scope (length (all_of need) * cost) (2 * cost)
+          c.args.steps.now c.loop-missing.steps c.next_open_until.new.steps c.offer.new.steps
           c.span_of-span.result.from c.loop-missing.at c.span_of-span.result.to v c.past-next.result
-          c.span_of-span.ensures.span c.span_of-span.ensures.within here
-          (steps.bound_costs times (length (all_of need)) (length all) cost (steps.looks_some times need look) few)
-          before next.1 next.2 alone past walk
-          (steps.takes_after _ (times * ((length all + 2) * cost)) c.next_open_until.new.steps c.offer.new.steps
-          c.most_served-most.new.steps (2 * cost) bound (place + 1) (place + length (all_of need)) (v + 1)
-          c.past-next.result
-          (c.most_served-most.ensures.work times look)
-          (c.offer.ensures.work jobs stands place c.past-next.result times here alone past look));
+          c.span_of-span.ensures.span c.span_of-span.ensures.within here (omega (arith, enough, more)) before next.1
+          next.2 alone past walk
+          (c.offer.ensures.work jobs stands place c.past-next.result times here alone past look);
     }
 
 pub write_group-returns-clause-written : goal.write_group-returns-clause-written
@@ -480,22 +413,6 @@ write_needs-returns-then-not-filled-clause-written g t c =
           let never = rw c.if-not-filled.true at (wrote.2 jobs stands) in
           never (group_at vs ok c.args.k (scope_of c.args.scope) items i need (drop (i + 1) items) split
           (rw c.items-need-items.ensures fit)),
-    )
-
-pub write_needs-returns-then-not-filled-clause-later : goal.write_needs-returns-then-not-filled-clause-later
-write_needs-returns-then-not-filled-clause-later g t c = λ e.
-    let items : List Need = c.items-need-items.result.now in
-    let i = c.loop-need.need-index in
-    let need = c.need-item.result in
-    let split : drop i items ≡ need ∷ drop (i + 1) items = counts.item_split items i need c.loop-need-test.true
-    c.need-item.is in
-    let later = c.in_ok-filled.ensures.later c.if-not-filled.true in (
-      later.0,
-      λ jobs stands lt w reach fit.
-          let vs = c.args.s.now.graph.now.resources.vertices in
-          let ok : Claim → Type 0 = open_to vs jobs c.args.s.now.barred.now w in
-          later.1 jobs stands lt w reach (group_at vs ok c.args.k (scope_of c.args.scope) items i need
-          (drop (i + 1) items) split (rw c.items-need-items.ensures fit)),
     )
 
 pub write_needs-loop-need-preserved : goal.write_needs-loop-need-preserved

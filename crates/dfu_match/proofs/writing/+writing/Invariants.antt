@@ -1,16 +1,14 @@
 use Rattle.std.proofs.Common.{◌-◌, ◌+◌, ◌*◌, ◌≤◌, ℕ, List, length, take, drop}
 use Rattle.std.specs.List.{AllByRecursion}
 use Rattle.flux_defs.specs.declared.claims.Job.{Job}
-use Rattle.flux_defs.specs.declared.claims.Window.{Window}
 use Rattle.flux_defs.specs.Needs.{amount_of}
 use Rattle.flux_defs.specs.Lowest.{CanServe, LowestPiece}
 use Rattle.match_laws.specs.Offers.{Extends}
-use Rattle.match_laws.proofs.Walk.{Filled, Lacks}
+use Rattle.match_laws.proofs.Walk.{Filled}
 use Rattle.match_laws.proofs.NeedLists.{Completes}
 use Rattle.dfu_match.specs.Tables.{needs_all, StandAt}
 use Rattle.dfu_match.specs.Pairs.{HasEachOpen, IsClearScope, IsPlaceOf, IsPlaceOfAll, IsSpanOf, AreLooks, AreLooksAll}
 use Rattle.dfu_match.specs.Pairs.{TakesEach, asked_totals}
-use Rattle.dfu_match.specs.Reaches.{FallsWithin, ReachesOver}
 use Rattle.dfu_match.proofs.StepLaws.{Walked}
 use Rattle.dfu_match.specs.Searches.{open_to, scope_of}
 use Rattle.dfu_match.proofs.writing.+writing.Given as goal
@@ -47,11 +45,6 @@ invariant-write_group-loop-missing g l = record {
       (LowestPiece l.s.graph.now.resources.vertices
       (open_to l.s.graph.now.resources.vertices jobs l.s.barred.now l.s.window) l.need)
       (l.fn.k * amount_of l.need) l.at l.missing claims);
-  falls : FallsWithin l.s.window (l.s.window.to - 1) l.last;
-  lacks : (jobs : List Job) → g.F.FreeView.stands_for l.s.view.now jobs → (w : Window) →
-      ReachesOver l.s.window l.last w → Lacks (CanServe l.s.graph.now.resources.vertices
-      (open_to l.s.graph.now.resources.vertices jobs l.s.barred.now w) (scope_of l.fn.scope) l.need)
-      (l.fn.k * amount_of l.need) l.at l.lacking;
   walked : (jobs : List Job) → g.F.FreeView.stands_for l.s.view.now jobs → (place times : ℕ) →
       IsPlaceOf (needs_all l.s.needs.now) place l.need →
       IsClearScope l.s.graph.now.resources.vertices jobs l.s.window

@@ -3,8 +3,7 @@ use Rattle.flux_defs.specs.declared.vertices.Vertex.{Vertex}
 use Rattle.flux_defs.specs.Asks.{window_of, IsLowestFirst}
 use Rattle.flux_laws.proofs.Determined.{lowest_fits}
 use Rattle.earliest_search.specs.Tried.{IsNextTry, IsNextTryOrNone}
-use Rattle.dfu_match.specs.Tables.{needs_all}
-use Rattle.dfu_match.proofs.NoteLaws.{knows_later, knows_nothing}
+use Rattle.dfu_match.proofs.RowLaws.{knows_later, knows_nothing}
 use Rattle.earliest_search.proofs.StartLaws.{ends_no_sooner, is_earliest, no_fit, none_ever, none_past}
 use Rattle.earliest_search.proofs.StartLaws.{none_to_next, worth_try}
 use Rattle.earliest_search.proofs.TriedLaws.{before_all, before_more, each_before, each_counted, try_more, try_all}
@@ -89,7 +88,7 @@ starts-preserved g c =
           let next = c.in-Some.ensures.next jobs stands in
           inr (omega (arith, le, lt), next.point);
       known = (let matcher = c.in_ok-matcher.matcher in knows_later matcher.graph.now.resources.vertices
-          (g.F.FreeView.stands_for c.args.view.now) matcher.wanted keeps (needs_all matcher.ask.now.needs)
+          (g.F.FreeView.stands_for c.args.view.now) matcher.ask.now.barred matcher.ask.now.needs
           (window_of c.args.horizon ask t) (window_of c.args.horizon ask c.in-Some.next) c.over.new.known
           (ends_no_sooner c.args.horizon ask t c.in-Some.next lt)
           (rw c.window_at-window.ensures.window at c.over.ensures.known));
@@ -183,9 +182,9 @@ starts-init g c = record {
   before = λ jobs stands u lo hi. absurd (omega (arith, lo, hi));
   point = λ jobs stands. inl refl;
   known = (let matcher = c.in_ok-matcher.matcher in knows_nothing matcher.graph.now.resources.vertices
-      (g.F.FreeView.stands_for c.args.view.now) matcher.wanted (g.F.FreeView.keeps c.args.view.now)
-      (needs_all matcher.ask.now.needs) (window_of c.args.horizon c.args.ask.now c.args.now) c.nothing-known.result
-      c.nothing-known.ensures.before c.nothing-known.ensures.fresh);
+      (g.F.FreeView.stands_for c.args.view.now) matcher.ask.now.barred matcher.ask.now.needs
+      (window_of c.args.horizon c.args.ask.now c.args.now) c.nothing-known.result c.nothing-known.ensures.rows
+      c.nothing-known.ensures.end);
   spent = λ jobs stands tried looks has opens. omega arith;
 }
 

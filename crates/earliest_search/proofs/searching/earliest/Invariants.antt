@@ -3,8 +3,7 @@ use Rattle.flux_defs.specs.declared.claims.Job.{Job}
 use Rattle.std.specs.Prelude.{Contains}
 use Rattle.flux_defs.specs.Asks.{CountsWithin, window_of}
 use Rattle.dfu_match.specs.Pairs.{IsEnoughFor}
-use Rattle.dfu_match.specs.Notes.{Knows}
-use Rattle.dfu_match.specs.Tables.{needs_all}
+use Rattle.dfu_match.specs.Rows.{Knows}
 use Rattle.earliest_search.specs.Tried.{IsNowOrPoint}
 use Rattle.earliest_search.proofs.StartLaws.{NoStartBefore}
 use Rattle.earliest_search.proofs.TriedLaws.{HasEachBefore, weight_before}
@@ -17,8 +16,8 @@ invariant-starts g l = record {
   before : (jobs : List Job) → g.F.FreeView.stands_for l.view jobs → NoStartBefore l.graph.resources.vertices jobs
       l.horizon l.ask l.now l.start;
   point : (jobs : List Job) → g.F.FreeView.stands_for l.view jobs → IsNowOrPoint jobs l.now l.start;
-  known : Knows l.matcher.graph.now.resources.vertices (g.F.FreeView.stands_for l.view) l.matcher.wanted
-      (g.F.FreeView.keeps l.view) (needs_all l.matcher.ask.now.needs) (window_of l.horizon l.ask l.start) l.known;
+  known : Knows l.matcher.graph.now.resources.vertices (g.F.FreeView.stands_for l.view) l.matcher.ask.now.barred
+      l.matcher.ask.now.needs (window_of l.horizon l.ask l.start) l.known;
   spent : (jobs : List Job) → g.F.FreeView.stands_for l.view jobs → (tried : List ℕ) → (looks : ℕ → ℕ) →
       HasEachBefore jobs l.horizon l.ask l.now l.start tried →
       ((t : ℕ) → Contains tried t → CountsWithin l.horizon l.ask t →

@@ -1,11 +1,11 @@
-use Rattle.std.proofs.Common.{List, ◌+◌, ◌*◌, inl, refl, sym, subst, arith, length}
-use Rattle.dfu_match.specs.declared.wanting.Wanted.{Wanted}
-use Rattle.dfu_match.specs.Notes.{Knows}
+use Rattle.std.proofs.Common.{◌+◌, ◌*◌, refl, arith, length}
 use Rattle.dfu_match.specs.Tables.{needs_all}
 use Rattle.dfu_match.specs.Pairs.{asked_totals}
 use Rattle.dfu_match.proofs.BarLaws.{rises, nodes_of}
-use Rattle.dfu_match.proofs.NoteLaws.{knows_next}
-use Rattle.dfu_match.proofs.StepLaws.{clear_everywhere, each_open, first_place, takes_most}
+use Rattle.flux_defs.specs.Asks.{SomeFit}
+use Rattle.dfu_match.proofs.ReachLaws.{reach_all, told_later, told_or}
+use Rattle.dfu_match.proofs.LookLaws.{looks_first, looks_twice}
+use Rattle.dfu_match.proofs.StepLaws.{clear_everywhere, each_open, first_place}
 use Rattle.dfu_match.proofs.matching.Matcher.walked.Goals as goal
 
 pub invariant_of-search : goal.invariant_of-search
@@ -32,11 +32,11 @@ returns-in_err-write_top-clause-work g c = λ jobs stands pairs has.
     let all = needs_all needs in
     let keeps = g.F.FreeView.keeps c.args.view.now in
     let table = c.items.result.now in
-    let work = takes_most _ (2 * ((length all + 2) * g.F.FreeView.cost c.args.view.now)) c.args.steps.now
-    c.write_top.new.steps 0 (0 + length all) 0 (length vs) pairs
+    let work = looks_twice _ ((length all + 2) * g.F.FreeView.cost c.args.view.now) needs (length vs) pairs
     (each_open vs jobs c.args.window keeps all table pairs (rw c.items.ensures matcher.all) has)
-    (c.write_top.ensures.work jobs stands 0 0 (length vs) 2 (first_place needs)
-    (clear_everywhere vs jobs c.args.window (asked_totals table keeps) needs) (refl, refl) (inl refl)) in
+    c.args.steps.now c.refuted_first.new.steps c.write_top.new.steps (c.refuted_first.ensures.work jobs stands)
+    (λ times looks. c.write_top.ensures.work jobs stands 0 0 (length vs) times (first_place needs)
+    (clear_everywhere vs jobs c.args.window (asked_totals table keeps) needs) (refl, refl) looks) in
     omega (arith, work)
 
 pub returns-then-not-branch-clause-work : goal.returns-then-not-branch-clause-work
@@ -47,11 +47,11 @@ returns-then-not-branch-clause-work g c = λ jobs stands pairs has.
     let all = needs_all needs in
     let keeps = g.F.FreeView.keeps c.args.view.now in
     let table = c.items.result.now in
-    let work = takes_most _ (2 * ((length all + 2) * g.F.FreeView.cost c.args.view.now)) c.args.steps.now
-    c.write_top.new.steps 0 (0 + length all) 0 (length vs) pairs
+    let work = looks_twice _ ((length all + 2) * g.F.FreeView.cost c.args.view.now) needs (length vs) pairs
     (each_open vs jobs c.args.window keeps all table pairs (rw c.items.ensures matcher.all) has)
-    (c.write_top.ensures.work jobs stands 0 0 (length vs) 2 (first_place needs)
-    (clear_everywhere vs jobs c.args.window (asked_totals table keeps) needs) (refl, refl) (inl refl)) in
+    c.args.steps.now c.refuted_first.new.steps c.write_top.new.steps (c.refuted_first.ensures.work jobs stands)
+    (λ times looks. c.write_top.ensures.work jobs stands 0 0 (length vs) times (first_place needs)
+    (clear_everywhere vs jobs c.args.window (asked_totals table keeps) needs) (refl, refl) looks) in
     omega (arith, work)
 
 pub returns-clause-work : goal.returns-clause-work
@@ -62,51 +62,48 @@ returns-clause-work g c = λ jobs stands pairs has.
     let all = needs_all needs in
     let keeps = g.F.FreeView.keeps c.args.view.now in
     let table = c.items.result.now in
-    let work = takes_most _ (2 * ((length all + 2) * g.F.FreeView.cost c.args.view.now)) c.args.steps.now
-    c.write_top.new.steps 0 (0 + length all) 0 (length vs) pairs
+    let work = looks_twice _ ((length all + 2) * g.F.FreeView.cost c.args.view.now) needs (length vs) pairs
     (each_open vs jobs c.args.window keeps all table pairs (rw c.items.ensures matcher.all) has)
-    (c.write_top.ensures.work jobs stands 0 0 (length vs) 2 (first_place needs)
-    (clear_everywhere vs jobs c.args.window (asked_totals table keeps) needs) (refl, refl) (inl refl)) in
+    c.args.steps.now c.refuted_first.new.steps c.write_top.new.steps (c.refuted_first.ensures.work jobs stands)
+    (λ times looks. c.write_top.ensures.work jobs stands 0 0 (length vs) times (first_place needs)
+    (clear_everywhere vs jobs c.args.window (asked_totals table keeps) needs) (refl, refl) looks) in
     omega (arith, work)
 
--- none fit, the root isn't short, and none fit over later windows either
+pub returns-in-Some-clause-work : goal.returns-in-Some-clause-work
+returns-in-Some-clause-work g c = λ jobs stands pairs has.
+    let matcher = c.args.self.now in
+    let vs = matcher.graph.now.resources.vertices in
+    let needs = matcher.ask.now.needs in
+    let all = needs_all needs in
+    let keeps = g.F.FreeView.keeps c.args.view.now in
+    let table = c.items.result.now in
+    let work = looks_first _ ((length all + 2) * g.F.FreeView.cost c.args.view.now) needs (length vs) pairs
+    (each_open vs jobs c.args.window keeps all table pairs (rw c.items.ensures matcher.all) has)
+    c.args.steps.now c.refuted_first.new.steps (c.refuted_first.ensures.work jobs stands) in
+    omega (arith, work)
+
+-- none fit, as what is known tells, the root isn't short, and none fit over later windows either
+pub returns-in-Some-clause-matched : goal.returns-in-Some-clause-matched
+returns-in-Some-clause-matched g c = λ jobs stands.
+    let w = c.args.window in (
+      c.in-Some.ensures.none jobs stands w (reach_all w c.in-Some.until c.in-Some.ensures.later c.requires.opens),
+      c.requires.enough jobs stands,
+      λ lt other reach. c.in-Some.ensures.none jobs stands other reach,
+    )
+
+-- none fit, the root isn't short, and none fit over later windows either, as far as what is known tells
 pub returns-then-not-branch-clause-matched : goal.returns-then-not-branch-clause-matched
 returns-then-not-branch-clause-matched g c = λ jobs stands.
+    let matcher = c.args.self.now in
     let never = rw c.if-not-branch.true at (c.in_ok-write_top.ensures.written.2 jobs stands) in (
       never,
       c.requires.enough jobs stands,
-      (c.in_ok-write_top.ensures.later c.if-not-branch.true).1 jobs stands,
+      told_or (λ w. SomeFit matcher.graph.now.resources.vertices jobs matcher.ask.now w) c.args.window
+          c.refuted_known.result c.told_or-until.result c.told_or-until.ensures
+          (λ w. c.refuted_known.ensures.none jobs stands w),
     )
 
-pub write_top-requires-clause-known : goal.write_top-requires-clause-known
-write_top-requires-clause-known g c =
-    let matcher = c.args.self.now in
-    let vs = matcher.graph.now.resources.vertices in
-    let all = needs_all matcher.ask.now.needs in
-    let stands = g.F.FreeView.stands_for c.args.view.now in
-    let keeps = g.F.FreeView.keeps c.args.view.now in
-    let table = c.items.result.now in
-    knows_next vs stands table keeps all c.args.window c.args.known.now c.begin.new.self c.begin.ensures.before
-    c.begin.ensures.fresh (subst (λ (t : List Wanted). Knows vs stands t keeps all c.args.window c.args.known.now)
-    (sym c.items.ensures) c.requires.known)
-
-pub returns-in_err-write_top-clause-known : goal.returns-in_err-write_top-clause-known
-returns-in_err-write_top-clause-known g c =
-    let matcher = c.args.self.now in
-    subst (λ (t : List Wanted). Knows matcher.graph.now.resources.vertices (g.F.FreeView.stands_for c.args.view.now) t
-    (g.F.FreeView.keeps c.args.view.now) (needs_all matcher.ask.now.needs) c.args.window c.write_top.new.known)
-    c.items.ensures c.write_top.ensures.known
-
-pub returns-then-not-branch-clause-known : goal.returns-then-not-branch-clause-known
-returns-then-not-branch-clause-known g c =
-    let matcher = c.args.self.now in
-    subst (λ (t : List Wanted). Knows matcher.graph.now.resources.vertices (g.F.FreeView.stands_for c.args.view.now) t
-    (g.F.FreeView.keeps c.args.view.now) (needs_all matcher.ask.now.needs) c.args.window c.write_top.new.known)
-    c.items.ensures c.write_top.ensures.known
-
-pub returns-clause-known : goal.returns-clause-known
-returns-clause-known g c =
-    let matcher = c.args.self.now in
-    subst (λ (t : List Wanted). Knows matcher.graph.now.resources.vertices (g.F.FreeView.stands_for c.args.view.now) t
-    (g.F.FreeView.keeps c.args.view.now) (needs_all matcher.ask.now.needs) c.args.window c.write_top.new.known)
-    c.items.ensures c.write_top.ensures.known
+pub returns-then-not-branch-clause-kept : goal.returns-then-not-branch-clause-kept
+returns-then-not-branch-clause-kept g c =
+    told_later c.args.window c.refuted_known.result c.told_or-until.result c.told_or-until.ensures
+    c.refuted_known.ensures.later

@@ -1,0 +1,14 @@
+use Rattle.std.proofs.Common.{arith, List, subst}
+use Rattle.flux_defs.specs.declared.vertices.Vertex.{Vertex}
+use Rattle.flux_defs.specs.Closed.{IsClosedOver}
+use Rattle.dfu_match.proofs.HoldLaws.{closed_too}
+use Rattle.dfu_match.proofs.ReachLaws.{reach_later}
+use Rattle.dfu_match.proofs.search.closed_until.Goals as goal
+
+pub returns-in-Some-clause-closed : goal.returns-in-Some-clause-closed
+returns-in-Some-clause-closed g c = λ is jobs stands w reach.
+    let s = c.args.s.now in
+    let later = reach_later s.window w c.min.result c.in-Some.moment (omega (arith, c.min.ensures)) reach in
+    closed_too s.graph.now.resources.vertices jobs s.barred.now w c.args.vertex
+    (subst (λ (vs : List Vertex). IsClosedOver vs jobs w c.args.vertex) s.over
+    (c.in-Some.ensures.answer jobs stands w later))
