@@ -67,8 +67,8 @@ pub trait FreeView {
         ensures some_work { steps.old < steps.new }
         ensures work { steps.new ≤ steps.old + cost self.now };
 
-    /// Until when a job has a claim on the vertex or below it, in seconds: at some moment of each window that begins then
-    /// or before and ends no sooner than this one. `None` exactly where none has at a moment of this one.
+    /// Until when a job has a claim on the vertex or below it, in seconds: at some moment of each window that begins
+    /// then or before and ends no sooner than this one. `None` exactly where none has at a moment of this one.
     fn touched_until<L: Ledger>(
         &self,
         vertex: u32,
@@ -132,8 +132,8 @@ pub trait FreeView {
         ensures work { steps.new ≤ steps.old + cost self.now };
 
     /// Until when the total of the kind, over its vertices at this one or below it, is below the amount, in seconds: at
-    /// some moment of each window that begins then or before and ends no sooner than this one. `None` exactly where it is
-    /// so at no moment of this one, or the view's filter rules keep no such total.
+    /// some moment of each window that begins then or before and ends no sooner than this one. `None` exactly where it
+    /// is so at no moment of this one, or the view's filter rules keep no such total.
     fn total_until<L: Ledger>(
         &self,
         vertex: u32,

@@ -22,8 +22,8 @@ pub struct Shortage {
 }
 
 /// Until when the vertex is short of some of the demands, in seconds: over each window that begins then or before and
-/// ends no sooner than this one the view's total is below what one of them wants. `None` exactly where it is short of none
-/// over this window. It takes no memory.
+/// ends no sooner than this one the view's total is below what one of them wants. `None` exactly where it is short of
+/// none over this window. It takes no memory.
 pub fn short_until<F: FreeView, L: Ledger>(
     view: &F,
     vertex: u32,

@@ -38,8 +38,8 @@ through_is w P t m from to le at after = (
 
 module _ (vertices : List Vertex) (jobs : List Job) (v : ℕ) where
   -- less than all holds are left where the vertex is held
-  less_held : (m : ℕ) → free_at (total_in vertices Holds v) (grouped (amount_in vertices Holds v) jobs) m < most_claims →
-      held_at jobs v m
+  less_held : (m : ℕ) →
+      free_at (total_in vertices Holds v) (grouped (amount_in vertices Holds v) jobs) m < most_claims → held_at jobs v m
   less_held m lt =
       let spans = grouped (amount_in vertices Holds v) jobs in
       let total = total_in vertices Holds v in
@@ -51,8 +51,8 @@ module _ (vertices : List Vertex) (jobs : List Job) (v : ℕ) where
       free_at (total_in vertices Holds v) (grouped (amount_in vertices Holds v) jobs) m < most_claims →
       IsTrue (is_closed (no_bars vertices jobs) m v)
   less_closed inside m lt =
-      let along = here_along jobs (second m) vertices (length vertices) v (Some v) (λ e. omega (arith, e, inside)) refl m
-      (omega arith, omega arith, less_held m lt) in
+      let along = here_along jobs (second m) vertices (length vertices) v (Some v) (λ e. omega (arith, e, inside)) refl
+      m (omega arith, omega arith, less_held m lt) in
       (closed_moment_is vertices jobs (second m) v (Some m) along).2
 
   module _ (first : ParentsFirst vertices) (inside : v < length vertices) where

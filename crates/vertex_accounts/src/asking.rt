@@ -434,8 +434,8 @@ impl<P: Planner + Drop> Accounts<P> {
         self.closed_moment(graph, item, vertex, window, steps)
     }
 
-    /// A moment through which, from one of the window on, the total at the vertex of the type whose units have this place
-    /// is below the amount; `None` exactly where it is so at no moment of the window.
+    /// A moment through which, from one of the window on, the total at the vertex of the type whose units have this
+    /// place is below the amount; `None` exactly where it is so at no moment of the window.
     pub fn total_until<L: Ledger>(
         &self,
         graph: &Graph,
