@@ -194,7 +194,8 @@ def written(size):
     def lines():
         for line in range(1, size + 1):
             names = ", ".join(
-                f'"VARIABLE_{at}" : "{" ".join(dice.choice(words) for _ in range(3))}"' for at in range(dice.randint(9, 13)))
+                f'"VARIABLE_{at}" : "{" ".join(dice.choice(words) for _ in range(3))}"'
+                for at in range(dice.randint(9, 13)))
             numbers = ",".join(dice.choice(("1.5", "2e3", "0", "-7", "12.0", "true", "null")) for _ in range(12))
             request = json.dumps(nodes_of(dice.randint(1, 3), dice.randint(1, 9)))
             seconds = dice.choice(("60", "3600.0", "120.000"))
@@ -202,7 +203,8 @@ def written(size):
                 f'a satisfy {{"resources" : [{request}], "tasks" : [{{"command" : ["app", "--input", "file{line}"], '
                 '"slot" : "task", "count" : {"per_slot" : 1}}], "attributes" : {"system" : {"duration" : '
                 f'{seconds}, "cwd" : "/home/user{line % 97}/run", "environment" : {{{names}}}, '
-                f'"shell" : {{"options" : {{"load" : [{numbers}]}}}}, "job" : {{"name" : "run-{line}"}}}}}}, "version" : 1}}'
+                f'"shell" : {{"options" : {{"load" : [{numbers}]}}}}, "job" : {{"name" : "run-{line}"}}}}}}, '
+                '"version" : 1}'
             )
 
     return Bench(["serve"], tree_text(2, 4, 8), lines())
