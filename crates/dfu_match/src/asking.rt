@@ -410,10 +410,8 @@ pub(crate) fn refuted_first<F: FreeView, L: Ledger>(
         (steps.new ≤ steps.old) ⊎ ((AllByRecursion HasNoSpread s.now.needs.now × taken (length all))
         ⊎ ((need : Need) × (s.now.needs.now ≡ need ∷ []) × IsSpread need × taken 1))) }
 {
-    let told = refuted_known(s, known);
-    if told.is_some() || !known.reaches(s.graph.len()) || !asks_once(s.needs) {
-        return told;
+    if known.reaches(s.graph.len()) && asks_once(s.needs) {
+        ask_known(s, known, steps);
     }
-    ask_known(s, known, steps);
     refuted_known(s, known)
 }
