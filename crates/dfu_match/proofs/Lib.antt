@@ -14,6 +14,6 @@ pub mod ReachLaws
 pub mod RowLaws
 pub mod NotingLaws
 pub mod ApartLaws
-pub mod AskedLaws
+pub mod AskSteps
 pub mod LookLaws
 pub mod AskLaws

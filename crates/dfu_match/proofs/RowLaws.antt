@@ -13,7 +13,7 @@ use Rattle.flux_defs.specs.declared.requests.Need.{Need, Vert', Pool, Spread'}
 use Rattle.flux_defs.specs.Graph.{ResourceGraph, Scope, Everywhere}
 use Rattle.flux_defs.specs.Later.{ReachesOver}
 use Rattle.flux_defs.specs.Lowest.{CanServe}
-use Rattle.flux_defs.specs.Needs.{amount_of, IsValidNeed}
+use Rattle.flux_defs.specs.Needs.{amount_of, IsOfNeed, IsValidNeed}
 use Rattle.flux_laws.proofs.Filling.{CanFill}
 use Rattle.flux_laws.proofs.FitLaws.{serves_less}
 use Rattle.flux_laws.proofs.Takes.{takes_less}
@@ -25,6 +25,7 @@ use Rattle.match_laws.proofs.Walk.{Lacks, NoneBetween, lacks_over, lacks_next, l
 use Rattle.dfu_match.specs.declared.knowing.Row.{Row}
 use Rattle.dfu_match.specs.declared.knowing.Known.{Known}
 use Rattle.dfu_match.specs.Searches.{open_to}
+use Rattle.dfu_match.specs.Walks.{ServesNone}
 use Rattle.dfu_match.specs.Rows.{whole_of, NoneOfNeed, StandFrom, IsRowOf, Knows, bound_at, served_most, IsPut, IsNoted}
 use Rattle.dfu_match.proofs.ReachLaws.{reach_all, reach_later}
 
@@ -285,3 +286,15 @@ rows_refute g stands barred w other need rows until valid stand each reach few j
     down_rows g stands barred w other need until reach jobs here rows 0 (amount_of need) stand each (omega arith) few
     (λ f. subst (CanFill (can g stands barred w other need until reach jobs here) 0) total f)
     (group_to g.vertices (open_to g.vertices jobs barred other) Everywhere need (1 * amount_of need) group)
+
+-- the row of a vertex of the need among vertices that serve nothing until a moment
+pub none_row : (vertices : List Vertex) (stands : List Job → Type 0) (barred : List ℕ) (w : Window) (need : Need)
+    (v moment top past : ℕ) → IsOfNeed vertices need v → top ≤ v → v < past →
+    ((jobs : List Job) → stands jobs → (other : Window) → ReachesOver w moment other →
+    ServesNone vertices (open_to vertices jobs barred other) need top past) →
+    IsRowOf vertices stands barred w need (record { vertex = v; most = 0; moment = moment })
+none_row vertices stands barred w need v moment top past is lo hi none = record {
+  of_need = is;
+  bounds = λ some jobs here other reach scope q lt can. none jobs here other reach scope v q lo hi (omega (arith, lt))
+      can;
+}

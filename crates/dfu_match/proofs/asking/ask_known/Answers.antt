@@ -4,7 +4,7 @@ use Rattle.flux_defs.specs.Needs.{AreValidNeeds}
 use Rattle.list_laws.proofs.Lists.{get_first}
 use Rattle.dfu_match.specs.Tables.{needs_all}
 use Rattle.dfu_match.specs.Pairs.{asked_totals}
-use Rattle.dfu_match.proofs.AskedLaws.{known_all, known_alone}
+use Rattle.dfu_match.proofs.AskSteps.{known_all, known_alone}
 use Rattle.dfu_match.proofs.CountLaws as counts
 use Rattle.dfu_match.proofs.StepLaws as steps
 use Rattle.dfu_match.proofs.TableLaws as tables

@@ -3,9 +3,9 @@ use Rattle.graph_laws.proofs.Containment.{below_le}
 use Rattle.graph_laws.proofs.Preorder.{parents_first}
 use Rattle.dfu_match.specs.Tables.{needs_all}
 use Rattle.dfu_match.specs.Pairs.{asked_totals}
-use Rattle.dfu_match.proofs.AskedLaws.{asked_clear, asked_room, asked_short, asked_within, short_dead, short_row}
-use Rattle.dfu_match.proofs.AskedLaws.{spread_or, need_inside}
-use Rattle.dfu_match.proofs.RowLaws.{knows_put}
+use Rattle.dfu_match.proofs.AskSteps.{asked_clear, asked_room, asked_short, asked_within, short_dead}
+use Rattle.dfu_match.proofs.AskSteps.{spread_or, need_inside}
+use Rattle.dfu_match.proofs.RowLaws.{knows_put, none_row}
 use Rattle.dfu_match.proofs.asking.ask_row.Goals as goal
 
 pub top_above-requires-clause-vertex : goal.top_above-requires-clause-vertex
@@ -44,7 +44,7 @@ returns-in-Some-clause-known g c =
     let lt = need_inside graph.resources.vertices need c.args.vertex c.requires.of_need in
     knows_put graph.resources.vertices (g.F.FreeView.stands_for s.view.now) s.barred.now s.needs.now s.window
     c.args.own _ c.args.known.now c.put.new.self need c.requires.of_own c.put.ensures.own c.put.ensures.put
-    (short_row graph.resources.vertices (g.F.FreeView.stands_for s.view.now) s.barred.now s.window need c.args.vertex
+    (none_row graph.resources.vertices (g.F.FreeView.stands_for s.view.now) s.barred.now s.window need c.args.vertex
     c.top_above.new.until c.in-Some.top c.past-past.result c.requires.of_need
     (below_le graph.resources.vertices (parents_first graph.resources c.is_valid.ensures.valid.preorder)
     c.args.vertex c.in-Some.top c.in-Some.ensures.above.1)

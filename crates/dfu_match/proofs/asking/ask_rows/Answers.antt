@@ -1,7 +1,7 @@
 use Rattle.std.proofs.Common.{◌∙◌, arith}
 use Rattle.dfu_match.specs.Tables.{needs_all}
 use Rattle.dfu_match.specs.Pairs.{asked_totals}
-use Rattle.dfu_match.proofs.AskedLaws.{asked_all, asked_next, asked_spread, asked_start}
+use Rattle.dfu_match.proofs.AskSteps.{asked_all, asked_next, asked_start}
 use Rattle.dfu_match.proofs.RowLaws.{row_known}
 use Rattle.dfu_match.proofs.asking.ask_rows.Goals.{then-row-from, else-row-from}
 use Rattle.dfu_match.proofs.asking.ask_rows.Goals as goal
@@ -22,41 +22,26 @@ loop-at-init g c =
 pub returns-then-room-amount-clause-work : goal.returns-then-room-amount-clause-work
 returns-then-room-amount-clause-work g c = λ jobs stands place at.
     let s = c.args.s.now in
-    let graph = s.graph.now in
-    let done = c.loop-at.invariant.asked jobs stands place at in
-    let keeps = asked_totals s.wanted.now (g.F.FreeView.keeps s.view.now) in
-    let cost = g.F.FreeView.cost s.view.now in (
-      asked_all graph.resources graph.names c.is_valid.ensures.valid jobs s.window keeps (needs_all s.needs.now)
-          c.args.need.now place cost c.args.steps.now c.loop-at.steps 0 c.loop-at.low done,
-      asked_spread graph.resources graph.names c.is_valid.ensures.valid jobs s.window keeps (needs_all s.needs.now)
-          c.args.need.now place cost c.args.steps.now c.loop-at.steps 0 c.loop-at.low done,
-    )
+    asked_all s.graph.now.resources s.graph.now.names c.is_valid.ensures.valid jobs s.window
+    (asked_totals s.wanted.now (g.F.FreeView.keeps s.view.now)) (needs_all s.needs.now) c.args.need.now place
+    (g.F.FreeView.cost s.view.now) c.args.steps.now c.loop-at.steps 0 c.loop-at.low
+    (c.loop-at.invariant.asked jobs stands place at)
 
 pub returns-in_default-clause-work : goal.returns-in_default-clause-work
 returns-in_default-clause-work g c = λ jobs stands place at.
     let s = c.args.s.now in
-    let graph = s.graph.now in
-    let done = c.loop-at.invariant.asked jobs stands place at in
-    let keeps = asked_totals s.wanted.now (g.F.FreeView.keeps s.view.now) in
-    let cost = g.F.FreeView.cost s.view.now in (
-      asked_all graph.resources graph.names c.is_valid.ensures.valid jobs s.window keeps (needs_all s.needs.now)
-          c.args.need.now place cost c.args.steps.now c.loop-at.steps 0 c.loop-at.low done,
-      asked_spread graph.resources graph.names c.is_valid.ensures.valid jobs s.window keeps (needs_all s.needs.now)
-          c.args.need.now place cost c.args.steps.now c.loop-at.steps 0 c.loop-at.low done,
-    )
+    asked_all s.graph.now.resources s.graph.now.names c.is_valid.ensures.valid jobs s.window
+    (asked_totals s.wanted.now (g.F.FreeView.keeps s.view.now)) (needs_all s.needs.now) c.args.need.now place
+    (g.F.FreeView.cost s.view.now) c.args.steps.now c.loop-at.steps 0 c.loop-at.low
+    (c.loop-at.invariant.asked jobs stands place at)
 
 pub returns-clause-work : goal.returns-clause-work
 returns-clause-work g c = λ jobs stands place at.
     let s = c.args.s.now in
-    let graph = s.graph.now in
-    let done = c.loop-at.invariant.asked jobs stands place at in
-    let keeps = asked_totals s.wanted.now (g.F.FreeView.keeps s.view.now) in
-    let cost = g.F.FreeView.cost s.view.now in (
-      asked_all graph.resources graph.names c.is_valid.ensures.valid jobs s.window keeps (needs_all s.needs.now)
-          c.args.need.now place cost c.args.steps.now c.loop-at.steps 0 c.loop-at.low done,
-      asked_spread graph.resources graph.names c.is_valid.ensures.valid jobs s.window keeps (needs_all s.needs.now)
-          c.args.need.now place cost c.args.steps.now c.loop-at.steps 0 c.loop-at.low done,
-    )
+    asked_all s.graph.now.resources s.graph.now.names c.is_valid.ensures.valid jobs s.window
+    (asked_totals s.wanted.now (g.F.FreeView.keeps s.view.now)) (needs_all s.needs.now) c.args.need.now place
+    (g.F.FreeView.cost s.view.now) c.args.steps.now c.loop-at.steps 0 c.loop-at.low
+    (c.loop-at.invariant.asked jobs stands place at)
 
 pub renew-low-requires-clause-of_need : goal.renew-low-requires-clause-of_need
 renew-low-requires-clause-of_need g c =

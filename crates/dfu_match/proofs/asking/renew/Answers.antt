@@ -1,8 +1,8 @@
 use Rattle.std.proofs.Common.{◌+◌, ◌*◌, length}
 use Rattle.dfu_match.specs.Tables.{needs_all}
 use Rattle.dfu_match.specs.Pairs.{asked_totals}
-use Rattle.dfu_match.proofs.AskedLaws.{asked_still, short_row}
-use Rattle.dfu_match.proofs.RowLaws.{knows_put}
+use Rattle.dfu_match.proofs.AskSteps.{asked_still}
+use Rattle.dfu_match.proofs.RowLaws.{knows_put, none_row}
 use Rattle.dfu_match.proofs.asking.renew.Goals as goal
 
 pub returns-then-low-vertex-clause-work : goal.returns-then-low-vertex-clause-work
@@ -16,7 +16,7 @@ returns-then-vertex-dead-clause-known g c =
     let dead = c.args.dead.now in
     knows_put vs (g.F.FreeView.stands_for s.view.now) s.barred.now s.needs.now s.window c.args.own _ c.args.known.now
     c.put.new.self c.args.need.now c.requires.of_own c.put.ensures.own c.put.ensures.put
-    (short_row vs (g.F.FreeView.stands_for s.view.now) s.barred.now s.window c.args.need.now c.args.vertex dead.moment
+    (none_row vs (g.F.FreeView.stands_for s.view.now) s.barred.now s.window c.args.need.now c.args.vertex dead.moment
     dead.top dead.past c.requires.of_need c.if-dead-vertex.true c.if-vertex-dead.true c.requires.dead)
     c.requires.known
 

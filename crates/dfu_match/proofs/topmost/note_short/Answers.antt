@@ -1,6 +1,6 @@
 use Rattle.std.proofs.Common.{◌∙◌, arith}
-use Rattle.dfu_match.proofs.NotingLaws.{none_to, none_before, none_below, nothing_row}
-use Rattle.dfu_match.proofs.RowLaws.{knows_noted, knows_passed}
+use Rattle.dfu_match.proofs.NotingLaws.{none_to, none_before, none_below}
+use Rattle.dfu_match.proofs.RowLaws.{knows_noted, knows_passed, none_row}
 use Rattle.dfu_match.proofs.topmost.note_short.Goals as goal
 
 pub returns-in_default-clause-known : goal.returns-in_default-clause-known
@@ -34,9 +34,9 @@ each-preserved g c =
           c.in-Some.vertex next)
           (none_below graph.resources graph.names valid need c.args.kind c.requires.of_kind c.in-Some.vertex
           c.past-next.result next.of_kind c.past-next.ensures)
-          (nothing_row graph.resources graph.names valid need c.args.kind c.requires.of_kind
-          (g.F.FreeView.stands_for s.view.now) s.barred.now s.window c.in-Some.vertex c.args.moment c.args.from
-          c.args.past next.of_kind (omega (arith, from, low)) next.high c.requires.none)
+          (none_row graph.resources.vertices (g.F.FreeView.stands_for s.view.now) s.barred.now s.window need
+          c.in-Some.vertex c.args.moment c.args.from c.args.past ((c.requires.of_kind c.in-Some.vertex).1 next.of_kind)
+          (omega (arith, from, low)) next.high c.requires.none)
           c.each.invariant.known;
       own = c.note.ensures.own ∙ c.each.invariant.own;
     }

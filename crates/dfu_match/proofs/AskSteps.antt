@@ -1,4 +1,4 @@
--- What asking anew of the vertices of a need takes.
+-- How many steps asking anew of the vertices of a need takes.
 use Rattle.std.proofs.Common.{◌≡◌, ℕ, zero, suc, ◌+◌, ◌-◌, ◌*◌, ◌<◌, ◌≤◌, List, length, refl, arith, inl}
 use Rattle.std.proofs.Common.{inr, ◌⊎◌, IsTrue}
 use Rattle.std.proofs.Common.{is_some, slice_get, true, [], ◌∷◌, get_or, take, length-append, sym, ◌∙◌}
@@ -11,7 +11,6 @@ use Rattle.flux_defs.specs.declared.claims.Job.{Job}
 use Rattle.flux_defs.specs.declared.claims.Window.{Window}
 use Rattle.flux_defs.specs.declared.requests.Need.{Need, Vert', Pool, Spread'}
 use Rattle.flux_defs.specs.Graph.{ResourceGraph, is_at_or_below}
-use Rattle.flux_defs.specs.Later.{ReachesOver}
 use Rattle.flux_defs.specs.Needs.{IsOfNeed, IsSpread, IsValidNeed}
 use Rattle.flux_defs.specs.ValidGraph.{IsValidGraph}
 use Rattle.graph_laws.proofs.Containment.{below_le, below_self}
@@ -20,7 +19,6 @@ use Rattle.prune_filters.specs.Shorts.{IsShortFor}
 use Rattle.resource_graph.specs.Tables.{IsPast}
 use Rattle.list_laws.proofs.Values.{value_of}
 use Rattle.prune_laws.proofs.Demanded.{too_little_none}
-use Rattle.dfu_match.specs.Rows.{IsRowOf}
 use Rattle.dfu_match.specs.Searches.{open_to}
 use Rattle.dfu_match.specs.Walks.{ServesNone}
 use Rattle.dfu_match.specs.Tables.{all_of, needs_all}
@@ -57,18 +55,6 @@ pub short_dead : (g : ResourceGraph) (names : List (List ℕ)) → IsValidGraph 
 short_dead g names valid jobs barred w keeps need fine top past is short scope v q lo hi some can =
     too_little_none g names valid jobs barred w need fine top (short.0, short.1.1) scope v q (is.covered v lo hi) some
     can
-
--- nor does a vertex of the need among such
-pub short_row : (vertices : List Vertex) (stands : List Job → Type 0) (barred : List ℕ) (w : Window) (need : Need)
-    (v moment top past : ℕ) → IsOfNeed vertices need v → top ≤ v → v < past →
-    ((jobs : List Job) → stands jobs → (other : Window) → ReachesOver w moment other →
-    ServesNone vertices (open_to vertices jobs barred other) need top past) →
-    IsRowOf vertices stands barred w need (record { vertex = v; most = 0; moment = moment })
-short_row vertices stands barred w need v moment top past is lo hi none = record {
-  of_need = is;
-  bounds = λ some jobs here other reach scope q lt can. none jobs here other reach scope v q lo hi (omega (arith, lt))
-      can;
-}
 
 -- nothing more is asked
 pub asked_still : (vertices : List Vertex) (jobs : List Job) (w : Window) (keeps : ℕ → ℕ → Type 0) (all : List Need)
@@ -128,26 +114,26 @@ module _ (g : ResourceGraph) (names : List (List ℕ)) (valid : IsValidGraph g n
         none = λ is. (let x = a.none is in let y = b.none is in omega (arith, x, y));
       }
 
-  -- all together
+  -- all together, and of a spread itself alone
   pub asked_all : (old new from to : ℕ) → asked old new from to →
       TakesEach opened look old new place (place + length (all_of need)) from (length g.vertices)
-  asked_all old new from to a =
-      let some = all_some need in
-      takes_within opened look look old new place (place + length (all_of need)) from to place
-      (place + length (all_of need)) from (length g.vertices) (omega arith) (omega arith) (omega arith) (omega arith)
-      a.within
-      (apart_each opened look look old new place (place + length (all_of need)) from to (omega arith)
-      (omega (arith, some)) (a.own, a.inner, a.spent, a.owns, a.inners))
-
-  -- of a spread itself alone
-  pub asked_spread : (old new from to : ℕ) → asked old new from to → IsSpread need →
-      TakesEach opened look old new place (place + 1) from (length g.vertices)
-  asked_spread old new from to a is =
-      let none = a.none is in
-      let spent = a.spent in
-      takes_within opened look look old new place (place + 1) from to place (place + 1) from (length g.vertices)
-      (omega arith) (omega arith) (omega arith) (omega arith) a.within
-      (λ pairs has. let own = a.owns pairs has in omega (arith, own, spent, none))
+      × (IsSpread need → TakesEach opened look old new place (place + 1) from (length g.vertices))
+  asked_all old new from to a = (
+    (
+        let some = all_some need in
+        takes_within opened look look old new place (place + length (all_of need)) from to place
+        (place + length (all_of need)) from (length g.vertices) (omega arith) (omega arith) (omega arith) (omega arith)
+        a.within
+        (apart_each opened look look old new place (place + length (all_of need)) from to (omega arith)
+        (omega (arith, some)) (a.own, a.inner, a.spent, a.owns, a.inners))
+        ),
+    λ is.
+        let none = a.none is in
+        let spent = a.spent in
+        takes_within opened look look old new place (place + 1) from to place (place + 1) from (length g.vertices)
+        (omega arith) (omega arith) (omega arith) (omega arith) a.within
+        (λ pairs has. let own = a.owns pairs has in omega (arith, own, spent, none)),
+  )
 
   module _ (at : IsPlaceOf all place need) (low v : ℕ) (clear : before low (length g.vertices)) (lo : low ≤ v)
       (lt : v < length g.vertices) where
