@@ -8,11 +8,9 @@ use Rattle.flux_defs.specs.declared.claims.Window.{Window}
 use Rattle.flux_defs.specs.declared.requests.Need.{Need}
 use Rattle.flux_defs.specs.Graph.{ResourceGraph}
 use Rattle.flux_defs.specs.ValidGraph.{IsValidGraph}
-use Rattle.graph_laws.proofs.Containment.{below_to}
-use Rattle.graph_laws.proofs.Preorder.{parents_first}
 use Rattle.resource_graph.specs.Tables.{IsPast}
 use Rattle.dfu_match.specs.Tables.{all_of}
-use Rattle.dfu_match.specs.Pairs.{Pair, HasEachOpen, IsClear, IsClearScope, IsClearBefore, IsPlaceOf}
+use Rattle.dfu_match.specs.Pairs.{Pair, HasEachOpen, IsClearWithin, IsClearScope, IsClearBefore, IsPlaceOf}
 use Rattle.dfu_match.specs.Pairs.{IsSpanOf, TakesApart, TakesEach, count_among}
 use Rattle.dfu_match.proofs.OpenLaws.{clear_next, past_within}
 use Rattle.dfu_match.proofs.PairLaws.{count_split, takes_none, takes_upto, takes_visit, takes_within}
@@ -131,7 +129,7 @@ module _ (g : ResourceGraph) (names : List (List ℕ)) (valid : IsValidGraph g n
 
   pub visited_next : (scope : Option ℕ) (walk look old mid found new from at to v past : ℕ) →
       IsSpanOf g.vertices scope from to → to ≤ length g.vertices → IsPlaceOf all place need → walk + look ≤ own →
-      visited old mid from at to → at ≤ v → v < to → IsClear g.vertices jobs w keeps need v →
+      visited old mid from at to → at ≤ v → v < to → IsClearWithin g.vertices jobs w keeps need v →
       IsPast g.vertices v past → TakesEach opened walk mid found place (place + 1) at (v + 1) →
       TakesEach opened inner (found + look) new (place + 1) (place + length (all_of need)) (v + 1) past →
       visited old new from past to
@@ -139,13 +137,12 @@ module _ (g : ResourceGraph) (names : List (List ℕ)) (valid : IsValidGraph g n
       let later = after.later in
       let low = before.low in
       record {
-        clear = clear_next g names valid jobs w keeps need at to v past most before.clear lo hi clear after;
+        clear = clear_next g names valid jobs w keeps need at to v past most before.clear lo hi clear.0 after;
         low = omega (arith, low, later, lo);
         high = past_within g names valid scope from to v past span (omega (arith, low, lo)) hi after;
         taken = apart_visit opened own inner walk look old mid found new place (place + length (all_of need)) from at v
             past le low lo later
-            (λ pairs has. has place v need (place_there all place need is) (omega (arith, hi, most)) (λ u below. clear u
-            (below_to g.vertices (parents_first g valid.preorder) v u below).0)) before.taken s t;
+            (λ pairs has. has place v need (place_there all place need is) (omega (arith, hi, most)) clear.0) before.taken s t;
       }
 
   pub visited_end : (old new from at to : ℕ) → visited old new from at to →

@@ -22,10 +22,10 @@ use Rattle.prune_laws.proofs.Demanded.{too_little_none}
 use Rattle.dfu_match.specs.Searches.{open_to}
 use Rattle.dfu_match.specs.Walks.{ServesNone}
 use Rattle.dfu_match.specs.Tables.{all_of, needs_all}
-use Rattle.dfu_match.specs.Pairs.{Pair, HasEachOpen, IsClear, IsClearBetween, IsClearBefore, IsPlaceOf, TakesEach}
+use Rattle.dfu_match.specs.Pairs.{Pair, AsksWithin, HasEachOpen, IsClearWithin, IsClearBetween, IsClearBefore, IsPlaceOf, TakesEach}
 use Rattle.dfu_match.specs.Asked.{IsAsked}
 use Rattle.dfu_match.proofs.ApartLaws.{apart_each, takes_behind}
-use Rattle.dfu_match.proofs.OpenLaws.{clear_found, clear_own, clear_past, open_here}
+use Rattle.dfu_match.proofs.OpenLaws.{clear_past, clear_within, open_here}
 use Rattle.dfu_match.proofs.PairLaws.{takes_none, takes_one, takes_upto, takes_visit, takes_within}
 use Rattle.dfu_match.proofs.StepLaws.{look_costs}
 use Rattle.dfu_match.proofs.DemandLaws.{all_next}
@@ -231,10 +231,10 @@ module _ (g : ResourceGraph) (names : List (List ℕ)) (valid : IsValidGraph g n
             none = λ spread. refl;
           }
 
-      -- the vertex is clear where it isn't short itself
-      pub asked_clear : (IsShortFor g.vertices jobs w keeps need v → ⊥) → IsClear g.vertices jobs w keeps need v
-      asked_clear own = clear_found g names valid jobs w keeps need low (length g.vertices) v clear lo lt
-          (clear_own g names valid jobs w keeps need v low over own)
+      -- the vertex is clear, and within it where it isn't short itself
+      pub asked_clear : (AsksWithin need → IsShortFor g.vertices jobs w keeps need v → ⊥) →
+          IsClearWithin g.vertices jobs w keeps need v
+      asked_clear own = clear_within g names valid jobs w keeps need low (length g.vertices) v lt clear lo lt over own
 
 module _ (each : List Pair → Type 0) (look to : ℕ) (items : List Need) (i : ℕ) (need : Need) (lt : i < length items)
     (at : need ≡ get_or items i need) (needs : List Need) (same : items ≡ needs) (start old new : ℕ)

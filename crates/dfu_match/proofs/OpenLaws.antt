@@ -21,6 +21,7 @@ use Rattle.prune_filters.specs.Demands.{one_if, demand, row_demand, needs_demand
 use Rattle.prune_filters.specs.Shorts.{IsShortFor}
 use Rattle.dfu_match.specs.Searches.{IsKindOfNeed}
 use Rattle.dfu_match.specs.Walks.{IsParentFrom, ServesNone}
+use Rattle.dfu_match.specs.Pairs.{AsksWithin, IsClearWithin}
 use Rattle.dfu_match.specs.Pairs.{IsOpenFor, IsClear, IsClearScope, IsClearBetween, IsClearBefore, IsSpanOf}
 use Rattle.list_laws.proofs.Lists.{all_along}
 use Rattle.match_laws.proofs.NeedLists.{server}
@@ -176,13 +177,21 @@ module _ (g : ResourceGraph) (names : List (List ℕ)) (valid : IsValidGraph g n
           ]
         ]
 
-    -- past a vertex that is clear
+    -- past a vertex that is open
     pub clear_next : (from to v past : ℕ) → to ≤ length g.vertices → before from to → from ≤ v → v < to →
-        IsClear g.vertices jobs w keeps need v → IsPast g.vertices v past → before past to
+        IsOpenFor g.vertices jobs w keeps need v → IsPast g.vertices v past → before past to
     clear_next from to v past most clear lo hi own is =
         let first = parents_first g valid.preorder in
         clear_past from to v v past most clear lo hi (omega arith) (below_self g.vertices first v (omega arith))
-        (λ u l h above. own u above) is
+        (λ u l h above. own u (below_from g.vertices first v u (λ e. omega (arith, e, h)) above)) is
+
+    -- a vertex that a walk finds, of which those above it were asked, and itself where something is asked within it
+    pub clear_within : (from to v : ℕ) → v < length g.vertices → before from to → from ≤ v → v < to → between v from v →
+        (AsksWithin need → short v → ⊥) → IsClearWithin g.vertices jobs w keeps need v
+    clear_within from to v lt clear lo hi over own = (
+      open_here v from (clear v lo hi) over,
+      λ asks. clear_found from to v clear lo hi (clear_own v from over (own asks)),
+    )
 
     -- a vertex that is short for no need is so for none that demands less
     clear_less : (less : Need) (v : ℕ) → ((kind : ℕ) → demand g.vertices kind 1 less ≤ demand g.vertices kind 1 need) →

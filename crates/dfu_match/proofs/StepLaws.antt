@@ -22,7 +22,8 @@ use Rattle.resource_graph.specs.Tables.{IsPast}
 use Rattle.prune_filters.specs.Shorts.{IsShortFor}
 use Rattle.dfu_match.specs.declared.wanting.Wanted.{Wanted}
 use Rattle.dfu_match.specs.Tables.{all_of, needs_all}
-use Rattle.dfu_match.specs.Pairs.{Pair, HasEachOpen, IsOpenFor, IsClear, IsClearScope, IsClearBetween, IsClearBefore}
+use Rattle.dfu_match.specs.Pairs.{Pair, HasEachOpen, IsOpenFor, IsClear, IsClearWithin, IsClearScope, IsClearBetween}
+use Rattle.dfu_match.specs.Pairs.{IsClearBefore}
 use Rattle.dfu_match.specs.Pairs.{IsPlaceOf, IsPlaceOfAll, IsSpanOf, AreLooks, AreLooksAll, TakesEach, asked_totals}
 use Rattle.dfu_match.specs.Pairs.{count_among}
 use Rattle.dfu_match.proofs.DemandLaws.{all_Vert, all_Spread, all_next}
@@ -30,7 +31,7 @@ use Rattle.dfu_match.proofs.CountLaws.{each_at, item_split, plain_copy, valid_co
 use Rattle.dfu_match.proofs.PairLaws.{count_here, count_most, count_split, count_within, takes_none, takes_one}
 use Rattle.dfu_match.proofs.PairLaws.{takes_split, takes_upto, takes_visit, takes_within}
 use Rattle.dfu_match.proofs.TableLaws.{all_some, place_Spread, place_Vert, place_first, place_from, place_there}
-use Rattle.dfu_match.proofs.TableLaws.{taken_few}
+use Rattle.dfu_match.proofs.TableLaws.{taken_few, asks_Spread, asks_Vert}
 use Rattle.dfu_match.proofs.OpenLaws.{clear_Spread, clear_Vert, clear_next, clear_start, past_within}
 
 -- a look at one vertex, with the demands asked_totals on the way to it, costs no more than that of all needs
@@ -174,25 +175,37 @@ module _ (g : ResourceGraph) (names : List (List ℕ)) (valid : IsValidGraph g n
     (keeps : ℕ → ℕ → Type 0) (all : List Need) (place : ℕ) where
   pub in_vertex : (kind count : ℕ) (hold : Bool) (needs : List Need) (v : ℕ) →
       IsValidNeed g.vertices (Vert kind count hold needs) → IsPlaceOf all place (Vert kind count hold needs) →
-      IsClear g.vertices jobs w keeps (Vert kind count hold needs) v →
+      IsClearWithin g.vertices jobs w keeps (Vert kind count hold needs) v →
       IsPlaceOfAll all (place + 1) needs × AllByRecursion (λ n. IsClear g.vertices jobs w keeps n v) needs
-  in_vertex kind count hold needs v fine here clear = (
-    place_Vert all place kind count hold needs here,
-    clear_Vert g names valid jobs w keeps kind count hold needs v
-        (valid_inside g.vertices kind count hold needs fine) clear,
-  )
+  in_vertex kind count hold needs v fine here clear =
+      (place_Vert all place kind count hold needs here, within needs fine clear)
+    where
+      within : (ns : List Need) → IsValidNeed g.vertices (Vert kind count hold ns) →
+          IsClearWithin g.vertices jobs w keeps (Vert kind count hold ns) v →
+          AllByRecursion (λ n. IsClear g.vertices jobs w keeps n v) ns
+      within [] fine clear = tt
+      within (n ∷ ns) fine clear = clear_Vert g names valid jobs w keeps kind count hold (n ∷ ns) v
+          (valid_inside g.vertices kind count hold (n ∷ ns) fine)
+          (clear.1 (asks_Vert kind count hold (n ∷ ns) (omega arith)))
 
   -- and no spread stands within a copy
   pub in_copy : (count : ℕ) (needs : List Need) (v : ℕ) →
       IsValidNeed g.vertices (Spread count needs) → IsPlaceOf all place (Spread count needs) →
-      IsClear g.vertices jobs w keeps (Spread count needs) v →
+      IsClearWithin g.vertices jobs w keeps (Spread count needs) v →
       IsPlaceOfAll all (place + 1) needs × AllByRecursion (λ n. IsClear g.vertices jobs w keeps n v) needs
       × AllByRecursion HasNoSpread needs
   in_copy count needs v fine here clear = (
     place_Spread all place count needs here,
-    clear_Spread g names valid jobs w keeps count needs v (valid_copy g.vertices count needs fine) clear,
+    within needs fine clear,
     plain_copy g.vertices count needs fine,
   )
+    where
+      within : (ns : List Need) → IsValidNeed g.vertices (Spread count ns) →
+          IsClearWithin g.vertices jobs w keeps (Spread count ns) v →
+          AllByRecursion (λ n. IsClear g.vertices jobs w keeps n v) ns
+      within [] fine clear = tt
+      within (n ∷ ns) fine clear = clear_Spread g names valid jobs w keeps count (n ∷ ns) v
+          (valid_copy g.vertices count (n ∷ ns) fine) (clear.1 (asks_Spread count (n ∷ ns) (omega arith)))
 
 -- A walk over the vertices of a need has come to `at`: none before it is short above what follows, and so many steps
 -- were taken for each open pair.
@@ -227,7 +240,7 @@ module _ (g : ResourceGraph) (names : List (List ℕ)) (valid : IsValidGraph g n
 
   pub walked_next : (scope : Option ℕ) (walk look old mid found new from at to v past : ℕ) →
       IsSpanOf g.vertices scope from to → to ≤ length g.vertices → IsPlaceOf all place need → walk + look ≤ steps →
-      walked old mid from at to → at ≤ v → v < to → IsClear g.vertices jobs w keeps need v →
+      walked old mid from at to → at ≤ v → v < to → IsClearWithin g.vertices jobs w keeps need v →
       IsPast g.vertices v past → TakesEach opened walk mid found place (place + 1) at (v + 1) →
       TakesEach opened steps (found + look) new (place + 1) (place + length (all_of need)) (v + 1) past →
       walked old new from past to
@@ -236,15 +249,14 @@ module _ (g : ResourceGraph) (names : List (List ℕ)) (valid : IsValidGraph g n
       let low = before.low in
       let some = all_some need in
       record {
-        clear = clear_next g names valid jobs w keeps need at to v past most before.clear lo hi clear after;
+        clear = clear_next g names valid jobs w keeps need at to v past most before.clear lo hi clear.0 after;
         low = omega (arith, low, later);
         high = past_within g names valid scope from to v past span (omega (arith, low)) hi after;
         taken = takes_upto opened steps old mid new place (place + length (all_of need)) from at past low
             (omega (arith, later)) before.taken
             (takes_visit opened steps walk look mid found new place (place + length (all_of need)) at v past le lo later
             (omega (arith, some))
-            (λ pairs has. has place v need (place_there all place need is) (omega arith) (λ u below. clear u
-            (below_to g.vertices (parents_first g valid.preorder) v u below).0)) s t);
+            (λ pairs has. has place v need (place_there all place need is) (omega arith) clear.0) s t);
       }
 
   -- it is over

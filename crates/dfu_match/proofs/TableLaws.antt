@@ -1,7 +1,7 @@
 -- Where needs stand among all needs, and what the table tells of them.
 use Rattle.std.proofs.Common.{◌≡◌, ◌≢◌, ◌^◌, ℕ, zero, suc, ◌+◌, ◌<◌, ◌≤◌, ◌⊎◌, inl, inr, Bool, List, [], ◌∷◌, ◌++◌}
 use Rattle.std.proofs.Common.{length, length-append, take, drop, Some, slice_get, append_assoc, refl, sym, ◌∙◌, ap}
-use Rattle.std.proofs.Common.{subst, arith}
+use Rattle.std.proofs.Common.{subst, arith, true, false, not, ◌↔◌, IsTrue, true≢false}
 use Rattle.std.proofs.Math.Seq.{drop-append_seam}
 use Rattle.std.proofs.lemmas.List.{drop-drop}
 use Rattle.flux_defs.specs.declared.requests.Need.{Need, Vert, Vert', Pool, Spread, Spread'}
@@ -9,7 +9,7 @@ use Rattle.list_laws.proofs.Lists.{get_first}
 use Rattle.prune_filters.specs.Demands.{capped}
 use Rattle.dfu_match.specs.declared.wanting.Wanted.{Wanted}
 use Rattle.dfu_match.specs.Tables.{all_of, row_all, needs_all, StandsAt, StandAt}
-use Rattle.dfu_match.specs.Pairs.{IsPlaceOf, IsPlaceOfAll}
+use Rattle.dfu_match.specs.Pairs.{AsksWithin, IsPlaceOf, IsPlaceOfAll}
 use Rattle.dfu_match.proofs.DemandLaws.{all_Vert, all_Spread}
 
 drop_plus : {X : Type 0} (n k : ℕ) (xs : List X) → drop (n + k) xs ≡ drop k (drop n xs)
@@ -172,3 +172,52 @@ module _ (all : List Need) (table : List Wanted) where
         let same = whole some in
         (omega (arith, le, same, fits, e), omega (arith, le, same, fits, e)))
   ]
+
+-- some needs are some with those within them, and none are none
+some_needs : (needs : List Need) → 1 ≤ length needs → 1 ≤ length (needs_all needs)
+some_needs [] some = absurd (omega arith)
+some_needs (need ∷ rest) some =
+    let one = all_some need in
+    let both = length-append (all_of need) (needs_all rest) in
+    omega (arith, one, both)
+
+no_needs : (needs : List Need) → length needs ≡ 0 → length (needs_all needs) ≡ 0
+no_needs [] none = refl
+no_needs (need ∷ rest) none = absurd (omega arith)
+
+-- something is asked within a vertex of a need that has inner ones, and else nothing
+pub asks_Vert : (kind count : ℕ) (hold : Bool) (needs : List Need) → 1 ≤ length needs →
+    AsksWithin (Vert kind count hold needs)
+asks_Vert kind count hold needs some =
+    let e = ap length (all_Vert kind count hold needs) in
+    let more = some_needs needs some in
+    omega (arith, e, more)
+
+pub asks_Spread : (count : ℕ) (needs : List Need) → 1 ≤ length needs → AsksWithin (Spread count needs)
+asks_Spread count needs some =
+    let e = ap length (all_Spread count needs) in
+    let more = some_needs needs some in
+    omega (arith, e, more)
+
+-- that is told by whether it has inner needs
+pub asks_told : (need : Need) (needs : List Need) (empty : Bool) → (IsTrue empty ↔ (needs ≡ [])) →
+    length (all_of need) ≡ length (needs_all needs) + 1 → (IsTrue (not empty) ↔ AsksWithin need)
+asks_told need needs true told e = (
+  λ t. absurd (true≢false (sym t)),
+  λ asks. absurd (let none = told.0 refl in
+      let zero = no_needs needs (ap length none) in
+      omega (arith, e, zero, asks)),
+)
+asks_told need [] false told e = absurd (true≢false (sym (told.1 refl)))
+asks_told need (inner ∷ rest) false told e =
+    (λ t. (let more = some_needs (inner ∷ rest) (omega arith) in omega (arith, e, more)), λ asks. refl)
+
+pub asks_told_Vert : (kind count : ℕ) (hold : Bool) (needs : List Need) (empty : Bool) →
+    (IsTrue empty ↔ (needs ≡ [])) → (IsTrue (not empty) ↔ AsksWithin (Vert kind count hold needs))
+asks_told_Vert kind count hold needs empty told = asks_told (Vert kind count hold needs) needs empty told
+    (let e = ap length (all_Vert kind count hold needs) in omega (arith, e))
+
+pub asks_told_Spread : (count : ℕ) (needs : List Need) (empty : Bool) → (IsTrue empty ↔ (needs ≡ [])) →
+    (IsTrue (not empty) ↔ AsksWithin (Spread count needs))
+asks_told_Spread count needs empty told = asks_told (Spread count needs) needs empty told
+    (let e = ap length (all_Spread count needs) in omega (arith, e))

@@ -27,6 +27,10 @@ IsPlaceOf all place need = (more : List Need) × (drop place all ≡ all_of need
 abbrev pub IsPlaceOfAll : List Need → ℕ → List Need → Type 0
 IsPlaceOfAll all place needs = (more : List Need) × (drop place all ≡ needs_all needs ++ more)
 
+-- something is asked within a vertex of the need
+abbrev pub AsksWithin : Need → Type 0
+AsksWithin need = 2 ≤ length (all_of need)
+
 -- over the vertices, the jobs, a window, and the totals that are kept (of a kind, the second number, at a vertex)
 module _ (vertices : List Vertex) (jobs : List Job) (w : Window) (keeps : ℕ → ℕ → Type 0) where
   -- no vertex above v is short for the need
@@ -55,6 +59,10 @@ module _ (vertices : List Vertex) (jobs : List Job) (w : Window) (keeps : ℕ �
   abbrev pub IsClear : Need → ℕ → Type 0
   IsClear need v =
       (u : ℕ) → IsTrue (is_at_or_below vertices v u) → IsShortFor vertices jobs w keeps need u → ⊥
+
+  -- no vertex above v is short for the need, nor v itself where something is asked within it
+  abbrev pub IsClearWithin : Need → ℕ → Type 0
+  IsClearWithin need v = IsOpenFor need v × (AsksWithin need → IsClear need v)
 
   -- neither the vertex below which is looked nor one above it is, where there is one
   abbrev pub IsClearScope : Option ℕ → Need → Type 0

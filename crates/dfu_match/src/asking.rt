@@ -14,7 +14,7 @@ ghost use Rattle.prune_filters.specs.Shorts.{IsShortFor};
 ghost use Rattle.resource_graph.specs.Tables.{IsPast};
 ghost use Rattle.dfu_match.specs.Searches.{open_to};
 ghost use Rattle.dfu_match.specs.Tables.{all_of, needs_all, StandsAt};
-ghost use Rattle.dfu_match.specs.Pairs.{HasEachOpen, IsClear, IsClearBefore, IsClearBetween, IsPlaceOf, TakesEach};
+ghost use Rattle.dfu_match.specs.Pairs.{AsksWithin, HasEachOpen, IsClearWithin, IsClearBefore, IsClearBetween, IsPlaceOf, TakesEach};
 ghost use Rattle.dfu_match.specs.Pairs.{asked_totals};
 ghost use Rattle.dfu_match.specs.Asked.{AreDead, IsAsked};
 ghost use Rattle.match_laws.specs.Offers.{SomeFits};
@@ -28,7 +28,7 @@ use crate::refuting::{bound_at, refuted_known};
 use crate::search::{Search, refuses_until};
 use crate::spreads::{asks_once, is_spread};
 use crate::topmost::whole_of;
-use crate::walking::{index_after, index_within, parent_from, top_short};
+use crate::walking::{index_after, index_within, top_over, top_within};
 use flux_defs::{FreeView, Need, Steps};
 use std::sync::ledger::Ledger;
 
@@ -58,7 +58,7 @@ fn top_above<F: FreeView, L: Ledger>(
         (asked_totals s.now.wanted.now (F.keeps s.now.view.now)) need.now vertex in
         MatchOption result (clear low vertex) (clear low)) }
     ensures own { (jobs : List Job) → F.stands_for s.now.view.now jobs → (IsSpread need.now → ⊥) →
-        IfNone result (IsShortFor s.now.graph.now.resources.vertices jobs s.now.window
+        AsksWithin need.now → IfNone result (IsShortFor s.now.graph.now.resources.vertices jobs s.now.window
         (asked_totals s.now.wanted.now (F.keeps s.now.view.now)) need.now vertex → ⊥) }
     ensures falls { FallsWithin s.now.window until.old until.new }
     ensures work { (jobs : List Job) → F.stands_for s.now.view.now jobs → (place : ℕ) →
@@ -70,14 +70,10 @@ fn top_above<F: FreeView, L: Ledger>(
         IsPlaceOf all place need.now → IsClearBetween vs jobs s.now.window keeps need.now vertex 0 low →
         taken (vertex + 1) × (IsSpread need.now → taken vertex)) }
 {
-    if !is_spread(need) {
-        return top_short(s, need, index, low, vertex, until, steps);
+    if is_spread(need) {
+        return top_over(s, need, index, low, vertex, until, steps);
     }
-    s.graph.is_valid();
-    match parent_from(s.graph, vertex, low) {
-        None => None,
-        Some(parent) => top_short(s, need, index, low, parent, until, steps),
-    }
+    top_within(s, need, index, low, vertex, until, steps)
 }
 
 /// A row of the vertex, of which is asked how much of the need it serves: of a spread by its totals alone.
@@ -102,7 +98,7 @@ fn ask<F: FreeView, L: Ledger>(
         let keeps : ℕ → ℕ → Type 0 = asked_totals s.now.wanted.now (F.keeps s.now.view.now) in
         let all : List Need = needs_all s.now.needs.now in
         (IsSpread need.now → ⊥) →
-        IsPlaceOf all place need.now → IsClear vs jobs s.now.window keeps need.now vertex → IsPast vs vertex past →
+        IsPlaceOf all place need.now → IsClearWithin vs jobs s.now.window keeps need.now vertex → IsPast vs vertex past →
         TakesEach (HasEachOpen vs jobs s.now.window keeps all) ((length all + 2) * F.cost s.now.view.now)
         (steps.old + 2 * F.cost s.now.view.now) steps.new (place + 1) (place + length (all_of need.now))
         (vertex + 1) past) }

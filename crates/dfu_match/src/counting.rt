@@ -9,7 +9,7 @@ ghost use Rattle.flux_defs.specs.Lowest.{CanServe};
 ghost use Rattle.match_laws.specs.Offers.{IsGreatest, SomeGroup, SomeFits};
 ghost use Rattle.dfu_match.specs.Searches.{open_to, scope_of, IsScope, MayAsk, MayScale};
 ghost use Rattle.dfu_match.specs.Tables.{all_of, needs_all, StandsAt, StandAt};
-ghost use Rattle.dfu_match.specs.Pairs.{HasEachOpen, IsClear, IsClearScope, IsPlaceOf, IsPlaceOfAll, IsSpanOf};
+ghost use Rattle.dfu_match.specs.Pairs.{HasEachOpen, IsClear, IsClearWithin, IsClearScope, IsPlaceOf, IsPlaceOfAll, IsSpanOf};
 ghost use Rattle.dfu_match.specs.Pairs.{TakesEach, asked_totals};
 ghost use Rattle.flux_defs.specs.declared.requests.Need.{Need};
 ghost use Rattle.resource_graph.specs.Tables.{IsPast};
@@ -98,7 +98,7 @@ pub(crate) fn serves<F: FreeView, L: Ledger>(
         (let vs : List Vertex = s.now.graph.now.resources.vertices in
         let keeps : ℕ → ℕ → Type 0 = asked_totals s.now.wanted.now (F.keeps s.now.view.now) in
         let all : List Need = needs_all s.now.needs.now in
-        IsPlaceOf all place need.now → IsClear vs jobs s.now.window keeps need.now vertex →
+        IsPlaceOf all place need.now → IsClearWithin vs jobs s.now.window keeps need.now vertex →
         IsPast vs vertex past →
         TakesEach (HasEachOpen vs jobs s.now.window keeps all) ((length all + 2) * F.cost s.now.view.now)
         (steps.old + 2 * F.cost s.now.view.now) steps.new (place + 1) (place + length (all_of need.now))

@@ -14,7 +14,7 @@ ghost use Rattle.match_laws.specs.Offers.{Extends, SomeGroup, SomeFits, LowestGr
 ghost use Rattle.dfu_match.specs.Searches.{open_to, IsKindOfNeed};
 ghost use Rattle.dfu_match.specs.Tables.{all_of, needs_all, StandsAt};
 ghost use Rattle.dfu_match.specs.Walks.{ServesNone};
-ghost use Rattle.dfu_match.specs.Pairs.{HasEachOpen, IsClear, IsClearBefore, IsClearScope, IsPlaceOf};
+ghost use Rattle.dfu_match.specs.Pairs.{HasEachOpen, IsClearWithin, IsClearBefore, IsClearScope, IsPlaceOf};
 ghost use Rattle.dfu_match.specs.Pairs.{Pair, IsPlaceOfAll, IsSpanOf, AreLooks, AreLooksAll, TakesEach, TakesApart};
 ghost use Rattle.dfu_match.specs.Pairs.{asked_totals};
 ghost use Rattle.dfu_match.specs.Rows.{IsRowOf, Knows, whole_of};
@@ -23,7 +23,7 @@ ghost use Rattle.std.specs.List.{AllByRecursion};
 use crate::knowing::{Known, Row};
 use crate::scopes::{kind_of, span_of};
 use crate::search::Search;
-use crate::walking::{index_after, top_short};
+use crate::walking::{index_after, top_within};
 use crate::writing::offer;
 use flux_defs::{Claim, FreeView, Need, Steps};
 use std::alloc::AllocError;
@@ -135,7 +135,7 @@ fn next_open_known<F: FreeView, L: Ledger>(
         (let vs : List Vertex = s.now.graph.now.resources.vertices in
         let keeps : ℕ → ℕ → Type 0 = asked_totals s.now.wanted.now (F.keeps s.now.view.now) in
         IsClearBefore vs jobs s.now.window keeps need.now from to →
-        IfSome result (IsClear vs jobs s.now.window keeps need.now)) }
+        IfSome result (IsClearWithin vs jobs s.now.window keeps need.now)) }
     ensures known { Knows s.now.graph.now.resources.vertices (F.stands_for s.now.view.now) s.now.barred.now
         s.now.needs.now s.now.window known.new }
     ensures own { known.new.own ≡ known.old.own }
@@ -165,7 +165,7 @@ fn next_open_known<F: FreeView, L: Ledger>(
             at = next;
         } else {
             let mut moment = u64::MAX;
-            match top_short(s, need, index, low, vertex, &mut moment, steps) {
+            match top_within(s, need, index, low, vertex, &mut moment, steps) {
                 None => {
                     let row = unknown(s, need, vertex, false);
                     known.note(own, *count, at, row, next);

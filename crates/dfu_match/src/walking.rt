@@ -12,7 +12,8 @@ ghost use Rattle.prune_filters.specs.Shorts.{IsShortFor};
 ghost use Rattle.dfu_match.specs.Searches.{open_to, IsKindOfNeed};
 ghost use Rattle.dfu_match.specs.Tables.{all_of, needs_all, StandsAt};
 ghost use Rattle.dfu_match.specs.Walks.{IsParentFrom, ServesNone};
-ghost use Rattle.dfu_match.specs.Pairs.{HasEachOpen, IsClear, IsClearBetween, IsClearBefore, IsPlaceOf, TakesEach};
+ghost use Rattle.dfu_match.specs.Pairs.{AsksWithin, HasEachOpen, IsClearWithin, IsClearBetween, IsClearBefore, IsPlaceOf};
+ghost use Rattle.dfu_match.specs.Pairs.{TakesEach};
 ghost use Rattle.dfu_match.specs.Pairs.{asked_totals};
 ghost use Rattle.flux_defs.specs.Later.{IsSoUntil, ReachesOver};
 ghost use Rattle.dfu_match.specs.Reaches.{FallsWithin};
@@ -137,6 +138,99 @@ pub(crate) fn top_short<F: FreeView, L: Ledger>(
     }
 }
 
+/// The uppermost vertex above this one, from `low` on, that is short for the need, as `top_short` tells it.
+pub(crate) fn top_over<F: FreeView, L: Ledger>(
+    s: &Search<F>,
+    need: &Need,
+    index: usize,
+    low: u32,
+    vertex: u32,
+    until: &mut u64,
+    steps: &mut Steps<L>,
+) -> Option<u32>
+    requires stands { StandsAt (needs_all s.now.needs.now) s.now.wanted.now index need.now }
+    requires vertex { vertex < length s.now.graph.now.resources.vertices }
+    requires low { low ≤ vertex }
+    ensures above { IfSome result (λ top. (low ≤ top)
+        × IsTrue (is_at_or_below s.now.graph.now.resources.vertices vertex top)) }
+    ensures short { (jobs : List Job) → F.stands_for s.now.view.now jobs → (w : Window) →
+        ReachesOver s.now.window until.new w →
+        IfSome result (IsShortFor s.now.graph.now.resources.vertices jobs w
+        (asked_totals s.now.wanted.now (F.keeps s.now.view.now)) need.now) }
+    ensures clear { (jobs : List Job) → F.stands_for s.now.view.now jobs →
+        (let clear : ℕ → ℕ → Type 0 = IsClearBetween s.now.graph.now.resources.vertices jobs s.now.window
+        (asked_totals s.now.wanted.now (F.keeps s.now.view.now)) need.now vertex in
+        MatchOption result (clear low vertex) (clear low)) }
+    ensures falls { FallsWithin s.now.window until.old until.new }
+    ensures work { (jobs : List Job) → F.stands_for s.now.view.now jobs → (place : ℕ) →
+        (let vs : List Vertex = s.now.graph.now.resources.vertices in
+        let keeps : ℕ → ℕ → Type 0 = asked_totals s.now.wanted.now (F.keeps s.now.view.now) in
+        let all : List Need = needs_all s.now.needs.now in
+        IsPlaceOf all place need.now → IsClearBetween vs jobs s.now.window keeps need.now vertex 0 low →
+        TakesEach (HasEachOpen vs jobs s.now.window keeps all)
+        (length (all_of need.now) * F.cost s.now.view.now) steps.old steps.new place (place + 1) low vertex) }
+{
+    s.graph.is_valid();
+    match parent_from(s.graph, vertex, low) {
+        None => None,
+        Some(parent) => top_short(s, need, index, low, parent, until, steps),
+    }
+}
+
+/// Whether something is asked within a vertex of the need.
+fn asks_within(need: &Need) -> bool
+    ensures yes { IsTrue result → AsksWithin need.now }
+    ensures no { AsksWithin need.now → IsTrue result }
+{
+    match need {
+        Need::Vert { needs, .. } => !needs.is_empty(),
+        Need::Pool { .. } => false,
+        Need::Spread { needs, .. } => !needs.is_empty(),
+    }
+}
+
+/// The uppermost vertex above this one, from `low` on, that is short for the need, as `top_short` tells it, or the vertex
+/// itself where something is asked within it: else what is asked of it tells as much.
+pub(crate) fn top_within<F: FreeView, L: Ledger>(
+    s: &Search<F>,
+    need: &Need,
+    index: usize,
+    low: u32,
+    vertex: u32,
+    until: &mut u64,
+    steps: &mut Steps<L>,
+) -> Option<u32>
+    requires stands { StandsAt (needs_all s.now.needs.now) s.now.wanted.now index need.now }
+    requires vertex { vertex < length s.now.graph.now.resources.vertices }
+    requires low { low ≤ vertex }
+    ensures above { IfSome result (λ top. (low ≤ top)
+        × IsTrue (is_at_or_below s.now.graph.now.resources.vertices vertex top)) }
+    ensures short { (jobs : List Job) → F.stands_for s.now.view.now jobs → (w : Window) →
+        ReachesOver s.now.window until.new w →
+        IfSome result (IsShortFor s.now.graph.now.resources.vertices jobs w
+        (asked_totals s.now.wanted.now (F.keeps s.now.view.now)) need.now) }
+    ensures clear { (jobs : List Job) → F.stands_for s.now.view.now jobs →
+        (let clear : ℕ → ℕ → Type 0 = IsClearBetween s.now.graph.now.resources.vertices jobs s.now.window
+        (asked_totals s.now.wanted.now (F.keeps s.now.view.now)) need.now vertex in
+        MatchOption result (clear low vertex) (clear low)) }
+    ensures own { (jobs : List Job) → F.stands_for s.now.view.now jobs → AsksWithin need.now →
+        IfNone result (IsShortFor s.now.graph.now.resources.vertices jobs s.now.window
+        (asked_totals s.now.wanted.now (F.keeps s.now.view.now)) need.now vertex → ⊥) }
+    ensures falls { FallsWithin s.now.window until.old until.new }
+    ensures work { (jobs : List Job) → F.stands_for s.now.view.now jobs → (place : ℕ) →
+        (let vs : List Vertex = s.now.graph.now.resources.vertices in
+        let keeps : ℕ → ℕ → Type 0 = asked_totals s.now.wanted.now (F.keeps s.now.view.now) in
+        let all : List Need = needs_all s.now.needs.now in
+        IsPlaceOf all place need.now → IsClearBetween vs jobs s.now.window keeps need.now vertex 0 low →
+        TakesEach (HasEachOpen vs jobs s.now.window keeps all)
+        (length (all_of need.now) * F.cost s.now.view.now) steps.old steps.new place (place + 1) low (vertex + 1)) }
+{
+    if asks_within(need) {
+        return top_short(s, need, index, low, vertex, until, steps);
+    }
+    top_over(s, need, index, low, vertex, until, steps)
+}
+
 /// The least vertex of the need's kind from `from` on and before `to` that lies in no subtree which is short for the
 /// need. Those passed over can't serve it over any window that reaches over what is left of this one from `until` on,
 /// which falls to the least moment that tells so.
@@ -165,7 +259,7 @@ pub(crate) fn next_open_until<F: FreeView, L: Ledger>(
         (let vs : List Vertex = s.now.graph.now.resources.vertices in
         let keeps : ℕ → ℕ → Type 0 = asked_totals s.now.wanted.now (F.keeps s.now.view.now) in
         IsClearBefore vs jobs s.now.window keeps need.now from to →
-        IfSome result (IsClear vs jobs s.now.window keeps need.now)) }
+        IfSome result (IsClearWithin vs jobs s.now.window keeps need.now)) }
     ensures falls { FallsWithin s.now.window until.old until.new }
     ensures work { (jobs : List Job) → F.stands_for s.now.view.now jobs → (place : ℕ) →
         (let vs : List Vertex = s.now.graph.now.resources.vertices in
@@ -185,7 +279,7 @@ pub(crate) fn next_open_until<F: FreeView, L: Ledger>(
         if s.shut && s.graph.rank_at(vertex).is_some() {
             return None;
         }
-        match top_short(s, need, index, at, vertex, until, steps) {
+        match top_within(s, need, index, at, vertex, until, steps) {
             None => return Some(vertex),
             Some(top) => at = s.graph.past(top),
         }

@@ -9,7 +9,7 @@ ghost use Rattle.flux_defs.specs.Lowest.{CanServe, FollowsPass, LowestPiece, Low
 ghost use Rattle.match_laws.specs.Offers.{Extends, Offers, SomeGroup, SomeFits, LowestGroup};
 ghost use Rattle.dfu_match.specs.Searches.{open_to, scope_of, IsScope, MayAsk, MayScale, MayScaleNeed};
 ghost use Rattle.dfu_match.specs.Tables.{all_of, needs_all, StandsAt, StandAt};
-ghost use Rattle.dfu_match.specs.Pairs.{HasEachOpen, IsClear, IsClearScope, IsPlaceOf, IsPlaceOfAll, IsSpanOf};
+ghost use Rattle.dfu_match.specs.Pairs.{HasEachOpen, IsClear, IsClearWithin, IsClearScope, IsPlaceOf, IsPlaceOfAll, IsSpanOf};
 ghost use Rattle.dfu_match.specs.Pairs.{AreLooks, AreLooksAll, TakesEach, asked_totals};
 ghost use Rattle.flux_defs.specs.declared.requests.Need.{Need};
 ghost use Rattle.resource_graph.specs.Tables.{IsPast};
@@ -152,7 +152,7 @@ pub(crate) fn offer<F: FreeView, L: Ledger>(
         (let vs : List Vertex = s.now.graph.now.resources.vertices in
         let keeps : ℕ → ℕ → Type 0 = asked_totals s.now.wanted.now (F.keeps s.now.view.now) in
         let all : List Need = needs_all s.now.needs.now in
-        IsPlaceOf all place need.now → IsClear vs jobs s.now.window keeps need.now vertex →
+        IsPlaceOf all place need.now → IsClearWithin vs jobs s.now.window keeps need.now vertex →
         IsPast vs vertex past → AreLooks times need.now →
         TakesEach (HasEachOpen vs jobs s.now.window keeps all) (times * ((length all + 2) * F.cost s.now.view.now))
         (steps.old + 2 * F.cost s.now.view.now) steps.new (place + 1) (place + length (all_of need.now))

@@ -9,7 +9,7 @@ use Rattle.dfu_match.specs.Pairs.{asked_totals}
 use Rattle.dfu_match.specs.Searches.{open_to}
 use Rattle.dfu_match.specs.Tables.{all_of}
 use Rattle.dfu_match.proofs.NotingLaws.{none_to, none_before, none_below}
-use Rattle.dfu_match.proofs.OpenLaws.{clear_found, clear_past, none_inside}
+use Rattle.dfu_match.proofs.OpenLaws.{clear_within, clear_past, none_inside}
 use Rattle.dfu_match.proofs.PairLaws.{takes_upto, takes_within}
 use Rattle.dfu_match.proofs.ReachLaws.{reach_all}
 use Rattle.dfu_match.proofs.RowLaws.{knows_noted, knows_passed, row_known, row_none}
@@ -118,10 +118,11 @@ returns-in-None-clause-clear g c = λ jobs stands before.
     let next = rw c.in-Some.is at c.next_of_kind.ensures in
     let low = next.low in
     let order = c.look.invariant.order in
-    clear_found graph.resources graph.names c.is_valid.ensures.valid jobs s.window
+    clear_within graph.resources graph.names c.is_valid.ensures.valid jobs s.window
     (asked_totals s.wanted.now (g.F.FreeView.keeps s.view.now)) c.args.need.now c.look.low c.args.to c.in-Some.vertex
+    (let hi = next.high in let most = c.requires.within in omega (arith, hi, most))
     (c.look.invariant.clear jobs stands before) (omega (arith, low, order)) next.high
-    (c.in-None.ensures.clear jobs stands)
+    (c.in-None.ensures.clear jobs stands) (c.in-None.ensures.own jobs stands)
 
 pub returns-in-None-clause-known : goal.returns-in-None-clause-known
 returns-in-None-clause-known g c =
@@ -149,13 +150,13 @@ returns-in-None-clause-work g c = λ jobs stands place at before.
     let order = c.look.invariant.order in
     let from = c.look.invariant.later in
     let steps = length (all_of c.args.need.now) * g.F.FreeView.cost s.view.now in
-    takes_upto _ steps c.args.steps.now c.look.steps c.top_short.new.steps place (place + 1) c.args.from
+    takes_upto _ steps c.args.steps.now c.look.steps c.top_within.new.steps place (place + 1) c.args.from
     (min c.look.low c.args.to) (c.in-Some.vertex + 1) (omega (arith, from, order, lo, hi)) (omega (arith, lo, order))
     (c.look.invariant.taken jobs stands place at before)
-    (takes_within _ steps steps c.look.steps c.top_short.new.steps place (place + 1) c.look.low
+    (takes_within _ steps steps c.look.steps c.top_within.new.steps place (place + 1) c.look.low
     (c.in-Some.vertex + 1) place (place + 1) (min c.look.low c.args.to) (c.in-Some.vertex + 1) (omega arith)
     (omega arith) (omega arith) (omega (arith, order, lo, hi)) (omega arith)
-    (c.top_short.ensures.work jobs stands place at
+    (c.top_within.ensures.work jobs stands place at
     (c.look.invariant.clear jobs stands before c.in-Some.vertex (omega (arith, order, lo)) hi)))
 
 pub past-past-requires : goal.past-past-requires
@@ -165,7 +166,7 @@ past-past-requires g c =
     let high = next.high in
     let within = c.requires.within in
     let le = below_le graph.resources.vertices (parents_first graph.resources c.is_valid.ensures.valid.preorder)
-    c.in-Some.vertex c.in-Some-top_short.top c.in-Some-top_short.ensures.above.1 in
+    c.in-Some.vertex c.in-Some-top_within.top c.in-Some-top_within.ensures.above.1 in
     omega arith
 
 pub note_short-requires-clause-none : goal.note_short-requires-clause-none
@@ -176,8 +177,8 @@ note_short-requires-clause-none g c = λ jobs stands w reach.
     let next = rw c.in-Some.is at c.next_of_kind.ensures in
     laws.skipped_past graph.resources graph.names valid jobs s.barred.now w c.args.need.now c.args.kind
     c.requires.of_kind (asked_totals s.wanted.now (g.F.FreeView.keeps s.view.now)) c.requires.valid
-    c.look.at c.look.at c.in-Some.vertex c.in-Some-top_short.top c.past-past.result
-    c.in-Some-top_short.ensures.above.1 (c.in-Some-top_short.ensures.short jobs stands w reach) c.past-past.ensures
+    c.look.at c.look.at c.in-Some.vertex c.in-Some-top_within.top c.past-past.result
+    c.in-Some-top_within.ensures.above.1 (c.in-Some-top_within.ensures.short jobs stands w reach) c.past-past.ensures
     (laws.skipped_to graph.resources graph.names valid jobs s.barred.now w c.args.need.now c.args.kind
     c.requires.of_kind c.look.at c.look.at c.args.to c.in-Some.vertex next
     (λ scope u q lo hi some can. omega (arith, lo, hi)))
@@ -195,7 +196,7 @@ look-preserved g c =
     let order = c.look.invariant.order in
     let from = c.look.invariant.later in
     let most = c.requires.within in
-    let above = c.in-Some-top_short.ensures.above in
+    let above = c.in-Some-top_within.ensures.above in
     let top = above.0 in
     let past = c.past-past.ensures.later in
     let inside = c.past-past.ensures.whole c.in-Some.vertex (omega (arith, hi, most)) above.1 in
@@ -203,12 +204,12 @@ look-preserved g c =
       later = omega (arith, from, top, past);
       order = omega arith;
       skipped = λ jobs stands.
-          let within : s.window.from ≤ c.top_short.new.until = c.top_short.ensures.falls.1 (omega arith) in
+          let within : s.window.from ≤ c.top_within.new.until = c.top_within.ensures.falls.1 (omega arith) in
           laws.skipped_past graph.resources graph.names valid jobs s.barred.now s.window c.args.need.now c.args.kind
-          c.requires.of_kind keeps c.requires.valid c.args.from c.look.at c.in-Some.vertex c.in-Some-top_short.top
+          c.requires.of_kind keeps c.requires.valid c.args.from c.look.at c.in-Some.vertex c.in-Some-top_within.top
           c.past-past.result above.1
-          (c.in-Some-top_short.ensures.short jobs stands s.window
-          (reach_all s.window c.top_short.new.until within s.opens))
+          (c.in-Some-top_within.ensures.short jobs stands s.window
+          (reach_all s.window c.top_within.new.until within s.opens))
           c.past-past.ensures
           (laws.skipped_to graph.resources graph.names valid jobs s.barred.now s.window c.args.need.now c.args.kind
           c.requires.of_kind c.args.from c.look.at c.args.to c.in-Some.vertex next
@@ -216,20 +217,20 @@ look-preserved g c =
       known = c.note_short.ensures.known;
       own = c.note_short.ensures.own ∙ c.look.invariant.own;
       clear = λ jobs stands before. clear_past graph.resources graph.names valid jobs s.window keeps c.args.need.now
-          c.look.low c.args.to c.in-Some.vertex c.in-Some-top_short.top c.past-past.result c.requires.within
+          c.look.low c.args.to c.in-Some.vertex c.in-Some-top_within.top c.past-past.result c.requires.within
           (c.look.invariant.clear jobs stands before) (omega (arith, lo, order)) hi (omega (arith, hi, most)) above.1
-          (c.in-Some-top_short.ensures.clear jobs stands) c.past-past.ensures;
+          (c.in-Some-top_within.ensures.clear jobs stands) c.past-past.ensures;
       taken = λ jobs stands place at before.
           let steps = length (all_of c.args.need.now) * g.F.FreeView.cost s.view.now in
-          takes_within _ steps steps c.args.steps.now c.top_short.new.steps place (place + 1) c.args.from
+          takes_within _ steps steps c.args.steps.now c.top_within.new.steps place (place + 1) c.args.from
           (c.in-Some.vertex + 1) place (place + 1) c.args.from (min c.past-past.result c.args.to) (omega arith)
           (omega arith) (omega arith) (omega arith) (omega (arith, inside, hi))
-          (takes_upto _ steps c.args.steps.now c.look.steps c.top_short.new.steps place (place + 1) c.args.from
+          (takes_upto _ steps c.args.steps.now c.look.steps c.top_within.new.steps place (place + 1) c.args.from
           (min c.look.low c.args.to) (c.in-Some.vertex + 1) (omega (arith, from, order, lo, hi))
           (omega (arith, lo, order)) (c.look.invariant.taken jobs stands place at before)
-          (takes_within _ steps steps c.look.steps c.top_short.new.steps place (place + 1) c.look.low
+          (takes_within _ steps steps c.look.steps c.top_within.new.steps place (place + 1) c.look.low
           (c.in-Some.vertex + 1) place (place + 1) (min c.look.low c.args.to) (c.in-Some.vertex + 1) (omega arith)
           (omega arith) (omega arith) (omega (arith, order, lo, hi)) (omega arith)
-          (c.top_short.ensures.work jobs stands place at
+          (c.top_within.ensures.work jobs stands place at
           (c.look.invariant.clear jobs stands before c.in-Some.vertex (omega (arith, order, lo)) hi))));
     }

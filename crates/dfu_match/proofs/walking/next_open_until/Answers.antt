@@ -5,7 +5,7 @@ use Rattle.dfu_match.proofs.BarLaws.{rank_node}
 use Rattle.dfu_match.proofs.WalkLaws as laws
 use Rattle.dfu_match.specs.Pairs.{asked_totals}
 use Rattle.dfu_match.specs.Tables.{all_of}
-use Rattle.dfu_match.proofs.OpenLaws.{clear_found, clear_past}
+use Rattle.dfu_match.proofs.OpenLaws.{clear_within, clear_past}
 use Rattle.dfu_match.proofs.PairLaws.{takes_none, takes_upto, takes_within}
 use Rattle.dfu_match.proofs.ReachLaws.{falls_twice, reach_later}
 use Rattle.dfu_match.proofs.walking.next_open_until.Goals as goal
@@ -25,7 +25,7 @@ returns-in-None-clause-skipped g c = λ jobs stands w reach.
     laws.skipped_to graph.resources graph.names c.is_valid.ensures.valid jobs s.barred.now w c.args.need.now
     c.args.kind c.requires.of_kind c.args.from c.look.at c.args.to c.in-Some.vertex
     (rw c.in-Some.is at c.next_of_kind.ensures)
-    (c.look.invariant.skipped jobs stands w (reach_later s.window w c.top_short.new.until c.look.until
+    (c.look.invariant.skipped jobs stands w (reach_later s.window w c.top_within.new.until c.look.until
     c.in-None.ensures.falls.0 reach))
 
 pub past-at-requires : goal.past-at-requires
@@ -35,7 +35,7 @@ past-at-requires g c =
     let high = next.high in
     let within = c.requires.within in
     let le = below_le graph.resources.vertices (parents_first graph.resources c.is_valid.ensures.valid.preorder)
-    c.in-Some.vertex c.in-Some-top_short.top c.in-Some-top_short.ensures.above.1 in
+    c.in-Some.vertex c.in-Some-top_within.top c.in-Some-top_within.ensures.above.1 in
     omega arith
 
 pub look-preserved : goal.look-preserved
@@ -47,28 +47,28 @@ look-preserved g c =
       later = (
           let past = c.past-at.ensures.later in
           let from = c.look.invariant.later in
-          let low = c.in-Some-top_short.ensures.above.0 in
+          let low = c.in-Some-top_within.ensures.above.0 in
           let next = next.low in
           omega (arith, past, from, low, next));
-      falls = falls_twice s.window c.args.until.now c.look.until c.top_short.new.until c.look.invariant.falls
-          c.top_short.ensures.falls;
+      falls = falls_twice s.window c.args.until.now c.look.until c.top_within.new.until c.look.invariant.falls
+          c.top_within.ensures.falls;
       skipped = λ jobs stands w reach. laws.skipped_past graph.resources graph.names c.is_valid.ensures.valid jobs
           s.barred.now w c.args.need.now c.args.kind c.requires.of_kind
           (asked_totals s.wanted.now (g.F.FreeView.keeps s.view.now)) c.requires.valid
-          c.args.from c.look.at c.in-Some.vertex c.in-Some-top_short.top c.past-at.result
-          c.in-Some-top_short.ensures.above.1
-          (c.in-Some-top_short.ensures.short jobs stands w reach) c.past-at.ensures
+          c.args.from c.look.at c.in-Some.vertex c.in-Some-top_within.top c.past-at.result
+          c.in-Some-top_within.ensures.above.1
+          (c.in-Some-top_within.ensures.short jobs stands w reach) c.past-at.ensures
           (laws.skipped_to graph.resources graph.names c.is_valid.ensures.valid jobs s.barred.now w
           c.args.need.now c.args.kind c.requires.of_kind c.args.from c.look.at c.args.to c.in-Some.vertex next
-          (c.look.invariant.skipped jobs stands w (reach_later s.window w c.top_short.new.until c.look.until
-          c.top_short.ensures.falls.0 reach)));
+          (c.look.invariant.skipped jobs stands w (reach_later s.window w c.top_within.new.until c.look.until
+          c.top_within.ensures.falls.0 reach)));
       clear = λ jobs stands before. clear_past graph.resources graph.names c.is_valid.ensures.valid jobs s.window
           (asked_totals s.wanted.now (g.F.FreeView.keeps s.view.now)) c.args.need.now c.look.at c.args.to
           c.in-Some.vertex
-          c.in-Some-top_short.top c.past-at.result c.requires.within (c.look.invariant.clear jobs stands before)
-          (let above = c.in-Some-top_short.ensures.above.0 in let lo = next.low in omega (arith, above, lo)) next.high
+          c.in-Some-top_within.top c.past-at.result c.requires.within (c.look.invariant.clear jobs stands before)
+          (let above = c.in-Some-top_within.ensures.above.0 in let lo = next.low in omega (arith, above, lo)) next.high
           (let hi = next.high in let most = c.requires.within in omega (arith, hi, most))
-          c.in-Some-top_short.ensures.above.1 (c.in-Some-top_short.ensures.clear jobs stands) c.past-at.ensures;
+          c.in-Some-top_within.ensures.above.1 (c.in-Some-top_within.ensures.clear jobs stands) c.past-at.ensures;
       taken = λ jobs stands place at before.
           let steps = length (all_of c.args.need.now) * g.F.FreeView.cost s.view.now in
           let lo = next.low in
@@ -76,17 +76,17 @@ look-preserved g c =
           let from = c.look.invariant.later in
           let past = c.past-at.ensures.later in
           let inside = c.past-at.ensures.whole c.in-Some.vertex
-          (let most = c.requires.within in omega (arith, hi, most)) c.in-Some-top_short.ensures.above.1 in
-          takes_within _ steps steps c.args.steps.now c.top_short.new.steps place (place + 1) c.args.from
+          (let most = c.requires.within in omega (arith, hi, most)) c.in-Some-top_within.ensures.above.1 in
+          takes_within _ steps steps c.args.steps.now c.top_within.new.steps place (place + 1) c.args.from
           (c.in-Some.vertex + 1) place (place + 1) c.args.from (min c.past-at.result c.args.to) (omega arith)
           (omega arith) (omega arith) (omega arith) (omega (arith, inside, hi))
-          (takes_upto _ steps c.args.steps.now c.look.steps c.top_short.new.steps place (place + 1) c.args.from
+          (takes_upto _ steps c.args.steps.now c.look.steps c.top_within.new.steps place (place + 1) c.args.from
           (min c.look.at c.args.to) (c.in-Some.vertex + 1) (omega (arith, from, lo, hi)) (omega (arith, lo))
           (c.look.invariant.taken jobs stands place at before)
-          (takes_within _ steps steps c.look.steps c.top_short.new.steps place (place + 1) c.look.at
+          (takes_within _ steps steps c.look.steps c.top_within.new.steps place (place + 1) c.look.at
           (c.in-Some.vertex + 1) place (place + 1) (min c.look.at c.args.to) (c.in-Some.vertex + 1) (omega arith)
           (omega arith) (omega arith) (omega arith) (omega arith)
-          (c.top_short.ensures.work jobs stands place at
+          (c.top_within.ensures.work jobs stands place at
           (c.look.invariant.clear jobs stands before c.in-Some.vertex lo hi))));
     }
 
@@ -122,9 +122,11 @@ returns-in-None-clause-clear g c = λ jobs stands before.
     let s = c.args.s.now in
     let graph = s.graph.now in
     let next = rw c.in-Some.is at c.next_of_kind.ensures in
-    clear_found graph.resources graph.names c.is_valid.ensures.valid jobs s.window
+    clear_within graph.resources graph.names c.is_valid.ensures.valid jobs s.window
     (asked_totals s.wanted.now (g.F.FreeView.keeps s.view.now)) c.args.need.now c.look.at c.args.to c.in-Some.vertex
+    (let hi = next.high in let most = c.requires.within in omega (arith, hi, most))
     (c.look.invariant.clear jobs stands before) next.low next.high (c.in-None.ensures.clear jobs stands)
+    (c.in-None.ensures.own jobs stands)
 
 pub returns-in-None-clause-work : goal.returns-in-None-clause-work
 returns-in-None-clause-work g c = λ jobs stands place at before.
@@ -134,13 +136,13 @@ returns-in-None-clause-work g c = λ jobs stands place at before.
     let hi = next.high in
     let from = c.look.invariant.later in
     let steps = length (all_of c.args.need.now) * g.F.FreeView.cost s.view.now in
-    takes_upto _ steps c.args.steps.now c.look.steps c.top_short.new.steps place (place + 1) c.args.from
+    takes_upto _ steps c.args.steps.now c.look.steps c.top_within.new.steps place (place + 1) c.args.from
     (min c.look.at c.args.to) (c.in-Some.vertex + 1) (omega (arith, from, lo, hi)) (omega (arith, lo))
     (c.look.invariant.taken jobs stands place at before)
-    (takes_within _ steps steps c.look.steps c.top_short.new.steps place (place + 1) c.look.at
+    (takes_within _ steps steps c.look.steps c.top_within.new.steps place (place + 1) c.look.at
     (c.in-Some.vertex + 1) place (place + 1) (min c.look.at c.args.to) (c.in-Some.vertex + 1) (omega arith)
     (omega arith) (omega arith) (omega arith) (omega arith)
-    (c.top_short.ensures.work jobs stands place at
+    (c.top_within.ensures.work jobs stands place at
     (c.look.invariant.clear jobs stands before c.in-Some.vertex lo hi)))
 
 pub returns-then-is_some-clause-skipped : goal.returns-then-is_some-clause-skipped
