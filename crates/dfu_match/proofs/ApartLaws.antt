@@ -142,7 +142,8 @@ module _ (g : ResourceGraph) (names : List (List ℕ)) (valid : IsValidGraph g n
         high = past_within g names valid scope from to v past span (omega (arith, low, lo)) hi after;
         taken = apart_visit opened own inner walk look old mid found new place (place + length (all_of need)) from at v
             past le low lo later
-            (λ pairs has. has place v need (place_there all place need is) (omega (arith, hi, most)) clear.0) before.taken s t;
+            (λ pairs has. has place v need (place_there all place need is) (omega (arith, hi, most)) clear.0)
+            before.taken s t;
       }
 
   pub visited_end : (old new from at to : ℕ) → visited old new from at to →

@@ -22,7 +22,8 @@ use Rattle.prune_laws.proofs.Demanded.{too_little_none}
 use Rattle.dfu_match.specs.Searches.{open_to}
 use Rattle.dfu_match.specs.Walks.{ServesNone}
 use Rattle.dfu_match.specs.Tables.{all_of, needs_all}
-use Rattle.dfu_match.specs.Pairs.{Pair, AsksWithin, HasEachOpen, IsClearWithin, IsClearBetween, IsClearBefore, IsPlaceOf, TakesEach}
+use Rattle.dfu_match.specs.Pairs.{Pair, AsksWithin, HasEachOpen, IsClearWithin, IsClearBetween}
+use Rattle.dfu_match.specs.Pairs.{IsClearBefore, IsPlaceOf, TakesEach}
 use Rattle.dfu_match.specs.Asked.{IsAsked}
 use Rattle.dfu_match.proofs.ApartLaws.{apart_each, takes_behind}
 use Rattle.dfu_match.proofs.OpenLaws.{clear_past, clear_within, open_here}

@@ -14,7 +14,8 @@ ghost use Rattle.prune_filters.specs.Shorts.{IsShortFor};
 ghost use Rattle.resource_graph.specs.Tables.{IsPast};
 ghost use Rattle.dfu_match.specs.Searches.{open_to};
 ghost use Rattle.dfu_match.specs.Tables.{all_of, needs_all, StandsAt};
-ghost use Rattle.dfu_match.specs.Pairs.{AsksWithin, HasEachOpen, IsClearWithin, IsClearBefore, IsClearBetween, IsPlaceOf, TakesEach};
+ghost use Rattle.dfu_match.specs.Pairs.{AsksWithin, HasEachOpen, IsClearWithin, IsClearBefore};
+ghost use Rattle.dfu_match.specs.Pairs.{IsClearBetween, IsPlaceOf, TakesEach};
 ghost use Rattle.dfu_match.specs.Pairs.{asked_totals};
 ghost use Rattle.dfu_match.specs.Asked.{AreDead, IsAsked};
 ghost use Rattle.match_laws.specs.Offers.{SomeFits};
@@ -98,7 +99,8 @@ fn ask<F: FreeView, L: Ledger>(
         let keeps : ℕ → ℕ → Type 0 = asked_totals s.now.wanted.now (F.keeps s.now.view.now) in
         let all : List Need = needs_all s.now.needs.now in
         (IsSpread need.now → ⊥) →
-        IsPlaceOf all place need.now → IsClearWithin vs jobs s.now.window keeps need.now vertex → IsPast vs vertex past →
+        IsPlaceOf all place need.now → IsClearWithin vs jobs s.now.window keeps need.now vertex →
+        IsPast vs vertex past →
         TakesEach (HasEachOpen vs jobs s.now.window keeps all) ((length all + 2) * F.cost s.now.view.now)
         (steps.old + 2 * F.cost s.now.view.now) steps.new (place + 1) (place + length (all_of need.now))
         (vertex + 1) past) }

@@ -12,7 +12,8 @@ ghost use Rattle.prune_filters.specs.Shorts.{IsShortFor};
 ghost use Rattle.dfu_match.specs.Searches.{open_to, IsKindOfNeed};
 ghost use Rattle.dfu_match.specs.Tables.{all_of, needs_all, StandsAt};
 ghost use Rattle.dfu_match.specs.Walks.{IsParentFrom, ServesNone};
-ghost use Rattle.dfu_match.specs.Pairs.{AsksWithin, HasEachOpen, IsClearWithin, IsClearBetween, IsClearBefore, IsPlaceOf};
+ghost use Rattle.dfu_match.specs.Pairs.{AsksWithin, HasEachOpen, IsClearWithin, IsClearBetween};
+ghost use Rattle.dfu_match.specs.Pairs.{IsClearBefore, IsPlaceOf};
 ghost use Rattle.dfu_match.specs.Pairs.{TakesEach};
 ghost use Rattle.dfu_match.specs.Pairs.{asked_totals};
 ghost use Rattle.flux_defs.specs.Later.{IsSoUntil, ReachesOver};
@@ -189,8 +190,8 @@ fn asks_within(need: &Need) -> bool
     }
 }
 
-/// The uppermost vertex above this one, from `low` on, that is short for the need, as `top_short` tells it, or the vertex
-/// itself where something is asked within it: else what is asked of it tells as much.
+/// The uppermost vertex above this one, from `low` on, that is short for the need, as `top_short` tells it, or the
+/// vertex itself where something is asked within it: else what is asked of it tells as much.
 pub(crate) fn top_within<F: FreeView, L: Ledger>(
     s: &Search<F>,
     need: &Need,

@@ -9,7 +9,8 @@ ghost use Rattle.flux_defs.specs.Lowest.{CanServe, FollowsPass, LowestPiece, Low
 ghost use Rattle.match_laws.specs.Offers.{Extends, Offers, SomeGroup, SomeFits, LowestGroup};
 ghost use Rattle.dfu_match.specs.Searches.{open_to, scope_of, IsScope, MayAsk, MayScale, MayScaleNeed};
 ghost use Rattle.dfu_match.specs.Tables.{all_of, needs_all, StandsAt, StandAt};
-ghost use Rattle.dfu_match.specs.Pairs.{HasEachOpen, IsClear, IsClearWithin, IsClearScope, IsPlaceOf, IsPlaceOfAll, IsSpanOf};
+ghost use Rattle.dfu_match.specs.Pairs.{HasEachOpen, IsClear, IsClearWithin, IsClearScope};
+ghost use Rattle.dfu_match.specs.Pairs.{IsPlaceOf, IsPlaceOfAll, IsSpanOf};
 ghost use Rattle.dfu_match.specs.Pairs.{AreLooks, AreLooksAll, TakesEach, asked_totals};
 ghost use Rattle.flux_defs.specs.declared.requests.Need.{Need};
 ghost use Rattle.resource_graph.specs.Tables.{IsPast};

@@ -4,7 +4,8 @@ use Rattle.dfu_match.proofs.PairLaws.{takes_within}
 use Rattle.dfu_match.proofs.asking.top_above.Goals as goal
 
 pub returns-then-is_spread-clause-own : goal.returns-then-is_spread-clause-own
-returns-then-is_spread-clause-own g c = λ jobs stands plain. absurd (plain (c.is_spread.ensures.yes c.if-is_spread.true))
+returns-then-is_spread-clause-own g c = λ jobs stands plain.
+    absurd (plain (c.is_spread.ensures.yes c.if-is_spread.true))
 
 pub returns-then-is_spread-clause-work : goal.returns-then-is_spread-clause-work
 returns-then-is_spread-clause-work g c = λ jobs stands place here before.
