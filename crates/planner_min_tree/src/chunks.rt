@@ -13,6 +13,9 @@ use std::alloc::{AllocError, Global};
 use std::marker::Model;
 use std::sync::ledger::Ledger;
 
+/// How many points stand in one node at most.
+pub const FEW: usize = 16;
+
 /// How many points that are past stand in one node at most.
 pub const PAST_POINTS: usize = 32;
 
@@ -22,10 +25,10 @@ struct Block<const N: usize> {
     points: ArrayVec<Point, N>,
 }
 
-/// A node of up to eight points, or one of more, as there are of the past.
+/// A node of up to `FEW` points, or one of more, as there are of the past.
 #[derive(Drop)]
 enum Holder {
-    Few(Node<Block<8>>),
+    Few(Node<Block<FEW>>),
     Many(Node<Block<PAST_POINTS>>),
 }
 
@@ -96,7 +99,7 @@ impl Chunk {
     pub fn joined(alloc: Global, first: &[Point], others: &[Point]) -> Result<Chunk, AllocError>
         ensures { IfOk result (λ chunk. chunk ≡ first.now ++ others.now) }
     {
-        if first.len() + others.len() <= 8 {
+        if first.len() + others.len() <= FEW {
             let few = in_turn(first, others)?;
             return Chunk::of(alloc, few);
         }
@@ -110,7 +113,7 @@ impl Chunk {
     }
 
     /// A node of these points.
-    pub fn of(alloc: Global, points: ArrayVec<Point, 8>) -> Result<Chunk, AllocError>
+    pub fn of(alloc: Global, points: ArrayVec<Point, FEW>) -> Result<Chunk, AllocError>
         ensures { IfOk result (λ chunk. chunk ≡ points.items) }
     {
         match Node::new(alloc, Block { points }) {

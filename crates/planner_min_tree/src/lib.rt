@@ -1,6 +1,6 @@
 //! A planner as a shared balanced tree of the points at which spans start and end.
 //!
-//! A planner without spans takes no memory beside its own numbers. Up to eight points stand in one node, and up to 32
+//! A planner without spans takes no memory beside its own numbers. Up to 16 points stand in one node, and up to 32
 //! where they are past; more are a tree of such nodes, of which planners that come from one another have most in
 //! common.
 #![tactic(auto)]

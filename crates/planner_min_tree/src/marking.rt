@@ -5,7 +5,7 @@ ghost use Rattle.planner_min_tree.specs.Marks.{added, fresh, marked, unmarked, c
 ghost use Rattle.arrayvec.specs.ArrayVec.{array_vec_len};
 ghost use Rattle.balanced_tree.specs.Edits.{made};
 
-use crate::chunks::{Chunk, PAST_POINTS, copied};
+use crate::chunks::{Chunk, FEW, PAST_POINTS, copied};
 use crate::points::{Dip, Point, count_before};
 use crate::walks::{Side, chunk_at};
 use arrayvec::ArrayVec;
@@ -14,6 +14,9 @@ use flux_defs::Steps;
 use node_store::Share;
 use std::alloc::{AllocError, Global};
 use std::sync::ledger::Ledger;
+
+/// Room for the points of a node, and two more.
+const FEW_ROOM: usize = FEW + 2;
 
 /// Room for the points of a node that are past, and two more.
 const PAST_ROOM: usize = PAST_POINTS + 2;
@@ -151,7 +154,7 @@ impl Change {
 }
 
 /// What stands in the place of a chunk of so few points: that chunk, or none.
-fn put_few(alloc: Global, points: ArrayVec<Point, 8>) -> Result<Edit<Chunk>, AllocError>
+fn put_few(alloc: Global, points: ArrayVec<Point, FEW>) -> Result<Edit<Chunk>, AllocError>
     ensures items { IfOk result (λ edit. flat (made edit) ≡ points.items) }
     ensures filled { IfOk result (λ edit. AreFilled (made edit)) }
 {
@@ -168,7 +171,7 @@ fn put_many(alloc: Global, points: &[Point], most: usize) -> Result<Edit<Chunk>,
     ensures items { IfOk result (λ edit. flat (made edit) ≡ points.now) }
     ensures filled { IfOk result (λ edit. AreFilled (made edit)) }
 {
-    if points.len() <= 8 {
+    if points.len() <= FEW {
         let few = copied(points)?;
         return put_few(alloc, few);
     }
@@ -182,7 +185,7 @@ fn put_many(alloc: Global, points: &[Point], most: usize) -> Result<Edit<Chunk>,
     Ok(Edit::Pair(first, second))
 }
 
-/// What stands in the place of a chunk of more than eight points after a change of them. It stands alone, so that no
+/// What stands in the place of a chunk of more than `FEW` points after a change of them. It stands alone, so that no
 /// other change has to clear room for so many.
 #[inline(never)]
 fn long_changed(alloc: Global, points: &[Point], change: Change) -> Result<Edit<Chunk>, AllocError>
@@ -199,20 +202,20 @@ fn changed(alloc: Global, points: &[Point], change: Change) -> Result<Edit<Chunk
     ensures items { IfOk result (λ edit. flat (made edit) ≡ changed change points.now) }
     ensures filled { IfOk result (λ edit. AreFilled (made edit)) }
 {
-    if points.len() < 8 {
-        let mut few = copied::<8>(points)?;
+    if points.len() < FEW {
+        let mut few = copied::<FEW>(points)?;
         change.apply(&mut few)?;
         return put_few(alloc, few);
     }
-    if points.len() > 8 {
+    if points.len() > FEW {
         return long_changed(alloc, points, change);
     }
-    let mut many = copied::<10>(points)?;
+    let mut many = copied::<FEW_ROOM>(points)?;
     change.apply(&mut many)?;
-    put_many(alloc, many.as_slice(), 8)
+    put_many(alloc, many.as_slice(), FEW)
 }
 
-/// What stands in the place of a chunk of more than eight points after two changes of them, as `long_changed`.
+/// What stands in the place of a chunk of more than `FEW` points after two changes of them, as `long_changed`.
 #[inline(never)]
 fn long_changed_twice(
     alloc: Global,
@@ -239,19 +242,19 @@ fn changed_twice(
     ensures items { IfOk result (λ edit. flat (made edit) ≡ changed second (changed first points.now)) }
     ensures filled { IfOk result (λ edit. AreFilled (made edit)) }
 {
-    if points.len() < 7 {
-        let mut few = copied::<8>(points)?;
+    if points.len() + 1 < FEW {
+        let mut few = copied::<FEW>(points)?;
         first.apply(&mut few)?;
         second.apply(&mut few)?;
         return put_few(alloc, few);
     }
-    if points.len() > 8 {
+    if points.len() > FEW {
         return long_changed_twice(alloc, points, first, second);
     }
-    let mut many = copied::<10>(points)?;
+    let mut many = copied::<FEW_ROOM>(points)?;
     first.apply(&mut many)?;
     second.apply(&mut many)?;
-    put_many(alloc, many.as_slice(), 8)
+    put_many(alloc, many.as_slice(), FEW)
 }
 
 /// The points of a tree without sides after two changes.
