@@ -36,17 +36,9 @@ module _ (vertices : List Vertex) (jobs : List Job) (keeps : ℕ → ℕ → Typ
   abbrev pub IsBelowAt : ℕ → ℕ → ℕ → ℕ → Type 0
   IsBelowAt v kind amount m = keeps v kind × IsTooLittleAt vertices jobs v kind amount m
 
-  -- v is short of some of these demands at a moment
-  abbrev pub IsShortOfAt : List Demand → ℕ → ℕ → Type 0
-  IsShortOfAt demands v m = Any (λ d. IsBelowAt v d.kind d.amount m) demands
-
   -- v is short of this one of these demands at this moment
   abbrev pub IsShortInAt : List Demand → ℕ → Shortage → Type 0
   IsShortInAt demands v s = Contains demands s.demand × IsBelowAt v s.demand.kind s.demand.amount s.moment
-
-  -- v is short for the need at a moment
-  abbrev pub IsShortForAt : Need → ℕ → ℕ → Type 0
-  IsShortForAt need v m = (kind : ℕ) × IsBelowAt v kind (capped (demand vertices kind 1 need)) m
 
 -- The demands are those of one of the need: of each kind that it demands as much as it does.
 pub record AreDemandsOf (vertices : List Vertex) (need : Need) (demands : List Demand) : Type 0 where
