@@ -1,6 +1,6 @@
 -- What asking of one vertex tells: which vertices above it are short, and how much it serves over later windows.
 use Rattle.std.proofs.Common.{◌≡◌, ℕ, ◌+◌, ◌<◌, ◌≤◌, Bool, true, false, List, Option, Some, None, length}
-use Rattle.std.proofs.Common.{refl, ◌∙◌, subst, arith, IsTrue}
+use Rattle.std.proofs.Common.{Contains, slice_get, refl, sym, ◌∙◌, ap, subst, arith, IsTrue}
 use Rattle.std.specs.Prelude.{IfSome, IfNone, MatchOption}
 use Rattle.flux_defs.specs.declared.vertices.Vertex.{Vertex}
 use Rattle.flux_defs.specs.declared.claims.Claim.{Claim}
@@ -20,9 +20,11 @@ use Rattle.match_laws.specs.Offers.{IsGreatest, SomeFits, VertexClaims}
 use Rattle.match_laws.proofs.MoreAvailable.{piece_more}
 use Rattle.match_laws.proofs.NeedLists.{server, vertex_serves}
 use Rattle.prune_filters.specs.Shorts.{IsShortFor}
+use Rattle.dfu_match.specs.declared.knowing.Row.{Row}
+use Rattle.dfu_match.specs.declared.knowing.Known.{Known}
 use Rattle.dfu_match.specs.Pairs.{IsClearBetween}
 use Rattle.dfu_match.specs.Reaches.{ServesAtMost}
-use Rattle.dfu_match.specs.Rows.{IsRowOf, whole_of}
+use Rattle.dfu_match.specs.Rows.{AreLefts, IsRowOf, Knows, whole_of}
 use Rattle.dfu_match.specs.Searches.{open_to}
 use Rattle.dfu_match.proofs.OpenLaws.{clear_child, clear_upto}
 
@@ -119,3 +121,21 @@ row_over vertices stands barred w need v most moment of_need begins bounds = rec
       (open_within vertices jobs barred w other (subst (λ (m : ℕ). ReachesOver w m other) (begins lt) reach))
       need v most (bounds lt jobs holds);
 }
+
+-- what is known stays so where only what rows leave is told anew, which is so
+pub knows_left : (vertices : List Vertex) (stands : List Job → Type 0) (barred : List ℕ) (needs : List Need)
+    (w : Window) (old new : Known) (own : ℕ) (need : Need) → slice_get needs own ≡ Some need → old.own ≡ own →
+    new.own ≡ old.own → new.rows.items ≡ old.rows.items → new.end ≡ old.end →
+    AreLefts need new.rows.items new.blocks.items → Knows vertices stands barred needs w old →
+    Knows vertices stands barred needs w new
+knows_left vertices stands barred needs w old new own need at is_own same rows end lefts k =
+    let was : slice_get needs new.own ≡ slice_get needs old.own = ap (slice_get needs) same in
+    record {
+      rows = λ other there row within. k.rows other (sym was ∙ there) row
+          (subst (λ (rs : List Row). Contains rs row) rows within);
+      order = λ other there. rw (rows, end) (k.order other (sym was ∙ there));
+      lefts = λ other there.
+          let both : Some need ≡ Some other = sym at ∙ ap (slice_get needs) (sym (same ∙ is_own)) ∙ there in
+          let one : need ≡ other = cc in
+          subst (λ (n : Need). AreLefts n new.rows.items new.blocks.items) one lefts;
+    }

@@ -56,6 +56,11 @@ module _ (scene : Scene) (w : Window) (v : ℕ) where
       not_to (is_touched scene m v) (and_parts _ _ (each m lo hi)).1 h
   touched_holds_none false holds h each = true≢false (sym holds)
 
+  pub touched_held : (hold touched : Bool) → hold ≡ true → touched ≡ true → (IsTrue touched ↔ IsTouchedIn scene w v) →
+      (IsTrue false ↔ IsAvailable scene w (claim_on hold v))
+  touched_held hold touched holds is k =
+      (λ t. absurd (true≢false (sym t)), λ each. absurd (touched_holds_none hold holds (k.0 is) each))
+
 -- the vertex above is one of the graph
 pub above_inside : (vertices : List Vertex) →
     ParentsFirst vertices → (v p : ℕ) → parent_of vertices v ≡ Some p → p < length vertices
@@ -209,7 +214,7 @@ module _ (vertices : List Vertex)
   module _ (w : Window) (hold : Bool) (holds : hold ≡ true) (above : Bool)
       (tells : IsTrue above ↔ IsSomeAnd (parent_of vertices v) (IsClosedIn (meets vertices jobs barred) w)) where
     -- a vertex below a closed one is not held
-    pub none_held : above ≡ true → (IsTrue false ↔ IsAvailable (meets vertices jobs barred) w (claim_on hold v))
+    none_held : above ≡ true → (IsTrue false ↔ IsAvailable (meets vertices jobs barred) w (claim_on hold v))
     none_held is =
         let closed = by_parent (parent_of vertices v) refl (tells.0 is) in
         admits_none (meets vertices jobs barred) w v hold true refl (λ t. closed, λ c. refl)
@@ -220,7 +225,7 @@ module _ (vertices : List Vertex)
         by_parent (Some p) e h = closed_down p e w h
 
     -- below one that isn't closed, whether the vertex is touched decides
-    pub held_untouched : above ≡ false →
+    held_untouched : above ≡ false →
         (touched : Bool) → (IsTrue touched ↔ IsTouchedIn (meets vertices jobs barred) w v) →
         (IsTrue (not touched) ↔ IsAvailable (meets vertices jobs barred) w (claim_on hold v))
     held_untouched open_ touched k =
@@ -248,3 +253,15 @@ module _ (vertices : List Vertex)
         )
         by_test false l = available_hold (meets vertices jobs barred) w v false false
             (λ t. absurd (true≢false (sym t)), λ c. absurd (true≢false (sym (l.1 (closed_touched c))))) l
+
+    -- whether the vertex above is closed decides on one that isn't touched
+    pub untouched_held : (touched : Bool) → touched ≡ false →
+        (IsTrue touched ↔ IsTouchedIn (meets vertices jobs barred) w v) →
+        (IsTrue (not above) ↔ IsAvailable (meets vertices jobs barred) w (claim_on hold v))
+    untouched_held touched is k = by_above above refl
+      where
+        by_above : (b : Bool) → above ≡ b →
+            (IsTrue (not b) ↔ IsAvailable (meets vertices jobs barred) w (claim_on hold v))
+        by_above true e = none_held e
+        by_above false e = subst (λ (t : Bool). IsTrue (not t) ↔
+            IsAvailable (meets vertices jobs barred) w (claim_on hold v)) is (held_untouched e touched k)

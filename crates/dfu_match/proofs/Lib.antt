@@ -11,9 +11,12 @@ pub mod StepLaws
 pub mod MatchedLaws
 pub mod HoldLaws
 pub mod ReachLaws
+pub mod LeftLaws
 pub mod RowLaws
+pub mod LeavingLaws
 pub mod NotingLaws
 pub mod ApartLaws
 pub mod AskSteps
 pub mod LookLaws
 pub mod AskLaws
+pub mod RefuteLaws

@@ -5,6 +5,7 @@ use Rattle.std.proofs.lemmas.Bool.{cases_lt}
 use Rattle.std.proofs.lemmas.Bool.Decides.{leb_tells}
 use Rattle.std.proofs.lemmas.List.Elements.{Contains-push_cases}
 use Rattle.std.proofs.lemmas.List.Sums.{sum_by-cons}
+use Rattle.std.proofs.Math.Seq.{drop-nil}
 use Rattle.flux_defs.specs.declared.vertices.Vertex.{Vertex}
 use Rattle.flux_defs.specs.declared.claims.Claim.{Claim}
 use Rattle.flux_defs.specs.declared.claims.Job.{Job}
@@ -26,7 +27,9 @@ use Rattle.dfu_match.specs.declared.knowing.Row.{Row}
 use Rattle.dfu_match.specs.declared.knowing.Known.{Known}
 use Rattle.dfu_match.specs.Searches.{open_to}
 use Rattle.dfu_match.specs.Walks.{ServesNone}
-use Rattle.dfu_match.specs.Rows.{whole_of, NoneOfNeed, StandFrom, IsRowOf, Knows, bound_at, served_most, IsPut, IsNoted}
+use Rattle.dfu_match.specs.Rows.{whole_of, NoneOfNeed, StandFrom, IsRowOf, Knows, bound_at, served_most}
+use Rattle.dfu_match.specs.Rows.{KeepsLefts, IsPut, IsNoted}
+use Rattle.dfu_match.proofs.LeftLaws.{keeps_same}
 use Rattle.dfu_match.proofs.ReachLaws.{reach_all, reach_later}
 
 module _ (vertices : List Vertex) (need : Need) where
@@ -90,6 +93,7 @@ module _ (vertices : List Vertex) (stands : List Job → Type 0) (barred : List 
   knows_nothing w known none start = record {
     rows = λ need is row there. absurd (contains_none row (subst (λ (rs : List Row). Contains rs row) none there));
     order = λ need is. rw (none, start) (λ v lo hi of. absurd (omega (arith, hi)));
+    lefts = λ need is. rw none (λ b left at t lo hi some. rw drop-nil (omega arith), omega arith);
   }
 
   -- over a later window that ends no sooner
@@ -107,6 +111,7 @@ module _ (vertices : List Vertex) (stands : List Job → Type 0) (barred : List 
   knows_later w later known le k = record {
     rows = λ need is row there. row_later w later need row le (k.rows need is row there);
     order = k.order;
+    lefts = k.lefts;
   }
 
   -- a row is of the own need that is known
@@ -123,23 +128,30 @@ module _ (vertices : List Vertex) (stands : List Job → Type 0) (barred : List 
       IsRowOf vertices stands barred w need row)
       × ((need : Need) → slice_get needs own ≡ Some need → StandFrom vertices need 0 rows end)
 
-  -- and is so of what has them
-  knows_of : (w : Window) (new : Known) (own : ℕ) (rows : List Row) (end : ℕ) → new.own ≡ own →
-      new.rows.items ≡ rows → new.end ≡ end → KnowsRows w own rows end → Knows vertices stands barred needs w new
-  knows_of w new own rows end a b c k = record { rows = rw (a, b) k.0; order = rw (a, b, c) k.1 }
+  -- and is so of what has them, and keeps what is told of what they leave
+  knows_of : (w : Window) (old new : Known) (rows : List Row) (end : ℕ) → new.own ≡ old.own →
+      new.rows.items ≡ rows → new.end ≡ end → KeepsLefts old new → Knows vertices stands barred needs w old →
+      KnowsRows w old.own rows end → Knows vertices stands barred needs w new
+  knows_of w old new rows end a b c keeps was k = record {
+    rows = rw (a, b) k.0;
+    order = rw (a, b, c) k.1;
+    lefts = λ need is. keeps need (was.lefts need (ap (slice_get needs) (sym a) ∙ is));
+  }
 
-  -- nothing has changed
+  -- nothing has changed but what is told of what the rows leave
   knows_same : (w : Window) (old new : Known) → new.own ≡ old.own → new.rows.items ≡ old.rows.items →
-      new.end ≡ old.end → Knows vertices stands barred needs w old → Knows vertices stands barred needs w new
-  knows_same w old new a b c k = knows_of w new old.own old.rows.items old.end a b c (k.rows, k.order)
+      new.end ≡ old.end → KeepsLefts old new → Knows vertices stands barred needs w old →
+      Knows vertices stands barred needs w new
+  knows_same w old new a b c keeps k =
+      knows_of w old new old.rows.items old.end a b c keeps k (k.rows, k.order)
 
   -- a row has come in the place of one of the same vertex
   pub knows_put : (w : Window) (own : ℕ) (row : Row) (old new : Known) (need : Need) → slice_get needs own ≡ Some need →
       new.own ≡ old.own → IsPut own row old new → IsRowOf vertices stands barred w need row →
       Knows vertices stands barred needs w old → Knows vertices stands barred needs w new
-  knows_put w own row old new need at same (inl put) is k = knows_same w old new same put.0 put.1 k
-  knows_put w own row old new need at same (inr put) is k =
-      knows_of w new old.own (slice_set old.rows.items put.0 row) old.end same put.4 put.5 (
+  knows_put w own row old new need at same (keeps, inl put) is k = knows_same w old new same put.0 put.1 keeps k
+  knows_put w own row old new need at same (keeps, inr put) is k =
+      knows_of w old new (slice_set old.rows.items put.0 row) old.end same put.4 put.5 keeps k (
         λ other there x within. elim (set_cases old.rows.items put.0 row x within) [
           | inl before ↦ k.rows other there x before
           | inr this ↦ subst (IsRowOf vertices stands barred w other) this
@@ -159,30 +171,31 @@ module _ (vertices : List Vertex) (stands : List Job → Type 0) (barred : List 
   knows_noted w own from past row old new need at same (inl put) before after is k =
       knows_put w own row old new need at same put is k
   knows_noted w own from past row old new need at same (inr noted) before after is k =
-      knows_of w new old.own (old.rows.items ++ row ∷ []) past same noted.0 noted.2 (
+      knows_of w old new (old.rows.items ++ row ∷ []) past same noted.1 noted.3 noted.0 k (
         λ other there x within. elim (Contains-push_cases old.rows.items row x within) [
           | inl first ↦ k.rows other there x first
           | inr this ↦ subst (IsRowOf vertices stands barred w other) this
               (subst (λ (n : Need). IsRowOf vertices stands barred w n row)
-              (same_need needs own need other at (ap (slice_get needs) (sym noted.3) ∙ there)) is)
+              (same_need needs own need other at (ap (slice_get needs) (sym noted.4) ∙ there)) is)
         ],
         λ other there.
-            let e = same_need needs own need other at (ap (slice_get needs) (sym noted.3) ∙ there) in
+            let e = same_need needs own need other at (ap (slice_get needs) (sym noted.4) ∙ there) in
             subst (λ (n : Need). StandFrom vertices n 0 (old.rows.items ++ row ∷ []) past) e
             (stand_push vertices need 0 from past old.rows.items row before after
-            (subst (StandFrom vertices need 0 old.rows.items) noted.1
-            (k.order need (ap (slice_get needs) noted.3 ∙ at)))),
+            (subst (StandFrom vertices need 0 old.rows.items) noted.2
+            (k.order need (ap (slice_get needs) noted.4 ∙ at)))),
       )
 
   -- the end has come to where a stretch with none of the need ends
   pub knows_passed : (w : Window) (own from to : ℕ) (old new : Known) (need : Need) → slice_get needs own ≡ Some need →
-      new.own ≡ old.own → new.rows.items ≡ old.rows.items →
+      new.own ≡ old.own → new.rows.items ≡ old.rows.items → new.blocks.items ≡ old.blocks.items →
       ((new.end ≡ old.end) ⊎ ((old.end ≡ from) × (new.end ≡ to) × (old.own ≡ own))) →
       NoneOfNeed vertices need from to →
       Knows vertices stands barred needs w old → Knows vertices stands barred needs w new
-  knows_passed w own from to old new need at same rows (inl end) none k = knows_same w old new same rows end k
-  knows_passed w own from to old new need at same rows (inr end) none k =
-      knows_of w new old.own old.rows.items to same rows end.1 (
+  knows_passed w own from to old new need at same rows blocks (inl end) none k =
+      knows_same w old new same rows end (keeps_same old new rows blocks) k
+  knows_passed w own from to old new need at same rows blocks (inr end) none k =
+      knows_of w old new old.rows.items to same rows end.1 (keeps_same old new rows blocks) k (
         k.rows,
         λ other there.
             let e = same_need needs own need other at (ap (slice_get needs) (sym end.2) ∙ there) in
@@ -194,10 +207,12 @@ module _ (vertices : List Vertex) (stands : List Job → Type 0) (barred : List 
 
   -- nothing is known of the other need
   pub knows_turned : (w : Window) (own : ℕ) (old new : Known) → new.own ≡ own →
-      (((old.own ≡ own) × (new.rows.items ≡ old.rows.items) × (new.end ≡ old.end))
+      (((old.own ≡ own) × (new.rows.items ≡ old.rows.items) × (new.end ≡ old.end)
+      × (new.blocks.items ≡ old.blocks.items))
       ⊎ ((new.rows.items ≡ []) × (new.end ≡ 0))) →
       Knows vertices stands barred needs w old → Knows vertices stands barred needs w new
-  knows_turned w own old new same (inl kept) k = knows_same w old new (same ∙ sym kept.0) kept.1 kept.2 k
+  knows_turned w own old new same (inl kept) k =
+      knows_same w old new (same ∙ sym kept.0) kept.1 kept.2 (keeps_same old new kept.1 kept.3) k
   knows_turned w own old new same (inr gone) k = knows_nothing w new gone.0 gone.1
 
 -- at least 1 is ever asked of a vertex

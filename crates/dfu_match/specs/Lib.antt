@@ -4,6 +4,7 @@ pub mod Tables
 pub mod Walks
 pub mod Reaches
 pub mod Pairs
+pub mod Tops
 pub mod Matches
 pub mod Rows
 pub mod Asked

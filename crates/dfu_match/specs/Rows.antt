@@ -1,6 +1,6 @@
 -- What rows say of how much vertices serve of one need, and over which later windows.
-use Rattle.std.specs.Prelude.{◌≡◌, ℕ, ◌+◌, ◌<◌, ◌≤◌, ◌⊎◌, nat_le, if◌then◌else◌, List, [], ◌∷◌, ◌++◌, Some}
-use Rattle.std.specs.Prelude.{slice_get, slice_set, sum_by, Contains}
+use Rattle.std.specs.Prelude.{◌≡◌, ◌≢◌, ℕ, ◌+◌, ◌-◌, ◌*◌, ◌^◌, ◌<◌, ◌≤◌, ◌⊎◌, nat_le, if◌then◌else◌, List, [], ◌∷◌}
+use Rattle.std.specs.Prelude.{◌++◌, Some, slice_get, slice_set, sum_by, take, drop, length, Contains}
 use Rattle.flux_defs.specs.declared.vertices.Vertex.{Vertex}
 use Rattle.flux_defs.specs.declared.claims.Job.{Job}
 use Rattle.flux_defs.specs.declared.claims.Window.{Window}
@@ -9,6 +9,7 @@ use Rattle.flux_defs.specs.Later.{ReachesOver}
 use Rattle.flux_defs.specs.Needs.{IsOfNeed}
 use Rattle.dfu_match.specs.declared.knowing.Row.{Row}
 use Rattle.dfu_match.specs.declared.knowing.Known.{Known}
+use Rattle.dfu_match.specs.declared.leaving.Left.{Left}
 use Rattle.dfu_match.specs.Searches.{open_to}
 use Rattle.dfu_match.specs.Reaches.{ServesAtMost}
 
@@ -37,14 +38,6 @@ pub record IsRowOf (vertices : List Vertex) (stands : List Job → Type 0) (barr
       ReachesOver w row.moment other →
       ServesAtMost vertices (open_to vertices jobs barred other) need row.vertex row.most
 
--- what is known is so: the rows are of one own need of the ask, and of its vertices before `end`
-pub record Knows (vertices : List Vertex) (stands : List Job → Type 0) (barred : List ℕ) (needs : List Need)
-    (w : Window) (known : Known) : Type 0 where
-  pub rows : (need : Need) → slice_get needs known.own ≡ Some need → (row : Row) → Contains known.rows.items row →
-      IsRowOf vertices stands barred w need row
-  pub order : (need : Need) → slice_get needs known.own ≡ Some need →
-      StandFrom vertices need 0 known.rows.items known.end
-
 -- how much of the need a row leaves its vertex to serve at most over windows that begin at this second
 abbrev pub bound_at : Need → ℕ → Row → ℕ
 bound_at need t row = if nat_le t row.moment then row.most else whole_of need
@@ -53,15 +46,52 @@ bound_at need t row = if nat_le t row.moment then row.most else whole_of need
 abbrev pub served_most : Need → ℕ → List Row → ℕ
 served_most need t rows = sum_by (bound_at need t) rows
 
+-- The rows leave at most so much over windows that begin from the second `from` to `until`. The greatest number of 64
+-- binary digits says nothing.
+abbrev pub IsLeft : Need → List Row → Left → Type 0
+IsLeft need rows left = (t : ℕ) → left.from ≤ t → t ≤ left.until → left.room < 2 ^ 64 - 1 →
+    served_most need t rows ≤ left.room
+
+-- of each sixteen rows, one after the other, it is told what they leave
+abbrev pub AreLefts : Need → List Row → List Left → Type 0
+AreLefts need rows lefts =
+    ((b : ℕ) (left : Left) → slice_get lefts b ≡ Some left → IsLeft need (take 16 (drop (16 * b) rows)) left)
+    × (length rows ≤ 16 * length lefts)
+
+-- what is known is so: the rows are of one own need of the ask, and of its vertices before `end`
+pub record Knows (vertices : List Vertex) (stands : List Job → Type 0) (barred : List ℕ) (needs : List Need)
+    (w : Window) (known : Known) : Type 0 where
+  pub rows : (need : Need) → slice_get needs known.own ≡ Some need → (row : Row) → Contains known.rows.items row →
+      IsRowOf vertices stands barred w need row
+  pub order : (need : Need) → slice_get needs known.own ≡ Some need →
+      StandFrom vertices need 0 known.rows.items known.end
+  pub lefts : (need : Need) → slice_get needs known.own ≡ Some need →
+      AreLefts need known.rows.items known.blocks.items
+
+-- each that has changed, or is of this place, tells of no window
+abbrev pub IsForgotten : ℕ → List Left → List Left → Type 0
+IsForgotten block old new = (b : ℕ) (left : Left) → slice_get new b ≡ Some left →
+    ((slice_get old b ≡ Some left) × (b ≢ block)) ⊎ (left.until < left.from)
+
+-- where the old ones tell it of the old rows, the new ones do of the new rows
+abbrev pub KeepsLefts : Known → Known → Type 0
+KeepsLefts old new = (need : Need) → AreLefts need old.rows.items old.blocks.items →
+    AreLefts need new.rows.items new.blocks.items
+
+-- no row but that at the index has changed
+abbrev pub IsSetAt : ℕ → List Row → List Row → Type 0
+IsSetAt i old new = (row : Row) → slice_get new i ≡ Some row → new ≡ slice_set old i row
+
 -- nothing has changed, or the row stands in the place of one of the same vertex
 abbrev pub IsPut : ℕ → Row → Known → Known → Type 0
-IsPut own row old new =
-    ((new.rows.items ≡ old.rows.items) × (new.end ≡ old.end))
+IsPut own row old new = KeepsLefts old new
+    × (((new.rows.items ≡ old.rows.items) × (new.end ≡ old.end))
     ⊎ ((i : ℕ) × (was : Row) × (slice_get old.rows.items i ≡ Some was) × (was.vertex ≡ row.vertex)
-    × (new.rows.items ≡ slice_set old.rows.items i row) × (new.end ≡ old.end) × (old.own ≡ own))
+    × (new.rows.items ≡ slice_set old.rows.items i row) × (new.end ≡ old.end) × (old.own ≡ own)))
 
 -- the same, or it stands behind the others, which were of the vertices before `from` and now are of those before `past`
 abbrev pub IsNoted : ℕ → ℕ → ℕ → Row → Known → Known → Type 0
 IsNoted own from past row old new =
     IsPut own row old new
-    ⊎ ((new.rows.items ≡ old.rows.items ++ row ∷ []) × (old.end ≡ from) × (new.end ≡ past) × (old.own ≡ own))
+    ⊎ (KeepsLefts old new × (new.rows.items ≡ old.rows.items ++ row ∷ []) × (old.end ≡ from) × (new.end ≡ past)
+    × (old.own ≡ own))

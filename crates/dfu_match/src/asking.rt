@@ -9,7 +9,7 @@ ghost use Rattle.flux_defs.specs.declared.claims.Window.{Window};
 ghost use Rattle.flux_defs.specs.declared.requests.Need.{Need};
 ghost use Rattle.flux_defs.specs.Graph.{Everywhere, is_at_or_below};
 ghost use Rattle.flux_defs.specs.Later.{ReachesOver};
-ghost use Rattle.flux_defs.specs.Needs.{HasNoSpread, IsOfNeed, IsSpread, IsValidNeed, AreValidNeeds};
+ghost use Rattle.flux_defs.specs.Needs.{amount_of, HasNoSpread, IsOfNeed, IsSpread, IsValidNeed, AreValidNeeds};
 ghost use Rattle.prune_filters.specs.Shorts.{IsShortFor};
 ghost use Rattle.resource_graph.specs.Tables.{IsPast};
 ghost use Rattle.dfu_match.specs.Searches.{open_to};
@@ -17,15 +17,16 @@ ghost use Rattle.dfu_match.specs.Tables.{all_of, needs_all, StandsAt};
 ghost use Rattle.dfu_match.specs.Pairs.{AsksWithin, HasEachOpen, IsClearWithin, IsClearBefore};
 ghost use Rattle.dfu_match.specs.Pairs.{IsClearBetween, IsPlaceOf, TakesEach};
 ghost use Rattle.dfu_match.specs.Pairs.{asked_totals};
+ghost use Rattle.dfu_match.specs.Tops.{IsTopFrom, TellsShort, TellsClear};
 ghost use Rattle.dfu_match.specs.Asked.{AreDead, IsAsked};
 ghost use Rattle.match_laws.specs.Offers.{SomeFits};
 ghost use Rattle.dfu_match.specs.Reaches.{FallsWithin, ServesAtMost};
-ghost use Rattle.dfu_match.specs.Rows.{IsRowOf, Knows};
+ghost use Rattle.dfu_match.specs.Rows.{served_most, IsRowOf, IsSetAt, Knows};
 
 use crate::bounding::most_copies;
 use crate::counting::{copies, serves};
 use crate::knowing::{Known, Row};
-use crate::refuting::{bound_at, refuted_known};
+use crate::refuting::refuted_known;
 use crate::search::{Search, refuses_until};
 use crate::spreads::{asks_once, is_spread};
 use crate::topmost::whole_of;
@@ -48,16 +49,11 @@ fn top_above<F: FreeView, L: Ledger>(
     requires stands { StandsAt (needs_all s.now.needs.now) s.now.wanted.now index need.now }
     requires vertex { vertex < length s.now.graph.now.resources.vertices }
     requires low { low ≤ vertex }
-    ensures above { IfSome result (λ top. (low ≤ top)
-        × IsTrue (is_at_or_below s.now.graph.now.resources.vertices vertex top)) }
-    ensures short { (jobs : List Job) → F.stands_for s.now.view.now jobs → (w : Window) →
-        ReachesOver s.now.window until.new w →
-        IfSome result (IsShortFor s.now.graph.now.resources.vertices jobs w
-        (asked_totals s.now.wanted.now (F.keeps s.now.view.now)) need.now) }
-    ensures clear { (jobs : List Job) → F.stands_for s.now.view.now jobs →
-        (let clear : ℕ → ℕ → Type 0 = IsClearBetween s.now.graph.now.resources.vertices jobs s.now.window
-        (asked_totals s.now.wanted.now (F.keeps s.now.view.now)) need.now vertex in
-        MatchOption result (clear low vertex) (clear low)) }
+    ensures above { IsTopFrom s.now.graph.now.resources.vertices low vertex result }
+    ensures short { TellsShort s.now.graph.now.resources.vertices (F.stands_for s.now.view.now)
+        (asked_totals s.now.wanted.now (F.keeps s.now.view.now)) s.now.window until.new need.now result }
+    ensures clear { TellsClear s.now.graph.now.resources.vertices (F.stands_for s.now.view.now)
+        (asked_totals s.now.wanted.now (F.keeps s.now.view.now)) s.now.window need.now low vertex vertex result }
     ensures own { (jobs : List Job) → F.stands_for s.now.view.now jobs → (IsSpread need.now → ⊥) →
         AsksWithin need.now → IfNone result (IsShortFor s.now.graph.now.resources.vertices jobs s.now.window
         (asked_totals s.now.wanted.now (F.keeps s.now.view.now)) need.now vertex → ⊥) }
@@ -200,6 +196,8 @@ fn ask_row<F: FreeView, L: Ledger>(
     ensures known { Knows s.now.graph.now.resources.vertices (F.stands_for s.now.view.now) s.now.barred.now
         s.now.needs.now s.now.window known.new }
     ensures own { known.new.own ≡ known.old.own }
+    ensures end { known.new.end ≡ known.old.end }
+    ensures place { IsSetAt at known.old.rows.items known.new.rows.items }
     ensures work { (jobs : List Job) → F.stands_for s.now.view.now jobs → (place : ℕ) →
         (let vs : List Vertex = s.now.graph.now.resources.vertices in
         let keeps : ℕ → ℕ → Type 0 = asked_totals s.now.wanted.now (F.keeps s.now.view.now) in
@@ -257,6 +255,8 @@ fn renew<F: FreeView, L: Ledger>(
     ensures known { Knows s.now.graph.now.resources.vertices (F.stands_for s.now.view.now) s.now.barred.now
         s.now.needs.now s.now.window known.new }
     ensures own { known.new.own ≡ known.old.own }
+    ensures end { known.new.end ≡ known.old.end }
+    ensures place { IsSetAt at known.old.rows.items known.new.rows.items }
     ensures work { (jobs : List Job) → F.stands_for s.now.view.now jobs → (place : ℕ) →
         (let vs : List Vertex = s.now.graph.now.resources.vertices in
         let keeps : ℕ → ℕ → Type 0 = asked_totals s.now.wanted.now (F.keeps s.now.view.now) in
@@ -280,18 +280,8 @@ fn renew<F: FreeView, L: Ledger>(
     low
 }
 
-/// How much the rows leave their vertices to serve together over windows that begin at this second: a guess, which
-/// promises nothing.
-fn room_in(need: &Need, rows: &[Row], from: u64) -> u128 {
-    let mut room: u128 = 0;
-    for row in rows {
-        room = room.saturating_add(u128::from(bound_at(need, from, row)));
-    }
-    room
-}
-
-/// Asks anew of the rows that tell nothing more of this window, in their order, until what they leave seems to be too
-/// little.
+/// Asks anew of the rows that tell nothing more of this window, in their order, until what the rows leave is too
+/// little: then it tells until when. None where they leave enough.
 fn ask_rows<F: FreeView, L: Ledger>(
     s: &Search<F>,
     need: &Need,
@@ -299,13 +289,17 @@ fn ask_rows<F: FreeView, L: Ledger>(
     own: usize,
     known: &mut Known,
     steps: &mut Steps<L>,
-)
+) -> Option<u64>
     requires stands { StandsAt (needs_all s.now.needs.now) s.now.wanted.now index need.now }
     requires valid { IsValidNeed s.now.graph.now.resources.vertices need.now }
     requires of_own { slice_get s.now.needs.now own ≡ Some need.now }
     requires is_own { known.old.own ≡ own }
     requires known { Knows s.now.graph.now.resources.vertices (F.stands_for s.now.view.now) s.now.barred.now
         s.now.needs.now s.now.window known.old }
+    ensures less { IfSome result (λ until. (s.now.window.from ≤ until)
+        × (served_most need.now until known.new.rows.items < amount_of need.now)) }
+    ensures own { known.new.own ≡ known.old.own }
+    ensures end { known.new.end ≡ known.old.end }
     ensures known { Knows s.now.graph.now.resources.vertices (F.stands_for s.now.view.now) s.now.barred.now
         s.now.needs.now s.now.window known.new }
     ensures work { (jobs : List Job) → F.stands_for s.now.view.now jobs → (place : ℕ) →
@@ -319,47 +313,48 @@ fn ask_rows<F: FreeView, L: Ledger>(
 {
     s.graph.is_valid();
     let from = s.window.from;
-    let whole = u128::from(whole_of(need));
-    let amount = u128::from(need.amount());
-    let mut room = room_in(need, known.rows(), from);
+    let amount = need.amount();
+    let mut left = known.left(need, from);
     let mut dead = Dead {
         top: 0,
         past: 0,
         moment: 0,
     };
     let mut low = 0;
-    let len = known.rows().len();
-    for at in 0..len {
-        if room < amount {
-            return;
-        }
+    let mut at = 0;
+    'each: while left.room >= amount {
         let Some(row) = known.row_at(at) else {
-            return;
+            return None;
         };
         if row.moment < from {
             low = renew(
                 s, need, index, own, at, low, row.vertex, &mut dead, known, steps,
             );
-            room = room
-                .saturating_sub(whole)
-                .saturating_add(left_at(known, at));
+            let Some(now) = known.row_at(at) else {
+                return None;
+            };
+            left = left.renewed(need, &now);
         }
+        at = known.index_after(at);
     }
+    Some(left.until)
 }
 
-/// How much the row at the index says, for the guess of what is left.
-fn left_at(known: &Known, at: usize) -> u128 {
-    match known.row_at(at) {
-        None => 0,
-        Some(row) => u128::from(row.most),
-    }
-}
-
-/// Asks anew of the rows of what is known.
-fn ask_known<F: FreeView, L: Ledger>(s: &Search<F>, known: &mut Known, steps: &mut Steps<L>)
+/// Asks anew of the rows of what is known, which are of all vertices of its need. Where they leave too little it tells
+/// until when: over all windows that reach over what is left of this one from that moment on no claims fit.
+fn ask_known<F: FreeView, L: Ledger>(
+    s: &Search<F>,
+    known: &mut Known,
+    steps: &mut Steps<L>,
+) -> Option<u64>
     requires valid { AreValidNeeds s.now.graph.now.resources.vertices s.now.needs.now }
     requires known { Knows s.now.graph.now.resources.vertices (F.stands_for s.now.view.now) s.now.barred.now
         s.now.needs.now s.now.window known.old }
+    requires all { known.old.end ≡ length s.now.graph.now.resources.vertices }
+    ensures later { IfSome result (λ until. s.now.window.from ≤ until) }
+    ensures none { (jobs : List Job) → F.stands_for s.now.view.now jobs → (w : Window) →
+        IfSome result (λ until. ReachesOver s.now.window until w → SomeFits s.now.graph.now.resources.vertices
+        (open_to s.now.graph.now.resources.vertices jobs s.now.barred.now w) Everywhere s.now.needs.now 1 → ⊥) }
     ensures known { Knows s.now.graph.now.resources.vertices (F.stands_for s.now.view.now) s.now.barred.now
         s.now.needs.now s.now.window known.new }
     ensures work { (jobs : List Job) → F.stands_for s.now.view.now jobs →
@@ -374,12 +369,12 @@ fn ask_known<F: FreeView, L: Ledger>(s: &Search<F>, known: &mut Known, steps: &m
     let mut own: usize = 0;
     for need in s.needs.items() {
         if known.own() == own {
-            ask_rows(s, need, at, own, known, steps);
-            return;
+            return ask_rows(s, need, at, own, known, steps);
         }
         at = index_after(s, need, at);
         own = own.saturating_add(1);
     }
+    None
 }
 
 /// Until when what is known, or is asked anew, tells that no claims fit: over all windows that reach over what is left
@@ -409,7 +404,7 @@ pub(crate) fn refuted_first<F: FreeView, L: Ledger>(
         ⊎ ((need : Need) × (s.now.needs.now ≡ need ∷ []) × IsSpread need × taken 1))) }
 {
     if known.reaches(s.graph.len()) && asks_once(s.needs) {
-        ask_known(s, known, steps);
+        return ask_known(s, known, steps);
     }
     refuted_known(s, known)
 }

@@ -198,5 +198,8 @@ fn whole_times(reached: u128, amount: u64, most: u64) -> u64
     ensures high { reached < (result + 1) * amount }
     ensures within { result ≤ most }
 {
-    (reached / u128::from(amount)) as u64
+    match u64::try_from(reached) {
+        Ok(few) => few / amount,
+        Err(_) => (reached / u128::from(amount)) as u64,
+    }
 }

@@ -1,8 +1,11 @@
 //! How much vertices serve of one own need of an ask, as matches over windows before have found it.
-ghost use Rattle.std.specs.Prelude.{◌≡◌, ◌⊎◌, ◌≤◌, [], Contains, IfSome, IsTrue};
+ghost use Rattle.std.specs.Prelude.{◌≡◌, ◌⊎◌, ◌*◌, ◌/◌, ◌<◌, ◌≤◌, [], length, take, drop, slice_get, Contains};
+ghost use Rattle.std.specs.Prelude.{IsTrue, false};
 ghost use Rattle.dfu_match.specs.declared.knowing.Row.{Row};
-ghost use Rattle.dfu_match.specs.Rows.{IsNoted, IsPut};
+ghost use Rattle.dfu_match.specs.Rows.{AreLefts, IsForgotten, IsLeft, IsNoted, IsPut, IsSetAt};
 
+use crate::leaving::{Left, left_of};
+use flux_defs::Need;
 use std::alloc::Global;
 
 /// The vertex serves at most so much of a need over each window that reaches over what is left of the one before from
@@ -23,19 +26,26 @@ pub struct Known {
     own: usize,
     /// A row for each vertex of the need before `end`, in their order.
     rows: Vec<Row>,
+    /// Of each `BLOCK` rows, one after the other, what they leave together.
+    blocks: Vec<Left>,
     end: u32,
 }
+
+/// Of how many rows together it is kept what they leave.
+const BLOCK: usize = 16;
 
 impl Known {
     /// Nothing yet. It takes no memory.
     pub fn nothing(alloc: Global) -> Known
         ensures rows { result.rows.items ≡ [] }
+        ensures blocks { result.blocks.items ≡ [] }
         ensures end { result.end ≡ 0 }
     {
         Known {
             notes: true,
             own: 0,
             rows: Vec::new(alloc),
+            blocks: Vec::new(alloc),
             end: 0,
         }
     }
@@ -43,12 +53,14 @@ impl Known {
     /// Nothing, where nothing will be noted. It takes no memory.
     pub fn never(alloc: Global) -> Known
         ensures rows { result.rows.items ≡ [] }
+        ensures blocks { result.blocks.items ≡ [] }
         ensures end { result.end ≡ 0 }
     {
         Known {
             notes: false,
             own: 0,
             rows: Vec::new(alloc),
+            blocks: Vec::new(alloc),
             end: 0,
         }
     }
@@ -69,7 +81,7 @@ impl Known {
 
     /// The row at the index.
     pub(crate) fn row_at(&self, at: usize) -> Option<Row>
-        ensures { IfSome result (λ row. Contains self.now.rows.items row) }
+        ensures { result ≡ slice_get self.now.rows.items at }
     {
         if at < self.rows.len() {
             Some(self.rows[at])
@@ -108,6 +120,8 @@ impl Known {
     pub(crate) fn put(&mut self, own: usize, at: usize, row: Row)
         ensures own { self.new.own ≡ self.old.own }
         ensures put { IsPut own row self.old self.new }
+        ensures place { IsSetAt at self.old.rows.items self.new.rows.items }
+        ensures end { self.new.end ≡ self.old.end }
     {
         if self.own != own || at >= self.rows.len() {
             return;
@@ -116,6 +130,74 @@ impl Known {
             return;
         }
         self.rows[at] = row;
+        self.forget(at / BLOCK);
+    }
+
+    /// What the rows of this place leave isn't known any more.
+    fn forget(&mut self, block: usize)
+        ensures own { self.new.own ≡ self.old.own }
+        ensures rows { self.new.rows.items ≡ self.old.rows.items }
+        ensures end { self.new.end ≡ self.old.end }
+        ensures blocks { IsForgotten block self.old.blocks.items self.new.blocks.items }
+        ensures length { length self.new.blocks.items ≡ length self.old.blocks.items }
+    {
+        if block < self.blocks.len() {
+            self.blocks[block] = Left::unknown();
+        }
+    }
+
+    /// What the rows leave together, windows that begin from this second on: it adds up anew only those that have
+    /// changed or told until then.
+    pub(crate) fn left(&mut self, need: &Need, from: u64) -> Left
+        requires lefts { AreLefts need.now self.old.rows.items self.old.blocks.items }
+        ensures left { IsLeft need.now self.new.rows.items result }
+        ensures from { result.from ≡ from }
+        ensures opens { from ≤ result.until }
+        ensures own { self.new.own ≡ self.old.own }
+        ensures rows { self.new.rows.items ≡ self.old.rows.items }
+        ensures end { self.new.end ≡ self.old.end }
+        ensures lefts { AreLefts need.now self.new.rows.items self.new.blocks.items }
+    {
+        let mut all = Left::none(from);
+        for block in 0..self.blocks.len() {
+            all = all.and(self.left_at(need, block, from));
+        }
+        all
+    }
+
+    /// What the rows of this place leave together, windows that begin at this second too: it adds them up anew where
+    /// that isn't told.
+    fn left_at(&mut self, need: &Need, block: usize, from: u64) -> Left
+        requires within { block < length self.old.blocks.items }
+        requires lefts { AreLefts need.now self.old.rows.items self.old.blocks.items }
+        ensures left { IsLeft need.now (take 16 (drop (16 * block) self.new.rows.items)) result }
+        ensures from { result.from ≤ from }
+        ensures opens { from ≤ result.until }
+        ensures own { self.new.own ≡ self.old.own }
+        ensures rows { self.new.rows.items ≡ self.old.rows.items }
+        ensures end { self.new.end ≡ self.old.end }
+        ensures lefts { AreLefts need.now self.new.rows.items self.new.blocks.items }
+        ensures length { length self.new.blocks.items ≡ length self.old.blocks.items }
+    {
+        let told = self.blocks[block];
+        if told.tells(from) {
+            return told;
+        }
+        let left = left_of(need, rows_of(self.rows.as_slice(), block), from);
+        self.blocks[block] = left;
+        left
+    }
+
+    /// A later index, past those of a place of which no row was found to tell nothing.
+    pub(crate) fn index_after(&self, at: usize) -> usize
+        requires { at < length self.now.rows.items }
+        ensures { at < result }
+    {
+        let block = at / BLOCK;
+        if block < self.blocks.len() && !self.blocks[block].old {
+            return at.saturating_add(BLOCK);
+        }
+        at + 1
     }
 
     /// The same; or adds it, where the rows reach to `from` and there is memory for it: then they reach to `past`.
@@ -130,9 +212,34 @@ impl Known {
         if !self.notes_of(own) || self.end != from {
             return;
         }
+        if !self.has_place() {
+            return;
+        }
         match self.rows.push(row) {
             Ok(()) => self.end = past,
             Err(_) => {}
+        }
+    }
+
+    /// Makes a place for one row more, of which no sum is known: `false` where there is no memory for it.
+    fn has_place(&mut self) -> bool
+        ensures own { self.new.own ≡ self.old.own }
+        ensures rows { self.new.rows.items ≡ self.old.rows.items }
+        ensures end { self.new.end ≡ self.old.end }
+        ensures blocks { IsTrue result
+            → IsForgotten (length self.old.rows.items / 16) self.old.blocks.items self.new.blocks.items }
+        ensures place { IsTrue result → length self.old.rows.items ≤ 16 * length self.old.blocks.items
+            → length self.old.rows.items < 16 * length self.new.blocks.items }
+        ensures none { result ≡ false → self.new.blocks.items ≡ self.old.blocks.items }
+    {
+        let block = self.rows.len() / BLOCK;
+        if block < self.blocks.len() {
+            self.forget(block);
+            return true;
+        }
+        match self.blocks.push(Left::unknown()) {
+            Ok(()) => true,
+            Err(_) => false,
         }
     }
 
@@ -140,6 +247,7 @@ impl Known {
     pub(crate) fn pass(&mut self, own: usize, from: u32, to: u32)
         ensures own { self.new.own ≡ self.old.own }
         ensures rows { self.new.rows.items ≡ self.old.rows.items }
+        ensures blocks { self.new.blocks.items ≡ self.old.blocks.items }
         ensures end { (self.new.end ≡ self.old.end)
             ⊎ ((self.old.end ≡ from) × (self.new.end ≡ to) × (self.old.own ≡ own)) }
     {
@@ -152,13 +260,24 @@ impl Known {
     pub(crate) fn turn_to(&mut self, own: usize)
         ensures own { self.new.own ≡ own }
         ensures turned { ((self.old.own ≡ own) × (self.new.rows.items ≡ self.old.rows.items)
-            × (self.new.end ≡ self.old.end)) ⊎ ((self.new.rows.items ≡ []) × (self.new.end ≡ 0)) }
+            × (self.new.end ≡ self.old.end) × (self.new.blocks.items ≡ self.old.blocks.items))
+            ⊎ ((self.new.rows.items ≡ []) × (self.new.end ≡ 0)) }
     {
         if self.own == own {
             return;
         }
         self.own = own;
         self.rows.clear();
+        self.blocks.clear();
         self.end = 0;
     }
+}
+
+/// The rows of this place.
+fn rows_of(rows: &[Row], block: usize) -> &[Row]
+    ensures { result.now ≡ take 16 (drop (16 * block) rows.now) }
+{
+    let start = block.saturating_mul(BLOCK).min(rows.len());
+    let rest = &rows[start..];
+    &rest[..rest.len().min(BLOCK)]
 }

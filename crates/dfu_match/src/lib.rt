@@ -9,6 +9,7 @@ mod bounding;
 mod counting;
 mod demanding;
 mod knowing;
+mod leaving;
 mod matching;
 mod refuting;
 mod scopes;

@@ -19,7 +19,7 @@ use flux_defs::{FreeView, Need};
 
 /// How much a row leaves its vertex to serve at most over windows that begin at this second, where `whole` is all that
 /// is ever asked of one.
-pub(crate) fn bound_at(need: &Need, from: u64, row: &Row) -> u64
+fn bound_at(need: &Need, from: u64, row: &Row) -> u64
     ensures { result ≡ bound_at need.now from row.now }
 {
     if from <= row.moment {

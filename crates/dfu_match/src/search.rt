@@ -129,10 +129,10 @@ pub(crate) fn admits<F: FreeView, L: Ledger>(
         return !closed(s, vertex, steps);
     }
     s.graph.is_valid();
-    if closed_above(s, vertex, steps) {
+    if touched(s, vertex, steps) {
         return false;
     }
-    !touched(s, vertex, steps)
+    !closed_above(s, vertex, steps)
 }
 
 /// Whether the vertex above this one, if there is one, is closed at some moment of the window.

@@ -1,21 +1,20 @@
 //! The walk over the vertices of a need, which enters no subtree that is short for it.
-ghost use Rattle.std.specs.Prelude.{◌≡◌, ℕ, ◌+◌, ◌*◌, ◌⊎◌, ◌<◌, ◌≤◌, ◌↔◌, [], length, List, IfSome, IfNone, IsTrue};
-ghost use Rattle.std.specs.Prelude.{MatchOption};
+ghost use Rattle.std.specs.Prelude.{◌≡◌, ℕ, ◌+◌, ◌*◌, ◌⊎◌, ◌<◌, ◌≤◌, length, List, IfSome, IfNone, IsTrue};
+ghost use Rattle.std.specs.Prelude.{[], MatchOption};
 ghost use Rattle.flux_defs.specs.declared.vertices.Vertex.{Vertex};
 ghost use Rattle.flux_defs.specs.declared.claims.Job.{Job};
 ghost use Rattle.flux_defs.specs.declared.claims.Claim.{Claim};
 ghost use Rattle.flux_defs.specs.declared.requests.Need.{Need};
-ghost use Rattle.flux_defs.specs.Graph.{HasKind, is_at_or_below};
+ghost use Rattle.flux_defs.specs.Graph.{HasKind};
 ghost use Rattle.flux_defs.specs.Needs.{IsValidNeed};
 ghost use Rattle.flux_defs.specs.declared.claims.Window.{Window};
 ghost use Rattle.prune_filters.specs.Shorts.{IsShortFor};
 ghost use Rattle.dfu_match.specs.Searches.{open_to, IsKindOfNeed};
 ghost use Rattle.dfu_match.specs.Tables.{all_of, needs_all, StandsAt};
 ghost use Rattle.dfu_match.specs.Walks.{IsParentFrom, ServesNone};
-ghost use Rattle.dfu_match.specs.Pairs.{AsksWithin, HasEachOpen, IsClearWithin, IsClearBetween};
-ghost use Rattle.dfu_match.specs.Pairs.{IsClearBefore, IsPlaceOf};
-ghost use Rattle.dfu_match.specs.Pairs.{TakesEach};
-ghost use Rattle.dfu_match.specs.Pairs.{asked_totals};
+ghost use Rattle.dfu_match.specs.Pairs.{AsksWithin, HasEachOpen, IsClearWithin, IsClearBefore, IsPlaceOf};
+ghost use Rattle.dfu_match.specs.Pairs.{asked_totals, TakesEach};
+ghost use Rattle.dfu_match.specs.Tops.{IsTopFrom, TellsShort, TellsClear, TakesTops};
 ghost use Rattle.flux_defs.specs.Later.{IsSoUntil, ReachesOver};
 ghost use Rattle.dfu_match.specs.Reaches.{FallsWithin};
 
@@ -73,10 +72,8 @@ fn own_short<F: FreeView, L: Ledger>(
     requires stands { StandsAt (needs_all s.now.needs.now) s.now.wanted.now index need.now }
     requires vertex { vertex < length s.now.graph.now.resources.vertices }
     ensures same { IfSome result (λ top. top ≡ vertex) }
-    ensures short { (jobs : List Job) → F.stands_for s.now.view.now jobs → (w : Window) →
-        ReachesOver s.now.window until.new w →
-        IfSome result (IsShortFor s.now.graph.now.resources.vertices jobs w
-        (asked_totals s.now.wanted.now (F.keeps s.now.view.now)) need.now) }
+    ensures short { TellsShort s.now.graph.now.resources.vertices (F.stands_for s.now.view.now)
+        (asked_totals s.now.wanted.now (F.keeps s.now.view.now)) s.now.window until.new need.now result }
     ensures enough { (jobs : List Job) → F.stands_for s.now.view.now jobs →
         IfNone result (IsShortFor s.now.graph.now.resources.vertices jobs s.now.window
         (asked_totals s.now.wanted.now (F.keeps s.now.view.now)) need.now vertex → ⊥) }
@@ -107,24 +104,15 @@ pub(crate) fn top_short<F: FreeView, L: Ledger>(
     requires stands { StandsAt (needs_all s.now.needs.now) s.now.wanted.now index need.now }
     requires vertex { vertex < length s.now.graph.now.resources.vertices }
     requires low { low ≤ vertex }
-    ensures above { IfSome result (λ top. (low ≤ top)
-        × IsTrue (is_at_or_below s.now.graph.now.resources.vertices vertex top)) }
-    ensures short { (jobs : List Job) → F.stands_for s.now.view.now jobs → (w : Window) →
-        ReachesOver s.now.window until.new w →
-        IfSome result (IsShortFor s.now.graph.now.resources.vertices jobs w
-        (asked_totals s.now.wanted.now (F.keeps s.now.view.now)) need.now) }
-    ensures clear { (jobs : List Job) → F.stands_for s.now.view.now jobs →
-        (let clear : ℕ → ℕ → Type 0 = IsClearBetween s.now.graph.now.resources.vertices jobs s.now.window
-        (asked_totals s.now.wanted.now (F.keeps s.now.view.now)) need.now vertex in
-        MatchOption result (clear low (vertex + 1)) (clear low)) }
+    ensures above { IsTopFrom s.now.graph.now.resources.vertices low vertex result }
+    ensures short { TellsShort s.now.graph.now.resources.vertices (F.stands_for s.now.view.now)
+        (asked_totals s.now.wanted.now (F.keeps s.now.view.now)) s.now.window until.new need.now result }
+    ensures clear { TellsClear s.now.graph.now.resources.vertices (F.stands_for s.now.view.now)
+        (asked_totals s.now.wanted.now (F.keeps s.now.view.now)) s.now.window need.now low vertex (vertex + 1) result }
     ensures falls { FallsWithin s.now.window until.old until.new }
-    ensures work { (jobs : List Job) → F.stands_for s.now.view.now jobs → (place : ℕ) →
-        (let vs : List Vertex = s.now.graph.now.resources.vertices in
-        let keeps : ℕ → ℕ → Type 0 = asked_totals s.now.wanted.now (F.keeps s.now.view.now) in
-        let all : List Need = needs_all s.now.needs.now in
-        IsPlaceOf all place need.now → IsClearBetween vs jobs s.now.window keeps need.now vertex 0 low →
-        TakesEach (HasEachOpen vs jobs s.now.window keeps all)
-        (length (all_of need.now) * F.cost s.now.view.now) steps.old steps.new place (place + 1) low (vertex + 1)) }
+    ensures work { TakesTops s.now.graph.now.resources.vertices (F.stands_for s.now.view.now)
+        (asked_totals s.now.wanted.now (F.keeps s.now.view.now)) s.now.window (needs_all s.now.needs.now) need.now
+        low vertex (vertex + 1) (length (all_of need.now) * F.cost s.now.view.now) steps.old steps.new }
 {
     if s.wanted.len() <= index {
         return None;
@@ -152,24 +140,15 @@ pub(crate) fn top_over<F: FreeView, L: Ledger>(
     requires stands { StandsAt (needs_all s.now.needs.now) s.now.wanted.now index need.now }
     requires vertex { vertex < length s.now.graph.now.resources.vertices }
     requires low { low ≤ vertex }
-    ensures above { IfSome result (λ top. (low ≤ top)
-        × IsTrue (is_at_or_below s.now.graph.now.resources.vertices vertex top)) }
-    ensures short { (jobs : List Job) → F.stands_for s.now.view.now jobs → (w : Window) →
-        ReachesOver s.now.window until.new w →
-        IfSome result (IsShortFor s.now.graph.now.resources.vertices jobs w
-        (asked_totals s.now.wanted.now (F.keeps s.now.view.now)) need.now) }
-    ensures clear { (jobs : List Job) → F.stands_for s.now.view.now jobs →
-        (let clear : ℕ → ℕ → Type 0 = IsClearBetween s.now.graph.now.resources.vertices jobs s.now.window
-        (asked_totals s.now.wanted.now (F.keeps s.now.view.now)) need.now vertex in
-        MatchOption result (clear low vertex) (clear low)) }
+    ensures above { IsTopFrom s.now.graph.now.resources.vertices low vertex result }
+    ensures short { TellsShort s.now.graph.now.resources.vertices (F.stands_for s.now.view.now)
+        (asked_totals s.now.wanted.now (F.keeps s.now.view.now)) s.now.window until.new need.now result }
+    ensures clear { TellsClear s.now.graph.now.resources.vertices (F.stands_for s.now.view.now)
+        (asked_totals s.now.wanted.now (F.keeps s.now.view.now)) s.now.window need.now low vertex vertex result }
     ensures falls { FallsWithin s.now.window until.old until.new }
-    ensures work { (jobs : List Job) → F.stands_for s.now.view.now jobs → (place : ℕ) →
-        (let vs : List Vertex = s.now.graph.now.resources.vertices in
-        let keeps : ℕ → ℕ → Type 0 = asked_totals s.now.wanted.now (F.keeps s.now.view.now) in
-        let all : List Need = needs_all s.now.needs.now in
-        IsPlaceOf all place need.now → IsClearBetween vs jobs s.now.window keeps need.now vertex 0 low →
-        TakesEach (HasEachOpen vs jobs s.now.window keeps all)
-        (length (all_of need.now) * F.cost s.now.view.now) steps.old steps.new place (place + 1) low vertex) }
+    ensures work { TakesTops s.now.graph.now.resources.vertices (F.stands_for s.now.view.now)
+        (asked_totals s.now.wanted.now (F.keeps s.now.view.now)) s.now.window (needs_all s.now.needs.now) need.now
+        low vertex vertex (length (all_of need.now) * F.cost s.now.view.now) steps.old steps.new }
 {
     s.graph.is_valid();
     match parent_from(s.graph, vertex, low) {
@@ -204,27 +183,18 @@ pub(crate) fn top_within<F: FreeView, L: Ledger>(
     requires stands { StandsAt (needs_all s.now.needs.now) s.now.wanted.now index need.now }
     requires vertex { vertex < length s.now.graph.now.resources.vertices }
     requires low { low ≤ vertex }
-    ensures above { IfSome result (λ top. (low ≤ top)
-        × IsTrue (is_at_or_below s.now.graph.now.resources.vertices vertex top)) }
-    ensures short { (jobs : List Job) → F.stands_for s.now.view.now jobs → (w : Window) →
-        ReachesOver s.now.window until.new w →
-        IfSome result (IsShortFor s.now.graph.now.resources.vertices jobs w
-        (asked_totals s.now.wanted.now (F.keeps s.now.view.now)) need.now) }
-    ensures clear { (jobs : List Job) → F.stands_for s.now.view.now jobs →
-        (let clear : ℕ → ℕ → Type 0 = IsClearBetween s.now.graph.now.resources.vertices jobs s.now.window
-        (asked_totals s.now.wanted.now (F.keeps s.now.view.now)) need.now vertex in
-        MatchOption result (clear low vertex) (clear low)) }
+    ensures above { IsTopFrom s.now.graph.now.resources.vertices low vertex result }
+    ensures short { TellsShort s.now.graph.now.resources.vertices (F.stands_for s.now.view.now)
+        (asked_totals s.now.wanted.now (F.keeps s.now.view.now)) s.now.window until.new need.now result }
+    ensures clear { TellsClear s.now.graph.now.resources.vertices (F.stands_for s.now.view.now)
+        (asked_totals s.now.wanted.now (F.keeps s.now.view.now)) s.now.window need.now low vertex vertex result }
     ensures own { (jobs : List Job) → F.stands_for s.now.view.now jobs → AsksWithin need.now →
         IfNone result (IsShortFor s.now.graph.now.resources.vertices jobs s.now.window
         (asked_totals s.now.wanted.now (F.keeps s.now.view.now)) need.now vertex → ⊥) }
     ensures falls { FallsWithin s.now.window until.old until.new }
-    ensures work { (jobs : List Job) → F.stands_for s.now.view.now jobs → (place : ℕ) →
-        (let vs : List Vertex = s.now.graph.now.resources.vertices in
-        let keeps : ℕ → ℕ → Type 0 = asked_totals s.now.wanted.now (F.keeps s.now.view.now) in
-        let all : List Need = needs_all s.now.needs.now in
-        IsPlaceOf all place need.now → IsClearBetween vs jobs s.now.window keeps need.now vertex 0 low →
-        TakesEach (HasEachOpen vs jobs s.now.window keeps all)
-        (length (all_of need.now) * F.cost s.now.view.now) steps.old steps.new place (place + 1) low (vertex + 1)) }
+    ensures work { TakesTops s.now.graph.now.resources.vertices (F.stands_for s.now.view.now)
+        (asked_totals s.now.wanted.now (F.keeps s.now.view.now)) s.now.window (needs_all s.now.needs.now) need.now
+        low vertex (vertex + 1) (length (all_of need.now) * F.cost s.now.view.now) steps.old steps.new }
 {
     if asks_within(need) {
         return top_short(s, need, index, low, vertex, until, steps);

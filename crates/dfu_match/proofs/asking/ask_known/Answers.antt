@@ -1,12 +1,16 @@
 use Rattle.std.proofs.Common.{◌≡◌, ◌+◌, ◌*◌, List, ◌∷◌, length, take, drop, refl, inr, arith}
+use Rattle.std.proofs.Common.{Some, slice_get, sym, ◌∙◌, ap}
+use Rattle.std.proofs.lemmas.Option.{IfSome_then}
 use Rattle.flux_defs.specs.declared.requests.Need.{Need}
 use Rattle.flux_defs.specs.Needs.{AreValidNeeds}
 use Rattle.list_laws.proofs.Lists.{get_first}
+use Rattle.dfu_match.specs.declared.knowing.Known.{Known}
 use Rattle.dfu_match.specs.Tables.{needs_all}
 use Rattle.dfu_match.specs.Pairs.{asked_totals}
 use Rattle.dfu_match.proofs.AskSteps.{known_all, known_alone}
 use Rattle.dfu_match.proofs.CountLaws as counts
 use Rattle.dfu_match.proofs.StepLaws as steps
+use Rattle.dfu_match.proofs.RefuteLaws.{known_refutes}
 use Rattle.dfu_match.proofs.TableLaws as tables
 use Rattle.dfu_match.proofs.asking.ask_known.Goals as goal
 
@@ -108,3 +112,24 @@ returns-clause-work g c = λ jobs stands.
       λ pairs has. omega (arith, same),
       λ need is spread pairs has. omega (arith, same),
     )
+
+-- its rows, which are of all vertices of the need, leave too little
+pub returns-then-own-clause-none : goal.returns-then-own-clause-none
+returns-then-own-clause-none g c = λ jobs stands w.
+    IfSome_then c.ask_rows.result c.ask_rows.ensures.less (λ until told reach.
+    let s = c.args.s.now in
+    let items : List Need = c.items-need-items.result.now in
+    let i = c.loop-need.need-index in
+    let need = c.need-item.result in
+    let split : drop i items ≡ need ∷ drop (i + 1) items = counts.item_split items i need c.loop-need-test.true
+    c.need-item.is in
+    let there : slice_get s.needs.now c.loop-need.own ≡ Some need =
+    rw c.loop-need.invariant.own
+    (rw c.items-need-items.ensures at (get_first items (drop (i + 1) items) i need split)) in
+    let same : c.ask_rows.new.known.own ≡ c.loop-need.own =
+    c.ask_rows.ensures.own ∙ sym c.own.ensures ∙ c.if-own.true in
+    let end : c.ask_rows.new.known.end ≡ length s.graph.now.resources.vertices =
+    c.ask_rows.ensures.end ∙ ap (λ (k : Known). k.end) c.loop-need.invariant.known ∙ c.requires.all in
+    known_refutes s.graph.now.resources (g.F.FreeView.stands_for s.view.now) s.barred.now s.needs.now s.window w
+    c.ask_rows.new.known c.loop-need.own need until c.requires.valid c.ask_rows.ensures.known end same there told.1
+    reach jobs stands)

@@ -1,75 +1,152 @@
-use Rattle.std.proofs.Common.{◌∙◌, arith}
+use Rattle.std.proofs.Common.{◌≡◌, ◌<◌, List, Some, slice_get, length, refl, sym, ◌∙◌, ap, subst, arith}
+use Rattle.std.proofs.lemmas.Option.{get_or_from_slice_get, slice_get_within}
+use Rattle.list_laws.proofs.Lists.{set_length}
+use Rattle.dfu_match.specs.declared.knowing.Row.{Row}
+use Rattle.dfu_match.specs.Rows.{IsLeft}
 use Rattle.dfu_match.specs.Tables.{needs_all}
 use Rattle.dfu_match.specs.Pairs.{asked_totals}
+use Rattle.dfu_match.proofs.AskLaws.{knows_left}
 use Rattle.dfu_match.proofs.AskSteps.{asked_all, asked_next, asked_start}
 use Rattle.dfu_match.proofs.RowLaws.{row_known}
-use Rattle.dfu_match.proofs.asking.ask_rows.Goals.{then-row-from, else-row-from}
+use Rattle.dfu_match.proofs.asking.ask_rows.Goals.{then-row-from+in-Some-row_at, else-row-from}
 use Rattle.dfu_match.proofs.asking.ask_rows.Goals as goal
 
-pub loop-at-init : goal.loop-at-init
-loop-at-init g c =
+pub left-left-requires : goal.left-left-requires
+left-left-requires g c = record {
+  lefts = c.requires.known.lefts c.args.need.now
+      (ap (slice_get c.args.s.now.needs.now) c.requires.is_own ∙ c.requires.of_own);
+}
+
+pub each-init : goal.each-init
+each-init g c =
     let s = c.args.s.now in
     let graph = s.graph.now in
+    let told = c.left-left.ensures in
     record {
-      known = c.requires.known;
-      own = c.requires.is_own;
+      known = knows_left graph.resources.vertices (g.F.FreeView.stands_for s.view.now) s.barred.now s.needs.now s.window
+          c.args.known.now c.left-left.new.self c.args.own c.args.need.now c.requires.of_own c.requires.is_own told.own
+          told.rows told.end told.lefts c.requires.known;
+      own = told.own ∙ c.requires.is_own;
+      end = refl;
       dead = λ jobs stands w reach scope v q lo hi some can. omega (arith, lo, hi);
       asked = λ jobs stands place at. asked_start graph.resources graph.names c.is_valid.ensures.valid jobs s.window
           (asked_totals s.wanted.now (g.F.FreeView.keeps s.view.now)) (needs_all s.needs.now) c.args.need.now place
           (g.F.FreeView.cost s.view.now) c.args.steps.now;
+      left = told.left;
+      from = told.from;
+      opens = told.opens;
     }
-
-pub returns-then-room-amount-clause-work : goal.returns-then-room-amount-clause-work
-returns-then-room-amount-clause-work g c = λ jobs stands place at.
-    let s = c.args.s.now in
-    asked_all s.graph.now.resources s.graph.now.names c.is_valid.ensures.valid jobs s.window
-    (asked_totals s.wanted.now (g.F.FreeView.keeps s.view.now)) (needs_all s.needs.now) c.args.need.now place
-    (g.F.FreeView.cost s.view.now) c.args.steps.now c.loop-at.steps 0 c.loop-at.low
-    (c.loop-at.invariant.asked jobs stands place at)
 
 pub returns-in_default-clause-work : goal.returns-in_default-clause-work
 returns-in_default-clause-work g c = λ jobs stands place at.
     let s = c.args.s.now in
     asked_all s.graph.now.resources s.graph.now.names c.is_valid.ensures.valid jobs s.window
     (asked_totals s.wanted.now (g.F.FreeView.keeps s.view.now)) (needs_all s.needs.now) c.args.need.now place
-    (g.F.FreeView.cost s.view.now) c.args.steps.now c.loop-at.steps 0 c.loop-at.low
-    (c.loop-at.invariant.asked jobs stands place at)
+    (g.F.FreeView.cost s.view.now) c.args.steps.now c.each.steps 0 c.each.low
+    (c.each.invariant.asked jobs stands place at)
+
+pub renew-low-requires-clause-of_need : goal.renew-low-requires-clause-of_need
+renew-low-requires-clause-of_need g c =
+    let s = c.args.s.now in
+    let rows = c.each.known.rows.items in
+    let row = c.in-Some.row in
+    let there : slice_get rows c.each.at ≡ Some row = sym c.row_at.ensures ∙ c.in-Some.is in
+    (row_known s.graph.now.resources.vertices (g.F.FreeView.stands_for s.view.now) s.barred.now s.needs.now s.window
+    c.each.known c.args.own c.args.need.now row c.requires.of_own c.each.invariant.own
+    (c.each.at, slice_get_within rows c.each.at row there, get_or_from_slice_get rows c.each.at row row there)
+    c.each.invariant.known).of_need
+
+pub returns-in_default-row_at-clause-work : goal.returns-in_default-row_at-clause-work
+returns-in_default-row_at-clause-work g c = λ jobs stands place at.
+    let s = c.args.s.now in
+    let graph = s.graph.now in
+    let valid = c.is_valid.ensures.valid in
+    let keeps = asked_totals s.wanted.now (g.F.FreeView.keeps s.view.now) in
+    let all = needs_all s.needs.now in
+    let cost = g.F.FreeView.cost s.view.now in
+    let before = c.each.invariant.asked jobs stands place at in
+    asked_all graph.resources graph.names valid jobs s.window keeps all c.args.need.now place cost c.args.steps.now
+    c.renew-low.new.steps 0 c.renew-low.result
+    (asked_next graph.resources graph.names valid jobs s.window keeps all c.args.need.now place cost c.args.steps.now
+    c.each.steps c.renew-low.new.steps 0 c.each.low c.renew-low.result before
+    (c.renew-low.ensures.work jobs stands place at before.clear before.within))
+
+-- the rows are as many as before
+pub index_after-at-requires : goal.index_after-at-requires
+index_after-at-requires g c =
+    let rows = c.each.known.rows.items in
+    let inside : c.each.at < length rows = slice_get_within rows c.each.at c.in-Some.row
+    (sym c.row_at.ensures ∙ c.in-Some.is) in
+    elim c.if-row-from.branch [
+      | then-row-from+in-Some-row_at w ↦ rw w.known-is (slice_get_within w.renew-low.new.known.rows.items c.each.at
+          w.in-Some-row_at.now (sym w.row_at-then-row-from.ensures ∙ w.in-Some-row_at.is))
+      | else-row-from w ↦ rw w.known-is inside
+    ]
+
+pub each-smaller : goal.each-smaller
+each-smaller g c =
+    let rows = c.each.known.rows.items in
+    let at = c.each.at in
+    let inside : at < length rows = slice_get_within rows at c.in-Some.row (sym c.row_at.ensures ∙ c.in-Some.is) in
+    let later = c.index_after-at.ensures in
+    let same : length c.if-row-from.known.rows.items ≡ length rows = elim c.if-row-from.branch [
+      | then-row-from+in-Some-row_at w ↦
+          let now = w.in-Some-row_at.now in
+          rw w.known-is (ap (λ (rs : List Row). length rs)
+          (w.renew-low.ensures.place now (sym w.row_at-then-row-from.ensures ∙ w.in-Some-row_at.is))
+          ∙ set_length rows at now)
+      | else-row-from w ↦ rw w.known-is refl
+    ] in
+    omega (arith, inside, later, same)
+
+pub each-preserved : goal.each-preserved
+each-preserved g c =
+    let from = c.each.invariant.from in
+    let opens = c.each.invariant.opens in
+    elim c.if-row-from.branch [
+      | then-row-from+in-Some-row_at w ↦ rw (w.known-is, w.steps-is, w.left-is, w.dead-is, w.low-is) (record {
+        known = w.renew-low.ensures.known;
+        own = w.renew-low.ensures.own ∙ c.each.invariant.own;
+        end = w.renew-low.ensures.end ∙ c.each.invariant.end;
+        dead = w.renew-low.ensures.dead;
+        asked = λ jobs stands place at.
+            let s = c.args.s.now in
+            let graph = s.graph.now in
+            let before = c.each.invariant.asked jobs stands place at in
+            asked_next graph.resources graph.names c.is_valid.ensures.valid jobs s.window
+            (asked_totals s.wanted.now (g.F.FreeView.keeps s.view.now)) (needs_all s.needs.now) c.args.need.now place
+            (g.F.FreeView.cost s.view.now) c.args.steps.now c.each.steps w.renew-low.new.steps 0 c.each.low
+            w.renew-low.result before
+            (w.renew-low.ensures.work jobs stands place at before.clear before.within);
+        left =
+            let now = w.in-Some-row_at.now in
+            let old = w.if-row-from.true in
+            subst (λ (rs : List Row). IsLeft c.args.need.now rs w.renewed-left.result)
+            (sym (w.renew-low.ensures.place now (sym w.row_at-then-row-from.ensures ∙ w.in-Some-row_at.is)))
+            (w.renewed-left.ensures.left c.each.known.rows.items c.each.at c.in-Some.row
+            (sym c.row_at.ensures ∙ c.in-Some.is) (omega (arith, old, from)) c.each.invariant.left);
+        from = w.renewed-left.ensures.from ∙ from;
+        opens =
+            let told = w.renewed-left.ensures.opens (omega (arith, from, opens)) in
+            let kept = w.renewed-left.ensures.from in
+            omega (arith, told, kept, from);
+      })
+      | else-row-from w ↦ rw (w.known-is, w.steps-is, w.left-is, w.dead-is, w.low-is) (record {
+        known = c.each.invariant.known;
+        own = c.each.invariant.own;
+        end = c.each.invariant.end;
+        dead = c.each.invariant.dead;
+        asked = c.each.invariant.asked;
+        left = c.each.invariant.left;
+        from = from;
+        opens = opens;
+      })
+    ]
 
 pub returns-clause-work : goal.returns-clause-work
 returns-clause-work g c = λ jobs stands place at.
     let s = c.args.s.now in
     asked_all s.graph.now.resources s.graph.now.names c.is_valid.ensures.valid jobs s.window
     (asked_totals s.wanted.now (g.F.FreeView.keeps s.view.now)) (needs_all s.needs.now) c.args.need.now place
-    (g.F.FreeView.cost s.view.now) c.args.steps.now c.loop-at.steps 0 c.loop-at.low
-    (c.loop-at.invariant.asked jobs stands place at)
-
-pub renew-low-requires-clause-of_need : goal.renew-low-requires-clause-of_need
-renew-low-requires-clause-of_need g c =
-    let s = c.args.s.now in
-    (row_known s.graph.now.resources.vertices (g.F.FreeView.stands_for s.view.now) s.barred.now s.needs.now s.window
-    c.loop-at.known c.args.own c.args.need.now c.in-Some.row c.requires.of_own c.loop-at.invariant.own c.in-Some.ensures
-    c.loop-at.invariant.known).of_need
-
-pub loop-at-preserved : goal.loop-at-preserved
-loop-at-preserved g c = elim c.if-row-from.branch [
-  | then-row-from w ↦ rw (w.known-is, w.steps-is, w.dead-is, w.low-is) (record {
-    known = w.renew-low.ensures.known;
-    own = w.renew-low.ensures.own ∙ c.loop-at.invariant.own;
-    dead = w.renew-low.ensures.dead;
-    asked = λ jobs stands place at.
-        let s = c.args.s.now in
-        let graph = s.graph.now in
-        let before = c.loop-at.invariant.asked jobs stands place at in
-        asked_next graph.resources graph.names c.is_valid.ensures.valid jobs s.window
-        (asked_totals s.wanted.now (g.F.FreeView.keeps s.view.now)) (needs_all s.needs.now) c.args.need.now place
-        (g.F.FreeView.cost s.view.now) c.args.steps.now c.loop-at.steps w.renew-low.new.steps 0 c.loop-at.low
-        w.renew-low.result before
-        (w.renew-low.ensures.work jobs stands place at before.clear before.within);
-  })
-  | else-row-from w ↦ rw (w.known-is, w.steps-is, w.dead-is, w.low-is) (record {
-    known = c.loop-at.invariant.known;
-    own = c.loop-at.invariant.own;
-    dead = c.loop-at.invariant.dead;
-    asked = c.loop-at.invariant.asked;
-  })
-]
+    (g.F.FreeView.cost s.view.now) c.args.steps.now c.each.steps 0 c.each.low
+    (c.each.invariant.asked jobs stands place at)

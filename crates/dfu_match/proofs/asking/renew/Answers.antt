@@ -1,4 +1,5 @@
-use Rattle.std.proofs.Common.{◌+◌, ◌*◌, length}
+use Rattle.std.proofs.Common.{◌+◌, ◌*◌, length, sym}
+use Rattle.list_laws.proofs.Lists.{set_back}
 use Rattle.dfu_match.specs.Tables.{needs_all}
 use Rattle.dfu_match.specs.Pairs.{asked_totals}
 use Rattle.dfu_match.proofs.AskSteps.{asked_still}
@@ -33,3 +34,8 @@ returns-else-dead-vertex-clause-work g c = λ jobs stands place at clear within.
     asked_still s.graph.now.resources.vertices jobs s.window
     (asked_totals s.wanted.now (g.F.FreeView.keeps s.view.now)) (needs_all s.needs.now) c.args.need.now place
     ((length (needs_all s.needs.now) + 2) * g.F.FreeView.cost s.view.now) c.args.steps.now c.args.low clear within
+
+-- what stands there is put back
+pub returns-else-dead-vertex-clause-place : goal.returns-else-dead-vertex-clause-place
+returns-else-dead-vertex-clause-place g c = λ row there.
+    sym (set_back c.args.known.now.rows.items c.args.at row there)

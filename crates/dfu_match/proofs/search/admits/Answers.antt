@@ -1,6 +1,6 @@
 use Rattle.graph_laws.proofs.Preorder.{parents_first}
 use Rattle.dfu_match.specs.Searches.{meets}
-use Rattle.dfu_match.proofs.HoldLaws.{passes, none_held, held_untouched}
+use Rattle.dfu_match.proofs.HoldLaws.{passes, touched_held, untouched_held}
 use Rattle.dfu_match.proofs.search.admits.Goals as goal
 
 pub returns-then-not-hold-clause-answer : goal.returns-then-not-hold-clause-answer
@@ -9,19 +9,18 @@ returns-then-not-hold-clause-answer g c = λ jobs stands.
     passes (meets s.graph.now.resources.vertices jobs s.barred.now)
     s.window c.args.vertex c.args.hold c.closed.result c.if-not-hold.true (c.closed.ensures.answer jobs stands)
 
-pub returns-then-closed_above-clause-answer : goal.returns-then-closed_above-clause-answer
-returns-then-closed_above-clause-answer g c = λ jobs stands.
+pub returns-then-touched-clause-answer : goal.returns-then-touched-clause-answer
+returns-then-touched-clause-answer g c = λ jobs stands.
     let s = c.args.s.now in
-    let graph = s.graph.now.resources in
-    none_held graph.vertices (parents_first graph c.is_valid.ensures.valid.preorder)
-    c.args.vertex c.requires jobs s.barred.now s.window c.args.hold c.if-not-hold.false
-    c.closed_above.result (c.closed_above.ensures.answer jobs stands) c.if-closed_above.true
+    touched_held (meets s.graph.now.resources.vertices jobs s.barred.now)
+    s.window c.args.vertex c.args.hold c.touched.result c.if-not-hold.false c.if-touched.true
+    (c.touched.ensures.answer jobs stands)
 
 pub returns-clause-answer : goal.returns-clause-answer
 returns-clause-answer g c = λ jobs stands.
     let s = c.args.s.now in
     let graph = s.graph.now.resources in
-    held_untouched graph.vertices (parents_first graph c.is_valid.ensures.valid.preorder)
+    untouched_held graph.vertices (parents_first graph c.is_valid.ensures.valid.preorder)
     c.args.vertex c.requires jobs s.barred.now s.window c.args.hold c.if-not-hold.false
-    c.closed_above.result (c.closed_above.ensures.answer jobs stands) c.if-closed_above.false c.touched.result
+    c.closed_above.result (c.closed_above.ensures.answer jobs stands) c.touched.result c.if-touched.false
     (c.touched.ensures.answer jobs stands)

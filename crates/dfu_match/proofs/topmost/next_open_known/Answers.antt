@@ -30,7 +30,7 @@ returns-in_default-clause-known g c =
     let need = c.args.need.now in
     knows_passed graph.resources.vertices (g.F.FreeView.stands_for s.view.now) s.barred.now s.needs.now s.window
     c.args.own c.look.at c.args.to c.look.known c.pass.new.self need c.requires.of_own c.pass.ensures.own
-    c.pass.ensures.rows c.pass.ensures.end
+    c.pass.ensures.rows c.pass.ensures.blocks c.pass.ensures.end
     (none_to graph.resources graph.names c.is_valid.ensures.valid need c.args.kind c.requires.of_kind c.look.at
     c.args.to c.in_default.ensures)
     c.look.invariant.known

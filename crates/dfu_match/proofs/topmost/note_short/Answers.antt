@@ -10,7 +10,7 @@ returns-in_default-clause-known g c =
     let need = c.args.need.now in
     knows_passed graph.resources.vertices (g.F.FreeView.stands_for s.view.now) s.barred.now s.needs.now s.window
     c.args.own c.each.at c.args.past c.each.known c.pass.new.self need c.requires.of_own c.pass.ensures.own
-    c.pass.ensures.rows c.pass.ensures.end
+    c.pass.ensures.rows c.pass.ensures.blocks c.pass.ensures.end
     (none_to graph.resources graph.names c.is_valid.ensures.valid need c.args.kind c.requires.of_kind c.each.at
     c.args.past c.in_default.ensures)
     c.each.invariant.known
