@@ -5,8 +5,10 @@ import importlib.util
 import io
 import json
 import os
+import stat
 import subprocess
 import sys
+import tempfile
 import unittest
 
 TESTS = os.path.dirname(os.path.realpath(__file__))
@@ -76,6 +78,50 @@ class ToolTest(unittest.TestCase):
         self.assertEqual(err.count("\n"), 1)
         self.assertTrue(err.startswith(f"tools/{name}: ") and err.endswith("\n"), err)
         return err[len(f"tools/{name}: ") : -1]
+
+
+# A checkout with one crate, two programs that run unproved, and a library of theirs.
+SMALL = {
+    "crates.txt": "low: kit\n",
+    "HANDLES": "none",
+    "crates/low/src/lib.rt": "low",
+    "crates/low/out/kept": "",
+    "tools/programs/libraries.txt": "# words\nshared: low\nfirst: shared\nsecond: low other\n",
+    "tools/programs/shared/lib.rt.txt": "lib",
+    "tools/programs/first/main.rt.txt": "main of first",
+    "tools/programs/first/stdout": "one\ntwo\n",
+    "tools/programs/second/main.rt.txt": "main of second",
+    "tools/programs/second/stdout": "three\n",
+}
+
+
+class RtTest(ToolTest):
+    """A test of a tool that calls `rt`, in whose place a small program stands."""
+
+    def setUp(self):
+        folder = tempfile.TemporaryDirectory()
+        self.addCleanup(folder.cleanup)
+        self.folder = folder.name
+
+    def with_rt(self, text):
+        """Puts a program `rt` of this text for the shell on the path."""
+        path = os.path.join(self.folder, "rt")
+        with open(path, "w") as file:
+            file.write(f"#!/bin/sh\n{text}\n")
+        os.chmod(path, os.stat(path).st_mode | stat.S_IXUSR)
+        before = os.environ["PATH"]
+        self.addCleanup(os.environ.__setitem__, "PATH", before)
+        os.environ["PATH"] = f"{self.folder}:{before}"
+
+    def small_top(self, more=()):
+        """Makes a small checkout, with more files."""
+        top = os.path.join(self.folder, "top")
+        for path, text in {**SMALL, **dict(more)}.items():
+            path = os.path.join(top, path)
+            os.makedirs(os.path.dirname(path), exist_ok=True)
+            with open(path, "w") as file:
+                file.write(text)
+        return top
 
 
 def oracle(graph, lines, *words):

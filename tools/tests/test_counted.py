@@ -1,29 +1,15 @@
 """Steps that count: what is changed in a copy of the crates, and what runs there, with a small program for `rt`."""
 import os
-import stat
-import tempfile
 
-from helper import TOP, ToolTest, run, text_of, tool
+from helper import TOP, RtTest, run, text_of, tool
 
 STEPS = os.path.join(TOP, "crates/flux_defs/src/steps.rt")
 
 
-class Counted(ToolTest):
+class Counted(RtTest):
     def setUp(self):
-        folder = tempfile.TemporaryDirectory()
-        self.addCleanup(folder.cleanup)
-        self.folder = folder.name
+        super().setUp()
         self.tool = tool("counted")
-
-    def with_rt(self, text):
-        """Puts a program `rt` of this text for the shell on the path."""
-        path = os.path.join(self.folder, "rt")
-        with open(path, "w") as file:
-            file.write(f"#!/bin/sh\n{text}\n")
-        os.chmod(path, os.stat(path).st_mode | stat.S_IXUSR)
-        before = os.environ["PATH"]
-        self.addCleanup(os.environ.__setitem__, "PATH", before)
-        os.environ["PATH"] = f"{self.folder}:{before}"
 
     def test_each_text_that_is_replaced_stands_once(self):
         text = text_of(STEPS)
@@ -43,35 +29,18 @@ class Counted(ToolTest):
             with self.assertRaises(self.tool.Fault):
                 self.tool.counting(other)
 
-    def test_the_line_of_the_program_names_all_libraries(self):
-        lines = "# words\nlow:\nmid may_wait=2: low kit\nsched_core: mid low kit\ngraph_build: low\nseeded_numbers:\n"
-        wanted = "counted_steps: sched_core graph_build seeded_numbers mid low kit anyhow\n"
-        self.assertEqual(self.tool.line_of_crate(lines), wanted)
-        with self.assertRaises(self.tool.Fault):
-            self.tool.line_of_crate("sched_core:\n")
-
-    def test_a_copy(self):
-        top, copy = os.path.join(self.folder, "top"), os.path.join(self.folder, "copy")
-        own = os.path.join(top, "crates/flux_defs")
-        for path in (f"{own}/src", f"{own}/out", f"{top}/tools/counted_steps", copy):
-            os.makedirs(path)
-        libraries = "flux_defs:\nsched_core: flux_defs\ngraph_build: flux_defs\nseeded_numbers:\n"
-        for path, text in (
-            ("crates.txt", libraries),
-            ("HANDLES", "none"),
-            ("crates/flux_defs/src/steps.rt", text_of(STEPS)),
-            ("crates/flux_defs/out/kept", ""),
-            ("tools/counted_steps/main.rt.txt", "main"),
-        ):
-            with open(os.path.join(top, path), "w") as file:
-                file.write(text)
+    def test_a_copy_counts(self):
+        program = {
+            "crates/flux_defs/src/steps.rt": text_of(STEPS),
+            "tools/programs/libraries.txt": "counted_steps: low\n",
+            "tools/programs/counted_steps/main.rt.txt": "main",
+        }
+        top, copy = self.small_top(program), os.path.join(self.folder, "copy")
+        os.mkdir(copy)
         crate = self.tool.make_copy(top, copy)
-        self.assertEqual(os.listdir(os.path.join(copy, "crates/flux_defs")), ["src"])
         self.assertIn("self.count", text_of(os.path.join(copy, "crates/flux_defs/src/steps.rt")))
-        self.assertEqual(text_of(os.path.join(own, "src/steps.rt")), text_of(STEPS))
+        self.assertEqual(text_of(os.path.join(top, "crates/flux_defs/src/steps.rt")), text_of(STEPS))
         self.assertEqual(text_of(os.path.join(crate, "src/main.rt")), "main")
-        added = text_of(os.path.join(copy, "crates.txt"))[len(libraries) :]
-        self.assertEqual(added, "counted_steps: sched_core graph_build seeded_numbers flux_defs anyhow\n")
 
     def test_a_run(self):
         self.with_rt('echo "$@"; ls src | grep main; grep -c self.count ../flux_defs/src/steps.rt')

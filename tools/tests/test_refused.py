@@ -11,7 +11,7 @@ from helper import PROGRAM, TOP, example
 
 import refused
 
-BOOK_CALLS = os.path.join(TOP, "crates/refused_growths/out/refused_growths")
+BOOK_CALLS = os.path.join(TOP, "out/refused_growths")  # as tools/unproved --program refused_growths makes it
 
 # It asks twice, and prints a line. Where the first answer is none it ends as the word says: well, or by a signal.
 SMALL = r"""

@@ -1,4 +1,0 @@
-use Rattle.refused_growths.proofs.calls.searched.Given as goal
-
-abbrev pub ghosts-found : goal.ghosts-found
-ghosts-found g a = record { name = a.blank.name; parts = a.blank.parts }
