@@ -68,7 +68,8 @@ boundary_by : (b : Bool) (x : ℕ) (xs : List ℕ) → is_ascii_digit x ≡ b �
     → IsCharBoundary (x ∷ xs) (cond b (1 + digit_count xs) 0)
 boundary_by true x xs e utf8 rest =
     let low : x < 128 = grind arith in
-    let behind : IsUtf8 xs = IsUtf8-drop (x ∷ xs) 1 utf8 (IsCharBoundary-after_ascii (x ∷ xs) 0 utf8 (omega arith) low) in
+    let cut = IsCharBoundary-after_ascii (x ∷ xs) 0 utf8 (omega arith) low in
+    let behind : IsUtf8 xs = IsUtf8-drop (x ∷ xs) 1 utf8 cut in
     IsCharBoundary-from_rest (x ∷ xs) 1 (digit_count xs) (omega arith) (rest behind)
 boundary_by false x xs e utf8 rest = IsCharBoundary-start (x ∷ xs) utf8
 

@@ -429,7 +429,8 @@ PlainLexes mode place xs = lex mode (plain_from place xs) ≡ plain_lexemes (lex
 
 record Facts (n : ℕ) : Type 0 where
   free : (xs : List ℕ) → length xs ≤ n → GoodLexed (lex between xs) → PlainLexes between outside xs
-  string : (xs : List ℕ) → length xs ≤ n → GoodLexed (lex lexing.in_string xs) → PlainLexes lexing.in_string in_string xs
+  string : (xs : List ℕ) → length xs ≤ n → GoodLexed (lex lexing.in_string xs) →
+      PlainLexes lexing.in_string in_string xs
   escape : (xs : List ℕ) → length xs ≤ n → GoodLexed (lex in_escape xs) → PlainLexes in_escape escaped xs
 
 module _ (n : ℕ) (f : Facts n) where
@@ -438,7 +439,8 @@ module _ (n : ℕ) (f : Facts n) where
   good_content None p ls same g = absurd g
   good_content (Some s) p ls same g = rw same refl
 
-  quote_written : (xs : List ℕ) → length xs ≤ n → GoodLexed (lex between (34 ∷ xs)) → PlainLexes between outside (34 ∷ xs)
+  quote_written : (xs : List ℕ) → length xs ≤ n → GoodLexed (lex between (34 ∷ xs)) →
+      PlainLexes between outside (34 ∷ xs)
   unfolding plain_from lex
   quote_written xs le g =
       ap (λ ls. token (string_token (text.content text.plain (plain_from in_string xs))) ∷ ls) (f.string xs le g.1)
@@ -539,8 +541,8 @@ module _ (n : ℕ) (f : Facts n) where
   operator_stays : (x : ℕ) (ls : List Lexeme) →
       plain_lexemes (lexing.operator_lexeme x ∷ ls) ≡ lexing.operator_lexeme x ∷ plain_lexemes ls
   operator_stays x ls =
-      either_stays (x == 123) (token tok.begin_object) _ ls refl (either_stays (x == 125) (token tok.end_object) _ ls refl
-      (either_stays (x == 91) (token tok.begin_array) _ ls refl (either_stays (x == 93) (token tok.end_array) _ ls refl
+      either_stays (x == 123) (token tok.begin_object) _ ls refl
+      (either_stays (x == 125) (token tok.end_object) _ ls refl (either_stays (x == 91) (token tok.begin_array) _ ls refl (either_stays (x == 93) (token tok.end_array) _ ls refl
       (either_stays (x == 44) comma colon ls refl refl))))
 
   -- a byte that begins no run, no string and no escape

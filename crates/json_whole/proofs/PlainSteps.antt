@@ -20,7 +20,8 @@ use Rattle.json_whole.proofs.Numerals.{whole_stays}
 -- ---- a number in its form
 
 -- a list of a text is longer than the text
-unlisted_by : (b : Bool) (s t : List ℕ) → bytes_eq t (listed s) ≡ b → length t ≤ length s → bytes_eq t (listed s) ≡ false
+unlisted_by : (b : Bool) (s t : List ℕ) → bytes_eq t (listed s) ≡ b → length t ≤ length s →
+    bytes_eq t (listed s) ≡ false
 unlisted_by true s t e short =
     let same : t ≡ listed s = (bytes_eq-Decides t (listed s)).0 e in
     absurd (omega (arith, short, ap length same, length-append s (34 ∷ 93 ∷ [])))
@@ -48,7 +49,8 @@ list_read depth s rest some =
     let end = tok.end_array ∷ rest in
     let text = tok.string s ∷ end in
     value-begin_array depth text some
-    ∙ ap (parse_map array) (items_more p (length text) text end (string s) (omega arith) refl (value_is (depth - 1) text)
+    ∙ ap (parse_map array)
+    (items_more p (length text) text end (string s) (omega arith) refl (value_is (depth - 1) text)
     ∙ ap (parse_map (item (string s))) (items_end p (length text - 1) end rest (omega arith) refl))
 
 pub number_read : (form : Form) (depth : ℕ) (s : List ℕ) (rest : List tok.Token) → number_as form s ≡ plain_number s →
@@ -59,7 +61,8 @@ number_read Digits depth s rest e nests =
     let digits = take (digit_count s) s in
     (json.number digits, ap (λ ts. value depth (ts ++ rest)) (sym e) ∙ value_is depth (tok.number digits ∷ rest))
 number_read Listed depth s rest e nests =
-    (array (item (string s) no_items), ap (λ ts. value depth (ts ++ rest)) (sym e) ∙ list_read depth s rest (nests refl))
+    let list = list_read depth s rest (nests refl) in
+    (array (item (string s) no_items), ap (λ ts. value depth (ts ++ rest)) (sym e) ∙ list)
 
 -- ---- the ends of lists, and keys
 

@@ -6,7 +6,8 @@ use Rattle.std.specs.Str.{all_scalars}
 use Rattle.std.proofs.lemmas.Bool.{and_parts, ltb-true, ltb-false}
 use Rattle.std.proofs.lemmas.Str.{IsUtf8-append, IsUtf8-from_ascii, IsUtf8-nil, encode_ascii, inside_one, IsUtf8-encode}
 use Rattle.json_whole.specs.Run.{begins_run, is_run_byte, first_run}
-use Rattle.json_whole.specs.Plain.{Place, outside, in_run, in_string, escaped, next_place, written_at, plain_from, plain_of}
+use Rattle.json_whole.specs.Plain.{Place, outside, in_run, in_string, escaped, next_place, written_at, plain_from}
+use Rattle.json_whole.specs.Plain.{plain_of}
 use Rattle.json_whole.proofs.Words.{IsRun}
 use Rattle.json_whole.proofs.Numerals.{first_run_bytes, run_is_utf8}
 use Rattle.json_whole.proofs.Exact.{Written, written_is}

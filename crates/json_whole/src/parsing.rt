@@ -1,5 +1,5 @@
-//! The tree of the plain form of a text, read of the text itself: where a number stands, what the plain form has there is
-//! built. Each list and object has room for what it holds and no more.
+//! The tree of the plain form of a text, read of the text itself: where a number stands, what the plain form has there
+//! is built. Each list and object has room for what it holds and no more.
 ghost use Rattle.std.specs.Prelude.{◌≡◌, ◌<◌, ◌≤◌, ◌++◌, [], ◌∷◌, List, length, take, drop, vec_len, Some};
 ghost use Rattle.std.specs.Prelude.{IfOk, OnOk};
 ghost use Rattle.json.specs.Json.{items, members, value, array, item, no_items, string};
@@ -51,8 +51,8 @@ pub struct Unfinished<'a> {
     pub members: Vec<(&'a str, Value<'a>)>,
 }
 
-/// How the plain form writes a number of the text. Other where that is a list, and none may stand here. Most numbers are
-/// whole.
+/// How the plain form writes a number of the text: as a list only where arrays may nest, and Other in place of that.
+/// Most numbers are whole.
 #[tactic(auto, using(crate::proofs::PlainSteps::whole_written, crate::proofs::PlainSteps::form_written))]
 pub fn number_form(number: &str, depth: usize) -> Result<Form, TreeFault>
     ensures tokens { IfOk result (λ form. number_as form number.now ≡ plain_number number.now) }
@@ -72,6 +72,7 @@ pub fn number_form(number: &str, depth: usize) -> Result<Form, TreeFault>
 }
 
 /// The digits at the front of a number.
+#[tactic(auto, using(crate::proofs::Numerals::digits_end))]
 fn front_digits(number: &str) -> &str
     ensures { result.now ≡ take (digit_count number.now) number.now }
 {

@@ -29,8 +29,8 @@ impl<'k> Wanted<'k> {
     }
 }
 
-/// The next value of the reader in its plain form, of which objects have those members alone that are wanted. Other where
-/// the value itself is neither an object nor null, unless it is wanted whole.
+/// The next value of the reader in its plain form, of which objects have those members alone that are wanted. Other
+/// where the value itself is neither an object nor null, unless it is wanted whole.
 #[cycle(part)]
 pub fn read_part<'a>(
     reader: &mut Reader<'a>,

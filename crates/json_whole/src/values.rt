@@ -186,8 +186,8 @@ fn read_other<'a, 'b: 'a>(
     read_value(alloc, &texts[0], scratch)
 }
 
-/// The value of the plain form of bytes, as `read_value` says. It is read of the text itself, in one pass; a text without
-/// a value is read once more, by its plain form.
+/// The value of the plain form of bytes, as `read_value` says. It is read of the text itself, in one pass; a text
+/// without a value is read once more, by its plain form.
 pub fn read_bytes<'a, 'b: 'a>(
     alloc: Global,
     bytes: &'b [u8],

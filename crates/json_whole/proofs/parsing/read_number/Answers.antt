@@ -21,7 +21,8 @@ returns-in-Same-clause-ok c =
 
 pub returns-in-Digits-clause-ok : goal.returns-in-Digits-clause-ok
 returns-in-Digits-clause-ok c =
-    let digits : c.front_digits.result.now ≡ take (digit_count c.args.number.now) c.args.number.now = c.front_digits.ensures in
+    let s = c.args.number.now in
+    let digits : c.front_digits.result.now ≡ take (digit_count s) s = c.front_digits.ensures in
     let seen : value_view (Number c.front_digits.result) ≡ json.number c.front_digits.result.now =
     search (rules, the_lemmas) in
     let form : number_as Digits c.args.number.now ≡ plain_number c.args.number.now =

@@ -79,7 +79,8 @@ read_wanted-returns-clause-ok t c =
     let r = c.next_key.new.self in
     let found = drop c.len-from.result l.unfinished.members.items in
     let closed : read_key l.reader ≡ Some (None, r) = grind arith in
+    let end = key_comes l.reader None r closed in
     let all = part_ends (value c.args.depth) c.args.wanted.now c.args.within.now (plain_tokens c.args.reader.now) found
-    l.invariant.0 (plain_tokens l.reader) (plain_tokens r) l.invariant.2 l.invariant.1 (key_comes l.reader None r closed)
-    in IfOk-weaker c.take_from.result _ _
+    l.invariant.0 (plain_tokens l.reader) (plain_tokens r) l.invariant.2 l.invariant.1 end in
+    IfOk-weaker c.take_from.result _ _
     (λ list taken. (all.0, all.1, all.2 ∙ ap members_view (sym taken))) c.take_from.ensures.taken

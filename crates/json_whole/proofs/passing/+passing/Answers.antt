@@ -5,6 +5,7 @@ use Rattle.json.specs.Reads.{token_of}
 use Rattle.json.proofs.Grammar.{value_is, value-begin_array, value-begin_object, read_key-shorter}
 use Rattle.std.proofs.lemmas.Result.{IfOk-weaker}
 use Rattle.json_whole.specs.PlainTokens.{plain_tokens}
+use Rattle.json_whole.specs.declared.runs.Form.TheVariants.{Listed}
 use Rattle.json_whole.proofs.PlainSteps.{array_goes_on, array_ends, key_comes, value_shorter, number_read}
 use Rattle.json_whole.proofs.Passed.{item_passed, items_passed}
 use Rattle.json_whole.proofs.Passed.{member_passed, members_passed}
@@ -22,8 +23,9 @@ pass_over-returns-in_ok-number_form-in-Number-clause-ok t c =
     let first : c.args.reader.now ≡ token_of c.in_ok-token.token ∷ c.next.new.self = grind arith in
     let is : c.args.reader.now ≡ Token.number c.in-Number.number.now ∷ c.next.new.self = grind (arith, first) in
     let form = c.in_ok-number_form-in-Number in
+    let nests : form.field-0 ≡ Listed → 0 < c.args.depth = λ is_list. omega (arith, form.ensures.nests is_list) in
     let read = number_read form.field-0 c.args.depth c.in-Number.number.now (plain_tokens c.next.new.self)
-    form.ensures.tokens form.ensures.nests in
+    form.ensures.tokens nests in
     (read.0, ap (λ ts. value c.args.depth (plain_tokens ts)) is ∙ read.1)
 
 pub pass_over-returns-in-Bool-clause-ok : goal.pass_over-returns-in-Bool-clause-ok
