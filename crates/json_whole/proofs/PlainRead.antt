@@ -542,8 +542,9 @@ module _ (n : ℕ) (f : Facts n) where
       plain_lexemes (lexing.operator_lexeme x ∷ ls) ≡ lexing.operator_lexeme x ∷ plain_lexemes ls
   operator_stays x ls =
       either_stays (x == 123) (token tok.begin_object) _ ls refl
-      (either_stays (x == 125) (token tok.end_object) _ ls refl (either_stays (x == 91) (token tok.begin_array) _ ls refl (either_stays (x == 93) (token tok.end_array) _ ls refl
-      (either_stays (x == 44) comma colon ls refl refl))))
+      (either_stays (x == 125) (token tok.end_object) _ ls refl
+      (either_stays (x == 91) (token tok.begin_array) _ ls refl
+      (either_stays (x == 93) (token tok.end_array) _ ls refl (either_stays (x == 44) comma colon ls refl refl))))
 
   -- a byte that begins no run, no string and no escape
   between_written : (o s : Bool) (x : ℕ) (xs : List ℕ) → (x == 34) ≡ false → (x == 92) ≡ false → is_operator x ≡ o →
