@@ -51,8 +51,8 @@ pub struct Unfinished<'a> {
     pub members: Vec<(&'a str, Value<'a>)>,
 }
 
-/// How the plain form writes a number of the text: as a list only where arrays may nest, and Other in place of that.
-/// Most numbers are whole.
+/// How the plain form writes a number of the text. Other where that is a list, which may not stand at depth 0, and
+/// where the number is no whole run. Most numbers are digits alone.
 #[tactic(auto, using(crate::proofs::PlainSteps::whole_written, crate::proofs::PlainSteps::form_written))]
 pub fn number_form(number: &str, depth: usize) -> Result<Form, TreeFault>
     ensures tokens { IfOk result (λ form. number_as form number.now ≡ plain_number number.now) }
