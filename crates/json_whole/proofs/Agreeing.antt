@@ -3,21 +3,22 @@ use Rattle.std.proofs.Common.{◌≡◌, ℕ, List, [], ◌∷◌, Bool, true, f
 use Rattle.std.proofs.Common.{ap, ◌∙◌, subst, IsUtf8}
 use Rattle.std.specs.Str.{bytes_eq}
 use Rattle.std.proofs.lemmas.Slice.Eq.{bytes_eq-Decides}
+use Rattle.json.specs.Lex.{tokens}
 use Rattle.json.specs.Json as json
 use Rattle.json.specs.Find as find
 use Rattle.json.specs.Value.{value_view}
 use Rattle.json.specs.declared.value.Value.{Value}
 use Rattle.serde_json.specs.Data.{Data}
 use Rattle.serde_json.specs.Find.{get}
+use Rattle.serde_json.specs.Read.{max_depth}
 use Rattle.json_whole.specs.declared.parts.Wanted.{Wanted}
 use Rattle.json_whole.specs.Parts.{is_whole_key, AreAlike, AgreeOn, IsPartOf, member_or_none, at_key, part_of}
 use Rattle.json_whole.specs.Parts.{wanted_members}
-use Rattle.json_whole.specs.Plain.{plain_of}
-use Rattle.json_whole.specs.Stays.{Stays}
+use Rattle.json_whole.specs.PlainTokens.{plain_tokens}
 use Rattle.json_whole.specs.Values.{data_of, view}
-use Rattle.json_whole.specs.Whole.{json_in, value_in, value_of}
+use Rattle.json_whole.specs.Whole.{value_of}
 use Rattle.json_whole.proofs.Looks.{get-data}
-use Rattle.json_whole.proofs.Reading.{tree_standing, value_standing}
+use Rattle.json_whole.proofs.Reading.{tree_plain}
 
 -- ---- a value agrees with itself
 
@@ -128,23 +129,13 @@ agrees_part (w ∷ ws) (json.object ms) =
 of_value : (wanted : List Wanted) (o : Option Data) (d e : Data) → o ≡ Some d → AgreeOn wanted d e → IsPartOf wanted o e
 of_value wanted o d e is agree = rw is agree
 
--- of bytes that are their own plain form a part was built of the value that they have as they stand
-module _ {A : Type 0} (wanted : List Wanted) (bytes : List ℕ) (j : json.Json) (v : Value A) (utf8 : IsUtf8 bytes)
-    (found : json_in bytes ≡ Some j) (stay : Stays j) (part : part_of wanted j ≡ value_view v) where
-  pub part_standing : IsPartOf wanted (value_in bytes) (view v)
-  part_standing =
-      of_value wanted (value_in bytes) (data_of j) (view v) (tree_standing bytes j utf8 found stay)
-      (subst (λ i. AgreeOn wanted (data_of j) (data_of i)) part (agrees_part wanted j))
-
-  pub part_value : IsPartOf wanted (value_of bytes) (view v)
-  part_value = subst (λ (o : Option Data). IsPartOf wanted o (view v)) (sym (value_standing bytes j found stay))
-      part_standing
-
--- what is so of the value that the plain form has as it stands is so of the bytes
-pub part_plain : (wanted : List Wanted) (bytes text : List ℕ) (d : Data) → text ≡ plain_of bytes →
-    IsPartOf wanted (value_in text) d → IsPartOf wanted (value_of bytes) d
-unfolding value_of
-part_plain wanted bytes text d plain part = rw plain at part
+-- a part was built of the value that bytes have by the tokens of their plain form
+pub part_plain : {A : Type 0} (wanted : List Wanted) (bytes : List ℕ) (j : json.Json) (v : Value A) → IsUtf8 bytes →
+    json.value max_depth (plain_tokens (tokens bytes)) ≡ Some (j, []) → part_of wanted j ≡ value_view v
+    → IsPartOf wanted (value_of bytes) (view v)
+part_plain wanted bytes j v utf8 found part =
+    of_value wanted (value_of bytes) (data_of j) (view v) (tree_plain bytes j utf8 found)
+    (subst (λ i. AgreeOn wanted (data_of j) (data_of i)) part (agrees_part wanted j))
 
 -- a value that was read whole
 pub whole_is_part : (wanted : List Wanted) (bytes : List ℕ) (d : Data) →

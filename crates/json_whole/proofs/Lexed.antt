@@ -57,7 +57,7 @@ unfolding lex
 word_passes [] ys h = refl
 word_passes (x ∷ r) ys h = rw (run_class x (run_head x r h)) (word_passes r ys (run_rest x r h))
 
-string_passes : (r ys : List ℕ) → IsRun r → lex lexing.in_string (r ++ ys) ≡ lex lexing.in_string ys
+pub string_passes : (r ys : List ℕ) → IsRun r → lex lexing.in_string (r ++ ys) ≡ lex lexing.in_string ys
 unfolding lex
 string_passes [] ys h = refl
 string_passes (x ∷ r) ys h = rw (run_class x (run_head x r h)) (string_passes r ys (run_rest x r h))

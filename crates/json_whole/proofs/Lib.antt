@@ -8,7 +8,10 @@ pub mod Looks
 pub mod Exact
 pub mod Lexed
 mod Growing
-mod Standing
+mod PlainRead
+mod Contents
+pub mod PlainSteps
+mod PlainUtf8
 mod Passed
 mod Built
 mod Agreeing

@@ -1,16 +1,17 @@
 -- Digits and number bytes.
 use Rattle.std.proofs.Common.{◌≡◌, ◌<◌, ℕ, ◌+◌, ◌^◌, List, [], ◌∷◌, length, take, Bool, true, false, cond, ◌==◌, nat_le}
 use Rattle.std.specs.Prelude.{nat_lt, not}
-use Rattle.std.proofs.Common.{refl, sym, one-add, ◌∙◌, arith, rules, IsUtf8, ne_eqb}
+use Rattle.std.proofs.Common.{refl, sym, one-add, ◌∙◌, arith, rules, IsUtf8, IsCharBoundary, ne_eqb}
 use Rattle.std.specs.Char.{is_ascii_digit}
 use Rattle.std.specs.List.{All, list_all}
 use Rattle.std.proofs.lemmas.List.Sums.{AllPass-from_list_all}
 use Rattle.std.specs.Str.Parse.{digits_value}
 use Rattle.std.proofs.lemmas.Bool.{lt-leb, lt-ltb}
-use Rattle.std.proofs.lemmas.Str.{IsUtf8-from_ascii}
+use Rattle.std.proofs.lemmas.Str.{IsUtf8-from_ascii, IsUtf8-drop, IsCharBoundary-start, IsCharBoundary-after_ascii}
+use Rattle.std.proofs.lemmas.Str.{IsCharBoundary-from_rest}
 use Rattle.std.proofs.lemmas.Str.Ascii.{IsAscii-from_all}
 use Rattle.std.proofs.lemmas.Str.Parse.{IsNumeralModel, numerals_by_value, digits_value_short}
-use Rattle.json_whole.specs.Run.{first_run, is_run_byte, run_len, is_number, is_whole, written}
+use Rattle.json_whole.specs.Run.{first_run, digit_count, is_run_byte, run_len, is_number, is_whole, written}
 
 -- `parse` reads what passes this test
 pub digits_by_test : IsNumeralModel (λ ds. list_all is_ascii_digit ds ≡ true) (digits_value 10)
@@ -61,3 +62,20 @@ run_one false x xs e rest = refl
 pub first_run_bytes : (text : List ℕ) → list_all is_run_byte (first_run text) ≡ true
 first_run_bytes [] = refl
 first_run_bytes (x ∷ xs) = run_one (is_run_byte x) x xs refl (first_run_bytes xs)
+
+boundary_by : (b : Bool) (x : ℕ) (xs : List ℕ) → is_ascii_digit x ≡ b → IsUtf8 (x ∷ xs)
+    → (IsUtf8 xs → IsCharBoundary xs (digit_count xs))
+    → IsCharBoundary (x ∷ xs) (cond b (1 + digit_count xs) 0)
+boundary_by true x xs e utf8 rest =
+    let low : x < 128 = grind arith in
+    let cut = IsCharBoundary-after_ascii (x ∷ xs) 0 utf8 (omega arith) low in
+    let behind : IsUtf8 xs = IsUtf8-drop (x ∷ xs) 1 utf8 cut in
+    IsCharBoundary-from_rest (x ∷ xs) 1 (digit_count xs) (omega arith) (rest behind)
+boundary_by false x xs e utf8 rest = IsCharBoundary-start (x ∷ xs) utf8
+
+-- a text may be cut behind its first digits
+pub digits_end : (text : List ℕ) → IsUtf8 text → IsCharBoundary text (digit_count text)
+digits_end [] utf8 = IsCharBoundary-start [] utf8
+digits_end (x ∷ xs) utf8 =
+    let e : is_ascii_digit x ≡ is_ascii_digit x = refl in
+    boundary_by (is_ascii_digit x) x xs e utf8 (digits_end xs)

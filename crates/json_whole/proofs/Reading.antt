@@ -1,20 +1,23 @@
 -- The value of a text, and none.
-use Rattle.std.proofs.Common.{◌≡◌, ℕ, List, Bool, true, false, Some, None, refl, IsUtf8}
+use Rattle.std.proofs.Common.{◌≡◌, ℕ, List, [], Bool, true, false, Some, None, refl, IsUtf8}
 use Rattle.std.specs.Prelude.{IfOk, Result, Ok, Err}
 use Rattle.std.specs.Str.{is_utf8}
 use Rattle.std.proofs.lemmas.Str.{is_utf8-from_IsUtf8, IsUtf8-from_is_utf8}
-use Rattle.json.specs.Json.{Json}
+use Rattle.json.specs.Lex.{tokens}
+use Rattle.json.specs.Json.{Json, value}
 use Rattle.json.specs.Value.{value_view}
 use Rattle.json.specs.declared.value.Value.{Value}
+use Rattle.serde_json.specs.Read.{max_depth}
 use Rattle.serde_json.specs.Written.{has_float}
 use Rattle.json_whole.specs.Plain.{plain_of}
+use Rattle.json_whole.specs.PlainTokens.{plain_tokens}
 use Rattle.json_whole.specs.Values.{data_of, view}
 use Rattle.json_whole.specs.Whole.{json_in, value_in, value_of}
 use Rattle.json_whole.proofs.Tokens.{IsWholeText, whole_text}
 use Rattle.json_whole.proofs.Trees.{of_json-whole, data_of-no_float}
 use Rattle.json_whole.proofs.Lexed.{plain_lexed}
-use Rattle.json_whole.specs.Stays.{Stays}
-use Rattle.json_whole.proofs.Standing.{stands}
+use Rattle.json_whole.proofs.PlainRead.{plain_read}
+use Rattle.json_whole.proofs.PlainUtf8.{plain_utf8}
 
 -- the value is the data of the tree
 value_in-tree : (text : List ℕ) (j : Json) →
@@ -58,15 +61,9 @@ pub read-no_float : {A E : Type 0} (read : Result (Value A) E) → IfOk read (λ
 read-no_float (Ok v) = data_of-no_float (value_view v)
 read-no_float (Err e) = tt
 
--- the value of bytes that are their own plain form
-pub tree_standing : (bytes : List ℕ) (j : Json) →
-    IsUtf8 bytes → json_in bytes ≡ Some j → Stays j → value_in bytes ≡ Some (data_of j)
-tree_standing bytes j utf8 found stay =
-    let same : plain_of bytes ≡ bytes = stands bytes j found stay in
-    value_in-tree bytes j utf8 (rw same at (plain_whole bytes)) found
-
-pub value_standing : (bytes : List ℕ) (j : Json) → json_in bytes ≡ Some j → Stays j → value_of bytes ≡ value_in bytes
+-- the value of bytes, by the tokens of their plain form
+pub tree_plain : (bytes : List ℕ) (j : Json) →
+    IsUtf8 bytes → value max_depth (plain_tokens (tokens bytes)) ≡ Some (j, []) → value_of bytes ≡ Some (data_of j)
 unfolding value_of
-value_standing bytes j found stay =
-    let same : plain_of bytes ≡ bytes = stands bytes j found stay in
-    rw same refl
+tree_plain bytes j utf8 found =
+    value_in-tree (plain_of bytes) j (plain_utf8 bytes utf8) (plain_whole bytes) (plain_read bytes j found)

@@ -44,7 +44,7 @@ stopped false n h = refl
 differ : (x c : ℕ) → is_run_byte x ≡ false → is_run_byte c ≡ true → (x == c) ≡ false
 differ x c p q = ne_eqb x c (λ same. let no : false ≡ true = sym p ∙ ap is_run_byte same ∙ q in cc)
 
-other_than : (x c : ℕ) → is_run_byte x ≡ true → is_run_byte c ≡ false → (x == c) ≡ false
+pub other_than : (x c : ℕ) → is_run_byte x ≡ true → is_run_byte c ≡ false → (x == c) ≡ false
 other_than x c p q = ne_eqb x c (λ same. let no : true ≡ false = sym p ∙ ap is_run_byte same ∙ q in cc)
 
 -- a run byte ends no word

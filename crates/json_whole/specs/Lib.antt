@@ -4,5 +4,5 @@ pub mod Values
 pub mod Whole
 pub mod Field
 pub mod Forms
-pub mod Stays
+pub mod PlainTokens
 pub mod Parts

@@ -1,19 +1,21 @@
-//! The tree of a text that is its own plain form. Each list and object has room for what it holds and no more.
-ghost use Rattle.std.specs.Prelude.{◌≡◌, ◌<◌, ◌≤◌, ◌++◌, [], ◌∷◌, length, take, drop, vec_len, Some};
-ghost use Rattle.std.specs.Prelude.{IfOk, OnOk, IsTrue};
-ghost use Rattle.json.specs.Json.{items, members, value};
+//! The tree of the plain form of a text, read of the text itself: where a number stands, what the plain form has there
+//! is built. Each list and object has room for what it holds and no more.
+ghost use Rattle.std.specs.Prelude.{◌≡◌, ◌<◌, ◌≤◌, ◌++◌, [], ◌∷◌, List, length, take, drop, vec_len, Some};
+ghost use Rattle.std.specs.Prelude.{IfOk, OnOk};
+ghost use Rattle.json.specs.Json.{items, members, value, array, item, no_items, string};
+ghost use Rattle.json.specs.Token as tok;
 ghost use Rattle.json.specs.Value.{value_view, items_view, members_view};
-ghost use Rattle.json_whole.specs.Run.{written};
-ghost use Rattle.json_whole.specs.Stays.{Stays, ItemsStay, MembersStay};
+ghost use Rattle.json_whole.specs.Run.{digit_count};
+ghost use Rattle.json_whole.specs.PlainTokens.{number_as, plain_number, plain_tokens};
 
-use crate::runs::{Form, first_run, form_of, is_whole};
+use crate::runs::{Form, digit_count, first_run, form_of, is_whole};
 use json::{Reader, Token, Value};
 use std::alloc::{AllocError, AllocFailed};
 
 /// Why no tree was read.
 #[derive(Clone, Copy, Debug, PartialEq, Eq)]
 pub enum TreeFault {
-    /// The text is no JSON text of so few levels, or holds a number that the plain form writes otherwise.
+    /// The plain form is no JSON text of so few levels.
     Other,
     /// No memory is left.
     Memory,
@@ -49,16 +51,32 @@ pub struct Unfinished<'a> {
     pub members: Vec<(&'a str, Value<'a>)>,
 }
 
-/// Whether the plain form writes a number as it stands. Most numbers are whole.
-#[tactic(auto, using(crate::proofs::Numerals::whole_stays))]
-pub fn stays(number: &str) -> bool
-    ensures { IsTrue result → written number.now ≡ number.now }
+/// How the plain form writes a number of the text. Other where that is a list, which may not stand at depth 0, and
+/// where the number is no whole run. Most numbers are digits alone.
+#[tactic(auto, using(crate::proofs::PlainSteps::whole_written, crate::proofs::PlainSteps::form_written))]
+pub fn number_form(number: &str, depth: usize) -> Result<Form, TreeFault>
+    ensures tokens { IfOk result (λ form. number_as form number.now ≡ plain_number number.now) }
+    ensures nests { IfOk result (λ form. form ≡ Form.Listed → 0 < depth) }
 {
     if is_whole(number.as_bytes()) {
-        return true;
+        return Ok(Form::Same);
     }
     let run = first_run(number.as_bytes());
-    run.len() == number.len() && form_of(run) == Form::Same
+    if run.len() != number.len() {
+        return Err(TreeFault::Other);
+    }
+    match form_of(run) {
+        Form::Listed if depth == 0 => Err(TreeFault::Other),
+        form => Ok(form),
+    }
+}
+
+/// The digits at the front of a number.
+#[tactic(auto, using(crate::proofs::Numerals::digits_end))]
+fn front_digits(number: &str) -> &str
+    ensures { result.now ≡ take (digit_count number.now) number.now }
+{
+    &number[..digit_count(number.as_bytes())]
 }
 
 /// Takes what stands from a place on.
@@ -71,7 +89,38 @@ pub fn take_from<T: Drop>(list: &mut Vec<T>, from: usize) -> Result<Vec<T>, Tree
     Ok(taken)
 }
 
-/// The next value of the reader. Arrays and objects may nest `depth` deep.
+/// A list of the one text.
+fn list_of<'a>(text: &'a str, unfinished: &mut Unfinished<'a>) -> Result<Value<'a>, TreeFault>
+    ensures is { IfOk result (λ v. value_view v ≡ array (item (string text.now) no_items)) }
+    ensures items { OnOk result (unfinished.new.items.items ≡ unfinished.old.items.items) }
+    ensures members { OnOk result (unfinished.new.members.items ≡ unfinished.old.members.items) }
+{
+    let from = unfinished.items.len();
+    unfinished.items.push(Value::String(text))?;
+    let list = take_from(&mut unfinished.items, from)?;
+    Ok(Value::Array(list))
+}
+
+/// What the plain form has in the place of a number. Arrays may nest `depth` deep.
+#[inline(always)]
+fn read_number<'a>(
+    number: &'a str,
+    depth: usize,
+    unfinished: &mut Unfinished<'a>,
+) -> Result<Value<'a>, TreeFault>
+    ensures ok { IfOk result
+        (λ v. (rest : List tok.Token) → value depth (plain_number number.now ++ rest) ≡ Some (value_view v, rest)) }
+    ensures items { OnOk result (unfinished.new.items.items ≡ unfinished.old.items.items) }
+    ensures members { OnOk result (unfinished.new.members.items ≡ unfinished.old.members.items) }
+{
+    match number_form(number, depth)? {
+        Form::Same => Ok(Value::Number(number)),
+        Form::Digits => Ok(Value::Number(front_digits(number))),
+        Form::Listed => list_of(number, unfinished),
+    }
+}
+
+/// The next value of the reader, in its plain form. Arrays and objects may nest `depth` deep.
 #[cycle(tree)]
 #[inline(always)]
 pub fn read_one<'a>(
@@ -79,22 +128,16 @@ pub fn read_one<'a>(
     depth: usize,
     unfinished: &mut Unfinished<'a>,
 ) -> Result<Value<'a>, TreeFault>
-    ensures ok { IfOk result (λ v. value depth reader.old ≡ Some (value_view v, reader.new)) }
+    ensures ok { IfOk result
+        (λ v. value depth (plain_tokens reader.old) ≡ Some (value_view v, plain_tokens reader.new)) }
     ensures shorter { OnOk result (length reader.new < length reader.old) }
-    ensures stays { IfOk result (λ v. Stays (value_view v)) }
     ensures items { OnOk result (unfinished.new.items.items ≡ unfinished.old.items.items) }
     ensures members { OnOk result (unfinished.new.members.items ≡ unfinished.old.members.items) }
 {
     let token = reader.next().ok_or(TreeFault::Other)?;
     match token {
         Token::String(text) => Ok(Value::String(text)),
-        Token::Number(number) => {
-            if stays(number) {
-                Ok(Value::Number(number))
-            } else {
-                Err(TreeFault::Other)
-            }
-        }
+        Token::Number(number) => read_number(number, depth, unfinished),
         Token::Bool(b) => Ok(Value::Bool(b)),
         Token::Null => Ok(Value::Null),
         Token::EndObject | Token::EndArray | Token::Key(_) | Token::Bad => Err(TreeFault::Other),
@@ -113,7 +156,7 @@ pub fn read_one<'a>(
     }
 }
 
-/// The values of an array whose bracket the reader has passed, up to the one that closes it.
+/// The values of an array whose bracket the reader has passed, up to the one that closes it, in their plain form.
 #[cycle(tree)]
 #[inline(never)]
 fn read_items<'a>(
@@ -121,10 +164,9 @@ fn read_items<'a>(
     depth: usize,
     unfinished: &mut Unfinished<'a>,
 ) -> Result<Vec<Value<'a>>, TreeFault>
-    ensures ok { IfOk result
-        (λ list. items (value depth) (length reader.old) reader.old ≡ Some (items_view list.items, reader.new)) }
+    ensures ok { IfOk result (λ list. let ts = plain_tokens reader.old in
+        items (value depth) (length ts) ts ≡ Some (items_view list.items, plain_tokens reader.new)) }
     ensures shorter { OnOk result (length reader.new < length reader.old) }
-    ensures stays { IfOk result (λ list. ItemsStay (items_view list.items)) }
     ensures items { OnOk result (unfinished.new.items.items ≡ unfinished.old.items.items) }
     ensures members { OnOk result (unfinished.new.members.items ≡ unfinished.old.members.items) }
 {
@@ -136,7 +178,7 @@ fn read_items<'a>(
     take_from(&mut unfinished.items, from)
 }
 
-/// The members of an object whose brace the reader has passed, up to the one that closes it.
+/// The members of an object whose brace the reader has passed, up to the one that closes it, in their plain form.
 #[cycle(tree)]
 #[inline(never)]
 fn read_members<'a>(
@@ -144,10 +186,9 @@ fn read_members<'a>(
     depth: usize,
     unfinished: &mut Unfinished<'a>,
 ) -> Result<Vec<(&'a str, Value<'a>)>, TreeFault>
-    ensures ok { IfOk result
-        (λ list. members (value depth) (length reader.old) reader.old ≡ Some (members_view list.items, reader.new)) }
+    ensures ok { IfOk result (λ list. let ts = plain_tokens reader.old in
+        members (value depth) (length ts) ts ≡ Some (members_view list.items, plain_tokens reader.new)) }
     ensures shorter { OnOk result (length reader.new < length reader.old) }
-    ensures stays { IfOk result (λ list. MembersStay (members_view list.items)) }
     ensures items { OnOk result (unfinished.new.items.items ≡ unfinished.old.items.items) }
     ensures members { OnOk result (unfinished.new.members.items ≡ unfinished.old.members.items) }
 {

@@ -1,8 +1,8 @@
-//! The tree of a text of whose values parts alone are wanted. All else is checked and passed over.
+//! The tree of the plain form of a text of whose values parts alone are wanted. All else is checked and passed over.
 ghost use Rattle.std.specs.Prelude.{◌≡◌, ◌<◌, ◌∷◌, ◌++◌, length, Some, IfOk, OnOk, option_map};
 ghost use Rattle.json.specs.Json.{Json, Members, members, value};
 ghost use Rattle.json.specs.Value.{value_view, members_view};
-ghost use Rattle.json_whole.specs.Stays.{Stays, MembersStay};
+ghost use Rattle.json_whole.specs.PlainTokens.{plain_tokens};
 ghost use Rattle.json_whole.specs.Parts.{is_whole_key, part_of, at_key, wanted_members, built};
 
 use crate::parsing::{TreeFault, Unfinished, read_one, take_from};
@@ -29,8 +29,8 @@ impl<'k> Wanted<'k> {
     }
 }
 
-/// The next value of the reader, of which objects have those members alone that are wanted. Other where the value
-/// itself is neither an object nor null, unless it is wanted whole.
+/// The next value of the reader in its plain form, of which objects have those members alone that are wanted. Other
+/// where the value itself is neither an object nor null, unless it is wanted whole.
 #[cycle(part)]
 pub fn read_part<'a>(
     reader: &mut Reader<'a>,
@@ -38,7 +38,8 @@ pub fn read_part<'a>(
     wanted: &[Wanted],
     unfinished: &mut Unfinished<'a>,
 ) -> Result<Value<'a>, TreeFault>
-    ensures ok { IfOk result (λ v. (j : Json) × (value depth reader.old ≡ Some (j, reader.new)) × Stays j
+    ensures ok { IfOk result (λ v. (j : Json)
+        × (value depth (plain_tokens reader.old) ≡ Some (j, plain_tokens reader.new))
         × (part_of wanted.now j ≡ value_view v)) }
     ensures shorter { OnOk result (length reader.new < length reader.old) }
     ensures items { OnOk result (unfinished.new.items.items ≡ unfinished.old.items.items) }
@@ -59,7 +60,8 @@ fn read_object<'a>(
     within: &[Wanted],
     unfinished: &mut Unfinished<'a>,
 ) -> Result<Value<'a>, TreeFault>
-    ensures ok { IfOk result (λ v. (j : Json) × (value depth reader.old ≡ Some (j, reader.new)) × Stays j
+    ensures ok { IfOk result (λ v. (j : Json)
+        × (value depth (plain_tokens reader.old) ≡ Some (j, plain_tokens reader.new))
         × (part_of (wanted.now ∷ within.now) j ≡ value_view v)) }
     ensures shorter { OnOk result (length reader.new < length reader.old) }
     ensures items { OnOk result (unfinished.new.items.items ≡ unfinished.old.items.items) }
@@ -88,7 +90,8 @@ fn read_member<'a>(
     key: &str,
     unfinished: &mut Unfinished<'a>,
 ) -> Result<Option<Value<'a>>, TreeFault>
-    ensures ok { IfOk result (λ found. (j : Json) × (value depth reader.old ≡ Some (j, reader.new)) × Stays j
+    ensures ok { IfOk result (λ found. (j : Json)
+        × (value depth (plain_tokens reader.old) ≡ Some (j, plain_tokens reader.new))
         × (at_key wanted.now key.now j (part_of within.now j) ≡ option_map value_view found)) }
     ensures shorter { OnOk result (length reader.new < length reader.old) }
     ensures items { OnOk result (unfinished.new.items.items ≡ unfinished.old.items.items) }
@@ -128,8 +131,8 @@ fn read_wanted<'a>(
     within: &[Wanted],
     unfinished: &mut Unfinished<'a>,
 ) -> Result<Vec<(&'a str, Value<'a>)>, TreeFault>
-    ensures ok { IfOk result (λ list. (ms : Members)
-        × (members (value depth) (length reader.old) reader.old ≡ Some (ms, reader.new)) × MembersStay ms
+    ensures ok { IfOk result (λ list. let ts = plain_tokens reader.old in (ms : Members)
+        × (members (value depth) (length ts) ts ≡ Some (ms, plain_tokens reader.new))
         × (wanted_members wanted.now within.now ms ≡ members_view list.items)) }
     ensures shorter { OnOk result (length reader.new < length reader.old) }
     ensures items { OnOk result (unfinished.new.items.items ≡ unfinished.old.items.items) }

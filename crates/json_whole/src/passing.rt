@@ -1,26 +1,24 @@
 //! Passing over a value: the text is checked as where its tree is read, and nothing is built.
 ghost use Rattle.std.specs.Prelude.{◌≡◌, ◌<◌, length, Some, IfOk, OnOk};
 ghost use Rattle.json.specs.Json.{Json, Items, Members, items, members, value};
-ghost use Rattle.json_whole.specs.Stays.{Stays, ItemsStay, MembersStay};
+ghost use Rattle.json_whole.specs.PlainTokens.{plain_tokens};
 
-use crate::parsing::{TreeFault, stays};
+use crate::parsing::{TreeFault, number_form};
 use json::{Reader, Token};
 
 /// Passes over the next value of the reader. Arrays and objects may nest `depth` deep.
 #[cycle(passing)]
 #[inline(always)]
 pub fn pass_over(reader: &mut Reader<'_>, depth: usize) -> Result<(), TreeFault>
-    ensures ok { IfOk result (λ _. (j : Json) × (value depth reader.old ≡ Some (j, reader.new)) × Stays j) }
+    ensures ok { IfOk result (λ _. (j : Json)
+        × (value depth (plain_tokens reader.old) ≡ Some (j, plain_tokens reader.new))) }
     ensures shorter { OnOk result (length reader.new < length reader.old) }
 {
     let token = reader.next().ok_or(TreeFault::Other)?;
     match token {
         Token::Number(number) => {
-            if stays(number) {
-                Ok(())
-            } else {
-                Err(TreeFault::Other)
-            }
+            number_form(number, depth)?;
+            Ok(())
         }
         Token::String(_) => Ok(()),
         Token::Bool(_) => Ok(()),
@@ -45,8 +43,8 @@ pub fn pass_over(reader: &mut Reader<'_>, depth: usize) -> Result<(), TreeFault>
 #[cycle(passing)]
 #[inline(never)]
 fn pass_items(reader: &mut Reader<'_>, depth: usize) -> Result<(), TreeFault>
-    ensures ok { IfOk result (λ _. (js : Items)
-        × (items (value depth) (length reader.old) reader.old ≡ Some (js, reader.new)) × ItemsStay js) }
+    ensures ok { IfOk result (λ _. let ts = plain_tokens reader.old in (js : Items)
+        × (items (value depth) (length ts) ts ≡ Some (js, plain_tokens reader.new))) }
     ensures shorter { OnOk result (length reader.new < length reader.old) }
 {
     'items: while !reader.take_end_array() {
@@ -59,8 +57,8 @@ fn pass_items(reader: &mut Reader<'_>, depth: usize) -> Result<(), TreeFault>
 #[cycle(passing)]
 #[inline(never)]
 fn pass_members(reader: &mut Reader<'_>, depth: usize) -> Result<(), TreeFault>
-    ensures ok { IfOk result (λ _. (ms : Members)
-        × (members (value depth) (length reader.old) reader.old ≡ Some (ms, reader.new)) × MembersStay ms) }
+    ensures ok { IfOk result (λ _. let ts = plain_tokens reader.old in (ms : Members)
+        × (members (value depth) (length ts) ts ≡ Some (ms, plain_tokens reader.new))) }
     ensures shorter { OnOk result (length reader.new < length reader.old) }
 {
     'members: loop {

@@ -49,7 +49,8 @@ pub fn first_run(text: &[u8]) -> &[u8]
     &text[..run_len(text)]
 }
 
-fn digit_count(text: &[u8]) -> usize
+/// How many digits stand at the front.
+pub fn digit_count(text: &[u8]) -> usize
     ensures count { result ≡ digit_count text.now }
     ensures within { result ≤ length text.now }
 {

@@ -5,7 +5,7 @@ ghost use Rattle.json.specs.Value.{value_view};
 ghost use Rattle.json_whole.specs.Plain.{plain_of};
 ghost use Rattle.json_whole.specs.Values.{view};
 ghost use Rattle.json_whole.specs.Parts.{IsPartOf};
-ghost use Rattle.json_whole.specs.Whole.{json_in, value_in, value_of};
+ghost use Rattle.json_whole.specs.Whole.{json_in, value_of};
 
 use crate::parsing::{TreeFault, Unfinished};
 use crate::parts::{Wanted, read_part};
@@ -114,12 +114,11 @@ pub struct Room<'b> {
     others: Others<'b>,
 }
 
-/// What a value borrows that is read by its plain form: that text, and room for two reads of it.
+/// What a value borrows that is read by its plain form: that text, and room for a read of it.
 #[derive(Drop)]
 struct Others<'b> {
     texts: Vec<PlainText<'b>>,
-    part: Scratch,
-    whole: Scratch,
+    scratch: Scratch,
 }
 
 impl<'b> Room<'b> {
@@ -129,8 +128,7 @@ impl<'b> Room<'b> {
     {
         let others = Others {
             texts: Vec::new(alloc),
-            part: Scratch::new(alloc),
-            whole: Scratch::new(alloc),
+            scratch: Scratch::new(alloc),
         };
         Room {
             scratch: Scratch::new(alloc),
@@ -139,16 +137,15 @@ impl<'b> Room<'b> {
     }
 }
 
-/// The wanted part of the value of a text that is its own plain form. Other where it is no such text, or where what is
-/// wanted isn't there in it.
-fn read_as_it_stands<'a>(
+/// The wanted part of the value of a text's plain form, read of the text itself. Other where the text has no value, or
+/// where what is wanted isn't there in it.
+fn read_at_once<'a>(
     alloc: Global,
     bytes: &'a [u8],
     wanted: &[Wanted],
     scratch: &'a mut Scratch,
 ) -> Result<Value<'a>, TreeFault>
-    ensures stands { IfOk result (λ v. IsPartOf wanted.now (value_in bytes.now) (view v)) }
-    ensures value { IfOk result (λ v. IsPartOf wanted.now (value_of bytes.now) (view v)) }
+    ensures { IfOk result (λ v. IsPartOf wanted.now (value_of bytes.now) (view v)) }
 {
     let Ok(text) = std::str::from_utf8(bytes) else {
         return Err(TreeFault::Other);
@@ -167,20 +164,18 @@ fn read_as_it_stands<'a>(
     }
 }
 
-/// The wanted part of the value of the plain form of bytes, which is made first and then read as it stands. Where that
-/// tells nothing, the whole of it is read.
+/// The value of the plain form of bytes, which is made first and then read whole.
 #[inline(never)]
 fn read_other<'a, 'b: 'a>(
     alloc: Global,
     bytes: &'b [u8],
-    wanted: &[Wanted],
     others: &'a mut Others<'b>,
 ) -> Result<Value<'a>, ValueFault>
-    ensures value { IfOk result (λ v. IsPartOf wanted.now (value_of bytes.now) (view v)) }
+    ensures value { IfOk result (λ v. value_of bytes.now ≡ Some (view v)) }
     ensures whole { IfOk result (λ v. has_float (view v) ≡ false) }
     ensures not_json { IsErrOf result ValueFault.NotJson → value_of bytes.now ≡ None }
 {
-    let Others { texts, part, whole } = others;
+    let Others { texts, scratch } = others;
     texts.clear();
     let Ok(text) = PlainText::of(alloc, bytes) else {
         return Err(ValueFault::Memory);
@@ -188,16 +183,11 @@ fn read_other<'a, 'b: 'a>(
     if texts.push(text).is_err() {
         return Err(ValueFault::Memory);
     }
-    let text = &texts[0];
-    match read_as_it_stands(alloc, text.plain(), wanted, part) {
-        Ok(value) => Ok(value),
-        Err(TreeFault::Memory) => Err(ValueFault::Memory),
-        Err(TreeFault::Other) => read_value(alloc, text, whole),
-    }
+    read_value(alloc, &texts[0], scratch)
 }
 
-/// The value of the plain form of bytes, as `read_value` says. A text that is its own plain form is read as it stands,
-/// without a look for numbers beforehand; any other is read once more, by its plain form.
+/// The value of the plain form of bytes, as `read_value` says. It is read of the text itself, in one pass; a text
+/// without a value is read once more, by its plain form.
 pub fn read_bytes<'a, 'b: 'a>(
     alloc: Global,
     bytes: &'b [u8],
@@ -211,7 +201,7 @@ pub fn read_bytes<'a, 'b: 'a>(
 }
 
 /// As `read_bytes`, where of the value only a part is wanted: what is read agrees on it with the value of the plain
-/// form. All else is checked too, but nothing is built of it where the text is its own plain form.
+/// form. All else is checked too, but nothing is built of it where the text has what is wanted.
 pub fn read_bytes_part<'a, 'b: 'a>(
     alloc: Global,
     bytes: &'b [u8],
@@ -223,9 +213,9 @@ pub fn read_bytes_part<'a, 'b: 'a>(
     ensures not_json { IsErrOf result ValueFault.NotJson → value_of bytes.now ≡ None }
 {
     let Room { scratch, others } = room;
-    match read_as_it_stands(alloc, bytes, wanted, scratch) {
+    match read_at_once(alloc, bytes, wanted, scratch) {
         Ok(value) => Ok(value),
         Err(TreeFault::Memory) => Err(ValueFault::Memory),
-        Err(TreeFault::Other) => read_other(alloc, bytes, wanted, others),
+        Err(TreeFault::Other) => read_other(alloc, bytes, others),
     }
 }

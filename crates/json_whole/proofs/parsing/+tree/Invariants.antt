@@ -1,8 +1,7 @@
 use Rattle.std.proofs.Common.{◌≡◌, ℕ, ◌+◌, ◌*◌, ◌≤◌, length, take, drop}
 use Rattle.json.specs.Json.{items, members, value, parse_map}
-use Rattle.json.specs.Value.{items_view, members_view}
 use Rattle.json.proofs.Trees.{items_before, members_before}
-use Rattle.json_whole.specs.Stays.{ItemsStay, MembersStay}
+use Rattle.json_whole.specs.PlainTokens.{plain_tokens}
 use Rattle.json_whole.proofs.parsing.+tree.Given as goal
 
 abbrev pub decreases-read_one : goal.decreases-read_one
@@ -18,9 +17,10 @@ decreases-read_members l = 2 * l.depth + 1
 abbrev pub invariant-read_items-items : goal.invariant-read_items-items
 invariant-read_items-items l =
     let found = drop l.from l.unfinished.items.items in
-    (n : ℕ) × (length l.reader ≤ n) × (items (value l.depth) (length l.initial.reader) l.initial.reader
-    ≡ parse_map (items_before found) (items (value l.depth) n l.reader))
-    × (length l.reader ≤ length l.initial.reader) × ItemsStay (items_view found)
+    (n : ℕ) × (length (plain_tokens l.reader) ≤ n)
+    × (let start = plain_tokens l.initial.reader in items (value l.depth) (length start) start
+    ≡ parse_map (items_before found) (items (value l.depth) n (plain_tokens l.reader)))
+    × (length l.reader ≤ length l.initial.reader)
     × (l.from ≤ length l.unfinished.items.items)
     × (take l.from l.unfinished.items.items ≡ l.initial.unfinished.items.items)
     × (l.unfinished.members.items ≡ l.initial.unfinished.members.items)
@@ -31,9 +31,10 @@ decreases-read_items-items l = length l.reader
 abbrev pub invariant-read_members-members : goal.invariant-read_members-members
 invariant-read_members-members l =
     let found = drop l.from l.unfinished.members.items in
-    (n : ℕ) × (length l.reader ≤ n) × (members (value l.depth) (length l.initial.reader) l.initial.reader
-    ≡ parse_map (members_before found) (members (value l.depth) n l.reader))
-    × (length l.reader ≤ length l.initial.reader) × MembersStay (members_view found)
+    (n : ℕ) × (length (plain_tokens l.reader) ≤ n)
+    × (let start = plain_tokens l.initial.reader in members (value l.depth) (length start) start
+    ≡ parse_map (members_before found) (members (value l.depth) n (plain_tokens l.reader)))
+    × (length l.reader ≤ length l.initial.reader)
     × (l.from ≤ length l.unfinished.members.items)
     × (take l.from l.unfinished.members.items ≡ l.initial.unfinished.members.items)
     × (l.unfinished.items.items ≡ l.initial.unfinished.items.items)

@@ -1,5 +1,6 @@
 use Rattle.std.proofs.Common.{ℕ, ◌+◌, ◌*◌, ◌≤◌, length}
 use Rattle.json.specs.Json.{value}
+use Rattle.json_whole.specs.PlainTokens.{plain_tokens}
 use Rattle.json_whole.proofs.Passed.{ItemsGoOn, MembersGoOn}
 use Rattle.json_whole.proofs.passing.+passing.Given as goal
 
@@ -14,7 +15,8 @@ decreases-pass_members l = 2 * l.depth + 1
 
 abbrev pub invariant-pass_items-items : goal.invariant-pass_items-items
 invariant-pass_items-items l =
-    (n : ℕ) × (length l.reader ≤ n) × ItemsGoOn (value l.depth) l.initial.reader n l.reader
+    (n : ℕ) × (length (plain_tokens l.reader) ≤ n)
+    × ItemsGoOn (value l.depth) (plain_tokens l.initial.reader) n (plain_tokens l.reader)
     × (length l.reader ≤ length l.initial.reader)
 
 abbrev pub decreases-pass_items-items : goal.decreases-pass_items-items
@@ -22,7 +24,8 @@ decreases-pass_items-items l = length l.reader
 
 abbrev pub invariant-pass_members-members : goal.invariant-pass_members-members
 invariant-pass_members-members l =
-    (n : ℕ) × (length l.reader ≤ n) × MembersGoOn (value l.depth) l.initial.reader n l.reader
+    (n : ℕ) × (length (plain_tokens l.reader) ≤ n)
+    × MembersGoOn (value l.depth) (plain_tokens l.initial.reader) n (plain_tokens l.reader)
     × (length l.reader ≤ length l.initial.reader)
 
 abbrev pub decreases-pass_members-members : goal.decreases-pass_members-members
