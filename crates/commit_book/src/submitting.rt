@@ -49,25 +49,25 @@ fn claims_of(verdict: &Verdict) -> Option<&List<Claim>> {
 
 // The core's search, with a count of steps of its own.
 fn search_in<L: Ledger>(
-    snap: &Snap,
+    snap: Snap,
     command: Command,
     blank: Blank,
 ) -> Result<Candidate, (Command, AllocError)>
     requires searchable { IsSearchable command }
-    requires proper { IsProper snap.now.setting.graph.vertices command }
+    requires proper { IsProper snap.setting.graph.vertices command }
     requires name { blank.name ≡ L.name }
     requires parts { blank.parts ≡ L.parts }
     requires some { 1 ≤ blank.parts }
-    ensures ok { IfOk result (λ c. (c.command ≡ command) × (c.snap ≡ snap.now)) }
+    ensures ok { IfOk result (λ c. (c.command ≡ command) × (c.snap ≡ snap)) }
     ensures err { IfErr result (λ e. e.0 ≡ command) }
 {
     let mut steps: Steps<L> = Steps::new(blank);
-    Core::search(snap, command, &mut steps)
+    Core::search_all(snap, command, &mut steps)
 }
 
 impl Book {
-    // What a search of a snapshot finds, without the turn. The snapshot is let go of, but for the candidate's own,
-    // before anything is committed: so what no other client shares is written in place.
+    // What a search of a snapshot finds, without the turn. The snapshot is the candidate's from then on, and no other
+    // holds it: so what no other client shares is written in place when it is committed.
     fn searched<R: Wait>(
         &self,
         rt: &R,
@@ -88,7 +88,7 @@ impl Book {
             Ok(snap) => snap,
             Err(fault) => return Err((command, fault)),
         };
-        search_in::<Brand>(&snap, command, Blank::new(1))
+        search_in::<Brand>(snap, command, Blank::new(1))
     }
 
     // Searches a snapshot, while it has no turn, and commits what was found.

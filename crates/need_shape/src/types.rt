@@ -11,6 +11,9 @@ use resource_graph::Graph;
 use std::alloc::{AllocError, Global};
 use text_table::TextTable;
 
+/// As many types as most graphs and requests have: a table of so many takes no memory twice.
+const FEW: usize = 8;
+
 /// Whether a request vertex whose type is called so is a slot.
 pub(crate) fn is_slot(kind: &[u8]) -> bool
     ensures { result ≡ is_slot kind.now }
@@ -23,7 +26,7 @@ pub(crate) fn graph_types(alloc: Global, graph: &Graph) -> Result<TextTable, All
     ensures { IfOk result (λ table. table ≡ graph.now.resources.kinds) }
 {
     graph.is_valid();
-    let mut table = TextTable::new(alloc);
+    let mut table = TextTable::with_capacity(alloc, FEW)?;
     let mut kind = 0;
     while let Some(name) = graph.kind_name(kind) {
         table.add(alloc, name.bytes())?;

@@ -202,16 +202,30 @@ impl Core {
         ensures err { IfErr result (λ e. e.0 ≡ command) }
         ensures work { CourseTakes snap.now command (last_found snap.now.setting.horizon result) steps.old steps.new }
     {
-        let same = match snap.core.snap() {
-            Ok(same) => same,
-            Err(fault) => return Err((command, fault)),
-        };
-        let place = same.len();
-        match same.core.found(&command, steps) {
+        match snap.core.snap() {
+            Ok(same) => Core::search_all(same, command, steps),
+            Err(fault) => Err((command, fault)),
+        }
+    }
+
+    /// The same of a snapshot that the candidate keeps, so that no other holds what it holds.
+    pub fn search_all<L: Ledger>(
+        snap: Snap,
+        command: Command,
+        steps: &mut Steps<L>,
+    ) -> Result<Candidate, (Command, AllocError)>
+        requires searchable { IsSearchable command }
+        requires proper { IsProper snap.setting.graph.vertices command }
+        ensures ok { IfOk result (λ c. (c.command ≡ command) × (c.snap ≡ snap)) }
+        ensures err { IfErr result (λ e. e.0 ≡ command) }
+        ensures work { CourseTakes snap command (last_found snap.setting.horizon result) steps.old steps.new }
+    {
+        let place = snap.len();
+        match snap.core.found(&command, steps) {
             Err(fault) => Err((command, fault)),
             Ok(verdict) => Ok(Candidate {
                 command,
-                snap: same,
+                snap,
                 place,
                 verdict,
             }),
