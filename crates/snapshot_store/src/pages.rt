@@ -14,7 +14,7 @@ use std::alloc::{AllocError, Global};
 use std::marker::Model;
 use std::sync::ledger::Ledger;
 
-/// A list of items; contracts see just that. `snap` gives the same list again at the cost of one shared node. `put`,
+/// A list of items; contracts see just that. `snap` gives the same list again at the cost of two shared nodes. `put`,
 /// `swap` and `push` change a list in place, and `with` and `with_pushed` give a changed one: in each case every list
 /// that was taken before stays as it was, and the nodes that a change doesn't lead through are held in common.
 ///
