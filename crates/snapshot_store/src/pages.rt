@@ -4,81 +4,71 @@ ghost use Rattle.std.specs.Prelude.{slice_get, slice_set, Some, IfOk, IfErr, OnO
 ghost use Rattle.std.specs.Option.{option_copied};
 ghost use Rattle.flux_defs.specs.Digits.{dig};
 ghost use Rattle.snapshot_store.specs.Parts.{IsPart};
-ghost use Rattle.snapshot_store.specs.Places.{IsGiven};
 
 use crate::parts::Part;
-use crate::trees::Tree;
 use flux_defs::Steps;
 use node_store::{Share, Vacant};
 use std::alloc::{AllocError, Global};
 use std::marker::Model;
+use std::mem;
 use std::sync::ledger::Ledger;
 
-/// A list of items; contracts see just that. `snap` gives the same list again at the cost of two shared nodes. `put`,
+/// A list of items; contracts see just that. `snap` gives the same list again at the cost of one shared node. `put`,
 /// `swap` and `push` change a list in place, and `with` and `with_pushed` give a changed one: in each case every list
 /// that was taken before stays as it was, and the nodes that a change doesn't lead through are held in common.
 ///
 /// A call takes at most a step for each level of sixteen parts a node, and one for the item: five for 65,536 items.
 /// Where no memory is left a call that was given an item gives it back, and the list is as before.
-///
-/// The last items, sixteen at most, stand in a page of their own, and go into the tree all at once when they are
-/// sixteen. So of sixteen additions, each after a snapshot, fifteen copy that page alone, and not those from the tree's
-/// root down.
 #[derive(Drop)]
 pub struct Pages<T: Drop> {
+    height: u64,
     len: u64,
-    tree: Tree<T>,
-    tail: Part<T>,
+    root: Part<T>,
 }
 
 impl<T: Drop> Model for Pages<T> {
-    ghost use Rattle.std.specs.Prelude.{List, ◌++◌};
+    ghost use Rattle.std.specs.Prelude.{List};
 
     ghost Value = { List T };
 
-    ghost use Rattle.snapshot_store.specs.Lists.{IsList};
+    ghost use Rattle.snapshot_store.specs.Lists.{IsTree};
 
-    ghost view = { λ pages. pages.tree ++ pages.tail.0 };
+    ghost view = { λ pages. pages.root.0 };
 
-    ghost invariant = { λ pages. IsList pages };
+    ghost invariant = { λ pages. IsTree pages };
 }
 
-/// Moves the last items of a list into its tree where they are sixteen, so that there is room for one more. Where no
-/// memory is left both are as before.
-#[tactic(auto, using(crate::proofs::ListLaws::joined_facts))]
-fn settle<T: Drop, L: Ledger>(
+/// The tree of a list and its height, made one higher where it has no room for one more item.
+#[tactic(auto, using(crate::proofs::ListLaws::list_facts))]
+fn roomy<T: Drop>(
     alloc: Global,
-    tree: &mut Tree<T>,
-    tail: &mut Part<T>,
-    count: u64,
-    steps: &mut Steps<L>,
-) -> Result<(), AllocError>
-    requires part { IsPart 1 tail.old }
-    requires count { count ≡ length tail.old.0 }
-    requires fits { length tree.old + count < 2 ^ 64 }
-    ensures items { OnOk result (tree.new ++ tail.new.0 ≡ tree.old ++ tail.old.0) }
-    ensures len { OnOk result (length tree.new + length tail.new.0 ≡ length tree.old + length tail.old.0) }
-    ensures part { OnOk result (IsPart 1 tail.new) }
-    ensures room { OnOk result (length tail.new.0 < 16) }
-    ensures tree { OnErr result (tree.new ≡ tree.old) }
-    ensures tail { OnErr result (tail.new ≡ tail.old) }
-    ensures work { steps.new + 1 ≤ steps.old + dig (length tree.old + 1) }
+    height: u64,
+    len: u64,
+    root: Part<T>,
+) -> Result<(u64, Part<T>), (Part<T>, AllocError)>
+    requires part { IsPart height root }
+    requires len { len ≡ length root.0 }
+    requires low { height ≤ 16 }
+    requires tight { 2 ^ (4 * height) ≤ 16 * len + 1 }
+    ensures items { IfOk result (λ r. r.1.0 ≡ root.0) }
+    ensures part { IfOk result (λ r. IsPart r.0 r.1) }
+    ensures low { IfOk result (λ r. r.0 ≤ 16) }
+    ensures tight { IfOk result (λ r. 2 ^ (4 * r.0) ≤ 16 * len + 1) }
+    ensures room { IfOk result (λ r. len < 2 ^ (4 * r.0)) }
+    ensures same { IfErr result (λ e. e.0 ≡ root) }
 {
-    if count < 16 {
-        return Ok(());
+    if height == 16 || len < 1u64 << (4 * height) {
+        return Ok((height, root));
     }
-    match tree.append(alloc, tail, steps) {
-        Ok(()) => {
-            *tail = Part::vacant();
-            return Ok(());
-        }
-        Err(refused) => return Err(refused),
+    match root.raised(alloc, height) {
+        Ok(root) => Ok((height + 1, root)),
+        Err(refused) => Err(refused),
     }
 }
 
 impl<T: Share + Drop> Pages<T> {
     /// Swaps the item at a place of the list with another one. Where no memory is left both are as before.
-    #[tactic(auto, using(crate::proofs::ListLaws::joined_facts))]
+    #[tactic(auto, using(crate::proofs::ListLaws::list_facts))]
     pub fn swap<L: Ledger>(
         &mut self,
         alloc: Global,
@@ -92,24 +82,24 @@ impl<T: Share + Drop> Pages<T> {
         ensures same { OnErr result ((self.new ≡ self.old) × (item.new ≡ item.old)) }
         ensures work { steps.new ≤ steps.old + 2 * dig (length self.old + 1) }
     {
-        let front = self.tree.len();
-        if at >= front {
-            return self.tail.swap(alloc, at - front, item, steps);
+        let _len = self.len;
+        match self.root.swap(alloc, at, item, steps) {
+            Ok(()) => return Ok(()),
+            Err(refused) => return Err(refused),
         }
-        self.tree.swap(alloc, at, item, steps)
     }
 }
 
 impl<T: Drop> Pages<T> {
     /// The empty list. It takes no memory.
-    #[tactic(auto, using(crate::proofs::ListLaws::joined_facts))]
+    #[tactic(auto, using(crate::proofs::ListLaws::list_facts))]
     pub fn empty() -> Pages<T>
         ensures { result ≡ [] }
     {
         Pages {
+            height: 0,
             len: 0,
-            tree: Tree::empty(),
-            tail: Part::vacant(),
+            root: Part::vacant(),
         }
     }
 
@@ -128,7 +118,7 @@ impl<T: Drop> Pages<T> {
     }
 
     /// The item at a place from 0, and `None` exactly from the list's end on. It takes no memory.
-    #[tactic(auto, using(crate::proofs::ListLaws::joined_facts))]
+    #[tactic(auto, using(crate::proofs::ListLaws::list_facts))]
     pub fn get<L: Ledger>(&self, at: u64, steps: &mut Steps<L>) -> Option<&T>
         ensures value { option_copied result ≡ slice_get self.now at }
         ensures work { steps.new ≤ steps.old + 2 * dig (length self.now + 1) }
@@ -137,57 +127,23 @@ impl<T: Drop> Pages<T> {
         if at >= self.len {
             return None;
         }
-        let front = self.tree.len();
-        if at >= front {
-            return Some(self.tail.get(1, at - front, steps));
-        }
-        Some(self.tree.get(at, steps))
+        Some(self.root.get(self.height, at, steps))
     }
 
-    /// The same list. It costs two shared nodes, whatever the list's length.
+    /// The same list. It costs one shared node, whatever the list's length.
     pub fn snap(&self) -> Result<Pages<T>, AllocError>
         ensures { IfOk result (λ same. same ≡ self.now) }
     {
-        let tree = self.tree.share()?;
-        let tail = self.tail.share()?;
+        let root = self.root.share()?;
         Ok(Pages {
+            height: self.height,
             len: self.len,
-            tree,
-            tail,
+            root,
         })
     }
 
-    /// Stores the item that is given at a place of the list, and takes it. Where no memory is left it isn't taken.
-    #[tactic(auto, using(crate::proofs::ListLaws::joined_facts))]
-    fn put_given<L: Ledger>(
-        &mut self,
-        alloc: Global,
-        at: u64,
-        given: &mut Option<T>,
-        steps: &mut Steps<L>,
-    ) -> Result<(), AllocError>
-        requires within { at < length self.old }
-        requires some { IsGiven given.old }
-        ensures new { OnOk result ((item : T) → given.old ≡ Some item → self.new ≡ slice_set self.old at item) }
-        ensures given { OnErr result (given.new ≡ given.old) }
-        ensures same { OnErr result (self.new ≡ self.old) }
-        ensures work { steps.new ≤ steps.old + 2 * dig (length self.old + 1) }
-    {
-        let front = self.tree.len();
-        if at >= front {
-            match self.tail.put(alloc, at - front, given, steps) {
-                Ok(()) => return Ok(()),
-                Err(refused) => return Err(refused),
-            }
-        }
-        match self.tree.put(alloc, at, given, steps) {
-            Ok(()) => return Ok(()),
-            Err(refused) => return Err(refused),
-        }
-    }
-
     /// Stores the item at a place of the list.
-    #[tactic(auto, using(crate::proofs::ListLaws::joined_facts))]
+    #[tactic(auto, using(crate::proofs::ListLaws::list_facts))]
     pub fn put<L: Ledger>(
         &mut self,
         alloc: Global,
@@ -201,8 +157,9 @@ impl<T: Drop> Pages<T> {
         ensures same { OnErr result (self.new ≡ self.old) }
         ensures work { steps.new ≤ steps.old + 2 * dig (length self.old + 1) }
     {
+        let _len = self.len;
         let mut given = Some(item);
-        match self.put_given(alloc, at, &mut given, steps) {
+        match self.root.put(alloc, at, &mut given, steps) {
             Ok(()) => return Ok(()),
             Err(refused) => match given {
                 Some(item) => return Err((item, refused)),
@@ -212,7 +169,7 @@ impl<T: Drop> Pages<T> {
     }
 
     /// Adds the item at the end. A list of 2^64 - 1 items is not made longer: that is answered as want of memory.
-    #[tactic(auto, using(crate::proofs::ListLaws::joined_facts))]
+    #[tactic(auto, using(crate::proofs::ListLaws::list_facts))]
     pub fn push<L: Ledger>(
         &mut self,
         alloc: Global,
@@ -227,19 +184,25 @@ impl<T: Drop> Pages<T> {
         if self.len == u64::MAX {
             return Err((item, AllocError));
         }
-        let count = self.len - self.tree.len();
-        if let Err(refused) = settle(alloc, &mut self.tree, &mut self.tail, count, steps) {
-            return Err((item, refused));
-        }
-        match self
-            .tail
-            .push(alloc, self.len - self.tree.len(), item, steps)
-        {
-            Ok(()) => {
-                self.len += 1;
-                return Ok(());
+        let old = mem::replace(&mut self.root, Part::vacant());
+        match roomy(alloc, self.height, self.len, old) {
+            Ok((height, mut root)) => match root.push(alloc, height, self.len, item, steps) {
+                Ok(()) => {
+                    self.root = root;
+                    self.height = height;
+                    self.len += 1;
+                    return Ok(());
+                }
+                Err(refused) => {
+                    self.root = root;
+                    self.height = height;
+                    return Err(refused);
+                }
+            },
+            Err((old, refused)) => {
+                self.root = old;
+                return Err((item, refused));
             }
-            Err(refused) => return Err(refused),
         }
     }
 

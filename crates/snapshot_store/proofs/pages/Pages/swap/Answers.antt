@@ -1,16 +1,15 @@
 use Rattle.std.proofs.Common.{sym, ◌∙◌}
 use Rattle.snapshot_store.proofs.ListLaws.{put_part}
-use Rattle.snapshot_store.proofs.trees.Tree.swap.Goals as goal
+use Rattle.snapshot_store.proofs.pages.Pages.swap.Goals as goal
 
 pub invariant_of-self : goal.invariant_of-self
 invariant_of-self g c =
-    let is = put_part c.self.inside.height c.self.inside.root c.swap.new.self c.args.at c.args.item.now
-    c.self.invariant.part c.in-Ok.ensures.new in
+    let old = c.self.inside.root in
+    let is = put_part c.self.inside.height old c.swap.new.self c.args.at c.args.item.now c.self.invariant.part
+    c.in-Ok.ensures.new in
     record {
       len = c.self.invariant.len ∙ sym is.1;
-      rows = c.self.invariant.rows;
       part = is.0;
       low = c.self.invariant.low;
-      high = c.self.invariant.high;
       tight = c.self.invariant.tight;
     }
