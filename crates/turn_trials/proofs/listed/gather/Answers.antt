@@ -2,7 +2,7 @@ use Rattle.std.proofs.Common.{◌≡◌, [], ◌∷◌, ◌++◌, length, Some, 
 use Rattle.std.proofs.lemmas.List.Elements.{All-pop}
 use Rattle.turn_table.specs.Seats.{share, Rests}
 use Rattle.turn_table.specs.Turns.{Belongs}
-use Rattle.trials.proofs.listed.gather.Goals as goal
+use Rattle.turn_trials.proofs.listed.gather.Goals as goal
 
 pub loop-session-preserved : goal.loop-session-preserved
 loop-session-preserved c =

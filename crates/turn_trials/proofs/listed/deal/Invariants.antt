@@ -2,7 +2,7 @@ use Rattle.std.proofs.Common.{◌≡◌, ◌+◌, All, false, length}
 use Rattle.turn_table.specs.declared.view.TheConstants.{ALL_SHARES}
 use Rattle.turn_table.specs.Seats.{share, Rests}
 use Rattle.turn_table.specs.Turns.{Belongs}
-use Rattle.trials.proofs.listed.deal.Given as goal
+use Rattle.turn_trials.proofs.listed.deal.Given as goal
 
 abbrev pub invariant-loop-client : goal.invariant-loop-client
 invariant-loop-client l =

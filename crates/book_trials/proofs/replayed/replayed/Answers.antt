@@ -4,7 +4,7 @@ use Rattle.flux_defs.specs.declared.journal.Command.{Command}
 use Rattle.flux_defs.specs.declared.journal.Entry.{Entry}
 use Rattle.flux_defs.specs.Graph.{ResourceGraph}
 use Rattle.flux_defs.specs.Scheduler.{IsProper}
-use Rattle.trials.proofs.replayed.replayed.Goals as goal
+use Rattle.book_trials.proofs.replayed.replayed.Goals as goal
 
 pub decide-requires : goal.decide-requires
 decide-requires c =

@@ -3,7 +3,7 @@ use Rattle.std.specs.List.{AllByRecursion}
 use Rattle.flux_defs.specs.declared.journal.Line.{Line}
 use Rattle.flux_defs.specs.Graph.{ResourceGraph}
 use Rattle.flux_defs.specs.Scheduler.{IsProper}
-use Rattle.trials.proofs.plays.played.Goals as goal
+use Rattle.book_trials.proofs.plays.played.Goals as goal
 
 pub play_script-requires-clause-proper : goal.play_script-requires-clause-proper
 play_script-requires-clause-proper g c κs within =

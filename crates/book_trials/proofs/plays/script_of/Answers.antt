@@ -4,7 +4,7 @@ use Rattle.flux_defs.specs.declared.limits.Limits.{Limits}
 use Rattle.fluxion_lines.specs.declared.commands.Form.TheVariants as form
 use Rattle.fluxion_lines.proofs.ClientLaws.{few_clients_within, numbers_apart}
 use Rattle.one_history.specs.Together.{NumbersApart}
-use Rattle.trials.proofs.plays.script_of.Goals as goal
+use Rattle.book_trials.proofs.plays.script_of.Goals as goal
 
 pub returns-in-Ok-clause-few : goal.returns-in-Ok-clause-few
 returns-in-Ok-clause-few c =

@@ -1,8 +1,8 @@
 use Rattle.std.proofs.Common.{◌≡◌}
-use Rattle.trials.specs.declared.turns.Log.{Log}
+use Rattle.turn_trials.specs.declared.turns.Log.{Log}
 use Rattle.turn_table.specs.Seats.{share, Rests}
 use Rattle.turn_table.specs.Turns.{Belongs}
-use Rattle.trials.proofs.turns.work.Given as goal
+use Rattle.turn_trials.proofs.turns.work.Given as goal
 
 abbrev pub invariant-loop : goal.invariant-loop
 invariant-loop g l =
