@@ -9,7 +9,8 @@ use std::alloc::{AllocError, Global};
 use std::sync::ledger::Ledger;
 
 /// What spans leave free of a total over time. Each answer holds for every list of spans that the planner stands for.
-/// Windows begin before they end; times are whole seconds. Of a planner whose change finds no memory nothing is known any more.
+/// Windows begin before they end; times are whole seconds. Where a change finds no memory, nothing is known of the
+/// planner any more.
 pub trait Planner: Sized {
     /// What there is where no span takes anything.
     ghost total_of: { Self → ℕ };
