@@ -138,6 +138,7 @@ impl<E: Share + Drop, M: Measure<E>> Tree<E, M> {
     /// How many nodes stand one below the other.
     pub fn height(&self) -> u64
         ensures value { result ≡ self.now.1 }
+        ensures some { 0 < self.now.1 → 0 < length self.now.0 }
         ensures tall { IsTall self.now }
         ensures fits { length self.now.0 < 2 ^ 64 }
         ensures low { self.now.1 + 1 ≤ 2 * dig (length self.now.0) }
