@@ -1,6 +1,6 @@
 //! Balanced trees.
 ghost use Rattle.std.specs.Prelude.{◌≡◌, ℕ, ◌+◌, ◌*◌, ◌^◌, ◌<◌, ◌≤◌, min, max, List, [], ◌∷◌, ◌++◌, length};
-ghost use Rattle.std.specs.Prelude.{IsTrue, IfOk, OnOk};
+ghost use Rattle.std.specs.Prelude.{IsTrue, IfOk, OnOk, OnErr, MatchOption};
 
 use crate::edits::Edit;
 use crate::measures::Measure;
@@ -138,6 +138,7 @@ impl<E: Share + Drop, M: Measure<E>> Tree<E, M> {
     /// How many nodes stand one below the other.
     pub fn height(&self) -> u64
         ensures value { result ≡ self.now.1 }
+        ensures some { 0 < self.now.1 → 0 < length self.now.0 }
         ensures tall { IsTall self.now }
         ensures fits { length self.now.0 < 2 ^ 64 }
         ensures low { self.now.1 + 1 ≤ 2 * dig (length self.now.0) }
@@ -300,7 +301,7 @@ impl<E: Share + Drop, M: Measure<E>> Tree<E, M> {
 
 impl<E: Share + Drop, M: Measure<E>> Tree<E, M> {
     ghost use Rattle.std.specs.Prelude.{Some, slice_get};
-    ghost use Rattle.balanced_tree.specs.Edits.{edited, made};
+    ghost use Rattle.balanced_tree.specs.Edits.{made};
 
     /// The item at a place. It takes a step for each node on the way to it.
     pub fn get<L: Ledger>(&self, at: u64, steps: &mut Steps<L>) -> &E
@@ -323,6 +324,38 @@ impl<E: Share + Drop, M: Measure<E>> Tree<E, M> {
         }
     }
 
+    /// Takes the item out of a tree without sides, which is left empty; None where it has none. It takes no step.
+    #[inline]
+    pub fn take_leaf(&mut self) -> Option<E>
+        requires { self.old.1 ≡ 0 }
+        ensures left { self.new ≡ ([], 0) }
+        ensures item { MatchOption result (self.old.0 ≡ []) (λ e. self.old.0 ≡ e ∷ []) }
+    {
+        let body = mem::replace(&mut self.body, Body::Empty);
+        self.len = 0;
+        self.sum = M::nothing();
+        match body {
+            Body::Empty => None,
+            Body::Leaf(item) => Some(item),
+            Body::Fork(_) => unreachable!(),
+        }
+    }
+
+    /// Makes this the tree of one item. It takes no node, and at most one step. Where the item's measure doesn't fit
+    /// the tree is as before.
+    #[inline]
+    pub fn set_leaf<L: Ledger>(&mut self, item: E, steps: &mut Steps<L>) -> Result<(), AllocError>
+        ensures value { OnOk result (self.new ≡ (item ∷ [], 0)) }
+        ensures same { OnErr result (self.new ≡ self.old) }
+        ensures work { steps.new ≤ steps.old + 1 }
+    {
+        self.sum = M::of_item(&item, steps)?;
+        self.height = 0;
+        self.len = 1;
+        self.body = Body::Leaf(item);
+        Ok(())
+    }
+
     /// The tree of what stands in the place of an item. It takes a node where that is two items.
     pub fn made<L: Ledger>(
         alloc: Global,
@@ -342,26 +375,6 @@ impl<E: Share + Drop, M: Measure<E>> Tree<E, M> {
             }
             Edit::Cut => Ok(Tree::empty()),
         }
-    }
-
-    /// The tree with the item at that place replaced. It writes in place what no other tree holds.
-    pub fn edited<L: Ledger>(
-        self,
-        alloc: Global,
-        at: u64,
-        edit: Edit<E>,
-        steps: &mut Steps<L>,
-    ) -> Result<Tree<E, M>, AllocError>
-        requires { at < length self.0 }
-        ensures items { IfOk result (λ tree. tree.0 ≡ edited self.0 at edit) }
-        ensures least { IfOk result (λ tree. self.1 ≤ tree.1 + 1) }
-        ensures most { IfOk result (λ tree. tree.1 ≤ self.1 + 1) }
-        ensures emptied { IfOk result (λ tree. length tree.0 ≡ 0 → self.1 ≡ 0) }
-        ensures work { steps.new ≤ steps.old + 3 * self.1 + 2 }
-    {
-        let mut tree = self;
-        tree.edit(alloc, at, edit, steps)?;
-        Ok(tree)
     }
 }
 
@@ -473,7 +486,7 @@ impl<E: Share + Drop, M: Measure<E>> Tree<E, M> {
     /// Edits the item at that place. It writes in place what no other tree holds. Where no memory is left the items may
     /// be gone.
     #[cycle(edit)]
-    fn edit<L: Ledger>(
+    pub fn edit<L: Ledger>(
         &mut self,
         alloc: Global,
         at: u64,

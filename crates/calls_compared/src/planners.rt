@@ -58,12 +58,12 @@ impl Tried {
             return Ok(self);
         }
         let Tried {
-            tree,
-            plain,
+            mut tree,
+            mut plain,
             mut spans,
         } = self;
-        let tree = tree.into_with_span(alloc, window, quantity, steps)?;
-        let plain = plain.into_with_span(alloc, window, quantity, steps)?;
+        tree.add_span(alloc, window, quantity, steps)?;
+        plain.add_span(alloc, window, quantity, steps)?;
         match spans.push(Span { window, quantity }) {
             Ok(()) => Ok(Tried { tree, plain, spans }),
             Err(_) => Err(AllocError),
@@ -81,13 +81,13 @@ impl Tried {
             return Ok(self);
         }
         let Tried {
-            tree,
-            plain,
+            mut tree,
+            mut plain,
             mut spans,
         } = self;
         let span = spans.remove(at);
-        let tree = tree.into_without_span(alloc, span.window, span.quantity, steps)?;
-        let plain = plain.into_without_span(alloc, span.window, span.quantity, steps)?;
+        tree.remove_span(alloc, span.window, span.quantity, steps)?;
+        plain.remove_span(alloc, span.window, span.quantity, steps)?;
         Ok(Tried { tree, plain, spans })
     }
 }
@@ -100,8 +100,12 @@ impl Tried {
         moment: u64,
         steps: &mut Steps<L>,
     ) -> Result<Tried, AllocError> {
-        let Tried { tree, plain, spans } = self;
-        let tree = tree.into_settled(alloc, moment, steps)?;
+        let Tried {
+            mut tree,
+            plain,
+            spans,
+        } = self;
+        tree.settle(alloc, moment, steps)?;
         Ok(Tried { tree, plain, spans })
     }
 }

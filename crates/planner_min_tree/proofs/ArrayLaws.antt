@@ -1,6 +1,7 @@
 -- A point put or set at the place of a time marks the points.
 use Rattle.std.proofs.Common.{◌≡◌, ℕ, zero, suc, ◌<◌, ◌≤◌, nat_le, List, [], ◌∷◌, length, refl, sym, ◌∙◌, ap, arith}
 use Rattle.std.proofs.Common.{cond, inl, inr, slice_set, insert, remove, get_or}
+use Rattle.std.specs.List.{refill}
 use Rattle.std.proofs.lemmas.Bool.{cases_lt}
 use Rattle.flux_defs.proofs.DigitLaws.{if_le, if_gt}
 use Rattle.planner_min_tree.specs.declared.points.Point.{Point}
@@ -69,21 +70,33 @@ pub marks_other : (d : Mark) (ps : List Point) (at : ℕ) (z : Point) → at ≡
 marks_other d ps at z c l f = marks_between d ps at c (λ s p g e. f
     (ap (λ (v : Point). v.time) (get_same ps at z p s g) ∙ e))
 
-insert_front : (ps : List Point) (q : Point) → insert ps 0 q ≡ q ∷ ps
-insert_front [] q = refl
-insert_front (p ∷ ps) q = refl
+got : (ps : List Point) (at : ℕ) (z : Point) → at < length ps → get_or ps at z ≡ get_or ps at (get_or ps at z)
+got [] at z l = absurd (omega arith)
+got (q ∷ ps) zero z l = refl
+got (q ∷ ps) (suc at) z l = got ps at z (omega arith)
 
-swap_set : (ps : List Point) (at : ℕ) (q : Point) → at < length ps → insert (remove ps at) at q ≡ slice_set ps at q
-swap_set [] at q l = absurd (omega arith)
-swap_set (p ∷ ps) zero q l = (insert_front ps q)
-swap_set (p ∷ ps) (suc at) q l = ap (λ u. p ∷ u) (swap_set ps at q (omega arith))
+-- as many points in the place of all
+refill_all : (ps qs : List Point) → length qs ≡ length ps → refill (length ps) ps qs ≡ qs
+refill_all [] [] e = refl
+refill_all [] (q ∷ qs) e = absurd (omega arith)
+refill_all (p ∷ ps) [] e = absurd (omega arith)
+refill_all (p ∷ ps) (q ∷ qs) e = ap (λ u. q ∷ u) (refill_all ps qs (omega arith))
 
-pub marks_again : (d : Mark) (ps : List Point) (at : ℕ) (z p q : Point) → at ≡ count_before d.time ps →
-    at < length ps → (get_or ps at z).time ≡ d.time → p ≡ get_or ps at p → q ≡ added d p →
-    insert (remove ps at) at q ≡ marked d ps
-marks_again d ps at z p q c l t g e =
-    let time : p.time ≡ d.time = sym (ap (λ (v : Point). v.time) (get_same ps at z p l g)) ∙ t in
-    swap_set ps at q l ∙ ap (λ u. slice_set ps at u) e ∙ marks_here d ps at p c l g time
+length_set : (ps : List Point) (at : ℕ) (q : Point) → length (slice_set ps at q) ≡ length ps
+length_set [] at q = refl
+length_set (p ∷ ps) zero q = refl
+length_set (p ∷ ps) (suc at) q = ap suc (length_set ps at q)
+
+refill_set : (ps now : List Point) (at : ℕ) (q : Point) → now ≡ ps →
+    refill (length ps) ps (slice_set now at q) ≡ slice_set ps at q
+refill_set ps now at q e = ap (λ l. refill (length ps) ps (slice_set l at q)) e
+    ∙ refill_all ps (slice_set ps at q) (length_set ps at q)
+
+pub marks_again : (d : Mark) (ps now : List Point) (at : ℕ) (z q : Point) → at ≡ count_before d.time ps →
+    at < length ps → now ≡ ps → (get_or ps at z).time ≡ d.time → q ≡ added d (get_or ps at z) →
+    refill (length ps) ps (slice_set now at q) ≡ marked d ps
+marks_again d ps now at z q c l n t e = refill_set ps now at q n ∙ ap (λ u. slice_set ps at u) e
+    ∙ marks_here d ps at (get_or ps at z) c l (got ps at z l) t
 
 pub ruleset mark_facts = (marks_last, marks_other, marks_again)
 
@@ -141,17 +154,14 @@ unmarks_here d (q ∷ ps) (suc at) p c l g e =
       | inr ge ↦ (let n = count_here d.time q ps ge in absurd (omega arith))
     ]
 
-pub unmarks_gone : (d : Mark) (ps : List Point) (at : ℕ) (z p : Point) → at ≡ count_before d.time ps →
-    at < length ps → (get_or ps at z).time ≡ d.time → p ≡ get_or ps at p → p.ends ≤ 1 → remove ps at ≡ unmarked d ps
-unmarks_gone d ps at z p c l t g few =
-    let time : p.time ≡ d.time = sym (ap (λ (v : Point). v.time) (get_same ps at z p l g)) ∙ t in
-    (unmarks_here d ps at p c l g time).0 few
+pub unmarks_gone : (d : Mark) (ps : List Point) (at : ℕ) (z : Point) → at ≡ count_before d.time ps →
+    at < length ps → (get_or ps at z).time ≡ d.time → (get_or ps at z).ends ≤ 1 → remove ps at ≡ unmarked d ps
+unmarks_gone d ps at z c l t few = (unmarks_here d ps at (get_or ps at z) c l (got ps at z l) t).0 few
 
-pub unmarks_less : (d : Mark) (ps : List Point) (at : ℕ) (z p q : Point) → at ≡ count_before d.time ps →
-    at < length ps → (get_or ps at z).time ≡ d.time → p ≡ get_or ps at p → 1 < p.ends → q ≡ lessened d p →
-    insert (remove ps at) at q ≡ unmarked d ps
-unmarks_less d ps at z p q c l t g many e =
-    let time : p.time ≡ d.time = sym (ap (λ (v : Point). v.time) (get_same ps at z p l g)) ∙ t in
-    swap_set ps at q l ∙ ap (λ u. slice_set ps at u) e ∙ (unmarks_here d ps at p c l g time).1 many
+pub unmarks_less : (d : Mark) (ps now : List Point) (at : ℕ) (z q : Point) → at ≡ count_before d.time ps →
+    at < length ps → now ≡ ps → (get_or ps at z).time ≡ d.time → 1 < (get_or ps at z).ends →
+    q ≡ lessened d (get_or ps at z) → refill (length ps) ps (slice_set now at q) ≡ unmarked d ps
+unmarks_less d ps now at z q c l n t many e = refill_set ps now at q n ∙ ap (λ u. slice_set ps at u) e
+    ∙ (unmarks_here d ps at (get_or ps at z) c l (got ps at z l) t).1 many
 
 pub ruleset unmark_facts = (unmarks_last, unmarks_other, unmarks_gone, unmarks_less)

@@ -1,6 +1,6 @@
 -- What two lists of points, one after the other, do to a number.
-use Rattle.std.proofs.Common.{◌≡◌, ℕ, suc, ◌+◌, ◌-◌, ◌^◌, ◌<◌, ◌≤◌, min, max, List, [], ◌∷◌, ◌++◌, Some}
-use Rattle.std.proofs.Common.{None, refl, sym, ◌∙◌, ap, arith, inl, inr}
+use Rattle.std.proofs.Common.{◌≡◌, ℕ, zero, suc, ◌+◌, ◌-◌, ◌^◌, ◌<◌, ◌≤◌, min, max, List, [], ◌∷◌, ◌++◌, Some}
+use Rattle.std.proofs.Common.{length, get_or, None, refl, sym, ◌∙◌, ap, arith, inl, inr}
 use Rattle.std.specs.Prelude.{Option, IfNone}
 use Rattle.std.proofs.lemmas.Bool.{cases_lt}
 use Rattle.flux_defs.proofs.DigitLaws.{if_le, if_gt}
@@ -12,6 +12,12 @@ use Rattle.planner_min_tree.specs.Points.{rise_after}
 pub latest_append : (xs ys : List Point) → latest_of (xs ++ ys) ≡ max (latest_of xs) (latest_of ys)
 latest_append [] ys = omega arith
 latest_append (p ∷ xs) ys = omega (arith, latest_append xs ys)
+
+-- no point is later than the latest
+pub latest_at : (xs : List Point) (at : ℕ) (z : Point) → at < length xs → (get_or xs at z).time ≤ latest_of xs
+latest_at [] at z l = absurd (omega arith)
+latest_at (p ∷ xs) zero z l = omega arith
+latest_at (p ∷ xs) (suc at) z l = omega (arith, latest_at xs at z (omega arith))
 
 pub need_append : (xs ys : List Point) → need_of (xs ++ ys) ≡ need_of xs + (need_of ys - rest_of xs)
 need_append [] ys = omega arith

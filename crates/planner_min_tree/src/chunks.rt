@@ -1,9 +1,11 @@
 //! Some points in a node.
-ghost use Rattle.std.specs.Prelude.{◌≡◌, ◌+◌, ◌<◌, ◌≤◌, List, [], ◌++◌, length, IfOk};
+ghost use Rattle.std.specs.Prelude.{◌≡◌, ◌+◌, ◌<◌, ◌≤◌, List, [], ◌++◌, length, IfOk, IfSome, MatchOption};
 ghost use Rattle.planner_min_tree.specs.Chunks.{flat, AreFilled};
+ghost use Rattle.planner_min_tree.specs.Marks.{changed};
 ghost use Rattle.planner_min_tree.specs.Points.{dip_of};
 ghost use Rattle.balanced_tree.specs.Edits.{made};
 
+use crate::marking::Change;
 use crate::points::{Dip, Point, dip_of};
 use arrayvec::ArrayVec;
 use balanced_tree::{Edit, Measure};
@@ -47,6 +49,13 @@ impl Model for Chunk {
     ghost use Rattle.planner_min_tree.specs.Blocks.{points_in};
 
     ghost view = { λ chunk. points_in chunk.holder };
+}
+
+impl<const N: usize> Share for Block<N> {
+    fn share(&self) -> Result<Block<N>, AllocError> {
+        let points = copied(self.points.as_slice())?;
+        Ok(Block { points })
+    }
 }
 
 impl Share for Chunk {
@@ -133,6 +142,38 @@ impl Chunk {
             Holder::Few(node) => node.look(steps).points.as_slice(),
             Holder::Many(node) => node.look(steps).points.as_slice(),
         }
+    }
+}
+
+impl Chunk {
+    /// Changes its points twice where they stand, if there is room for two more, and tells how many it then has. A node
+    /// that others hold too is first copied. It takes at most one step.
+    #[inline]
+    pub fn change_twice<L: Ledger>(
+        &mut self,
+        alloc: Global,
+        first: Change,
+        second: Change,
+        steps: &mut Steps<L>,
+    ) -> Result<Option<usize>, AllocError>
+        ensures points { IfOk result (λ len. MatchOption len (self.new ≡ self.old)
+            (λ _. self.new ≡ changed second (changed first self.old))) }
+        ensures len { IfOk result (λ len. IfSome len (λ n. n ≡ length self.new)) }
+        ensures work { steps.new ≤ steps.old + 1 }
+    {
+        let Holder::Few(node) = &mut self.holder else {
+            return Ok(None);
+        };
+        if node.look(steps).points.len() + 2 > FEW {
+            return Ok(None);
+        }
+        node.own(alloc)?;
+        let Some(block) = node.get_mut() else {
+            return Err(AllocError);
+        };
+        first.apply(&mut block.points)?;
+        second.apply(&mut block.points)?;
+        Ok(Some(block.points.len()))
     }
 }
 

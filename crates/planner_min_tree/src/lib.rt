@@ -5,6 +5,7 @@
 //! common.
 #![tactic(auto)]
 
+mod changing;
 mod chunks;
 mod marking;
 mod planner;

@@ -1,5 +1,5 @@
 //! The planner.
-ghost use Rattle.std.specs.Prelude.{◌≡◌, ℕ, ◌+◌, ◌*◌, ◌<◌, ◌≤◌, List, [], ◌∷◌, ◌++◌, length, IfOk, MatchOption};
+ghost use Rattle.std.specs.Prelude.{◌≡◌, ℕ, ◌+◌, ◌*◌, ◌<◌, ◌≤◌, List, [], ◌∷◌, ◌++◌, length, IfOk, OnOk, MatchOption};
 ghost use Rattle.flux_defs.specs.Digits.{dig};
 ghost use Rattle.planner_points.specs.declared.spans.Span.{Span};
 ghost use Rattle.planner_points.specs.Spans.{span_of, HasRoom, HasSpan, IsLeastFree, IsEnd, IsNextEnd, MayStart};
@@ -120,42 +120,40 @@ impl Planner for MinTree {
         })
     }
 
-    fn into_settled<L: Ledger>(
-        self,
+    #[inline]
+    fn settle<L: Ledger>(
+        &mut self,
         alloc: Global,
         moment: u64,
         steps: &mut Steps<L>,
-    ) -> Result<MinTree, AllocError>
-        ensures same { IfOk result (λ planner. planner ≡ self) }
-        ensures work { steps.new ≤ steps.old + 128 * dig (length self.points + 2) }
+    ) -> Result<(), AllocError>
+        ensures same { OnOk result (self.new ≡ self.old) }
+        ensures work { steps.new ≤ steps.old + 128 * dig (length self.old.points + 2) }
     {
-        let MinTree {
-            total,
-            horizon,
-            points,
-        } = self;
-        let points = points.settled(alloc, moment, steps)?;
-        Ok(MinTree {
-            total,
-            horizon,
-            points,
-        })
+        match self.points.settle(alloc, moment, steps) {
+            Ok(()) => Ok(()),
+            Err(refused) => {
+                self.points = Timeline::empty();
+                Err(refused)
+            }
+        }
     }
 
-    fn into_with_span<L: Ledger>(
-        self,
+    fn add_span<L: Ledger>(
+        &mut self,
         alloc: Global,
         window: Window,
         quantity: u64,
         steps: &mut Steps<L>,
-    ) -> Result<MinTree, AllocError>
+    ) -> Result<(), AllocError>
         requires window { window.from < window.to }
-        requires room { (spans : List Span) → StandsFor self spans → HasRoom self.total spans window quantity }
-        ensures total { IfOk result (λ planner. planner.total ≡ self.total) }
-        ensures horizon { IfOk result (λ planner. planner.horizon ≡ self.horizon) }
-        ensures spans { IfOk result (λ planner. (before after : List Span) → StandsFor self (before ++ after) →
-            StandsFor planner (before ++ span_of window quantity ∷ after)) }
-        ensures work { steps.new ≤ steps.old + 128 * dig (length self.points + 2) }
+        requires room { (spans : List Span) → StandsFor self.old spans →
+            HasRoom self.old.total spans window quantity }
+        ensures total { OnOk result (self.new.total ≡ self.old.total) }
+        ensures horizon { OnOk result (self.new.horizon ≡ self.old.horizon) }
+        ensures spans { OnOk result ((before after : List Span) → StandsFor self.old (before ++ after) →
+            StandsFor self.new (before ++ span_of window quantity ∷ after)) }
+        ensures work { steps.new ≤ steps.old + 128 * dig (length self.old.points + 2) }
     {
         let stop = Mark {
             time: window.to,
@@ -167,33 +165,32 @@ impl Planner for MinTree {
             taken: quantity,
             given: 0,
         };
-        let MinTree {
-            total,
-            horizon,
-            points,
-        } = self;
-        let points = points.twice_changed(alloc, Change::More(stop), Change::More(start), steps)?;
-        Ok(MinTree {
-            total,
-            horizon,
-            points,
-        })
+        match self
+            .points
+            .change_twice(alloc, Change::More(stop), Change::More(start), steps)
+        {
+            Ok(()) => Ok(()),
+            Err(refused) => {
+                self.points = Timeline::empty();
+                Err(refused)
+            }
+        }
     }
 
-    fn into_without_span<L: Ledger>(
-        self,
+    fn remove_span<L: Ledger>(
+        &mut self,
         alloc: Global,
         window: Window,
         quantity: u64,
         steps: &mut Steps<L>,
-    ) -> Result<MinTree, AllocError>
+    ) -> Result<(), AllocError>
         requires window { window.from < window.to }
-        requires span { HasSpan (StandsFor self) (span_of window quantity) }
-        ensures total { IfOk result (λ planner. planner.total ≡ self.total) }
-        ensures horizon { IfOk result (λ planner. planner.horizon ≡ self.horizon) }
-        ensures spans { IfOk result (λ planner. (before after : List Span) →
-            StandsFor self (before ++ span_of window quantity ∷ after) → StandsFor planner (before ++ after)) }
-        ensures work { steps.new ≤ steps.old + 128 * dig (length self.points + 2) }
+        requires span { HasSpan (StandsFor self.old) (span_of window quantity) }
+        ensures total { OnOk result (self.new.total ≡ self.old.total) }
+        ensures horizon { OnOk result (self.new.horizon ≡ self.old.horizon) }
+        ensures spans { OnOk result ((before after : List Span) →
+            StandsFor self.old (before ++ span_of window quantity ∷ after) → StandsFor self.new (before ++ after)) }
+        ensures work { steps.new ≤ steps.old + 128 * dig (length self.old.points + 2) }
     {
         let start = Mark {
             time: window.from,
@@ -205,17 +202,16 @@ impl Planner for MinTree {
             taken: 0,
             given: quantity,
         };
-        let MinTree {
-            total,
-            horizon,
-            points,
-        } = self;
-        let points = points.twice_changed(alloc, Change::Less(start), Change::Less(stop), steps)?;
-        Ok(MinTree {
-            total,
-            horizon,
-            points,
-        })
+        match self
+            .points
+            .change_twice(alloc, Change::Less(start), Change::Less(stop), steps)
+        {
+            Ok(()) => Ok(()),
+            Err(refused) => {
+                self.points = Timeline::empty();
+                Err(refused)
+            }
+        }
     }
 
     fn with_span<L: Ledger>(
@@ -233,8 +229,9 @@ impl Planner for MinTree {
             StandsFor planner (before ++ span_of window quantity ∷ after)) }
         ensures work { steps.new ≤ steps.old + 128 * dig (length self.now.points + 2) }
     {
-        let same = self.share()?;
-        same.into_with_span(alloc, window, quantity, steps)
+        let mut more = self.share()?;
+        more.add_span(alloc, window, quantity, steps)?;
+        Ok(more)
     }
 
     fn without_span<L: Ledger>(
@@ -252,8 +249,9 @@ impl Planner for MinTree {
             StandsFor self.now (before ++ span_of window quantity ∷ after) → StandsFor planner (before ++ after)) }
         ensures work { steps.new ≤ steps.old + 128 * dig (length self.now.points + 2) }
     {
-        let same = self.share()?;
-        same.into_without_span(alloc, window, quantity, steps)
+        let mut less = self.share()?;
+        less.remove_span(alloc, window, quantity, steps)?;
+        Ok(less)
     }
 
     #[tactic(auto, using(crate::proofs::PlanFacts::marks_run))]

@@ -1,6 +1,6 @@
 //! The points of a planner, of which those that are past stand apart.
 ghost use Rattle.std.specs.Prelude.{◌≡◌, ◌↔◌, IsTrue, false, ◌+◌, ◌*◌, ◌<◌, ◌≤◌, List, [], ◌++◌, length, Some};
-ghost use Rattle.std.specs.Prelude.{slice_get, IfOk, IfSome, IfNone};
+ghost use Rattle.std.specs.Prelude.{slice_get, IfOk, IfSome, IfNone, OnOk};
 ghost use Rattle.flux_defs.specs.Digits.{dig};
 ghost use Rattle.balanced_tree.specs.Edits.{made};
 ghost use Rattle.planner_min_tree.specs.declared.points.Point.{Point};
@@ -8,8 +8,9 @@ ghost use Rattle.planner_min_tree.specs.Chunks.{flat, AreFilled};
 ghost use Rattle.planner_min_tree.specs.Points.{Runs, lowest_in, first_from, value_at, rise_after, low_end, HasPlace};
 ghost use Rattle.planner_min_tree.specs.Marks.{changed, StaysLate};
 
+use crate::changing::{change_once, change_twice, edit};
 use crate::chunks::{Chunk, PAST_POINTS};
-use crate::marking::{Change, once_changed, twice_changed};
+use crate::marking::Change;
 use crate::points::{Dip, Point, are_over};
 use crate::walks::{self, Side};
 use balanced_tree::{Edit, Tree};
@@ -70,46 +71,38 @@ fn has_place(tree: &Tree<Chunk, Dip>, t: u64) -> bool
     t <= tree.sum().latest
 }
 
-/// The points of two trees, one behind the other, after two changes.
+/// Changes the points of two trees, one behind the other, twice.
 #[tactic(auto, using(crate::proofs::Timelines::change_facts))]
-fn both_changed<L: Ledger>(
+fn both_change<L: Ledger>(
     alloc: Global,
-    past: Tree<Chunk, Dip>,
-    coming: Tree<Chunk, Dip>,
+    past: &mut Tree<Chunk, Dip>,
+    coming: &mut Tree<Chunk, Dip>,
     first: Change,
     second: Change,
     steps: &mut Steps<L>,
-) -> Result<(Tree<Chunk, Dip>, Tree<Chunk, Dip>), AllocError>
-    requires past { AreFilled past.0 }
-    requires coming { AreFilled coming.0 }
+) -> Result<(), AllocError>
+    requires past { AreFilled past.old.0 }
+    requires coming { AreFilled coming.old.0 }
     requires late { StaysLate first second }
-    ensures items { IfOk result (λ sides. flat (sides.0.0 ++ sides.1.0)
-        ≡ changed second (changed first (flat (past.0 ++ coming.0)))) }
-    ensures past { IfOk result (λ sides. AreFilled sides.0.0) }
-    ensures coming { IfOk result (λ sides. AreFilled sides.1.0) }
-    ensures work { steps.new ≤ steps.old + 13 * (past.1 + 1) + 13 * (coming.1 + 1) }
+    ensures items { OnOk result (flat (past.new.0 ++ coming.new.0)
+        ≡ changed second (changed first (flat (past.old.0 ++ coming.old.0)))) }
+    ensures past { AreFilled past.new.0 }
+    ensures coming { AreFilled coming.new.0 }
+    ensures work { steps.new ≤ steps.old + 13 * (past.old.1 + 1) + 13 * (coming.old.1 + 1) }
 {
     match (
-        has_place(&past, first.time()),
-        has_place(&past, second.time()),
+        has_place(past, first.time()),
+        has_place(past, second.time()),
     ) {
-        (false, false) => {
-            let new = twice_changed(alloc, coming, first, second, steps)?;
-            Ok((past, new))
-        }
-        (true, true) => {
-            let new = twice_changed(alloc, past, first, second, steps)?;
-            Ok((new, coming))
-        }
+        (false, false) => change_twice(alloc, coming, first, second, steps),
+        (true, true) => change_twice(alloc, past, first, second, steps),
         (true, false) => {
-            let front = once_changed(alloc, past, first, steps)?;
-            let back = once_changed(alloc, coming, second, steps)?;
-            Ok((front, back))
+            change_once(alloc, past, first, steps)?;
+            change_once(alloc, coming, second, steps)
         }
         (false, true) => {
-            let front = once_changed(alloc, past, second, steps)?;
-            let back = once_changed(alloc, coming, first, steps)?;
-            Ok((front, back))
+            change_once(alloc, past, second, steps)?;
+            change_once(alloc, coming, first, steps)
         }
     }
 }
@@ -139,43 +132,69 @@ fn joined<L: Ledger>(
     Ok(Edit::Put(both))
 }
 
-/// The points of a tree with those of a chunk behind them.
+/// Puts the points of a chunk behind those of a tree.
 #[tactic(auto, using(crate::proofs::Timelines::behind_facts))]
-fn with_behind<L: Ledger>(
+fn put_behind<L: Ledger>(
     alloc: Global,
-    tree: Tree<Chunk, Dip>,
+    tree: &mut Tree<Chunk, Dip>,
     next: Chunk,
     steps: &mut Steps<L>,
-) -> Result<Tree<Chunk, Dip>, AllocError>
-    requires filled { AreFilled tree.0 }
+) -> Result<(), AllocError>
+    requires filled { AreFilled tree.old.0 }
     requires next { 0 < length next }
-    ensures items { IfOk result (λ new. flat new.0 ≡ flat tree.0 ++ next) }
-    ensures filled { IfOk result (λ new. AreFilled new.0) }
-    ensures work { steps.new ≤ steps.old + 4 * tree.1 + 4 }
+    ensures items { OnOk result (flat tree.new.0 ≡ flat tree.old.0 ++ next) }
+    ensures filled { AreFilled tree.new.0 }
+    ensures work { steps.new ≤ steps.old + 4 * tree.old.1 + 4 }
 {
     if tree.len() == 0 {
-        return Tree::leaf(next, steps);
+        return tree.set_leaf(next, steps);
     }
     let at = tree.len() - 1;
-    let edit = joined(alloc, tree.get(at, steps), &next, steps)?;
-    tree.edited(alloc, at, edit, steps)
+    let both = joined(alloc, tree.get(at, steps), &next, steps)?;
+    edit(alloc, tree, at, both, steps)
 }
 
-/// The points of a tree without those of its first chunk.
+/// Takes the points of its first chunk out of a tree.
 #[tactic(auto, using(crate::proofs::Timelines::first_facts))]
-fn without_first<L: Ledger>(
+fn cut_first<L: Ledger>(
     alloc: Global,
-    tree: Tree<Chunk, Dip>,
+    tree: &mut Tree<Chunk, Dip>,
     steps: &mut Steps<L>,
-) -> Result<Tree<Chunk, Dip>, AllocError>
-    requires filled { AreFilled tree.0 }
-    requires some { 0 < length tree.0 }
-    ensures items { IfOk result (λ new. (first : List Point) → slice_get tree.0 0 ≡ Some first →
-        first ++ flat new.0 ≡ flat tree.0) }
-    ensures filled { IfOk result (λ new. AreFilled new.0) }
-    ensures work { steps.new ≤ steps.old + 3 * tree.1 + 2 }
+) -> Result<(), AllocError>
+    requires filled { AreFilled tree.old.0 }
+    requires some { 0 < length tree.old.0 }
+    ensures items { OnOk result ((first : List Point) → slice_get tree.old.0 0 ≡ Some first →
+        first ++ flat tree.new.0 ≡ flat tree.old.0) }
+    ensures filled { AreFilled tree.new.0 }
+    ensures work { steps.new ≤ steps.old + 3 * tree.old.1 + 2 }
 {
-    tree.edited(alloc, 0, Edit::Cut, steps)
+    edit(alloc, tree, 0, Edit::Cut, steps)
+}
+
+/// Puts the first chunk of a tree behind another tree, where no point of it is later than the moment.
+#[tactic(auto, using(crate::proofs::Timelines::settle_facts))]
+fn settle_first<L: Ledger>(
+    alloc: Global,
+    past: &mut Tree<Chunk, Dip>,
+    coming: &mut Tree<Chunk, Dip>,
+    moment: u64,
+    steps: &mut Steps<L>,
+) -> Result<(), AllocError>
+    requires past { AreFilled past.old.0 }
+    requires coming { AreFilled coming.old.0 }
+    requires some { 0 < length coming.old.0 }
+    ensures same { OnOk result (flat (past.new.0 ++ coming.new.0) ≡ flat (past.old.0 ++ coming.old.0)) }
+    ensures past { AreFilled past.new.0 }
+    ensures coming { AreFilled coming.new.0 }
+    ensures work { steps.new ≤ steps.old + 4 * past.old.1 + 4 * coming.old.1 + 7 }
+{
+    let first = coming.get(0, steps);
+    if !are_over(first.look(steps), moment) {
+        return Ok(());
+    }
+    let chunk = first.share()?;
+    put_behind(alloc, past, chunk, steps)?;
+    cut_first(alloc, coming, steps)
 }
 
 impl Timeline {
@@ -341,50 +360,47 @@ impl Timeline {
         )
     }
 
-    /// The points after two changes.
-    pub fn twice_changed<L: Ledger>(
-        self,
+    /// Changes the points twice. Where no memory is left there may be any points.
+    pub fn change_twice<L: Ledger>(
+        &mut self,
         alloc: Global,
         first: Change,
         second: Change,
         steps: &mut Steps<L>,
-    ) -> Result<Timeline, AllocError>
+    ) -> Result<(), AllocError>
         requires { StaysLate first second }
-        ensures items { IfOk result (λ line. line ≡ changed second (changed first self)) }
-        ensures work { steps.new ≤ steps.old + 128 * dig (length self + 2) }
+        ensures items { OnOk result (self.new ≡ changed second (changed first self.old)) }
+        ensures work { steps.new ≤ steps.old + 128 * dig (length self.old + 2) }
     {
         let _past = self.past.height();
         let _coming = self.coming.height();
-        let Timeline { past, coming } = self;
-        let (past, coming) = both_changed(alloc, past, coming, first, second, steps)?;
-        Ok(Timeline { past, coming })
+        both_change(
+            alloc,
+            &mut self.past,
+            &mut self.coming,
+            first,
+            second,
+            steps,
+        )
     }
 
-    /// The same points, of which the first chunk of those to come is past, where no point of it is later than the
-    /// moment, and another chunk is to come.
-    #[tactic(auto, using(crate::proofs::Timelines::settle_facts))]
-    pub fn settled<L: Ledger>(
-        self,
+    /// Sets the first chunk of those to come to what is past, where no point of it is later than the moment, and
+    /// another chunk is to come: the points stay the same. Where no memory is left there may be any points.
+    #[inline]
+    pub fn settle<L: Ledger>(
+        &mut self,
         alloc: Global,
         moment: u64,
         steps: &mut Steps<L>,
-    ) -> Result<Timeline, AllocError>
-        ensures same { IfOk result (λ line. line ≡ self) }
-        ensures work { steps.new ≤ steps.old + 128 * dig (length self + 2) }
+    ) -> Result<(), AllocError>
+        ensures same { OnOk result (self.new ≡ self.old) }
+        ensures work { steps.new ≤ steps.old + 128 * dig (length self.old + 2) }
     {
         let _past = self.past.height();
         let _coming = self.coming.height();
         if self.coming.len() < 2 {
-            return Ok(self);
+            return Ok(());
         }
-        let first = self.coming.get(0, steps);
-        if !are_over(first.look(steps), moment) {
-            return Ok(self);
-        }
-        let chunk = first.share()?;
-        let Timeline { past, coming } = self;
-        let past = with_behind(alloc, past, chunk, steps)?;
-        let coming = without_first(alloc, coming, steps)?;
-        Ok(Timeline { past, coming })
+        settle_first(alloc, &mut self.past, &mut self.coming, moment, steps)
     }
 }

@@ -1,8 +1,8 @@
 //! Planners: what spans of time leave free of a total.
 //!
 //! A planner has a total, a horizon in whole seconds, and stands for a list of spans, each a quantity that is taken
-//! over a window. It need not keep the list. `with_span` and `without_span` give a new planner beside the old one, and
-//! the calls that begin with `into` make the new one of the old, in place where they can.
+//! over a window. It need not keep the list. `with_span` and `without_span` give a new planner beside the old one;
+//! `settle`, `add_span` and `remove_span` change one, in place where no other shares it.
 #![tactic(auto)]
 
 mod planners;
@@ -11,6 +11,6 @@ mod span_list;
 mod spans;
 
 pub use planners::Planner;
-pub use renewing::{renewed_with, renewed_without};
+pub use renewing::{renew_with, renew_without};
 pub use span_list::SpanList;
 pub use spans::Span;

@@ -1,5 +1,5 @@
 //! What every planner answers.
-ghost use Rattle.std.specs.Prelude.{◌≡◌, ℕ, ◌+◌, ◌<◌, ◌≤◌, List, [], ◌∷◌, ◌++◌, ◌↔◌, IfOk, MatchOption};
+ghost use Rattle.std.specs.Prelude.{◌≡◌, ℕ, ◌+◌, ◌<◌, ◌≤◌, List, [], ◌∷◌, ◌++◌, ◌↔◌, IfOk, OnOk, MatchOption};
 ghost use Rattle.planner_points.specs.declared.spans.Span.{Span};
 ghost use Rattle.planner_points.specs.Spans.{free_at, span_of, HasRoom, HasSpan, IsLeastFree, IsEnd, IsNextEnd};
 ghost use Rattle.planner_points.specs.Spans.{MayStart, IsFirstStart, IsFirstFree, IsLastBelow};
@@ -9,7 +9,8 @@ use std::alloc::{AllocError, Global};
 use std::sync::ledger::Ledger;
 
 /// What spans leave free of a total over time. Each answer holds for every list of spans that the planner stands for.
-/// Windows begin before they end; times are whole seconds. A call that takes a planner and finds no memory leaves none.
+/// Windows begin before they end; times are whole seconds. Where a change finds no memory, nothing is known of the
+/// planner any more.
 pub trait Planner: Sized {
     /// What there is where no span takes anything.
     ghost total_of: { Self → ℕ };
@@ -26,7 +27,7 @@ pub trait Planner: Sized {
     /// How many steps a span more or less takes at most.
     ghost change_cost: { Self → ℕ };
 
-    /// How many steps `into_settled` takes at most.
+    /// How many steps `settle` takes at most.
     ghost settle_cost: { Self → ℕ };
 
     /// The planner without spans.
@@ -43,55 +44,54 @@ pub trait Planner: Sized {
         ensures spans { IfOk result (λ planner. (spans : List Span) → stands_for self.now spans →
             stands_for planner spans) };
 
-    /// The planner made ready for questions from that second on: what is past stands apart, and calls that ask no
+    /// Makes the planner ready for questions from that second on: what is past stands apart, and calls that ask no
     /// earlier second pass over it. Each second is right.
-    fn into_settled<L: Ledger>(
-        self,
+    fn settle<L: Ledger>(
+        &mut self,
         alloc: Global,
         moment: u64,
         steps: &mut Steps<L>,
-    ) -> Result<Self, AllocError>
-        ensures total { IfOk result (λ planner. total_of planner ≡ total_of self) }
-        ensures horizon { IfOk result (λ planner. horizon_of planner ≡ horizon_of self) }
-        ensures spans { IfOk result (λ planner. (spans : List Span) →
-            (stands_for planner spans ↔ stands_for self spans)) }
-        ensures look { IfOk result (λ planner. look_cost planner ≡ look_cost self) }
-        ensures change { IfOk result (λ planner. change_cost planner ≡ change_cost self) }
-        ensures work { steps.new ≤ steps.old + settle_cost self };
+    ) -> Result<(), AllocError>
+        ensures total { OnOk result (total_of self.new ≡ total_of self.old) }
+        ensures horizon { OnOk result (horizon_of self.new ≡ horizon_of self.old) }
+        ensures spans { OnOk result ((spans : List Span) → (stands_for self.new spans ↔ stands_for self.old spans)) }
+        ensures look { OnOk result (look_cost self.new ≡ look_cost self.old) }
+        ensures change { OnOk result (change_cost self.new ≡ change_cost self.old) }
+        ensures work { steps.new ≤ steps.old + settle_cost self.old };
 
-    /// The planner with one span more. So much has to be free over its window. What no other planner shares is written
+    /// Adds one span. So much has to be free over its window. What no other planner shares is written in place.
+    fn add_span<L: Ledger>(
+        &mut self,
+        alloc: Global,
+        window: Window,
+        quantity: u64,
+        steps: &mut Steps<L>,
+    ) -> Result<(), AllocError>
+        requires window { window.from < window.to }
+        requires room { (spans : List Span) → stands_for self.old spans →
+            HasRoom (total_of self.old) spans window quantity }
+        ensures total { OnOk result (total_of self.new ≡ total_of self.old) }
+        ensures horizon { OnOk result (horizon_of self.new ≡ horizon_of self.old) }
+        ensures spans { OnOk result ((before after : List Span) → stands_for self.old (before ++ after) →
+            stands_for self.new (before ++ span_of window quantity ∷ after)) }
+        ensures work { steps.new ≤ steps.old + change_cost self.old };
+
+    /// Removes one such span. The planner has to stand for a list that has one. What no other planner shares is written
     /// in place.
-    fn into_with_span<L: Ledger>(
-        self,
+    fn remove_span<L: Ledger>(
+        &mut self,
         alloc: Global,
         window: Window,
         quantity: u64,
         steps: &mut Steps<L>,
-    ) -> Result<Self, AllocError>
+    ) -> Result<(), AllocError>
         requires window { window.from < window.to }
-        requires room { (spans : List Span) → stands_for self spans → HasRoom (total_of self) spans window quantity }
-        ensures total { IfOk result (λ planner. total_of planner ≡ total_of self) }
-        ensures horizon { IfOk result (λ planner. horizon_of planner ≡ horizon_of self) }
-        ensures spans { IfOk result (λ planner. (before after : List Span) → stands_for self (before ++ after) →
-            stands_for planner (before ++ span_of window quantity ∷ after)) }
-        ensures work { steps.new ≤ steps.old + change_cost self };
-
-    /// The planner with one such span less. It has to stand for a list that has one. What no other planner shares is
-    /// written in place.
-    fn into_without_span<L: Ledger>(
-        self,
-        alloc: Global,
-        window: Window,
-        quantity: u64,
-        steps: &mut Steps<L>,
-    ) -> Result<Self, AllocError>
-        requires window { window.from < window.to }
-        requires span { HasSpan (stands_for self) (span_of window quantity) }
-        ensures total { IfOk result (λ planner. total_of planner ≡ total_of self) }
-        ensures horizon { IfOk result (λ planner. horizon_of planner ≡ horizon_of self) }
-        ensures spans { IfOk result (λ planner. (before after : List Span) →
-            stands_for self (before ++ span_of window quantity ∷ after) → stands_for planner (before ++ after)) }
-        ensures work { steps.new ≤ steps.old + change_cost self };
+        requires span { HasSpan (stands_for self.old) (span_of window quantity) }
+        ensures total { OnOk result (total_of self.new ≡ total_of self.old) }
+        ensures horizon { OnOk result (horizon_of self.new ≡ horizon_of self.old) }
+        ensures spans { OnOk result ((before after : List Span) →
+            stands_for self.old (before ++ span_of window quantity ∷ after) → stands_for self.new (before ++ after)) }
+        ensures work { steps.new ≤ steps.old + change_cost self.old };
 
     /// The planner with one span more, beside this one. So much has to be free over its window.
     fn with_span<L: Ledger>(

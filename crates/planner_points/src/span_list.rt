@@ -10,6 +10,7 @@ use crate::planners::Planner;
 use crate::spans::Span;
 use flux_defs::{List, Steps, Window};
 use std::alloc::{AllocError, Global};
+use std::mem;
 use std::sync::ledger::Ledger;
 
 /// A planner that keeps the list of its spans, and walks over all of them for each answer.
@@ -233,45 +234,40 @@ impl Planner for SpanList {
     }
 
     /// Nothing stands apart: each answer walks over the whole list.
-    fn into_settled<L: Ledger>(
-        self,
+    fn settle<L: Ledger>(
+        &mut self,
         _alloc: Global,
         _moment: u64,
         _steps: &mut Steps<L>,
-    ) -> Result<SpanList, AllocError> {
-        Ok(self)
+    ) -> Result<(), AllocError> {
+        Ok(())
     }
 
-    fn into_with_span<L: Ledger>(
-        self,
+    fn add_span<L: Ledger>(
+        &mut self,
         _alloc: Global,
         window: Window,
         quantity: u64,
         _steps: &mut Steps<L>,
-    ) -> Result<SpanList, AllocError> {
-        let mut more = self;
-        match more.spans.push(Span { window, quantity }) {
-            Ok(()) => Ok(more),
+    ) -> Result<(), AllocError> {
+        match self.spans.push(Span { window, quantity }) {
+            Ok(()) => Ok(()),
             Err(_) => Err(AllocError),
         }
     }
 
-    fn into_without_span<L: Ledger>(
-        self,
+    fn remove_span<L: Ledger>(
+        &mut self,
         _alloc: Global,
         window: Window,
         quantity: u64,
         _steps: &mut Steps<L>,
-    ) -> Result<SpanList, AllocError> {
+    ) -> Result<(), AllocError> {
         let at = place_of(self.spans.items(), Span { window, quantity });
-        let mut spans = self.spans.into_vec();
+        let mut spans = mem::replace(&mut self.spans, List::new(self.alloc)).into_vec();
         spans.remove(at);
-        Ok(SpanList {
-            alloc: self.alloc,
-            total: self.total,
-            horizon: self.horizon,
-            spans: List::of_vec(spans),
-        })
+        self.spans = List::of_vec(spans);
+        Ok(())
     }
 
     fn with_span<L: Ledger>(
@@ -281,8 +277,9 @@ impl Planner for SpanList {
         quantity: u64,
         steps: &mut Steps<L>,
     ) -> Result<SpanList, AllocError> {
-        let same = self.share()?;
-        same.into_with_span(alloc, window, quantity, steps)
+        let mut more = self.share()?;
+        more.add_span(alloc, window, quantity, steps)?;
+        Ok(more)
     }
 
     fn without_span<L: Ledger>(
@@ -292,8 +289,9 @@ impl Planner for SpanList {
         quantity: u64,
         steps: &mut Steps<L>,
     ) -> Result<SpanList, AllocError> {
-        let same = self.share()?;
-        same.into_without_span(alloc, window, quantity, steps)
+        let mut less = self.share()?;
+        less.remove_span(alloc, window, quantity, steps)?;
+        Ok(less)
     }
 
     fn min_over<L: Ledger>(&self, window: Window, _steps: &mut Steps<L>) -> u64 {
