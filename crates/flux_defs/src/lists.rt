@@ -1,7 +1,8 @@
 //! A list of items, over a `Vec`.
 ghost use Rattle.std.specs.Prelude.{◌≡◌, ◌<◌, ◌↔◌, IsTrue, Some, [], ◌∷◌, ◌++◌, length, slice_get, slice_set, IfErr};
-ghost use Rattle.std.specs.Prelude.{MatchOption, OnOk, OnSome};
+ghost use Rattle.std.specs.Prelude.{MatchOption, OnOk, OnSome, IfSome, IsSome};
 ghost use Rattle.std.specs.Option.{option_copied};
+ghost use Rattle.std.specs.Borrow.{sem};
 
 use std::alloc::{AllocError, AllocFailed, Global};
 use std::marker::Model;
@@ -25,6 +26,8 @@ impl<T> Model for List<T> {
 }
 
 impl<T> List<T> {
+    ghost use Rattle.flux_defs.specs.Lending.{LendsItem};
+
     /// The empty list; it takes no memory, and its later calls take theirs from `alloc`.
     pub fn new(alloc: Global) -> List<T>
         ensures { result ≡ [] }
@@ -76,6 +79,15 @@ impl<T> List<T> {
         ensures within { OnSome result (at < length self.now) }
     {
         self.held.get(at)
+    }
+
+    /// The item at an index from 0 to write to, and `None` exactly from the list's end on.
+    pub fn get_mut(&mut self, at: usize) -> Option<&mut T>
+        ensures* writes_back { sem 𝓛 (LendsItem T.row self.entry at result) }
+        ensures some { IsSome result ↔ (at < length self.old) }
+        ensures value { IfSome result (λ item. slice_get self.old at ≡ Some item.now) }
+    {
+        self.held.get_mut(at)
     }
 
     /// Takes the last item off; `None` exactly where the list is empty.

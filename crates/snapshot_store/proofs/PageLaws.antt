@@ -1,15 +1,16 @@
 -- A page after a change of one of its parts.
 use Rattle.std.proofs.Common.{◌≡◌, ℕ, ◌+◌, ◌*◌, ◌^◌, ◌<◌, List, [], ◌∷◌, ◌++◌, ap, sym, ◌∙◌, arith}
-use Rattle.std.proofs.Common.{Some, slice_get, slice_set, subst}
+use Rattle.std.proofs.Common.{Some, slice_get, slice_set, length, subst, refl}
 use Rattle.std.proofs.lemmas.Nat.{pow-add}
+use Rattle.std.proofs.lemmas.Option.{same_Some}
 use Rattle.node_store.specs.Lending.{with_part}
 use Rattle.node_store.proofs.PartLaws.{parts_with}
 use Rattle.snapshot_store.specs.Parts.{parts_in, items_in, items_of, height_of, ArePacked, IsPage}
 use Rattle.snapshot_store.specs.Places.{HasItem, HasRoom}
 use Rattle.snapshot_store.specs.declared.parts.Body.{Body}
-use Rattle.snapshot_store.specs.declared.parts.Body.TheVariants.{Fork}
+use Rattle.snapshot_store.specs.declared.parts.Body.TheVariants.{Item, Fork}
 use Rattle.snapshot_store.specs.declared.parts.Page.{Page}
-use Rattle.list_laws.proofs.Lists.{set_back}
+use Rattle.list_laws.proofs.Lists.{set_back, get_some}
 
 -- the page with another part at a place
 abbrev pub changed : {E : Type 0} → Page E → ℕ → List E × ℕ → Page E
@@ -79,6 +80,45 @@ pub item_in : {E : Type 0} (seen : List E × ℕ) (page : Page E) (part : List E
     slice_get part.0 rest ≡ Some x → slice_get seen.0 at ≡ Some x
 item_in {E} seen page part place at rest x q it is =
     ap (λ (u : List E × ℕ). slice_get u.0 at) q ∙ it.same ∙ is
+
+-- and its part has at the rest what it has at that place
+pub item_of : {E : Type 0} (seen : List E × ℕ) (page : Page E) (part : List E × ℕ) (place at rest : ℕ) (x : E) →
+    seen ≡ (items_in (parts_in page), page.below + 1) → HasItem page at part place rest →
+    slice_get seen.0 at ≡ Some x → slice_get part.0 rest ≡ Some x
+item_of {E} seen page part place at rest x q it is =
+    sym it.same ∙ sym (ap (λ (u : List E × ℕ). slice_get u.0 at) q) ∙ is
+
+-- what a part that is one item is seen as
+pub one_item : {E : Type 0} (seen : List E × ℕ) (body : Body E) (item : E) →
+    (items_of body, height_of body) ≡ seen → body ≡ Item item → seen ≡ (item ∷ [], 0)
+one_item seen body item e f = sym e ∙ ap (λ u. (items_of u, height_of u)) f
+
+-- its place is the first one
+first_place : {E : Type 0} (seen : List E × ℕ) (item : E) (at : ℕ) → seen ≡ (item ∷ [], 0) → at < length seen.0 →
+    at ≡ 0
+first_place {E} seen item at q within =
+    let one : length seen.0 ≡ 1 = ap (λ (u : List E × ℕ). length u.0) q in
+    omega (arith, within, one)
+
+pub one_changed : {E : Type 0} (seen : List E × ℕ) (item new : E) (at : ℕ) → seen ≡ (item ∷ [], 0) →
+    at < length seen.0 → Path (List E × ℕ) (new ∷ [], 0) (slice_set seen.0 at new, seen.1)
+one_changed {E} seen item new at q within =
+    pairs _ _ _ _ (sym (ap (λ (u : List E × ℕ). slice_set u.0 at new) q
+    ∙ ap (λ k. slice_set (item ∷ []) k new) (first_place seen item at q within)))
+    (sym (ap (λ (u : List E × ℕ). u.1) q))
+
+pub one_at : {E : Type 0} (seen : List E × ℕ) (item x : E) (at : ℕ) → seen ≡ (item ∷ [], 0) → at < length seen.0 →
+    slice_get seen.0 at ≡ Some x → item ≡ x
+one_at {E} seen item x at q within is =
+    same_Some item x (sym (ap (λ (u : List E × ℕ). slice_get u.0 at) q
+    ∙ ap (λ k. slice_get (item ∷ []) k) (first_place seen item at q within)) ∙ is)
+
+-- a part that stays has at a place some item that is put back
+pub stayed : {E : Type 0} (seen now : List E × ℕ) (at : ℕ) → at < length seen.0 → now ≡ seen →
+    (x : E) × (now ≡ (slice_set seen.0 at x, seen.1))
+stayed {E} seen now at within e =
+    let (x, is) = get_some seen.0 at within in
+    (x, e ∙ pairs seen.0 _ seen.1 seen.1 (sym (set_back seen.0 at x is)) refl)
 
 -- an open part of that height has room for as many items as sixteen of its parts
 pub room_in : {E : Type 0} (seen : List E × ℕ) (page : Page E) (height at : ℕ) →

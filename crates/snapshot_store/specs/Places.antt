@@ -1,5 +1,5 @@
 -- Which part of a page has an item or has room for the next one, and what a change of that part makes of the page.
-use Rattle.std.specs.Prelude.{◌≡◌, ℕ, ◌*◌, ◌^◌, ◌<◌, ◌≤◌, List, [], ◌∷◌, ◌++◌, length, slice_get, slice_set}
+use Rattle.std.specs.Prelude.{◌≡◌, ℕ, ◌*◌, ◌^◌, ◌<◌, List, [], ◌∷◌, ◌++◌, length, slice_get, slice_set}
 use Rattle.std.specs.Prelude.{Option, Some}
 use Rattle.snapshot_store.specs.Parts.{parts_in, items_in, IsPart, ArePacked}
 use Rattle.snapshot_store.specs.declared.parts.Page.{Page}

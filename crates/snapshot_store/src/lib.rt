@@ -2,7 +2,9 @@
 //! older list holds too, four for 65,536 items.
 #![tactic(auto)]
 
+mod changes;
 mod pages;
 mod parts;
 
+pub use changes::Change;
 pub use pages::Pages;

@@ -5,6 +5,7 @@ ghost use Rattle.std.specs.Option.{option_copied};
 ghost use Rattle.flux_defs.specs.Digits.{dig};
 ghost use Rattle.snapshot_store.specs.Parts.{IsPart};
 
+use crate::changes::Change;
 use crate::parts::Part;
 use flux_defs::Steps;
 use node_store::{Share, Vacant};
@@ -14,7 +15,7 @@ use std::mem;
 use std::sync::ledger::Ledger;
 
 /// A list of items; contracts see just that. `snap` gives the same list again at the cost of one shared node. `put`,
-/// `swap` and `push` change a list in place, and `with` and `with_pushed` give a changed one: in each case every list
+/// `change` and `push` change a list in place, and `with` and `with_pushed` give a changed one: in each case every list
 /// that was taken before stays as it was, and the nodes that a change doesn't lead through are held in common.
 ///
 /// A call takes at most a step for each level of sixteen parts a node, and one for the item: five for 65,536 items.
@@ -67,23 +68,25 @@ fn roomy<T: Drop>(
 }
 
 impl<T: Share + Drop> Pages<T> {
-    /// Swaps the item at a place of the list with another one. Where no memory is left both are as before.
+    /// Changes the item at a place of the list where it stands. Where no memory is left some item stands there, and the
+    /// others are as before.
     #[tactic(auto, using(crate::proofs::ListLaws::list_facts))]
-    pub fn swap<L: Ledger>(
+    pub fn change<C: Change<T>, L: Ledger>(
         &mut self,
         alloc: Global,
         at: u64,
-        item: &mut T,
+        change: &C,
         steps: &mut Steps<L>,
     ) -> Result<(), AllocError>
-        requires { at < length self.old }
-        ensures ok { OnOk result (self.new ≡ slice_set self.old at item.old) }
-        ensures item { OnOk result (slice_get self.old at ≡ Some item.new) }
-        ensures same { OnErr result ((self.new ≡ self.old) × (item.new ≡ item.old)) }
-        ensures work { steps.new ≤ steps.old + 2 * dig (length self.old + 1) }
+        requires within { at < length self.old }
+        requires fits { (x : T) → slice_get self.old at ≡ Some x → C.fits change.now x }
+        ensures new { (y : T) × (self.new ≡ slice_set self.old at y)
+            × OnOk result ((x : T) → slice_get self.old at ≡ Some x → C.makes change.now x y) }
+        ensures work { (x : T) (most : ℕ) → slice_get self.old at ≡ Some x → C.takes change.now x most →
+            steps.new ≤ steps.old + (2 * dig (length self.old + 1) + most) }
     {
         let _len = self.len;
-        match self.root.swap(alloc, at, item, steps) {
+        match self.root.change(alloc, at, change, steps) {
             Ok(()) => return Ok(()),
             Err(refused) => return Err(refused),
         }

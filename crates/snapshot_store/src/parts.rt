@@ -3,11 +3,11 @@ ghost use Rattle.std.specs.Prelude.{◌≡◌, ℕ, ◌+◌, ◌-◌, ◌*◌, �
 ghost use Rattle.std.specs.Prelude.{slice_set, replicate, Some, IfOk, IfErr, OnOk, OnErr, ◌%◌};
 ghost use Rattle.snapshot_store.specs.Places.{IsGiven};
 
+use crate::changes::Change;
 use flux_defs::Steps;
 use node_store::{Node, Share, Sixteen, Vacant};
 use std::alloc::{AllocError, Global};
 use std::marker::Model;
-use std::mem;
 use std::sync::ledger::Ledger;
 
 /// A part of a list: nothing, an item, or a page of sixteen parts. Contracts see its items and its height, which is how
@@ -174,50 +174,51 @@ fn set_given<T: Drop>(
     }
 }
 
-/// Swaps the item that the node holds with another one; others that held the same item keep it. Where no memory is left
-/// both are as before.
-fn swap_held<T: Share + Drop>(
+/// Changes the item that the node holds; others that held the same item keep it.
+fn change_held<T: Share + Drop, C: Change<T>, L: Ledger>(
     alloc: Global,
     node: &mut Node<T>,
-    item: &mut T,
+    change: &C,
+    steps: &mut Steps<L>,
 ) -> Result<(), AllocError>
-    ensures new { OnOk result (node.new ≡ item.old) }
-    ensures item { OnOk result (item.new ≡ node.old) }
-    ensures kept { OnErr result (item.new ≡ item.old) }
-    ensures same { OnErr result (node.new ≡ node.old) }
+    requires fits { C.fits change.now node.old }
+    ensures made { OnOk result (C.makes change.now node.old node.new) }
+    ensures work { (most : ℕ) → C.takes change.now node.old most → steps.new ≤ steps.old + most }
 {
     if let Err(refused) = node.own(alloc) {
         return Err(refused);
     }
-    let Some(place) = node.get_mut() else {
+    let Some(item) = node.get_mut() else {
         return Err(AllocError);
     };
-    mem::swap(place, item);
-    Ok(())
+    change.make(alloc, item, steps)
 }
 
 impl<T: Share + Drop> Part<T> {
-    /// Swaps the item at a place with another one, in the pages of this part that no other holds and in copies of the
-    /// others. Where no memory is left both are as before.
-    pub fn swap<L: Ledger>(
+    /// Changes the item at a place where it stands, in the pages of this part that no other holds and in copies of the
+    /// others.
+    pub fn change<C: Change<T>, L: Ledger>(
         &mut self,
         alloc: Global,
         at: u64,
-        item: &mut T,
+        change: &C,
         steps: &mut Steps<L>,
     ) -> Result<(), AllocError>
         requires within { at < length self.old.0 }
-        ensures new { OnOk result (self.new ≡ (slice_set self.old.0 at item.old, self.old.1)) }
-        ensures item { OnOk result (slice_get self.old.0 at ≡ Some item.new) }
-        ensures kept { OnErr result (item.new ≡ item.old) }
-        ensures same { OnErr result (self.new ≡ self.old) }
-        ensures work { steps.new ≤ steps.old + self.old.1 + 1 }
+        requires fits { (x : T) → slice_get self.old.0 at ≡ Some x → C.fits change.now x }
+        ensures new { (y : T) × (self.new ≡ (slice_set self.old.0 at y, self.old.1))
+            × OnOk result ((x : T) → slice_get self.old.0 at ≡ Some x → C.makes change.now x y) }
+        ensures work { (x : T) (most : ℕ) → slice_get self.old.0 at ≡ Some x → C.takes change.now x most →
+            steps.new ≤ steps.old + (self.old.1 + 1 + most) }
     {
         match &mut self.body {
             Body::Empty => unreachable!(),
             Body::Item(node) => {
                 steps.tick();
-                return swap_held(alloc, node, item);
+                match change_held(alloc, node, change, steps) {
+                    Ok(()) => return Ok(()),
+                    Err(refused) => return Err(refused),
+                }
             }
             Body::Fork(node) => {
                 steps.tick();
@@ -228,7 +229,7 @@ impl<T: Share + Drop> Part<T> {
                     return Err(AllocError);
                 };
                 let (place, rest) = page.place_of(page.below, at);
-                match page.parts.get_mut(place).swap(alloc, rest, item, steps) {
+                match page.parts.get_mut(place).change(alloc, rest, change, steps) {
                     Ok(()) => return Ok(()),
                     Err(refused) => return Err(refused),
                 }

@@ -1,11 +1,11 @@
 -- The planners of one vertex, changed place by place.
-use Rattle.std.proofs.Common.{◌≡◌, ◌≢◌, ℕ, zero, suc, ◌+◌, ◌*◌, ◌<◌, ◌≤◌, List, length, take, Some, slice_get, inl, inr}
+use Rattle.std.proofs.Common.{◌≡◌, ◌≢◌, ℕ, zero, suc, ◌+◌, ◌*◌, ◌<◌, ◌≤◌, List, length, take, Some, slice_get, slice_set, inl, inr}
 use Rattle.std.proofs.Common.{refl, sym, ◌∙◌, ap, subst, arith}
 use Rattle.std.proofs.Math.Nat.{add-mul, mul-le-mul_right}
 use Rattle.std.proofs.lemmas.List.Sums.{sum_by_more, sum_by-take-le}
-use Rattle.std.proofs.lemmas.Option.{get_or_from_slice_get, slice_get_within}
+use Rattle.std.proofs.lemmas.Option.{get_or_from_slice_get, slice_get_within, same_Some}
 use Rattle.std.proofs.lemmas.Bool.{cases_lt}
-use Rattle.list_laws.proofs.Lists.{get_some}
+use Rattle.list_laws.proofs.Lists.{get_some, get_set, get_beside}
 use Rattle.vertex_planners.specs.Kept.{AtRow}
 use Rattle.vertex_planners.specs.Rows.{some_one, count_some}
 
@@ -76,3 +76,12 @@ module _ (row : List ℕ) (i n most start before after cost : ℕ) (number : sli
 
   pub steps_all : after ≤ start + count_some row * most
   steps_all = steps_within row (i + 1) most start after steps_more
+
+-- a list of which one item is another
+module _ {X : Type 0} (old new : List X) (v : ℕ) (y : X) (is : new ≡ slice_set old v y) where
+  -- what stands there is that one
+  pub changed_here : (z : X) → v < length old → slice_get new v ≡ Some z → y ≡ z
+  changed_here z lt at = same_Some y z (sym (ap (λ l. slice_get l v) is ∙ get_set old v y lt) ∙ at)
+
+  pub changed_beside : (u : ℕ) → u ≢ v → slice_get new u ≡ slice_get old u
+  changed_beside u apart = ap (λ l. slice_get l u) is ∙ get_beside old v u y apart

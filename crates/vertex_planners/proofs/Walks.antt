@@ -59,11 +59,10 @@ module _ {P : Type 0} (Q : ℕ → P → P → Type 0) (old : List (List P)) (nu
   }
 
   -- the numbers of the vertex that is told of are taken off
-  pub row_of : (left fewer : List Amounts) (found : Option (ℕ × List ℕ)) (v : ℕ) (row : List ℕ) →
-      found ≡ Some (v, row) →
-      IfSome found (λ first. IsRowTaken left fewer first.0 first.1) → IsRowTaken left fewer v row
+  pub row_of : (left fewer : List Amounts) (found : Option ℕ) (v : ℕ) (row : List ℕ) → found ≡ Some v →
+      IfSome found (λ u. IsRowTaken left fewer u row) → IsRowTaken left fewer v row
   row_of left fewer found v row e h =
-      subst (λ (o : Option (ℕ × List ℕ)). IfSome o (λ first. IsRowTaken left fewer first.0 first.1)) e h
+      subst (λ (o : Option ℕ). IfSome o (λ u. IsRowTaken left fewer u row)) e h
 
   module _ (now : List (List P)) (left fewer : List Amounts)
       (v : ℕ) (row : List ℕ) (w : Walked Q old now numbers left) (off : IsRowTaken left fewer v row) where
@@ -173,13 +172,13 @@ module _ {P : Type 0} (Q : ℕ → P → P → Type 0) (old : List (List P)) (nu
     -- the item of the vertex that is taken off is changed within the bound
     pub walk_counts : (change_cost : P → ℕ) (most start after all : ℕ) → CostWithin change_cost most old →
         (((x : List P) (k : ℕ) (p : P) → slice_get now v ≡ Some x → slice_get x k ≡ Some p → change_cost p ≤ most) →
-        after ≤ start + (4 * dig (length now + 1) + count_some row * most)) →
+        after ≤ start + (2 * dig (length now + 1) + count_some row * most)) →
         start + count_all left * change_most (length old) most ≤ all →
         after + count_all fewer * change_most (length old) most ≤ all
     walk_counts change_cost most start after all within work so_far =
         let step = work (λ x k p at there. within v k x p (sym (w.same v off.was) ∙ at) there) in
-        let len = ap (λ (n : ℕ). 4 * dig (n + 1)) w.len in
-        counts_down (count_all left) (count_all fewer) (count_some row) (4 * dig (length old + 1)) most start after all
+        let len = ap (λ (n : ℕ). 2 * dig (n + 1)) w.len in
+        counts_down (count_all left) (count_all fewer) (count_some row) (2 * dig (length old + 1)) most start after all
         off.row_is.fewer (off.row_is.less off.was) (omega (arith, step, len)) so_far
       where
         times_more : (a b c d : ℕ) → a + b ≤ c → a * d + b * d ≤ c * d
@@ -198,9 +197,9 @@ module _ {P : Type 0} (Q : ℕ → P → P → Type 0) (old : List (List P)) (nu
             omega (arith, looks, changes, a, b, c, one, rest)
 
   -- no vertex is told of
-  pub none_of : (left : List Amounts) (found : Option (ℕ × List ℕ)) →
-      found ≡ None → IfNone found (HasNoneLeft left) → HasNoneLeft left
-  none_of left found e h = subst (λ (o : Option (ℕ × List ℕ)). IfNone o (HasNoneLeft left)) e h
+  pub none_of : (left : List Amounts) (found : Option ℕ) → found ≡ None → IfNone found (HasNoneLeft left) →
+      HasNoneLeft left
+  none_of left found e h = subst (λ (o : Option ℕ). IfNone o (HasNoneLeft left)) e h
 
   -- no vertex is left
   module _ (now : List (List P))

@@ -1,5 +1,5 @@
 -- What becomes of a planner whose vertex's number is added to its spans, or taken from them.
-use Rattle.std.specs.Prelude.{◌≡◌, ℕ, List, ◌++◌, length, Some, slice_get}
+use Rattle.std.specs.Prelude.{◌≡◌, ℕ, ◌*◌, ◌≤◌, List, ◌++◌, length, Some, slice_get}
 use Rattle.flux_defs.specs.declared.claims.Window.{Window}
 use Rattle.planner_points.specs.declared.spans.Span.{Span}
 use Rattle.planner_points.specs.Spans.{HasRoom}
@@ -7,6 +7,7 @@ use Rattle.book_laws.specs.Grouped.{some_span}
 use Rattle.vertex_planners.specs.declared.amounts.Amounts.{Amounts}
 use Rattle.vertex_planners.specs.Numbers.{amount_at}
 use Rattle.vertex_planners.specs.Lists.{at_place}
+use Rattle.vertex_planners.specs.Rows.{count_some}
 
 module _ {P : Type 0} (total_of : P → ℕ) (stands_for : P → List Span → Type 0) where
   -- r has the total of p, and stands for the spans of p with so much over the window among them
@@ -41,6 +42,11 @@ HaveRoom total_of stands_for window row item = AtNumbers (HasRoomFor total_of st
 -- each planner of one vertex has a span of its number of a row
 abbrev pub HaveSpans : {P : Type 0} → (P → List Span → Type 0) → Window → List ℕ → List P → Type 0
 HaveSpans stands_for window row item = AtNumbers (HasSpanOf stands_for window) row item
+
+-- so many steps are enough for the planners of one vertex that have a number of a row, where each takes this cost
+abbrev pub IsEnough : {P : Type 0} → (P → ℕ) → List ℕ → List P → ℕ → Type 0
+IsEnough {P = P} cost row item steps = (most : ℕ) × ((k : ℕ) (p : P) → slice_get item k ≡ Some p → cost p ≤ most)
+    × (count_some row * most ≤ steps)
 
 -- what each planner of one vertex becomes by its number of a row
 pub record AtRow {P : Type 0} (Q : ℕ → P → P → Type 0) (row : List ℕ) (old new : List P) : Type 0 where

@@ -3,9 +3,9 @@ use Rattle.std.specs.Prelude.{◌≡◌, ℕ, ◌+◌, ◌*◌, ◌≤◌, List,
 use Rattle.flux_defs.specs.Digits.{dig}
 
 -- a change of one planner of one of so many vertices, which itself takes at most so many steps: the vertex's item is
--- looked up, changed and put back
+-- looked up, and the planner is changed where it stands
 abbrev pub change_most : ℕ → ℕ → ℕ
-change_most vertices changes = 4 * dig (vertices + 1) + changes
+change_most vertices changes = 2 * dig (vertices + 1) + changes
 
 -- this cost of any planner of any vertex is at most so many steps
 abbrev pub CostWithin : {P : Type 0} → (P → ℕ) → ℕ → List (List P) → Type 0

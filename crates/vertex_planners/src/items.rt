@@ -9,14 +9,15 @@ ghost use Rattle.vertex_planners.specs.Rows.{count_some};
 
 use flux_defs::{List, Steps, Window};
 use node_store::Share;
-use planner_points::{Planner, renewed_with, renewed_without};
+use planner_points::{Planner, renew_with, renew_without};
+use snapshot_store::Change;
 use std::alloc::{AllocError, Global};
 use std::marker::Model;
 use std::sync::ledger::Ledger;
 
 /// The planners of one vertex side by side, by place. Contracts see the list of the planners. A call that adds or
-/// removes spans makes the item of the old one, of which the planners that stay aren't moved, and leaves none where no
-/// memory is left. `share` gives an item that has the same planners and keeps them; it takes its memory from `alloc`.
+/// removes spans changes the planners where they stand; where no memory is left nothing is known of them any more.
+/// `share` gives an item that has the same planners and keeps them; it takes its memory from `alloc`.
 #[derive(Drop)]
 pub struct Item<P: Planner + Drop> {
     alloc: Global,
@@ -51,16 +52,6 @@ impl<P: Planner + Drop> Share for Item<P> {
 }
 
 impl<P: Planner + Drop> Item<P> {
-    /// No planners. It takes no memory.
-    pub(crate) fn none(alloc: Global) -> Item<P>
-        ensures { result ≡ [] }
-    {
-        Item {
-            alloc,
-            planners: List::new(alloc),
-        }
-    }
-
     /// A planner without spans for each of these totals.
     pub fn of_totals(alloc: Global, totals: &[u64], horizon: u64) -> Result<Item<P>, AllocError>
         ensures len { IfOk result (λ item. length item ≡ length totals.now) }
@@ -139,65 +130,135 @@ impl<P: Planner + Drop> Item<P> {
         planner.first_free(from, quantity, steps)
     }
 
-    /// The item, of which each planner gains a span over the window of its place's number, if that isn't 0, made ready
-    /// before for questions from that second on.
-    pub(crate) fn gained<L: Ledger>(
-        self,
+    /// Each planner gains a span over the window of its place's number, if that isn't 0, made ready before for questions
+    /// from that second on.
+    pub(crate) fn gain<L: Ledger>(
+        &mut self,
         alloc: Global,
         moment: u64,
         window: Window,
         row: &List<u64>,
         steps: &mut Steps<L>,
-    ) -> Result<Item<P>, AllocError>
-        requires places { length row.now ≡ length self }
+    ) -> Result<(), AllocError>
+        requires places { length row.now ≡ length self.old }
         requires window { window.from < window.to }
-        requires room { HaveRoom P.total_of P.stands_for window row.now self }
-        ensures gains { IfOk result (AtRow (Gains P.total_of P.stands_for window) row.now self) }
+        requires room { HaveRoom P.total_of P.stands_for window row.now self.old }
+        ensures gains { OnOk result (AtRow (Gains P.total_of P.stands_for window) row.now self.old self.new) }
         ensures work { (most : ℕ) →
-            ((k : ℕ) (p : P) → slice_get self k ≡ Some p → renew_cost P.settle_cost P.change_cost p ≤ most) →
+            ((k : ℕ) (p : P) → slice_get self.old k ≡ Some p → renew_cost P.settle_cost P.change_cost p ≤ most) →
             steps.new ≤ steps.old + count_some row.now * most }
     {
-        let Item { mut planners, .. } = self;
         for place in 0..row.len() {
             let Some(number) = row.get(place) else {
                 unreachable!()
             };
-            gain(alloc, &mut planners, place, moment, window, *number, steps)?;
+            gain(
+                alloc,
+                &mut self.planners,
+                place,
+                moment,
+                window,
+                *number,
+                steps,
+            )?;
         }
-        Ok(Item { alloc, planners })
+        Ok(())
     }
 
-    /// The item, of which each planner loses a span over the window of its place's number, if that isn't 0, made ready
-    /// before for questions from that second on.
-    pub(crate) fn lost<L: Ledger>(
-        self,
+    /// Each planner loses a span over the window of its place's number, if that isn't 0, made ready before for questions
+    /// from that second on.
+    pub(crate) fn lose<L: Ledger>(
+        &mut self,
         alloc: Global,
         moment: u64,
         window: Window,
         row: &List<u64>,
         steps: &mut Steps<L>,
-    ) -> Result<Item<P>, AllocError>
-        requires places { length row.now ≡ length self }
+    ) -> Result<(), AllocError>
+        requires places { length row.now ≡ length self.old }
         requires window { window.from < window.to }
-        requires span { HaveSpans P.stands_for window row.now self }
-        ensures loses { IfOk result (AtRow (Loses P.total_of P.stands_for window) row.now self) }
+        requires span { HaveSpans P.stands_for window row.now self.old }
+        ensures loses { OnOk result (AtRow (Loses P.total_of P.stands_for window) row.now self.old self.new) }
         ensures work { (most : ℕ) →
-            ((k : ℕ) (p : P) → slice_get self k ≡ Some p → renew_cost P.settle_cost P.change_cost p ≤ most) →
+            ((k : ℕ) (p : P) → slice_get self.old k ≡ Some p → renew_cost P.settle_cost P.change_cost p ≤ most) →
             steps.new ≤ steps.old + count_some row.now * most }
     {
-        let Item { mut planners, .. } = self;
         for place in 0..row.len() {
             let Some(number) = row.get(place) else {
                 unreachable!()
             };
-            lose(alloc, &mut planners, place, moment, window, *number, steps)?;
+            lose(
+                alloc,
+                &mut self.planners,
+                place,
+                moment,
+                window,
+                *number,
+                steps,
+            )?;
         }
-        Ok(Item { alloc, planners })
+        Ok(())
+    }
+}
+
+/// The planners of one vertex gain spans of the numbers of a row.
+#[derive(Drop)]
+pub(crate) struct MoreSpans<'a> {
+    pub(crate) moment: u64,
+    pub(crate) window: Window,
+    pub(crate) row: &'a List<u64>,
+}
+
+impl<'a, P: Planner + Drop> Change<Item<P>> for MoreSpans<'a> {
+    ghost use Rattle.vertex_planners.specs.Kept.{HaveRoom, Gains, AtRow, IsEnough};
+
+    ghost fits = { λ change item. (length change.row.now ≡ length item) × (change.window.from < change.window.to)
+        × HaveRoom P.total_of P.stands_for change.window change.row.now item };
+
+    ghost makes = { λ change old new. AtRow (Gains P.total_of P.stands_for change.window) change.row.now old new };
+
+    ghost takes = { λ change item most. IsEnough (renew_cost P.settle_cost P.change_cost) change.row.now item most };
+
+    fn make<L: Ledger>(
+        &self,
+        alloc: Global,
+        item: &mut Item<P>,
+        steps: &mut Steps<L>,
+    ) -> Result<(), AllocError> {
+        item.gain(alloc, self.moment, self.window, self.row, steps)
+    }
+}
+
+/// The planners of one vertex lose spans of the numbers of a row.
+#[derive(Drop)]
+pub(crate) struct FewerSpans<'a> {
+    pub(crate) moment: u64,
+    pub(crate) window: Window,
+    pub(crate) row: &'a List<u64>,
+}
+
+impl<'a, P: Planner + Drop> Change<Item<P>> for FewerSpans<'a> {
+    ghost use Rattle.vertex_planners.specs.Kept.{HaveSpans, Loses, AtRow, IsEnough};
+
+    ghost fits = { λ change item. (length change.row.now ≡ length item) × (change.window.from < change.window.to)
+        × HaveSpans P.stands_for change.window change.row.now item };
+
+    ghost makes = { λ change old new. AtRow (Loses P.total_of P.stands_for change.window) change.row.now old new };
+
+    ghost takes = { λ change item most. IsEnough (renew_cost P.settle_cost P.change_cost) change.row.now item most };
+
+    fn make<L: Ledger>(
+        &self,
+        alloc: Global,
+        item: &mut Item<P>,
+        steps: &mut Steps<L>,
+    ) -> Result<(), AllocError> {
+        item.lose(alloc, self.moment, self.window, self.row, steps)
     }
 }
 
 /// The planner at the place gains a span, made ready before for questions from that second on; it stays as it is where
-/// the quantity is 0. While it changes an empty one stands in its place, and so it is after want of memory.
+/// the quantity is 0.
 fn gain<P: Planner + Drop, L: Ledger>(
     alloc: Global,
     planners: &mut List<P>,
@@ -224,15 +285,14 @@ fn gain<P: Planner + Drop, L: Ledger>(
     if quantity == 0 {
         return Ok(());
     }
-    let none = P::empty(alloc, 0, 0)?;
-    let old = planners.put(place, none);
-    let new = renewed_with(old, alloc, moment, window, quantity, steps)?;
-    planners.put(place, new);
-    Ok(())
+    let Some(planner) = planners.get_mut(place) else {
+        unreachable!()
+    };
+    renew_with(planner, alloc, moment, window, quantity, steps)
 }
 
 /// The planner at the place loses a span, made ready before for questions from that second on; it stays as it is where
-/// the quantity is 0. While it changes an empty one stands in its place, and so it is after want of memory.
+/// the quantity is 0.
 fn lose<P: Planner + Drop, L: Ledger>(
     alloc: Global,
     planners: &mut List<P>,
@@ -258,9 +318,8 @@ fn lose<P: Planner + Drop, L: Ledger>(
     if quantity == 0 {
         return Ok(());
     }
-    let none = P::empty(alloc, 0, 0)?;
-    let old = planners.put(place, none);
-    let new = renewed_without(old, alloc, moment, window, quantity, steps)?;
-    planners.put(place, new);
-    Ok(())
+    let Some(planner) = planners.get_mut(place) else {
+        unreachable!()
+    };
+    renew_without(planner, alloc, moment, window, quantity, steps)
 }

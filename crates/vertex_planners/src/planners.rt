@@ -7,7 +7,7 @@ ghost use Rattle.vertex_planners.specs.Kept.{Gains, Loses, HaveRoom, HaveSpans, 
 ghost use Rattle.vertex_planners.specs.Rows.{places_of, count_all, count_some, HaveKeysBelow};
 ghost use Rattle.vertex_planners.specs.Work.{change_most, CostWithin};
 
-use crate::items::Item;
+use crate::items::{FewerSpans, Item, MoreSpans};
 use crate::rows::Rows;
 use flux_defs::{List, Steps, Window};
 use planner_points::Planner;
@@ -15,8 +15,8 @@ use snapshot_store::Pages;
 use std::alloc::{AllocError, Global};
 use std::sync::ledger::Ledger;
 
-/// One item a vertex, by the vertices' numbers, each with a planner for each place. A call that changes something makes
-/// the new ones of the old ones, in place where no others share them, and leaves none where no memory is left; `share`
+/// One item a vertex, by the vertices' numbers, each with a planner for each place. A call that changes something does
+/// so in place where no others share it, and where no memory is left nothing is known of the planners any more; `share`
 /// keeps the old ones.
 #[derive(Drop)]
 pub struct VertexPlanners<P: Planner + Drop> {
@@ -73,67 +73,66 @@ impl<P: Planner + Drop> VertexPlanners<P> {
         Ok(VertexPlanners { items })
     }
 
-    /// The planners, of which each gains a span over the window of its vertex's number at its place, if that isn't 0.
-    /// Each that does is made ready before for questions from that second on.
-    pub fn gained<L: Ledger>(
-        self,
+    /// Each planner gains a span over the window of its vertex's number at its place, if that isn't 0. Each that does is
+    /// made ready before for questions from that second on.
+    pub fn gain<L: Ledger>(
+        &mut self,
         alloc: Global,
         moment: u64,
         window: Window,
         rows: Rows,
         steps: &mut Steps<L>,
-    ) -> Result<VertexPlanners<P>, AllocError>
+    ) -> Result<(), AllocError>
         requires window { window.from < window.to }
-        requires places { AreWide (length (places_of rows)) (items_of self) }
-        requires keys { HaveKeysBelow (length (items_of self)) (places_of rows) }
-        requires room { RoomAt P.total_of P.stands_for window (places_of rows) (items_of self) }
-        ensures len { IfOk result (λ all. length (items_of all) ≡ length (items_of self)) }
-        ensures places { IfOk result (λ all. AreWide (length (places_of rows)) (items_of all)) }
-        ensures gains { IfOk result (λ all.
-            AtPlaces (Gains P.total_of P.stands_for window) (places_of rows) (items_of self) (items_of all)) }
-        ensures work { (most : ℕ) → CostWithin (renew_cost P.settle_cost P.change_cost) most (items_of self) →
-            steps.new ≤ steps.old + count_all (places_of rows) * change_most (length (items_of self)) most }
+        requires places { AreWide (length (places_of rows)) (items_of self.old) }
+        requires keys { HaveKeysBelow (length (items_of self.old)) (places_of rows) }
+        requires room { RoomAt P.total_of P.stands_for window (places_of rows) (items_of self.old) }
+        ensures len { OnOk result (length (items_of self.new) ≡ length (items_of self.old)) }
+        ensures places { OnOk result (AreWide (length (places_of rows)) (items_of self.new)) }
+        ensures gains { OnOk result
+            (AtPlaces (Gains P.total_of P.stands_for window) (places_of rows) (items_of self.old) (items_of self.new)) }
+        ensures work { (most : ℕ) → CostWithin (renew_cost P.settle_cost P.change_cost) most (items_of self.old) →
+            steps.new ≤ steps.old + count_all (places_of rows) * change_most (length (items_of self.old)) most }
     {
-        let VertexPlanners { mut items } = self;
         let mut left = rows;
-        while let Some((vertex, row)) = left.pop(alloc)? {
-            gain_at(alloc, &mut items, vertex, moment, window, &row, steps)?;
+        let mut row = List::of_vec(Vec::with_capacity(alloc, left.places.len())?);
+        while let Some(vertex) = left.pop(&mut row)? {
+            gain_at(alloc, &mut self.items, vertex, moment, window, &row, steps)?;
         }
-        Ok(VertexPlanners { items })
+        Ok(())
     }
 
-    /// The planners, of which each loses a span over the window of its vertex's number at its place, if that isn't 0.
-    /// Each that does is made ready before for questions from that second on.
-    pub fn lost<L: Ledger>(
-        self,
+    /// Each planner loses a span over the window of its vertex's number at its place, if that isn't 0. Each that does is
+    /// made ready before for questions from that second on.
+    pub fn lose<L: Ledger>(
+        &mut self,
         alloc: Global,
         moment: u64,
         window: Window,
         rows: Rows,
         steps: &mut Steps<L>,
-    ) -> Result<VertexPlanners<P>, AllocError>
+    ) -> Result<(), AllocError>
         requires window { window.from < window.to }
-        requires places { AreWide (length (places_of rows)) (items_of self) }
-        requires keys { HaveKeysBelow (length (items_of self)) (places_of rows) }
-        requires span { SpansAt P.stands_for window (places_of rows) (items_of self) }
-        ensures len { IfOk result (λ all. length (items_of all) ≡ length (items_of self)) }
-        ensures places { IfOk result (λ all. AreWide (length (places_of rows)) (items_of all)) }
-        ensures loses { IfOk result (λ all.
-            AtPlaces (Loses P.total_of P.stands_for window) (places_of rows) (items_of self) (items_of all)) }
-        ensures work { (most : ℕ) → CostWithin (renew_cost P.settle_cost P.change_cost) most (items_of self) →
-            steps.new ≤ steps.old + count_all (places_of rows) * change_most (length (items_of self)) most }
+        requires places { AreWide (length (places_of rows)) (items_of self.old) }
+        requires keys { HaveKeysBelow (length (items_of self.old)) (places_of rows) }
+        requires span { SpansAt P.stands_for window (places_of rows) (items_of self.old) }
+        ensures len { OnOk result (length (items_of self.new) ≡ length (items_of self.old)) }
+        ensures places { OnOk result (AreWide (length (places_of rows)) (items_of self.new)) }
+        ensures loses { OnOk result
+            (AtPlaces (Loses P.total_of P.stands_for window) (places_of rows) (items_of self.old) (items_of self.new)) }
+        ensures work { (most : ℕ) → CostWithin (renew_cost P.settle_cost P.change_cost) most (items_of self.old) →
+            steps.new ≤ steps.old + count_all (places_of rows) * change_most (length (items_of self.old)) most }
     {
-        let VertexPlanners { mut items } = self;
         let mut left = rows;
-        while let Some((vertex, row)) = left.pop(alloc)? {
-            lose_at(alloc, &mut items, vertex, moment, window, &row, steps)?;
+        let mut row = List::of_vec(Vec::with_capacity(alloc, left.places.len())?);
+        while let Some(vertex) = left.pop(&mut row)? {
+            lose_at(alloc, &mut self.items, vertex, moment, window, &row, steps)?;
         }
-        Ok(VertexPlanners { items })
+        Ok(())
     }
 }
 
-/// The planners of one vertex gain spans. While they change the vertex has an item without planners, and so it is after
-/// want of memory.
+/// The planners of one vertex gain spans, where they stand.
 fn gain_at<P: Planner + Drop, L: Ledger>(
     alloc: Global,
     items: &mut Pages<Item<P>>,
@@ -155,16 +154,18 @@ fn gain_at<P: Planner + Drop, L: Ledger>(
     ensures others { OnOk result ((u : ℕ) → u ≢ vertex → slice_get items.new u ≡ slice_get items.old u) }
     ensures work { (most : ℕ) → ((x : List P) (k : ℕ) (p : P) → slice_get items.old vertex ≡ Some x →
         slice_get x k ≡ Some p → renew_cost P.settle_cost P.change_cost p ≤ most) →
-        steps.new ≤ steps.old + (4 * dig (length items.old + 1) + count_some row.now * most) }
+        steps.new ≤ steps.old + (2 * dig (length items.old + 1) + count_some row.now * most) }
 {
-    let mut item = Item::none(alloc);
-    items.swap(alloc, vertex as u64, &mut item, steps)?;
-    let mut item = item.gained(alloc, moment, window, row, steps)?;
-    items.swap(alloc, vertex as u64, &mut item, steps)
+    let change = MoreSpans {
+        moment,
+        window,
+        row,
+    };
+    items.change(alloc, vertex as u64, &change, steps)?;
+    Ok(())
 }
 
-/// The planners of one vertex lose spans. While they change the vertex has an item without planners, and so it is after
-/// want of memory.
+/// The planners of one vertex lose spans, where they stand.
 fn lose_at<P: Planner + Drop, L: Ledger>(
     alloc: Global,
     items: &mut Pages<Item<P>>,
@@ -185,10 +186,13 @@ fn lose_at<P: Planner + Drop, L: Ledger>(
     ensures others { OnOk result ((u : ℕ) → u ≢ vertex → slice_get items.new u ≡ slice_get items.old u) }
     ensures work { (most : ℕ) → ((x : List P) (k : ℕ) (p : P) → slice_get items.old vertex ≡ Some x →
         slice_get x k ≡ Some p → renew_cost P.settle_cost P.change_cost p ≤ most) →
-        steps.new ≤ steps.old + (4 * dig (length items.old + 1) + count_some row.now * most) }
+        steps.new ≤ steps.old + (2 * dig (length items.old + 1) + count_some row.now * most) }
 {
-    let mut item = Item::none(alloc);
-    items.swap(alloc, vertex as u64, &mut item, steps)?;
-    let mut item = item.lost(alloc, moment, window, row, steps)?;
-    items.swap(alloc, vertex as u64, &mut item, steps)
+    let change = FewerSpans {
+        moment,
+        window,
+        row,
+    };
+    items.change(alloc, vertex as u64, &change, steps)?;
+    Ok(())
 }

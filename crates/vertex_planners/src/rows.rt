@@ -34,28 +34,28 @@ impl Rows {
         }
     }
 
-    /// Takes the numbers of one vertex off that has some, with the numbers by place; `None` exactly where no vertex is
-    /// left.
-    pub(crate) fn pop(&mut self, alloc: Global) -> Result<Option<(u32, List<u64>)>, AllocError>
+    /// Takes the numbers of one vertex off that has some; `None` exactly where no vertex is left. The row is then that of
+    /// the vertex's numbers by place.
+    pub(crate) fn pop(&mut self, row: &mut List<u64>) -> Result<Option<u32>, AllocError>
         ensures taken { IfOk result
-            (λ found. IfSome found (λ first. IsRowTaken (places_of self.old) (places_of self.new) first.0 first.1)) }
+            (λ found. IfSome found (λ vertex. IsRowTaken (places_of self.old) (places_of self.new) vertex row.new)) }
         ensures none { IfOk result (λ found. IfNone found (HasNoneLeft (places_of self.old))) }
     {
         match last_of(self.places.as_slice()) {
             Some(vertex) => {
-                let row = self.take(alloc, vertex)?;
-                return Ok(Some((vertex, row)));
+                self.take(vertex, row)?;
+                return Ok(Some(vertex));
             }
             None => return Ok(None),
         }
     }
 
-    /// Takes the vertex's numbers off.
-    fn take(&mut self, alloc: Global, vertex: u32) -> Result<List<u64>, AllocError>
-        ensures { IfOk result (IsRow (places_of self.old) (places_of self.new) vertex) }
+    /// Takes the vertex's numbers off, and makes the row of them. It takes no memory where the row has had as many
+    /// numbers before.
+    fn take(&mut self, vertex: u32, row: &mut List<u64>) -> Result<(), AllocError>
+        ensures { OnOk result (IsRow (places_of self.old) (places_of self.new) vertex row.new) }
     {
-        let room = Vec::with_capacity(alloc, self.places.len())?;
-        let mut row = List::of_vec(room);
+        clear(row);
         for place in 0..self.places.len() {
             let number = self.places[place].take(vertex);
             match row.push(number) {
@@ -63,8 +63,15 @@ impl Rows {
                 Err((_, refused)) => return Err(refused),
             }
         }
-        Ok(row)
+        Ok(())
     }
+}
+
+/// Takes all numbers off, and keeps their memory.
+fn clear(row: &mut List<u64>)
+    ensures { row.new ≡ [] }
+{
+    while let Some(_) = row.pop() {}
 }
 
 /// The last vertex for which a number is kept at some place; `None` exactly where there is none.

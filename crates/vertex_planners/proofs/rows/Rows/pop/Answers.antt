@@ -7,5 +7,5 @@ pub returns-in-Some-clause-taken : goal.returns-in-Some-clause-taken
 returns-in-Some-clause-taken c = record {
   was = subst (λ (places : List Amounts). IsLeft places c.in-Some.vertex) c.as_slice.ensures.value
       c.in-Some.ensures.some;
-  row_is = c.in_ok-row-in-Some.ensures;
+  row_is = c.in_ok-take-in-Some.ensures;
 }

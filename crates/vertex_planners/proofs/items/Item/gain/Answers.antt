@@ -1,12 +1,12 @@
 use Rattle.std.proofs.Common.{sym, arith}
 use Rattle.vertex_planners.specs.Kept.{Gains}
 use Rattle.vertex_planners.proofs.ItemLaws.{still_there, one_more, all_changed, steps_more, steps_all, steps_within}
-use Rattle.vertex_planners.proofs.items.Item.gained.Goals as goal
+use Rattle.vertex_planners.proofs.items.Item.gain.Goals as goal
 
 pub returns-in_err-gain-clause-work : goal.returns-in_err-gain-clause-work
 returns-in_err-gain-clause-work g c = λ most within.
     let (p, is, was) = still_there (Gains g.P.Planner.total_of g.P.Planner.stands_for c.args.window) c.args.row.now
-    c.args.self c.loop-place.planners c.loop-place.place c.loop-place.invariant.each c.in-Some.ensures.within
+    c.args.self.now c.loop-place.self-inside.planners c.loop-place.place c.loop-place.invariant.each c.in-Some.ensures.within
     c.requires.places in
     steps_all c.args.row.now c.loop-place.place _ most c.args.steps.now c.loop-place.steps c.gain.new.steps _
     (sym c.in-Some.ensures.value) (within c.loop-place.place p was) c.gain.ensures.none (c.gain.ensures.work p is)
@@ -14,12 +14,12 @@ returns-in_err-gain-clause-work g c = λ most within.
 
 pub loop-place-preserved : goal.loop-place-preserved
 loop-place-preserved g c = record {
-  each = one_more (Gains g.P.Planner.total_of g.P.Planner.stands_for c.args.window) c.args.row.now c.args.self
-      c.loop-place.planners c.loop-place.place c.loop-place.invariant.each c.gain.new.planners c.in-Some.number.now
+  each = one_more (Gains g.P.Planner.total_of g.P.Planner.stands_for c.args.window) c.args.row.now c.args.self.now
+      c.loop-place.self-inside.planners c.loop-place.place c.loop-place.invariant.each c.gain.new.planners c.in-Some.number.now
       (sym c.in-Some.ensures.value) c.in_ok-gain.ensures.len c.in_ok-gain.ensures.here c.in_ok-gain.ensures.others;
   work = λ most within.
       let (p, is, was) = still_there (Gains g.P.Planner.total_of g.P.Planner.stands_for c.args.window) c.args.row.now
-      c.args.self c.loop-place.planners c.loop-place.place c.loop-place.invariant.each c.in-Some.ensures.within
+      c.args.self.now c.loop-place.self-inside.planners c.loop-place.place c.loop-place.invariant.each c.in-Some.ensures.within
       c.requires.places in
       steps_more c.args.row.now c.loop-place.place _ most c.args.steps.now c.loop-place.steps c.gain.new.steps _
       (sym c.in-Some.ensures.value) (within c.loop-place.place p was) c.gain.ensures.none (c.gain.ensures.work p is)
@@ -30,8 +30,8 @@ pub returns-clause-gains : goal.returns-clause-gains
 returns-clause-gains g c =
     let done = c.loop-place-test.false in
     let end = c.len-place-end.ensures in
-    all_changed (Gains g.P.Planner.total_of g.P.Planner.stands_for c.args.window) c.args.row.now c.args.self
-    c.loop-place.planners c.loop-place.place c.loop-place.invariant.each (omega (arith, done, end))
+    all_changed (Gains g.P.Planner.total_of g.P.Planner.stands_for c.args.window) c.args.row.now c.args.self.now
+    c.loop-place.self-inside.planners c.loop-place.place c.loop-place.invariant.each (omega (arith, done, end))
 
 pub returns-clause-work : goal.returns-clause-work
 returns-clause-work g c = λ most within.
