@@ -112,6 +112,7 @@ fn remove_mark<const N: usize>(points: &mut ArrayVec<Point, N>, mark: Mark)
 
 impl Change {
     /// The second at which the end is.
+    #[inline]
     pub fn time(&self) -> u64
         ensures { result ≡ time_of self.now }
     {

@@ -60,6 +60,7 @@ fn later_than(end: Option<u64>, from: u64) -> Option<u64>
 }
 
 /// Whether a second has its place among the points of a tree, where others come behind it.
+#[inline]
 #[tactic(auto, using(crate::proofs::PlanFacts::few_chunks))]
 fn has_place(tree: &Tree<Chunk, Dip>, t: u64) -> bool
     requires { AreFilled tree.now.0 }
