@@ -13,7 +13,7 @@ ghost use Rattle.vertex_accounts.specs.Costs.{accounts_most};
 use crate::books::Accounts;
 use crate::counted::rows_of;
 use flux_defs::{Claim, Job, Steps, Window};
-use planner_points::{Planner, renewed_with, renewed_without};
+use planner_points::{Planner, renew_with, renew_without};
 use resource_graph::Graph;
 use std::alloc::{AllocError, Global};
 use std::sync::Arc;
@@ -71,21 +71,12 @@ impl<P: Planner + Drop> Accounts<P> {
         let claims = job.claims.items();
         let rows = rows_of(alloc, graph, quantities, claims)?;
         let widest = self.widest_with(graph, claims);
-        let Accounts {
-            counted,
-            planners,
-            times,
-            ..
-        } = self;
-        let planners = planners.gained(alloc, moment, window, rows, steps)?;
-        let times = renewed_with(times, alloc, moment, window, 0, steps)?;
-        Ok(Accounts {
-            counted,
-            planners,
-            times,
-            count,
-            widest,
-        })
+        let mut book = self;
+        book.planners.gain(alloc, moment, window, rows, steps)?;
+        renew_with(&mut book.times, alloc, moment, window, 0, steps)?;
+        book.count = count;
+        book.widest = widest;
+        Ok(book)
     }
 
     /// How wide the vertices are at most that jobs hold, where one with these claims comes to the others.
@@ -130,22 +121,11 @@ impl<P: Planner + Drop> Accounts<P> {
         let quantities = self.counted().quantities.items();
         let claims = job.claims.items();
         let rows = rows_of(alloc, graph, quantities, claims)?;
-        let Accounts {
-            counted,
-            planners,
-            times,
-            widest,
-            ..
-        } = self;
-        let planners = planners.lost(alloc, moment, window, rows, steps)?;
-        let times = renewed_without(times, alloc, moment, window, 0, steps)?;
-        Ok(Accounts {
-            counted,
-            planners,
-            times,
-            count,
-            widest,
-        })
+        let mut book = self;
+        book.planners.lose(alloc, moment, window, rows, steps)?;
+        renew_without(&mut book.times, alloc, moment, window, 0, steps)?;
+        book.count = count;
+        Ok(book)
     }
 }
 

@@ -130,8 +130,8 @@ impl<P: Planner + Drop> Item<P> {
         planner.first_free(from, quantity, steps)
     }
 
-    /// Each planner gains a span over the window of its place's number, if that isn't 0, made ready before for questions
-    /// from that second on.
+    /// Each planner gains a span over the window of its place's number, if that isn't 0, made ready before for
+    /// questions from that second on.
     pub(crate) fn gain<L: Ledger>(
         &mut self,
         alloc: Global,
@@ -165,8 +165,8 @@ impl<P: Planner + Drop> Item<P> {
         Ok(())
     }
 
-    /// Each planner loses a span over the window of its place's number, if that isn't 0, made ready before for questions
-    /// from that second on.
+    /// Each planner loses a span over the window of its place's number, if that isn't 0, made ready before for
+    /// questions from that second on.
     pub(crate) fn lose<L: Ledger>(
         &mut self,
         alloc: Global,

@@ -73,8 +73,8 @@ impl<P: Planner + Drop> VertexPlanners<P> {
         Ok(VertexPlanners { items })
     }
 
-    /// Each planner gains a span over the window of its vertex's number at its place, if that isn't 0. Each that does is
-    /// made ready before for questions from that second on.
+    /// Each planner gains a span over the window of its vertex's number at its place, if that isn't 0. Each that does
+    /// is made ready before for questions from that second on.
     pub fn gain<L: Ledger>(
         &mut self,
         alloc: Global,
@@ -102,8 +102,8 @@ impl<P: Planner + Drop> VertexPlanners<P> {
         Ok(())
     }
 
-    /// Each planner loses a span over the window of its vertex's number at its place, if that isn't 0. Each that does is
-    /// made ready before for questions from that second on.
+    /// Each planner loses a span over the window of its vertex's number at its place, if that isn't 0. Each that does
+    /// is made ready before for questions from that second on.
     pub fn lose<L: Ledger>(
         &mut self,
         alloc: Global,

@@ -34,8 +34,8 @@ impl Rows {
         }
     }
 
-    /// Takes the numbers of one vertex off that has some; `None` exactly where no vertex is left. The row is then that of
-    /// the vertex's numbers by place.
+    /// Takes the numbers of one vertex off that has some, and makes the row of them by place; `None` exactly where no
+    /// vertex is left.
     pub(crate) fn pop(&mut self, row: &mut List<u64>) -> Result<Option<u32>, AllocError>
         ensures taken { IfOk result
             (λ found. IfSome found (λ vertex. IsRowTaken (places_of self.old) (places_of self.new) vertex row.new)) }

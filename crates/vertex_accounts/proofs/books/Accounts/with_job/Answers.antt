@@ -19,8 +19,8 @@ few_claims : (jobs : List Job) (job : Job) (count more : ℕ) → count ≡ coun
     more ≡ length job.claims → count + more ≤ most_claims → count_claims (jobs ++ job ∷ []) ≤ most_claims
 few_claims jobs job count more is e fits = let p = count_push jobs job in omega (arith, p, is, e, fits)
 
-pub gained-requires-clause-room : goal.gained-requires-clause-room
-gained-requires-clause-room g c =
+pub gain-requires-clause-room : goal.gain-requires-clause-room
+gain-requires-clause-room g c =
     let vertices = c.args.graph.now.resources.vertices in
     let (jobs, is, fair) = c.requires.there in
     let quantities = c.items-quantities.ensures ∙ ap (λ (k : Counted). k.quantities) c.counted.ensures in
@@ -43,27 +43,27 @@ returns-clause-accounts g c = λ jobs is fair.
     (counted_of c.args.self).quantities cs (places_of c.in_ok-rows.rows)) c.items-claims.ensures
     (subst (λ (qs : List Quantity). AreNumbers vertices qs c.items-claims.result.now (places_of c.in_ok-rows.rows))
     quantities c.in_ok-rows.ensures.numbers) in
-    let new = items_of c.in_ok-planners.planners in
-    let wide = subst (λ (n : ℕ). AreWide n new) numbers.len c.in_ok-planners.ensures.places in
+    let new = items_of c.gain.new.self in
+    let wide = subst (λ (n : ℕ). AreWide n new) numbers.len c.in_ok-gain.ensures.places in
     joined g.P.Planner.total_of g.P.Planner.stands_for vertices job c.args.self
     (record {
       counted = c.args.self.counted;
-      planners = c.in_ok-planners.planners;
-      times = c.in_ok-times.times;
+      planners = c.gain.new.self;
+      times = c.renew_with.new.planner;
       count = c.in-Some.count;
       widest = c.widest_with-widest.result;
     })
-    refl c.in_ok-planners.ensures.len wide jobs c.requires.on_graph fair
+    refl c.in_ok-gain.ensures.len wide jobs c.requires.on_graph fair
     (joined_kept g.P.Planner.total_of g.P.Planner.stands_for vertices jobs job []
     (counted_of c.args.self) (places_of c.in_ok-rows.rows) numbers (items_of c.args.self.planners) new
-    c.in_ok-planners.ensures.len is.graph.places wide c.in_ok-planners.ensures.gains)
-    c.in_ok-times.ensures.spans (c.in-Some.ensures.1 ∙ ap (λ n. c.args.self.count + n) c.len.ensures)
+    c.in_ok-gain.ensures.len is.graph.places wide c.in_ok-gain.ensures.gains)
+    c.in_ok-renew_with.ensures.spans (c.in-Some.ensures.1 ∙ ap (λ n. c.args.self.count + n) c.len.ensures)
     c.widest_with-widest.ensures.0
     (subst (AllByRecursion (HoldsNoWider vertices c.widest_with-widest.result)) c.items-claims.ensures
     c.widest_with-widest.ensures.1) is
 
-pub returns-in_err-planners-clause-work : goal.returns-in_err-planners-clause-work
-returns-in_err-planners-clause-work g c = λ most within.
+pub returns-in_err-gain-clause-work : goal.returns-in_err-gain-clause-work
+returns-in_err-gain-clause-work g c = λ most within.
     let (jobs, is, fair) = c.requires.there in
     let quantities = c.items-quantities.ensures ∙ ap (λ (k : Counted). k.quantities) c.counted.ensures in
     let few = subst (λ (cs : List Claim). count_all (places_of c.in_ok-rows.rows) ≤ sum_by reach_of
@@ -73,11 +73,11 @@ returns-in_err-planners-clause-work g c = λ most within.
     let all = numbers_cost (length (items_of c.args.self.planners)) (length c.args.graph.now.resources.vertices)
     most (types_of c.args.self) (sum_by reach_of (counted_of c.args.self).quantities)
     (length c.args.job.now.claims) (count_all (places_of c.in_ok-rows.rows)) c.args.steps.now
-    c.gained.new.steps is.graph.len is.graph.counts.reach few (c.gained.ensures.work most within) in
+    c.gain.new.steps is.graph.len is.graph.counts.reach few (c.gain.ensures.work most within) in
     omega (arith, all)
 
-pub returns-in_err-times-clause-work : goal.returns-in_err-times-clause-work
-returns-in_err-times-clause-work g c = λ most within.
+pub returns-in_err-renew_with-clause-work : goal.returns-in_err-renew_with-clause-work
+returns-in_err-renew_with-clause-work g c = λ most within.
     let (jobs, is, fair) = c.requires.there in
     let quantities = c.items-quantities.ensures ∙ ap (λ (k : Counted). k.quantities) c.counted.ensures in
     let few = subst (λ (cs : List Claim). count_all (places_of c.in_ok-rows.rows) ≤ sum_by reach_of
@@ -87,8 +87,8 @@ returns-in_err-times-clause-work g c = λ most within.
     let all = numbers_cost (length (items_of c.args.self.planners)) (length c.args.graph.now.resources.vertices)
     most (types_of c.args.self) (sum_by reach_of (counted_of c.args.self).quantities)
     (length c.args.job.now.claims) (count_all (places_of c.in_ok-rows.rows)) c.args.steps.now
-    c.gained.new.steps is.graph.len is.graph.counts.reach few (c.gained.ensures.work most within) in
-    let times = c.renewed_with.ensures.work in
+    c.gain.new.steps is.graph.len is.graph.counts.reach few (c.gain.ensures.work most within) in
+    let times = c.renew_with.ensures.work in
     omega (arith, all, times)
 
 pub returns-clause-work : goal.returns-clause-work
@@ -102,6 +102,6 @@ returns-clause-work g c = λ most within.
     let all = numbers_cost (length (items_of c.args.self.planners)) (length c.args.graph.now.resources.vertices)
     most (types_of c.args.self) (sum_by reach_of (counted_of c.args.self).quantities)
     (length c.args.job.now.claims) (count_all (places_of c.in_ok-rows.rows)) c.args.steps.now
-    c.gained.new.steps is.graph.len is.graph.counts.reach few (c.gained.ensures.work most within) in
-    let times = c.renewed_with.ensures.work in
+    c.gain.new.steps is.graph.len is.graph.counts.reach few (c.gain.ensures.work most within) in
+    let times = c.renew_with.ensures.work in
     omega (arith, all, times)
