@@ -1,5 +1,5 @@
-//! Trials of calls below the program: filter rules, books and the scheduler of one thread with limits and lines that the
-//! program doesn't give them, and a history of clients on threads beside the same one played by one thread.
+//! Trials of calls below the program: filter rules, books and the scheduler of one thread with limits and lines that
+//! the program doesn't give them, and a history of clients on threads beside the same one played by one thread.
 #![tactic(auto)]
 
 #[cfg(test)]

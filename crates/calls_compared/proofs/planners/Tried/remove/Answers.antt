@@ -23,7 +23,8 @@ invariant_of-result g c =
     let items = c.self.inside.spans.items in
     let inside : c.args.at < length items = let f = c.if-at-len.false in let n = c.len.ensures in omega arith in
     let s = split items c.args.at c.remove-span.result inside c.remove-span.ensures.value in
-    let tree = c.in_ok-remove_span.ensures.spans s.0 s.1 (subst (StandsFor c.self.inside.tree) s.2 c.self.invariant.0) in
+    let tree = c.in_ok-remove_span.ensures.spans s.0 s.1
+    (subst (StandsFor c.self.inside.tree) s.2 c.self.invariant.0) in
     let plain = c.in_ok-remove_span-2.ensures.spans s.0 s.1
     (subst (AreSame c.self.inside.plain.spans) s.2 c.self.invariant.1) in
     let e = sym (c.remove-span.ensures.items ∙ s.3) in

@@ -7,7 +7,8 @@ use Rattle.vertex_planners.proofs.items.Item.lose.Given as goal
 
 abbrev pub invariant-loop-place : goal.invariant-loop-place
 invariant-loop-place g l = record {
-  each : ChangedTo (Loses g.P.Planner.total_of g.P.Planner.stands_for l.window) l.row l.fn.self l.self-inside.planners l.place;
+  each : ChangedTo (Loses g.P.Planner.total_of g.P.Planner.stands_for l.window) l.row l.fn.self l.self-inside.planners
+      l.place;
   work : (most : ℕ) → ((k : ℕ) (p : _) →
       slice_get l.fn.self k ≡ Some p → renew_cost g.P.Planner.settle_cost g.P.Planner.change_cost p ≤ most) →
       l.steps ≤ l.fn.steps + count_some (take l.place l.row) * most;
