@@ -1,5 +1,5 @@
 //! A history of eight clients beside the same history played by one scheduler of one thread.
-ghost use Rattle.std.specs.Prelude.{◌≡◌, ◌<◌};
+ghost use Rattle.std.specs.Prelude.{◌≡◌, ◌<◌, OnOk};
 ghost use Rattle.std.specs.Arc.{arc_value};
 
 use crate::plays::{BOUNDS, played};
@@ -49,21 +49,29 @@ fn all_lines(alloc: Global) -> Result<String, AllocError> {
     Ok(text)
 }
 
+// Decides the command at that place of a history by another scheduler over the same graph.
+fn decide_again(alloc: Global, core: &Core, at: u64, again: &mut Core) -> Result<(), Fail>
+    requires { again.old.setting.graph ≡ core.now.setting.graph }
+    ensures { OnOk result (again.new.setting.graph ≡ again.old.setting.graph) }
+{
+    core.is_sound();
+    let Some(entry) = core.entry(at) else {
+        return Err(Fail::from("no entry"));
+    };
+    let command = entry.command.copy(alloc)?;
+    match again.decide(entry.client, entry.line, command) {
+        Ok(_) => Ok(()),
+        Err(_) => Err(Fail::from("out of memory")),
+    }
+}
+
 // The commands of a history, decided in its order by another scheduler.
 fn replayed(alloc: Global, graph: &Arc<Graph, Global>, core: &Core) -> Result<Core, Fail>
     requires { core.now.setting.graph ≡ (arc_value graph.now).resources }
 {
-    core.is_sound();
     let mut again = core_over(alloc, graph, BOUNDS)?;
     for at in 0..core.len() {
-        let Some(entry) = core.entry(at) else {
-            return Err(Fail::from("no entry"));
-        };
-        let command = entry.command.copy(alloc)?;
-        match again.decide(entry.client, entry.line, command) {
-            Ok(_) => {}
-            Err(_) => return Err(Fail::from("out of memory")),
-        }
+        decide_again(alloc, core, at, &mut again)?;
     }
     Ok(again)
 }

@@ -1,7 +1,7 @@
 //! Runs with several clients, which hand in their lines beside each other. What a run writes has to be the text of one
 //! history; here a plain player of one thread makes that text, by the order that the column LINE of what was written
 //! names.
-ghost use Rattle.std.specs.Prelude.{◌≡◌};
+ghost use Rattle.std.specs.Prelude.{◌≡◌, OnOk};
 ghost use Rattle.std.specs.Arc.{arc_value};
 ghost use Rattle.sched_core.specs.Played.{AreProper};
 
@@ -60,6 +60,26 @@ fn interleaves(lines: &List<ClientLine>, order: &[u64]) -> bool {
     order.len() == lines.len()
 }
 
+/// Decides the line of that number.
+fn decide_line(
+    alloc: Global,
+    lines: &List<ClientLine>,
+    number: u64,
+    core: &mut Core,
+) -> Result<(), Fail>
+    requires { AreProper core.old.setting.graph.vertices lines.now }
+    ensures { OnOk result (core.new.setting.graph ≡ core.old.setting.graph) }
+{
+    let Some(line) = lines.get((number as usize).saturating_sub(1)) else {
+        return Err(Fail::from("no line"));
+    };
+    let command = line.command.copy(alloc)?;
+    if core.decide(line.client, line.line, command).is_err() {
+        return Err(Fail::from("no memory"));
+    }
+    Ok(())
+}
+
 /// A scheduler that decided the lines in an order.
 fn decided(
     alloc: Global,
@@ -71,13 +91,7 @@ fn decided(
 {
     let mut core = core_over(alloc, graph, BOUNDS)?;
     for number in order {
-        let Some(line) = lines.get((*number as usize).saturating_sub(1)) else {
-            return Err(Fail::from("no line"));
-        };
-        let command = line.command.copy(alloc)?;
-        if core.decide(line.client, line.line, command).is_err() {
-            return Err(Fail::from("no memory"));
-        }
+        decide_line(alloc, lines, *number, &mut core)?;
     }
     Ok(core)
 }

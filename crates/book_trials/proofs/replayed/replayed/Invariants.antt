@@ -1,6 +1,5 @@
 use Rattle.std.proofs.Common.{◌≡◌}
-use Rattle.std.specs.Arc.{arc_value}
 use Rattle.book_trials.proofs.replayed.replayed.Given as goal
 
 abbrev pub invariant-loop-at : goal.invariant-loop-at
-invariant-loop-at l = l.again.setting.graph ≡ (arc_value l.graph).resources
+invariant-loop-at l = l.again.setting.graph ≡ l.core.setting.graph

@@ -1,22 +1,8 @@
-use Rattle.std.proofs.Common.{◌≡◌, Some, slice_get, sym, subst}
-use Rattle.std.specs.Arc.{arc_value}
-use Rattle.list_laws.proofs.Lists.{all_at}
-use Rattle.flux_defs.specs.declared.journal.ClientLine.{ClientLine}
-use Rattle.flux_defs.specs.declared.journal.Command.{Command}
+use Rattle.std.proofs.Common.{sym, subst}
 use Rattle.flux_defs.specs.Graph.{ResourceGraph}
-use Rattle.flux_defs.specs.Scheduler.{IsProper}
+use Rattle.sched_core.specs.Played.{AreProper}
 use Rattle.trials.proofs.crowds.decided.Goals as goal
 
-pub decide-requires : goal.decide-requires
-decide-requires c =
-    let graph = (arc_value c.args.graph.now).resources in
-    let at = c.saturating_sub.result in
-    let line = c.in-Some.line.now in
-    let there : slice_get c.args.lines.now at ≡ Some line = sym c.in-Some.ensures.value in
-    let proper =
-    all_at (λ (l : ClientLine). IsProper graph.vertices l.command) c.args.lines.now at line c.requires there in
-    let kept = subst (λ (k : Command). IsProper graph.vertices k) (sym c.in_ok-command.ensures) proper in
-    record {
-      proper =
-          subst (λ (g : ResourceGraph). IsProper g.vertices c.in_ok-command.command) (sym c.loop-number.invariant) kept;
-    }
+pub decide_line-requires : goal.decide_line-requires
+decide_line-requires c =
+    subst (λ (g : ResourceGraph). AreProper g.vertices c.args.lines.now) (sym c.loop-number.invariant) c.requires
