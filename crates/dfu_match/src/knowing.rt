@@ -10,7 +10,7 @@ use std::alloc::Global;
 
 /// The vertex serves at most so much of a need over each window that reaches over what is left of the one before from
 /// `moment` on, unless that is all that is ever asked of one vertex.
-#[derive(Clone, Copy, Debug)]
+#[derive(Clone, Copy)]
 pub(crate) struct Row {
     pub(crate) vertex: u32,
     pub(crate) most: u64,

@@ -11,7 +11,7 @@ use flux_defs::Need;
 
 /// What rows leave their vertices to serve together at most, over windows that begin from `from` to `until`. It is
 /// `u64::MAX` where it may be more than that.
-#[derive(Clone, Copy, Debug)]
+#[derive(Clone, Copy)]
 pub(crate) struct Left {
     pub(crate) room: u64,
     pub(crate) from: u64,

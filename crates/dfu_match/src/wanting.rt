@@ -14,7 +14,7 @@ use std::alloc::{AllocError, Global};
 use text_forms::push;
 
 /// What one of a need demands, and how many needs it is with those within it.
-#[derive(Debug, Drop)]
+#[derive(Drop)]
 pub(crate) struct Wanted {
     pub(crate) demands: List<Demand>,
     pub(crate) within: usize,

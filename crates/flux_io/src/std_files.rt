@@ -91,7 +91,7 @@ impl<O: FileOpener + Drop> StdFiles<O> {
 }
 
 /// Why no file was opened.
-#[derive(Clone, Copy, Debug, PartialEq, Eq)]
+#[derive(Clone, Copy, PartialEq, Eq)]
 enum OpenFail {
     Absent,
     Failed,

@@ -28,7 +28,7 @@ pub enum Form {
 }
 
 /// The second word of a line.
-#[derive(Clone, Copy, Debug, PartialEq, Eq)]
+#[derive(Clone, Copy, PartialEq, Eq)]
 pub(crate) enum Verb {
     Allocate,
     Reserve,

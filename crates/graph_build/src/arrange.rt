@@ -97,7 +97,7 @@ pub(crate) fn texts_of(alloc: Global, list: Vec<RawVertex>) -> Result<Texts, All
 }
 
 /// The types that are used, in the order of their first vertices, and by old number the new one.
-#[derive(Debug, Drop)]
+#[derive(Drop)]
 pub(crate) struct KindNumbering {
     pub kinds: Vec<Text>,
     pub numbers: Vec<Option<u32>>,

@@ -13,7 +13,7 @@ use resource_graph::{Graph, Texts};
 use std::alloc::{AllocError, Global};
 
 /// What a graph is made of.
-#[derive(Debug, Drop)]
+#[derive(Drop)]
 struct Parts {
     kinds: List<Text>,
     vertices: List<Vertex>,

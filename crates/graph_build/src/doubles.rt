@@ -17,7 +17,7 @@ use std::alloc::{AllocError, Global};
 use std::cmp::Ordering;
 
 /// What tells the cores and gpus apart.
-#[derive(Clone, Copy, Debug, PartialEq, Eq, PartialOrd, Ord)]
+#[derive(Clone, Copy, PartialEq, Eq, PartialOrd, Ord)]
 pub(crate) struct DeviceKey {
     pub node: u32,
     pub kind: u32,
@@ -25,7 +25,7 @@ pub(crate) struct DeviceKey {
 }
 
 /// What tells siblings apart.
-#[derive(Clone, Copy, Debug, PartialEq, Eq, PartialOrd, Ord)]
+#[derive(Clone, Copy, PartialEq, Eq, PartialOrd, Ord)]
 pub(crate) struct SiblingKey<'a> {
     pub parent: u32,
     pub name: &'a [u8],

@@ -20,7 +20,7 @@ use json_whole::{FieldFault, as_str, get};
 use text_table::TextTable;
 
 /// What is made of an edge.
-#[derive(Clone, Copy, Debug, PartialEq, Eq)]
+#[derive(Clone, Copy, PartialEq, Eq)]
 pub(crate) enum Role {
     /// Its source contains its target.
     Counted,
@@ -39,7 +39,7 @@ pub(crate) struct EdgeFields<'a> {
 }
 
 /// What is wrong with an edge.
-#[derive(Clone, Copy, Debug, PartialEq, Eq)]
+#[derive(Clone, Copy, PartialEq, Eq)]
 pub(crate) enum EdgeFault {
     /// A field of it.
     Unfit(FileMisfit),

@@ -13,7 +13,7 @@ const NODES: &[u8] = b"graph.nodes";
 const EDGES: &[u8] = b"graph.edges";
 
 /// A key of a node, or of its metadata.
-#[derive(Clone, Copy, Debug, PartialEq, Eq)]
+#[derive(Clone, Copy, PartialEq, Eq)]
 pub(crate) enum NodeKey {
     Id,
     Metadata,
@@ -28,7 +28,7 @@ pub(crate) enum NodeKey {
 }
 
 /// A key of an edge.
-#[derive(Clone, Copy, Debug, PartialEq, Eq)]
+#[derive(Clone, Copy, PartialEq, Eq)]
 pub(crate) enum EdgeKey {
     Source,
     Target,
@@ -36,7 +36,7 @@ pub(crate) enum EdgeKey {
 }
 
 /// A field of the file's value.
-#[derive(Clone, Copy, Debug, PartialEq, Eq)]
+#[derive(Clone, Copy, PartialEq, Eq)]
 pub(crate) enum FieldPath {
     Whole,
     Graph,

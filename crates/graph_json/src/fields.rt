@@ -19,7 +19,7 @@ use json_whole::{FieldFault, as_number, as_str, get, need_u64};
 use serde_json::Number;
 
 /// How a file writes the id of a node.
-#[derive(Clone, Copy, Debug)]
+#[derive(Clone, Copy)]
 pub(crate) enum NodeId<'a> {
     Written(&'a str),
     Numbered(u64),

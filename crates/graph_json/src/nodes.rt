@@ -195,7 +195,7 @@ pub(crate) fn node_of<'v, 'a>(
 }
 
 /// Why the nodes of a file aren't read.
-#[derive(Clone, Copy, Debug, PartialEq, Eq)]
+#[derive(Clone, Copy, PartialEq, Eq)]
 pub(crate) enum NodesFault {
     Misfit(FileMisfit),
     Memory,

@@ -39,7 +39,7 @@ pub enum Hosts {
 }
 
 /// The numbers of a `Hosts::Many`.
-#[derive(Clone, Copy, Debug, PartialEq, Eq)]
+#[derive(Clone, Copy, PartialEq, Eq)]
 struct Numbers {
     lo: u32,
     hi: u32,

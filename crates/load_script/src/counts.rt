@@ -16,7 +16,7 @@ use std::sync::ledger::{Blank, Ledger};
 use text_forms::{push_bytes, push_decimal};
 
 /// How far a history has led: how many claims the accepted jobs had, and the present moment.
-#[derive(Clone, Copy, Debug)]
+#[derive(Clone, Copy)]
 pub(crate) struct Reached {
     claims: u64,
     second: u64,

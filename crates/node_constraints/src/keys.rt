@@ -3,7 +3,7 @@ ghost use Rattle.std.specs.Prelude.{◌≡◌};
 ghost use Rattle.node_constraints.specs.Truth.{key_of};
 
 /// A key of a constraint, by what the list at it has to be: texts of three kinds, or constraints.
-#[derive(Clone, Copy, Debug, PartialEq, Eq)]
+#[derive(Clone, Copy, PartialEq, Eq)]
 pub(crate) enum Key {
     Properties,
     Hostlist,

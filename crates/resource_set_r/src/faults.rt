@@ -25,7 +25,7 @@ pub enum RFault {
 }
 
 /// A field of the value.
-#[derive(Clone, Copy, Debug, PartialEq, Eq)]
+#[derive(Clone, Copy, PartialEq, Eq)]
 pub(crate) enum FieldPath {
     Whole,
     Version,
@@ -46,7 +46,7 @@ pub(crate) enum FieldPath {
 pub(crate) type FieldMisfit = Misfit<FieldPath, FieldFault>;
 
 /// What is wrong with a value.
-#[derive(Clone, Copy, Debug, PartialEq, Eq)]
+#[derive(Clone, Copy, PartialEq, Eq)]
 pub(crate) enum Misread {
     Field(FieldMisfit),
     Version,
@@ -56,7 +56,7 @@ pub(crate) enum Misread {
 }
 
 /// Why a value isn't read.
-#[derive(Clone, Copy, Debug, PartialEq, Eq)]
+#[derive(Clone, Copy, PartialEq, Eq)]
 pub(crate) enum ReadError {
     Misread(Misread),
     Memory,

@@ -138,7 +138,7 @@ pub(crate) fn hosts_of(
 }
 
 /// The numbers of the types whose vertices R tells apart.
-#[derive(Clone, Copy, Debug)]
+#[derive(Clone, Copy)]
 pub(crate) struct Types {
     pub node: Option<u32>,
     pub core: Option<u32>,

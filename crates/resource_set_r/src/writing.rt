@@ -252,7 +252,7 @@ fn others_of(
 }
 
 /// What is written of a job in `execution`, but for its start and end.
-#[derive(Debug, Drop)]
+#[derive(Drop)]
 struct Resources {
     elements: Vec<Element>,
     nodelist: List<Text>,
