@@ -3,15 +3,17 @@ ghost use Rattle.std.specs.Prelude.{◌≡◌, ◌<◌, OnOk};
 ghost use Rattle.std.specs.Arc.{arc_value};
 
 use crate::plays::{BOUNDS, played};
-use flux_defs::OpenGate;
+use flux_defs::{List, OpenGate, Text};
 use fluxion_lines::history_text;
 use history_scenes::core_over;
+use one_history::Played;
 use resource_graph::Graph;
 use sched_core::Core;
 use small_graphs::{TWO_NODES, shared_graph};
 use std::alloc::{AllocError, Global};
-use std::sync::Arc;
+use std::sync::{Arc, Wait};
 use std::test::Fail;
+use std::thread::Threads;
 
 const CLIENTS: u64 = 8;
 
@@ -76,16 +78,46 @@ fn replayed(alloc: Global, graph: &Arc<Graph, Global>, core: &Core) -> Result<Co
     Ok(again)
 }
 
+// Whether the entries of both schedulers are the same texts.
+fn write_alike(
+    alloc: Global,
+    graph: &Graph,
+    clients: &List<Text>,
+    one: &Core,
+    other: &Core,
+) -> Result<bool, AllocError> {
+    let text = history_text(alloc, graph, clients, one.entries())?;
+    let again = history_text(alloc, graph, clients, other.entries())?;
+    Ok(text.bytes() == again.bytes())
+}
+
+// How many entries were played together, and whether they are the same texts when they are decided again.
+fn told_of(
+    alloc: Global,
+    graph: &Arc<Graph, Global>,
+    together: &Played,
+) -> Result<(u64, bool), Fail>
+    requires { together.now.core.setting.graph ≡ (arc_value graph.now).resources }
+{
+    let alone = replayed(alloc, graph, &together.core)?;
+    let alike = write_alike(alloc, graph, &together.clients, &together.core, &alone)?;
+    Ok((together.core.len(), alike))
+}
+
+// The same of eight clients' lines.
+fn told<R: Threads + Wait + Sync>(
+    rt: &R,
+    alloc: Global,
+    graph: &Arc<Graph, Global>,
+) -> Result<(u64, bool), Fail> {
+    let input = all_lines(alloc)?;
+    let together = played(rt, alloc, graph, input.as_bytes(), &OpenGate)?;
+    told_of(alloc, graph, &together)
+}
+
 #[test]
 fn eight_clients_write_what_one_thread_writes(rt: HostRuntime) -> Result<(), Fail> {
-    let alloc = rt.alloc();
-    let graph = shared_graph(alloc, TWO_NODES)?;
-    let input = all_lines(alloc)?;
-    let together = played(&rt, alloc, &graph, input.as_bytes(), &OpenGate)?;
-    let alone = replayed(alloc, &graph, &together.core)?;
-    assert_eq!(rt; together.core.len(), 6 * CLIENTS * ROUNDS);
-    let text = history_text(alloc, &graph, &together.clients, together.core.entries())?;
-    let other = history_text(alloc, &graph, &together.clients, alone.entries())?;
-    assert_eq!(rt; text.bytes(), other.bytes());
+    let graph = shared_graph(rt.alloc(), TWO_NODES)?;
+    assert_eq!(rt; told(&rt, rt.alloc(), &graph)?, (6 * CLIENTS * ROUNDS, true));
     Ok(())
 }
