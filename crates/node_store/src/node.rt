@@ -71,6 +71,17 @@ impl<T> Node<T> {
 }
 
 impl<T: Drop> Node<T> {
+    /// A node that holds the item. Where no memory is left the item is dropped: here its type is any type, and what
+    /// drops one of sixteen parts takes minutes to check.
+    pub fn of(alloc: Global, item: T) -> Result<Node<T>, AllocError>
+        ensures { IfOk result (λ node. node ≡ item) }
+    {
+        match Node::new(alloc, item) {
+            Ok(node) => Ok(node),
+            Err((_, refused)) => Err(refused),
+        }
+    }
+
     /// From now on this node holds the item; others that held the same value keep it. Where no memory is left the item
     /// comes back, and the node is as before.
     pub fn set(&mut self, alloc: Global, item: T) -> Result<(), (T, AllocError)>

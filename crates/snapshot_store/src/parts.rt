@@ -317,9 +317,9 @@ impl<T: Drop> Part<T> {
                 Err(refused) => return Err(refused),
             }
         }
-        let mut node = match Node::new(alloc, Page::vacant(height - 1)) {
+        let mut node = match Node::of(alloc, Page::vacant(height - 1)) {
             Ok(node) => node,
-            Err((_, refused)) => return Err((item, refused)),
+            Err(refused) => return Err((item, refused)),
         };
         let Some(page) = node.get_mut() else {
             return Err((item, AllocError));
@@ -340,9 +340,9 @@ impl<T: Drop> Part<T> {
         ensures new { IfOk result (λ part. part ≡ (self.0, height + 1)) }
         ensures same { IfErr result (λ e. e.0 ≡ self) }
     {
-        let mut node = match Node::new(alloc, Page::vacant(height)) {
+        let mut node = match Node::of(alloc, Page::vacant(height)) {
             Ok(node) => node,
-            Err((_, refused)) => return Err((self, refused)),
+            Err(refused) => return Err((self, refused)),
         };
         let Some(page) = node.get_mut() else {
             return Err((self, AllocError));
