@@ -59,9 +59,9 @@ module _ {P : Type 0} where
     | inl less ↦ absurd (let within = place_in ps slot (length (sixteenths ps slot)) (omega (arith, less, lt, len)) in
         omega (arith, within))
     | inr rest ↦ (elim (cases_lt places (length (sixteenths ps slot))) [
-        | inl more ↦ absurd (let within = index_in ps slot places more in omega (arith, within, len))
-        | inr most ↦ omega (arith, rest, most)
-      ])
+      | inl more ↦ absurd (let within = index_in ps slot places more in omega (arith, within, len))
+      | inr most ↦ omega (arith, rest, most)
+    ])
   ]
 
   module _ (groups : List (List P)) where
@@ -212,7 +212,8 @@ module _ {P : Type 0} where
           | inr none ↦ omega (arith, none)
         ] in
         let len = ap length next ∙ length-append groups (group ∷ []) in
-        one_group_more groups new (16 * length groups - spare) (16 * length new - 15) group (omega (arith, n, len)) n next
+        one_group_more groups new (16 * length groups - spare)
+        (16 * length new - 15) group (omega (arith, n, len)) n next
 
     -- the vertex behind the others has a place in the last group that has room
     pub more_beside : (i : ℕ) (new : List (List P)) (x y : List P) →

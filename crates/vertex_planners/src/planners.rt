@@ -47,9 +47,9 @@ impl<P: Planner + Drop> VertexPlanners<P> {
         }
     }
 
-    /// One vertex more, behind the others, with a planner without spans for each of these totals, one a place. Each
-    /// vertex has as many places as the ones before it: another number of totals may be answered as want of memory.
-    /// Where no memory is left nothing is known of the planners but that there are as many vertices as before.
+    /// One vertex more, behind the others, with a planner without spans for each of these totals, one a place. Where
+    /// the vertex comes into a group with others, another number of totals than they have is answered as want of
+    /// memory. Where no memory is left nothing is known of the planners, but there are as many vertices as before.
     pub fn push<L: Ledger>(
         &mut self,
         alloc: Global,

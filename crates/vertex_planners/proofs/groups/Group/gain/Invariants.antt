@@ -11,6 +11,7 @@ invariant-loop-place g l = record {
   each : ChangedIn (Gains g.P.Planner.total_of g.P.Planner.stands_for l.window) l.row l.slot l.fn.self
       l.self-inside.planners l.place;
   work : (most : ℕ) → ((k : ℕ) (p : _) →
-      slice_get (sixteenths l.fn.self l.slot) k ≡ Some p → renew_cost g.P.Planner.settle_cost g.P.Planner.change_cost p ≤ most) →
+      slice_get (sixteenths l.fn.self l.slot) k ≡ Some p →
+      renew_cost g.P.Planner.settle_cost g.P.Planner.change_cost p ≤ most) →
       l.steps ≤ l.fn.steps + count_some (take l.place l.row) * most;
 }

@@ -14,7 +14,8 @@ pub returns-in_err-lose-clause-work : goal.returns-in_err-lose-clause-work
 returns-in_err-lose-clause-work g c = λ most within.
     let at = at_index c.loop-place.self-inside.planners c.args.slot c.loop-place.place c.index_of-index.result
     c.index_of-index.ensures.index in
-    let (p, is, was) = still_in (Loses g.P.Planner.total_of g.P.Planner.stands_for c.args.window) c.args.row.now c.args.slot c.args.self.now
+    let (p, is, was) = still_in (Loses g.P.Planner.total_of g.P.Planner.stands_for c.args.window)
+    c.args.row.now c.args.slot c.args.self.now
     c.loop-place.self-inside.planners c.loop-place.place c.loop-place.invariant.each c.in-Some.ensures.within
     c.requires.places in
     steps_all c.args.row.now c.loop-place.place _ most c.args.steps.now c.loop-place.steps c.lose.new.steps _
@@ -23,16 +24,18 @@ returns-in_err-lose-clause-work g c = λ most within.
 
 pub loop-place-preserved : goal.loop-place-preserved
 loop-place-preserved g c = record {
-  each = one_in (Loses g.P.Planner.total_of g.P.Planner.stands_for c.args.window) c.args.row.now c.args.slot c.args.self.now
+  each = one_in (Loses g.P.Planner.total_of g.P.Planner.stands_for c.args.window)
+      c.args.row.now c.args.slot c.args.self.now
       c.loop-place.self-inside.planners c.loop-place.place c.loop-place.invariant.each
       c.lose.new.planners c.in-Some.number.now c.index_of-index.result c.requires.slot c.index_of-index.ensures.index
       (sym c.in-Some.ensures.value) c.in_ok-lose.ensures.len c.in_ok-lose.ensures.here c.in_ok-lose.ensures.others;
   work = λ most within.
       let at = at_index c.loop-place.self-inside.planners c.args.slot c.loop-place.place c.index_of-index.result
-    c.index_of-index.ensures.index in
-      let (p, is, was) = still_in (Loses g.P.Planner.total_of g.P.Planner.stands_for c.args.window) c.args.row.now c.args.slot c.args.self.now
-    c.loop-place.self-inside.planners c.loop-place.place c.loop-place.invariant.each c.in-Some.ensures.within
-    c.requires.places in
+      c.index_of-index.ensures.index in
+      let (p, is, was) = still_in (Loses g.P.Planner.total_of g.P.Planner.stands_for c.args.window)
+      c.args.row.now c.args.slot c.args.self.now
+      c.loop-place.self-inside.planners c.loop-place.place c.loop-place.invariant.each c.in-Some.ensures.within
+      c.requires.places in
       steps_more c.args.row.now c.loop-place.place _ most c.args.steps.now c.loop-place.steps c.lose.new.steps _
       (sym c.in-Some.ensures.value) (within c.loop-place.place p was) c.lose.ensures.none
       (c.lose.ensures.work p (at ∙ is)) (c.loop-place.invariant.work most within);

@@ -1,4 +1,4 @@
-use Rattle.std.proofs.Common.{◌≡◌, ◌*◌, length, ap, arith}
+use Rattle.std.proofs.Common.{length, ap, arith}
 use Rattle.vertex_planners.proofs.ItemLaws.{place_there, one_fresh, all_fresh}
 use Rattle.vertex_planners.proofs.groups.Group.set.Goals as goal
 

@@ -1,4 +1,4 @@
-use Rattle.std.proofs.Common.{◌≡◌, Some, None, slice_get, sym, ◌∙◌, ap}
+use Rattle.std.proofs.Common.{slice_get, sym, ◌∙◌, ap}
 use Rattle.list_laws.proofs.Lists.{get_some}
 use Rattle.vertex_planners.proofs.ItemLaws.{at_index}
 use Rattle.vertex_planners.proofs.items.Item.planner.Goals as goal

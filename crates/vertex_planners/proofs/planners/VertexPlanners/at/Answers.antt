@@ -1,4 +1,4 @@
-use Rattle.std.proofs.Common.{◌≡◌, Some, None, sym, ◌∙◌, ap, arith}
+use Rattle.std.proofs.Common.{Some, sym, ◌∙◌, ap, arith}
 use Rattle.list_laws.proofs.Lists.{get_some}
 use Rattle.vertex_planners.proofs.GroupLaws.{few_groups, group_there, item_there}
 use Rattle.vertex_planners.proofs.planners.VertexPlanners.at.Goals as goal

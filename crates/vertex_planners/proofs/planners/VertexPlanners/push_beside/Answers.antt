@@ -1,4 +1,4 @@
-use Rattle.std.proofs.Common.{◌≡◌, ◌-◌, length, ap, arith}
+use Rattle.std.proofs.Common.{◌-◌, arith}
 use Rattle.list_laws.proofs.Lists.{get_some}
 use Rattle.vertex_planners.specs.Groups.{sixteenths}
 use Rattle.vertex_planners.proofs.GroupLaws.{more_beside, same_length}
