@@ -1,4 +1,4 @@
-use Rattle.std.proofs.Common.{◌+◌, ◌∷◌, [], ℕ, List, length, length-append, slice_index_or, ◌≡◌, Some, slice_get, ◌∙◌}
+use Rattle.std.proofs.Common.{◌+◌, ◌∷◌, [], ℕ, List, length, length-append, ◌∙◌}
 use Rattle.std.proofs.Common.{ap, subst}
 use Rattle.vertex_planners.specs.Groups.{AreFresh}
 use Rattle.vertex_planners.specs.Lists.{items_of}
