@@ -98,7 +98,7 @@ impl<P: Planner + Drop> Accounts<P> {
             steps.new ≤ steps.old + look_most (length graph.now.resources.vertices) most_looks }
     {
         let item = self.planners.at(vertex, steps);
-        self.below_in(item, vertex, HOLDS, window, u64::MAX, steps)
+        self.below_in(&item, vertex, HOLDS, window, u64::MAX, steps)
     }
 
     /// The least that jobs leave over the window of a quantity at the vertex, whose item this is.
@@ -206,7 +206,7 @@ impl<P: Planner + Drop> Accounts<P> {
             steps.new ≤ steps.old + closed_most (length graph.now.resources.vertices) most_looks }
     {
         let item = self.planners.at(vertex, steps);
-        self.closed_moment(graph, item, vertex, window, steps)
+        self.closed_moment(graph, &item, vertex, window, steps)
             .is_some()
     }
 
@@ -230,10 +230,10 @@ impl<P: Planner + Drop> Accounts<P> {
     {
         graph.is_valid();
         let item = self.planners.at(vertex, steps);
-        if self.least_in(item, vertex, HOLDS, window, steps) < u64::MAX {
+        if self.least_in(&item, vertex, HOLDS, window, steps) < u64::MAX {
             return true;
         }
-        self.least_in(item, vertex, CLAIMS, window, steps) < u64::MAX
+        self.least_in(&item, vertex, CLAIMS, window, steps) < u64::MAX
     }
 
     /// Through which moment, after this one of the window, jobs leave less than the amount of a quantity at the vertex,
@@ -327,7 +327,7 @@ impl<P: Planner + Drop> Accounts<P> {
     {
         graph.is_valid();
         let item = self.planners.at(vertex, steps);
-        self.closed_through(graph, item, vertex, window, steps)
+        self.closed_through(graph, &item, vertex, window, steps)
     }
 
     /// A moment through which, from one of the window on, a job has a claim on the vertex or below it; `None` exactly
@@ -352,13 +352,13 @@ impl<P: Planner + Drop> Accounts<P> {
     {
         graph.is_valid();
         let item = self.planners.at(vertex, steps);
-        if let Some(moment) = self.below_in(item, vertex, HOLDS, window, u64::MAX, steps) {
-            return Some(self.through(item, vertex, HOLDS, moment, window, u64::MAX, steps));
+        if let Some(moment) = self.below_in(&item, vertex, HOLDS, window, u64::MAX, steps) {
+            return Some(self.through(&item, vertex, HOLDS, moment, window, u64::MAX, steps));
         }
-        match self.below_in(item, vertex, CLAIMS, window, u64::MAX, steps) {
+        match self.below_in(&item, vertex, CLAIMS, window, u64::MAX, steps) {
             None => None,
             Some(moment) => Some(self.through(
-                item,
+                &item,
                 vertex,
                 CLAIMS,
                 moment,
@@ -389,13 +389,13 @@ impl<P: Planner + Drop> Accounts<P> {
     {
         let item = self.planners.at(vertex, steps);
         let closed = self
-            .closed_moment(graph, item, vertex, window, steps)
+            .closed_moment(graph, &item, vertex, window, steps)
             .is_some();
         if closed {
             return 0;
         }
         if is_pool_vertex(graph, vertex) {
-            return self.least_in(item, vertex, TAKES, window, steps);
+            return self.least_in(&item, vertex, TAKES, window, steps);
         }
         1
     }
@@ -425,13 +425,13 @@ impl<P: Planner + Drop> Accounts<P> {
     {
         graph.is_valid();
         let item = self.planners.at(vertex, steps);
-        if let Some(moment) = self.below_in(item, vertex, place, window, amount, steps) {
+        if let Some(moment) = self.below_in(&item, vertex, place, window, amount, steps) {
             return Some(moment);
         }
         if amount == 0 {
             return None;
         }
-        self.closed_moment(graph, item, vertex, window, steps)
+        self.closed_moment(graph, &item, vertex, window, steps)
     }
 
     /// A moment through which, from one of the window on, the total at the vertex of the type whose units have this
@@ -458,13 +458,13 @@ impl<P: Planner + Drop> Accounts<P> {
     {
         graph.is_valid();
         let item = self.planners.at(vertex, steps);
-        if let Some(moment) = self.below_in(item, vertex, place, window, amount, steps) {
-            return Some(self.through(item, vertex, place, moment, window, amount, steps));
+        if let Some(moment) = self.below_in(&item, vertex, place, window, amount, steps) {
+            return Some(self.through(&item, vertex, place, moment, window, amount, steps));
         }
         if amount == 0 {
             return None;
         }
-        self.closed_through(graph, item, vertex, window, steps)
+        self.closed_through(graph, &item, vertex, window, steps)
     }
 
     /// The least total at the vertex, over a moment of the window, of the type whose units have this place. Where jobs
@@ -490,12 +490,12 @@ impl<P: Planner + Drop> Accounts<P> {
     {
         graph.is_valid();
         let item = self.planners.at(vertex, steps);
-        let least = self.least_in(item, vertex, place, window, steps);
+        let least = self.least_in(&item, vertex, place, window, steps);
         if least == 0 {
             return 0;
         }
         let closed = self
-            .closed_moment(graph, item, vertex, window, steps)
+            .closed_moment(graph, &item, vertex, window, steps)
             .is_some();
         if closed {
             return 0;

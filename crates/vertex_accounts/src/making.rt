@@ -17,7 +17,7 @@ use resource_graph::Graph;
 use std::alloc::{AllocError, Global};
 use std::sync::Arc;
 use std::sync::ledger::Ledger;
-use vertex_planners::{Item, VertexPlanners};
+use vertex_planners::VertexPlanners;
 
 /// At each vertex a planner without spans for each quantity.
 fn planners_new<P: Planner + Drop, L: Ledger>(
@@ -36,8 +36,7 @@ fn planners_new<P: Planner + Drop, L: Ledger>(
     let mut planners = VertexPlanners::empty();
     for vertex in 0..graph.len() {
         let totals = totals_at(alloc, graph, quantities, vertex)?;
-        let item = Item::of_totals(alloc, totals.as_slice(), horizon)?;
-        planners.push(alloc, item, steps)?;
+        planners.push(alloc, totals.as_slice(), horizon, steps)?;
     }
     Ok(planners)
 }

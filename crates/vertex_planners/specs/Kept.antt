@@ -1,11 +1,12 @@
 -- What becomes of a planner whose vertex's number is added to its spans, or taken from them.
-use Rattle.std.specs.Prelude.{◌≡◌, ℕ, ◌*◌, ◌≤◌, List, ◌++◌, length, Some, slice_get}
+use Rattle.std.specs.Prelude.{◌≡◌, ◌≢◌, ℕ, ◌*◌, ◌<◌, ◌≤◌, List, ◌++◌, length, Some, slice_get}
 use Rattle.flux_defs.specs.declared.claims.Window.{Window}
 use Rattle.planner_points.specs.declared.spans.Span.{Span}
 use Rattle.planner_points.specs.Spans.{HasRoom}
 use Rattle.book_laws.specs.Grouped.{some_span}
 use Rattle.vertex_planners.specs.declared.amounts.Amounts.{Amounts}
 use Rattle.vertex_planners.specs.Numbers.{amount_at}
+use Rattle.vertex_planners.specs.Groups.{sixteenths}
 use Rattle.vertex_planners.specs.Lists.{at_place}
 use Rattle.vertex_planners.specs.Rows.{count_some}
 
@@ -53,6 +54,12 @@ pub record AtRow {P : Type 0} (Q : ℕ → P → P → Type 0) (row : List ℕ) 
   pub len : length new ≡ length old
   pub each : (k n : ℕ) (p r : P) →
       slice_get row k ≡ Some n → slice_get old k ≡ Some p → slice_get new k ≡ Some r → Q n p r
+
+-- what the planners of one vertex of a group become by its number of a row, where those of the others stay as they are
+pub record AtSlot {P : Type 0}
+    (Q : ℕ → P → P → Type 0) (row : List ℕ) (slot : ℕ) (old new : List P) : Type 0 where
+  pub here : AtRow Q row (sixteenths old slot) (sixteenths new slot)
+  pub others : (other : ℕ) → other < 16 → other ≢ slot → sixteenths new other ≡ sixteenths old other
 
 -- at each vertex the two lists have planners of which this is so
 abbrev pub AtEach : {P : Type 0} → (ℕ → P → P → Type 0) → List P → List P → Type 0

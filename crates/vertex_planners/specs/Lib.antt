@@ -1,6 +1,7 @@
 pub mod RisingNumbers
 pub mod Numbers
 pub mod Rows
+pub mod Groups
 pub mod Lists
 pub mod Kept
 pub mod Chains

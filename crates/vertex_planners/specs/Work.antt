@@ -2,7 +2,7 @@
 use Rattle.std.specs.Prelude.{◌≡◌, ℕ, ◌+◌, ◌*◌, ◌≤◌, List, Some, slice_get}
 use Rattle.flux_defs.specs.Digits.{dig}
 
--- a change of one planner of one of so many vertices, which itself takes at most so many steps: the vertex's item is
+-- a change of one planner of one of so many vertices, which itself takes at most so many steps: the vertex's group is
 -- looked up, and the planner is changed where it stands
 abbrev pub change_most : ℕ → ℕ → ℕ
 change_most vertices changes = 2 * dig (vertices + 1) + changes

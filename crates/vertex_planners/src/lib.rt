@@ -1,7 +1,8 @@
-//! One item a vertex of a graph, with a planner for each place, and what a job's claims amount to at each vertex.
+//! A planner for each place of each vertex of a graph, and what a job's claims amount to at each vertex.
 #![tactic(auto)]
 
 mod amounts;
+mod groups;
 mod items;
 mod measures;
 mod numbers;

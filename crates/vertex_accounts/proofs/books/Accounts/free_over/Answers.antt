@@ -24,7 +24,7 @@ returns-then-closed-clause-work g c = λ n looks.
 pub least_in-requires-clause-place : goal.least_in-requires-clause-place
 least_in-requires-clause-place g c =
     place_in c.args.graph.now.resources.vertices (counted_of c.args.self.now) (items_of c.args.self.now.planners)
-    c.requires.graph c.args.vertex c.at-item.result.now c.at-item.ensures.item 2 Takes c.requires.graph.counts.takes
+    c.requires.graph c.args.vertex c.at-item.result c.at-item.ensures.item 2 Takes c.requires.graph.counts.takes
 
 pub returns-then-is_pool_vertex-clause-answer : goal.returns-then-is_pool_vertex-clause-answer
 returns-then-is_pool_vertex-clause-answer g c = λ jobs is.

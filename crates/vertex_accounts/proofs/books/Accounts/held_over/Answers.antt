@@ -9,7 +9,7 @@ use Rattle.vertex_accounts.proofs.books.Accounts.held_over.Goals as goal
 pub below_in-requires-clause-place : goal.below_in-requires-clause-place
 below_in-requires-clause-place g c =
     place_in c.args.graph.now.resources.vertices (counted_of c.args.self.now) (items_of c.args.self.now.planners)
-    c.requires.graph c.args.vertex c.at-item.result.now c.at-item.ensures.item 0 Holds c.requires.graph.counts.holds
+    c.requires.graph c.args.vertex c.at-item.result c.at-item.ensures.item 0 Holds c.requires.graph.counts.holds
 
 pub returns-clause-answer : goal.returns-clause-answer
 returns-clause-answer g c = λ jobs is.

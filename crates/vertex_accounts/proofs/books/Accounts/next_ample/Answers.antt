@@ -15,7 +15,7 @@ first_free-requires g c =
     record {
       place = place_in c.args.graph.now.resources.vertices
           (counted_of c.args.self.now) (items_of c.args.self.now.planners)
-          c.requires.graph 0 c.at-item.result.now c.at-item.ensures.item c.in-Some-place_of.place q of;
+          c.requires.graph 0 c.at-item.result c.at-item.ensures.item c.in-Some-place_of.place q of;
     }
 
 pub returns-clause-answer : goal.returns-clause-answer
@@ -28,7 +28,7 @@ returns-clause-answer g c = λ jobs is.
     c.args.after c.in-Some.next c.args.amount (c.in-Some.ensures.answer vertices jobs is) c.first_free.result
     (units_first vertices jobs c.args.kind c.in-Some.next c.args.amount c.first_free.result q units
     (first_here vertices (counted_of c.args.self.now) (items_of c.args.self.now.planners)
-    is.graph 0 c.at-item.result.now c.at-item.ensures.item c.in-Some-place_of.place q of
+    is.graph 0 c.at-item.result c.at-item.ensures.item c.in-Some-place_of.place q of
     g.P.Planner.total_of g.P.Planner.stands_for
     jobs c.in-Some.next c.args.amount c.first_free.result is.kept c.first_free.ensures.first))
 
@@ -38,9 +38,9 @@ returns-clause-work g c = λ n looks.
     (λ (x : Counted). slice_get x.places c.args.kind) (sym c.counted.ensures) ∙ c.in-Some-place_of.ensures.place) in
     let inside =
     place_in c.args.graph.now.resources.vertices (counted_of c.args.self.now) (items_of c.args.self.now.planners)
-    c.requires.graph 0 c.at-item.result.now c.at-item.ensures.item c.in-Some-place_of.place q of in
-    let (p, at) = get_some c.at-item.result.now c.in-Some-place_of.place inside in
-    let few = looks 0 c.in-Some-place_of.place c.at-item.result.now p c.at-item.ensures.item at in
+    c.requires.graph 0 c.at-item.result c.at-item.ensures.item c.in-Some-place_of.place q of in
+    let (p, at) = get_some c.at-item.result c.in-Some-place_of.place inside in
+    let few = looks 0 c.in-Some-place_of.place c.at-item.result p c.at-item.ensures.item at in
     let look = c.first_free.ensures.work p at in
     let next = c.next_point.ensures.work in
     let up = c.at-item.ensures.work in

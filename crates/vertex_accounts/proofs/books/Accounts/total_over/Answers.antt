@@ -16,7 +16,7 @@ pub least_in-least-requires-clause-place : goal.least_in-least-requires-clause-p
 least_in-least-requires-clause-place g c =
     let (q, of, units) = c.requires.graph.counts.units c.requires.place.0 c.args.place c.requires.place.1 in
     place_in c.args.graph.now.resources.vertices (counted_of c.args.self.now) (items_of c.args.self.now.planners)
-    c.requires.graph c.args.vertex c.at-item.result.now c.at-item.ensures.item c.args.place q of
+    c.requires.graph c.args.vertex c.at-item.result c.at-item.ensures.item c.args.place q of
 
 pub returns-then-least-eq0-clause-answer : goal.returns-then-least-eq0-clause-answer
 returns-then-least-eq0-clause-answer g c = λ kind jobs at is.

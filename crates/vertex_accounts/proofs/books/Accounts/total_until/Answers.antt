@@ -12,13 +12,13 @@ pub below_in-requires-clause-place : goal.below_in-requires-clause-place
 below_in-requires-clause-place g c =
     let (q, of, units) = c.requires.graph.counts.units c.requires.place.0 c.args.place c.requires.place.1 in
     place_in c.args.graph.now.resources.vertices (counted_of c.args.self.now) (items_of c.args.self.now.planners)
-    c.requires.graph c.args.vertex c.at-item.result.now c.at-item.ensures.item c.args.place q of
+    c.requires.graph c.args.vertex c.at-item.result c.at-item.ensures.item c.args.place q of
 
 pub through-requires-clause-place : goal.through-requires-clause-place
 through-requires-clause-place g c =
     let (q, of, units) = c.requires.graph.counts.units c.requires.place.0 c.args.place c.requires.place.1 in
     place_in c.args.graph.now.resources.vertices (counted_of c.args.self.now) (items_of c.args.self.now.planners)
-    c.requires.graph c.args.vertex c.at-item.result.now c.at-item.ensures.item c.args.place q of
+    c.requires.graph c.args.vertex c.at-item.result c.at-item.ensures.item c.args.place q of
 
 pub returns-in-Some-clause-answer : goal.returns-in-Some-clause-answer
 returns-in-Some-clause-answer g c = λ kind jobs at is.

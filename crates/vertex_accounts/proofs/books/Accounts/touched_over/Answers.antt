@@ -12,7 +12,7 @@ pub least_in-requires-clause-place : goal.least_in-requires-clause-place
 least_in-requires-clause-place g c =
     place_in c.args.graph.now.resources.vertices
     (counted_of c.args.self.now) (items_of c.args.self.now.planners) c.requires.graph
-    c.args.vertex c.at-item.result.now c.at-item.ensures.item 0 Holds c.requires.graph.counts.holds
+    c.args.vertex c.at-item.result c.at-item.ensures.item 0 Holds c.requires.graph.counts.holds
 
 pub returns-then-least_in-lt18446744073709551615-clause-answer :
     goal.returns-then-least_in-lt18446744073709551615-clause-answer
@@ -35,7 +35,7 @@ returns-then-least_in-lt18446744073709551615-clause-work g c = λ n looks.
 pub least_in-requires-2-clause-place : goal.least_in-requires-2-clause-place
 least_in-requires-2-clause-place g c =
     place_in c.args.graph.now.resources.vertices (counted_of c.args.self.now) (items_of c.args.self.now.planners)
-    c.requires.graph c.args.vertex c.at-item.result.now c.at-item.ensures.item 1 Claims c.requires.graph.counts.claims
+    c.requires.graph c.args.vertex c.at-item.result c.at-item.ensures.item 1 Claims c.requires.graph.counts.claims
 
 pub returns-clause-answer : goal.returns-clause-answer
 returns-clause-answer g c = λ jobs is.

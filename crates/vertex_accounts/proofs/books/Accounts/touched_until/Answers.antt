@@ -11,22 +11,22 @@ use Rattle.vertex_accounts.proofs.books.Accounts.touched_until.Goals as goal
 pub below_in-requires-clause-place : goal.below_in-requires-clause-place
 below_in-requires-clause-place g c =
     place_in c.args.graph.now.resources.vertices (counted_of c.args.self.now) (items_of c.args.self.now.planners)
-    c.requires.graph c.args.vertex c.at-item.result.now c.at-item.ensures.item 0 Holds c.requires.graph.counts.holds
+    c.requires.graph c.args.vertex c.at-item.result c.at-item.ensures.item 0 Holds c.requires.graph.counts.holds
 
 pub below_in-requires-2-clause-place : goal.below_in-requires-2-clause-place
 below_in-requires-2-clause-place g c =
     place_in c.args.graph.now.resources.vertices (counted_of c.args.self.now) (items_of c.args.self.now.planners)
-    c.requires.graph c.args.vertex c.at-item.result.now c.at-item.ensures.item 1 Claims c.requires.graph.counts.claims
+    c.requires.graph c.args.vertex c.at-item.result c.at-item.ensures.item 1 Claims c.requires.graph.counts.claims
 
 pub through-requires-clause-place : goal.through-requires-clause-place
 through-requires-clause-place g c =
     place_in c.args.graph.now.resources.vertices (counted_of c.args.self.now) (items_of c.args.self.now.planners)
-    c.requires.graph c.args.vertex c.at-item.result.now c.at-item.ensures.item 0 Holds c.requires.graph.counts.holds
+    c.requires.graph c.args.vertex c.at-item.result c.at-item.ensures.item 0 Holds c.requires.graph.counts.holds
 
 pub through-requires-in-Some-below_in-clause-place : goal.through-requires-in-Some-below_in-clause-place
 through-requires-in-Some-below_in-clause-place g c =
     place_in c.args.graph.now.resources.vertices (counted_of c.args.self.now) (items_of c.args.self.now.planners)
-    c.requires.graph c.args.vertex c.at-item.result.now c.at-item.ensures.item 1 Claims c.requires.graph.counts.claims
+    c.requires.graph c.args.vertex c.at-item.result c.at-item.ensures.item 1 Claims c.requires.graph.counts.claims
 
 pub returns-in-Some-clause-answer : goal.returns-in-Some-clause-answer
 returns-in-Some-clause-answer g c = λ jobs is.

@@ -57,7 +57,8 @@ loop-row-preserved g c =
           (items_of c.args.self.now) (places_of c.args.rows)
           (items_of c.loop-row.self) (places_of c.loop-row.left)
           (places_of c.pop.new.self) c.in-Some.vertex c.pop.new.row c.loop-row.invariant.walked off
-          c.lose_at.new.items c.in_ok-lose_at.ensures.len c.in_ok-lose_at.ensures.here c.in_ok-lose_at.ensures.others;
+          (items_of c.lose_at.new.self) c.lose_at.ensures.len
+          c.in_ok-lose_at.ensures.here c.in_ok-lose_at.ensures.others;
       work = λ most within.
           walk_counts (Loses g.P.Planner.total_of g.P.Planner.stands_for c.args.window)
           (items_of c.args.self.now) (places_of c.args.rows)

@@ -1,5 +1,5 @@
 use Rattle.std.proofs.Common.{◌≡◌, take}
-use Rattle.vertex_planners.proofs.items.ItemShare.share.Given as goal
+use Rattle.vertex_planners.proofs.groups.GroupShare.share.Given as goal
 
 -- the planners so far are shared
 abbrev pub invariant-loop-planner : goal.invariant-loop-planner
