@@ -140,17 +140,6 @@ sets_same key old row = record {
       ∙ sym (later other key old [] ne);
 }
 
--- a row beside the only one there was
-pub sets_beside : (other key : ℕ) (old row : Row) (middle new : List (ℕ × Row)) → Sets [] middle other old →
-    Sets middle new key row → Sets ((other, old) ∷ []) new key row
-sets_beside other key old row middle new a b = record {
-  here = b.here;
-  others = λ k ne. b.others k ne ∙ elim (same_or_not k other) [
-    | inl e ↦ ap (λ u. find nat_cmp u middle) e ∙ a.here ∙ sym (first k other old [] e)
-    | inr apart ↦ a.others k apart ∙ sym (later k other old [] apart)
-  ];
-}
-
 -- how many digits the keys have
 below_append : (most : ℕ) (xs ys : List (ℕ × Row)) → AreBelow most xs → AreBelow most ys → AreBelow most (xs ++ ys)
 below_append most [] ys a b = b
@@ -217,23 +206,12 @@ module _ (branch : Branch) (key : ℕ) (part new : List (ℕ × Row) × ℕ)
   set_row row s = subst (λ u. Sets (entries_from 0 (parts_in branch)) (entries_from 0 u) key row) (sym after)
       (sets_parts key row (parts_in branch) part new refl at_digit s)
 
-  pub set_seen : (seen : List (ℕ × Row) × ℕ) (row : Row) →
-      seen ≡ (entries_from 0 (parts_in branch), branch.below + 1) → Sets part.0 new.0 (key / 16) row →
-      Sets seen.0 (entries_from 0 (parts_in (changed branch (key % 16) new))) key row
-  set_seen seen row q s = subst (λ (u : List (ℕ × Row) × ℕ). Sets u.0
-      (entries_from 0 (parts_in (changed branch (key % 16) new))) key row) (sym q) (set_row row s)
-
-  kept : new ≡ part → parts_in (changed branch (key % 16) new) ≡ parts_in branch
+  pub kept : new ≡ part → parts_in (changed branch (key % 16) new) ≡ parts_in branch
   kept e = after ∙ ap (λ u. slice_set (parts_in branch) (key % 16) u) e
       ∙ set_back (parts_in branch) (key % 16) part at_digit
 
   pub kept_level : new ≡ part → IsBranch branch → IsBranch (changed branch (key % 16) new)
   kept_level e level = record { parts = subst (λ u. AreParts branch.below u) (sym (kept e)) level.parts }
-
-  pub kept_seen : (seen : List (ℕ × Row) × ℕ) → seen ≡ (entries_from 0 (parts_in branch), branch.below + 1) →
-      new ≡ part →
-      Path (List (ℕ × Row) × ℕ) (entries_from 0 (parts_in (changed branch (key % 16) new)), branch.below + 1) seen
-  kept_seen seen q e = ap (λ u. (entries_from 0 u, branch.below + 1)) (kept e) ∙ sym q
 
 part_at : (digits at : ℕ) (parts : List (List (ℕ × Row) × ℕ)) (part : List (ℕ × Row) × ℕ) → AreParts digits parts →
     slice_get parts at ≡ Some part → IsPart digits part
@@ -265,13 +243,6 @@ rest_of key below digits e l =
 entry_seen : (seen : List (ℕ × Row) × ℕ) (body : Body) (other : ℕ) (old : Row) →
     (entries_of body, height_of body) ≡ seen → body ≡ Entry other old → seen ≡ ((other, old) ∷ [], 0)
 entry_seen seen body other old e f = sym e ∙ ap (λ u. (entries_of u, height_of u)) f
-
-pub beside_seen : (seen : List (ℕ × Row) × ℕ) (body : Body) (other key : ℕ) (old row : Row)
-    (middle new : List (ℕ × Row)) → (entries_of body, height_of body) ≡ seen → body ≡ Entry other old →
-    Sets [] middle other old → Sets middle new key row → Sets seen.0 new key row
-beside_seen seen body other key old row middle new e f a b =
-    subst (λ (u : List (ℕ × Row) × ℕ). Sets u.0 new key row) (sym (entry_seen seen body other old e f))
-    (sets_beside other key old row middle new a b)
 
 -- two keys of which neither has a digit are the same
 pub some_digits : (seen : List (ℕ × Row) × ℕ) (body : Body) (other key digits : ℕ) (old : Row) →

@@ -4,6 +4,7 @@ ghost use Rattle.std.specs.Prelude.{◌≡◌, ℕ, ◌+◌, ◌-◌, ◌*◌, �
 ghost use Rattle.std.specs.Prelude.{IfOk, OnOk, OnErr};
 ghost use Rattle.std.specs.Ordering.{nat_cmp};
 ghost use Rattle.std.specs.FinMap.{find};
+ghost use Rattle.job_table.specs.Parts.{parts_in, entries_from, IsBranch, Sets};
 
 use crate::tables::Row;
 use flux_defs::Steps;
@@ -88,7 +89,7 @@ impl Share for Branch {
 }
 
 impl Part {
-    ghost use Rattle.job_table.specs.Parts.{IsPart, Sets};
+    ghost use Rattle.job_table.specs.Parts.{IsPart};
 
     /// The part of one row. It takes no memory.
     fn entry(key: u64, row: Row) -> Part
@@ -121,6 +122,7 @@ impl Part {
 
     /// Stores the row at a key of at most so many digits, in the nodes of this part that no other holds and in copies
     /// of the others. After want of memory the part is as before.
+    #[cycle(setting)]
     pub fn set<L: Ledger>(
         &mut self,
         alloc: Global,
@@ -146,47 +148,57 @@ impl Part {
                     *old = row;
                     return Ok(());
                 }
-                let mut branch = Branch::of(digits - 1, *other, *old);
-                match branch
-                    .parts
-                    .get_mut(key % 16)
-                    .set(alloc, digits - 1, key / 16, row, steps)
-                {
-                    Ok(()) => {}
-                    Err(refused) => return Err(refused),
-                }
-                match Node::new(alloc, branch) {
-                    Ok(node) => {
-                        *self = Part {
-                            body: Body::Fork(node),
-                        };
-                        return Ok(());
-                    }
-                    Err((_, refused)) => return Err(refused),
-                }
+                let mut node = Node::of(alloc, Branch::of(digits - 1, *other, *old))?;
+                set_below(alloc, &mut node, key, row, steps)?;
+                *self = Part {
+                    body: Body::Fork(node),
+                };
+                return Ok(());
             }
             Body::Fork(node) => {
-                steps.tick();
-                node.own(alloc)?;
-                let Some(branch) = node.get_mut() else {
-                    return Err(AllocError);
-                };
-                let below = branch.below;
-                match branch
-                    .parts
-                    .get_mut(key % 16)
-                    .set(alloc, below, key / 16, row, steps)
-                {
-                    Ok(()) => return Ok(()),
-                    Err(refused) => return Err(refused),
-                }
+                set_below(alloc, node, key, row, steps)?;
+                return Ok(());
             }
         }
     }
 }
 
+/// Stores the row at a key of at most one digit more than the node's parts have, in this node and those below it that no
+/// other holds, and in copies of the others. After want of memory the parts are as before.
+#[cycle(setting)]
+fn set_below<L: Ledger>(
+    alloc: Global,
+    node: &mut Node<Branch>,
+    key: u64,
+    row: Row,
+    steps: &mut Steps<L>,
+) -> Result<(), AllocError>
+    requires level { IsBranch node.old }
+    requires key { key < 16 ^ (node.old.below + 1) }
+    ensures sets { OnOk result
+        (Sets (entries_from 0 (parts_in node.old)) (entries_from 0 (parts_in node.new)) key row) }
+    ensures below { node.new.below ≡ node.old.below }
+    ensures level { IsBranch node.new }
+    ensures same { OnErr result (parts_in node.new ≡ parts_in node.old) }
+    ensures work { steps.new ≤ steps.old + (node.old.below + 1) }
+{
+    steps.tick();
+    node.own(alloc)?;
+    let Some(branch) = node.get_mut() else {
+        return Err(AllocError);
+    };
+    let below = branch.below;
+    match branch
+        .parts
+        .get_mut(key % 16)
+        .set(alloc, below, key / 16, row, steps)
+    {
+        Ok(()) => return Ok(()),
+        Err(refused) => return Err(refused),
+    }
+}
+
 impl Branch {
-    ghost use Rattle.job_table.specs.Parts.{parts_in, entries_from, IsBranch, Sets};
 
     /// Sixteen empty parts, of which the keys have at most so many digits.
     fn vacant(below: u64) -> Branch
