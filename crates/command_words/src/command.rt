@@ -13,18 +13,14 @@ use std::alloc::{AllocError, Global};
 fn command_line<'a>(alloc: Global) -> Result<Command<'a>, AllocError>
     ensures { IfOk result (λ c. app_of c ≡ words_app) }
 {
-    let horizon = Arg::new(alloc, "horizon").long("horizon");
-    let filters = Arg::new(alloc, "filters").long("filters");
-    let jobspec = Arg::new(alloc, "jobspec").long("jobspec");
-    let graph = Arg::new(alloc, "graph").required(true);
     Command::new(alloc, "fluxion")
         .no_binary_name(true)
         .disable_help_flag(true)
         .disable_version_flag(true)
-        .arg(horizon)?
-        .arg(filters)?
-        .arg(jobspec)?
-        .arg(graph)
+        .arg(Arg::new(alloc, "horizon").long("horizon"))?
+        .arg(Arg::new(alloc, "filters").long("filters"))?
+        .arg(Arg::new(alloc, "jobspec").long("jobspec"))?
+        .arg(Arg::new(alloc, "graph").required(true))
 }
 
 /// What the words give, as `clap` reads them.

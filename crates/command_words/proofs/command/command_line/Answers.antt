@@ -21,14 +21,14 @@ no_version f = record f { disable_version_flag = true }
 
 pub returns : goal.returns
 returns c =
-    let horizon_is : rule_of c.long-horizon.result ≡ option_rule (codes "horizon") = search rules in
-    let filters_is : rule_of c.long-filters.result ≡ option_rule (codes "filters") = search rules in
-    let jobspec_is : rule_of c.long-jobspec.result ≡ option_rule (codes "jobspec") = search rules in
-    let graph_is : rule_of c.required-graph.result ≡ graph_rule = search rules in
+    let horizon_is : rule_of c.long.result ≡ option_rule (codes "horizon") = search rules in
+    let filters_is : rule_of c.long-2.result ≡ option_rule (codes "filters") = search rules in
+    let jobspec_is : rule_of c.long-3.result ≡ option_rule (codes "jobspec") = search rules in
+    let graph_is : rule_of c.required.result ≡ graph_rule = search rules in
     let base : app_of c.disable_version_flag.result ≡ on_top settings (new_app (codes "fluxion")) =
     ap app_of_fields (c.disable_version_flag.ensures ∙ ap no_version
     (c.disable_help_flag.ensures ∙ ap no_help c.no_binary_name.ensures))
-    ∙ ap (on_top settings) c.new-5.ensures.app in
+    ∙ ap (on_top settings) c.new.ensures.app in
     let three : app_of c.in_ok-arg-3.field-0
     ≡ with_rule (with_rule (with_rule (on_top settings (new_app (codes "fluxion"))) (option_rule (codes "horizon")))
     (option_rule (codes "filters"))) (option_rule (codes "jobspec")) =
