@@ -163,8 +163,8 @@ impl Part {
     }
 }
 
-/// Stores the row at a key of at most one digit more than the node's parts have, in this node and those below it that no
-/// other holds, and in copies of the others. After want of memory the parts are as before.
+/// Stores the row at a key of at most one digit more than the node's parts have, in this node and those below it that
+/// no other holds, and in copies of the others. After want of memory the parts are as before.
 #[cycle(setting)]
 fn set_below<L: Ledger>(
     alloc: Global,
@@ -199,7 +199,6 @@ fn set_below<L: Ledger>(
 }
 
 impl Branch {
-
     /// Sixteen empty parts, of which the keys have at most so many digits.
     fn vacant(below: u64) -> Branch
         ensures below { result.below ≡ below }
