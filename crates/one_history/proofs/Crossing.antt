@@ -19,7 +19,7 @@ use Rattle.flux_defs.specs.contracts.journal.Entry as entry
 use Rattle.planner_points.specs.declared.planners.Planner.{Ghosts}
 use Rattle.vertex_accounts.specs.contracts.books.Accounts as accounts
 use Rattle.vertex_accounts.specs.contracts.counted.Counted as counted
-use Rattle.vertex_planners.specs.contracts.items.Item as item
+use Rattle.vertex_planners.specs.contracts.groups.Group as group
 use Rattle.vertex_planners.specs.contracts.planners.VertexPlanners as planners
 use Rattle.snapshot_store.specs.contracts.pages.Pages as pages
 use Rattle.book_state.specs.contracts.filtered.FilteredGraph as filtered
@@ -72,15 +72,15 @@ entry_sync = search (crosses, need.crosses, sendable) depth 60 fits 20000
 pages_send : (P : RattleType) → IsSend P → IsSync P → IsSend (pages.the_row P)
 pages_send P s y = search (crosses, page.crosses, sendable) depth 60 fits 20000
 
-item_send : (P : RattleType) (d : Ghosts P.Denot) → IsSend P → IsSend (item.the_row P d)
-item_send P d s = search (crosses, sendable) depth 60 fits 20000
+group_send : (P : RattleType) (d : Ghosts P.Denot) → IsSend P → IsSend (group.the_row P d)
+group_send P d s = search (crosses, sendable) depth 60 fits 20000
 
-item_sync : (P : RattleType) (d : Ghosts P.Denot) → IsSync P → IsSync (item.the_row P d)
-item_sync P d y = search (crosses, sendable) depth 60 fits 20000
+group_sync : (P : RattleType) (d : Ghosts P.Denot) → IsSync P → IsSync (group.the_row P d)
+group_sync P d y = search (crosses, sendable) depth 60 fits 20000
 
 planners_send : (P : RattleType) (d : Ghosts P.Denot) → IsSend P → IsSync P → IsSend (planners.the_row P d)
 planners_send P d s y =
-    let p = pages_send (item.the_row P d) (item_send P d s) (item_sync P d y) in
+    let p = pages_send (group.the_row P d) (group_send P d s) (group_sync P d y) in
     search (crosses, sendable) depth 60 fits 20000
 
 counted_send : IsSend counted.the_row
