@@ -324,6 +324,20 @@ impl<E: Share + Drop, M: Measure<E>> Tree<E, M> {
         }
     }
 
+    /// The measure of its first item, which stands beside the pointer to it, so that the item isn't looked at. It takes
+    /// a step for each node on the way to it.
+    pub fn first_sum<L: Ledger>(&self, steps: &mut Steps<L>) -> M
+        requires { 0 < length self.now.0 }
+        ensures value { (item : E) → slice_get self.now.0 0 ≡ Some item → result ≡ M.of_items (item ∷ []) }
+        ensures work { steps.new ≤ steps.old + self.now.1 }
+    {
+        match &self.body {
+            Body::Empty => unreachable!(),
+            Body::Leaf(_) => self.sum,
+            Body::Fork(node) => node.look(steps).left.first_sum(steps),
+        }
+    }
+
     /// Takes the item out of a tree without sides, which is left empty; None where it has none. It takes no step.
     #[inline]
     pub fn take_leaf(&mut self) -> Option<E>

@@ -118,6 +118,9 @@ fn told<R: Threads + Wait + Sync>(
 #[test]
 fn eight_clients_write_what_one_thread_writes(rt: HostRuntime) -> Result<(), Fail> {
     let graph = shared_graph(rt.alloc(), TWO_NODES)?;
-    assert_eq!(rt; told(&rt, rt.alloc(), &graph)?, (6 * CLIENTS * ROUNDS, true));
+    assert_eq!(rt;
+        told(&rt, rt.alloc(), &graph)?,
+        (6 * CLIENTS * ROUNDS, true)
+    );
     Ok(())
 }

@@ -235,7 +235,7 @@ module _ (time f : Span → ℕ) (t : ℕ) where
         ]
       ]
 
-used_middle : (m : ℕ) (xs ys : List Span) (s : Span) → used_at (xs ++ s ∷ ys) m ≡ used_at (xs ++ ys) m + cond
+pub used_middle : (m : ℕ) (xs ys : List Span) (s : Span) → used_at (xs ++ s ∷ ys) m ≡ used_at (xs ++ ys) m + cond
     (is_in s.window m) s.quantity 0
 used_middle m xs ys s =
     let f = λ (s : Span). cond (is_in s.window m) s.quantity 0 in

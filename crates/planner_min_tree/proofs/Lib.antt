@@ -7,6 +7,7 @@ pub mod Values
 pub mod Keeps
 pub mod Nexts
 pub mod Counts
+pub mod CalmLaws
 pub mod PlanFacts
 pub mod Rises
 pub mod Timelines

@@ -5,6 +5,7 @@
 //! common.
 #![tactic(auto)]
 
+mod calm;
 mod changing;
 mod chunks;
 mod marking;

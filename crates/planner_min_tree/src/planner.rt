@@ -1,11 +1,15 @@
 //! The planner.
 ghost use Rattle.std.specs.Prelude.{◌≡◌, ℕ, ◌+◌, ◌*◌, ◌<◌, ◌≤◌, List, [], ◌∷◌, ◌++◌, length, IfOk, OnOk, MatchOption};
+ghost use Rattle.std.specs.Prelude.{MatchBool};
+ghost use Rattle.flux_defs.specs.Jobs.{SomeMoment};
 ghost use Rattle.flux_defs.specs.Digits.{dig};
 ghost use Rattle.planner_points.specs.declared.spans.Span.{Span};
 ghost use Rattle.planner_points.specs.Spans.{span_of, HasRoom, HasSpan, IsLeastFree, IsEnd, IsNextEnd, MayStart};
 ghost use Rattle.planner_points.specs.Spans.{IsFirstStart, IsFirstFree, IsLastBelow, free_at};
+ghost use Rattle.planner_min_tree.specs.Calms.{IsCalm};
 ghost use Rattle.planner_min_tree.specs.Plans.{StandsFor};
 
+use crate::calm::Calm;
 use crate::marking::{Change, Mark};
 use crate::points::Point;
 use crate::timeline::Timeline;
@@ -18,11 +22,13 @@ use std::sync::ledger::Ledger;
 
 /// A planner as a shared balanced tree of points, one for each second at which spans start or end. Each call takes a
 /// number of steps that grows with the binary digits of the number of points, and `first_at_least` that many for each
-/// point.
+/// point. It keeps a stretch of time over which the same is free, from the last moment on for which it was made ready:
+/// questions about that stretch look at no point.
 #[derive(Drop)]
 pub struct MinTree {
     total: u64,
     horizon: u64,
+    calm: Calm,
     points: Timeline,
 }
 
@@ -47,6 +53,28 @@ pub fn has_few_points(planner: &MinTree)
 impl MinTree {
     ghost use Rattle.std.specs.Prelude.{◌↔◌, IsTrue};
     ghost use Rattle.planner_min_tree.specs.Points.{first_from};
+
+    /// A stretch from that second on over which the same is free: what is left of the one that is known, or the one up to
+    /// the next point.
+    #[tactic(auto, using(crate::proofs::PlanFacts::marks_run))]
+    fn calm_since<L: Ledger>(&self, moment: u64, steps: &mut Steps<L>) -> Calm
+        ensures calm { (spans : List Span) → StandsFor self.now spans → IsCalm self.now.total spans result }
+        ensures work { steps.new ≤ steps.old + 4 * dig (length self.now.points + 2) }
+    {
+        if self.calm.has(moment) {
+            return self.calm.since(moment);
+        }
+        let level = self.points.value_at(moment, self.total, steps);
+        let to = match self.next(moment, steps) {
+            None => u64::MAX,
+            Some(point) => point.time,
+        };
+        Calm {
+            from: moment,
+            to,
+            level,
+        }
+    }
 
     /// The first point after that second.
     fn next<L: Ledger>(&self, after: u64, steps: &mut Steps<L>) -> Option<Point>
@@ -105,6 +133,11 @@ impl Planner for MinTree {
         Ok(MinTree {
             total,
             horizon,
+            calm: Calm {
+                from: 0,
+                to: u64::MAX,
+                level: total,
+            },
             points: Timeline::empty(),
         })
     }
@@ -116,6 +149,7 @@ impl Planner for MinTree {
         Ok(MinTree {
             total: self.total,
             horizon: self.horizon,
+            calm: self.calm,
             points,
         })
     }
@@ -130,10 +164,12 @@ impl Planner for MinTree {
         ensures same { OnOk result (self.new ≡ self.old) }
         ensures work { steps.new ≤ steps.old + 128 * dig (length self.old.points + 2) }
     {
+        self.calm = self.calm_since(moment, steps);
         match self.points.settle(alloc, moment, steps) {
             Ok(()) => Ok(()),
             Err(refused) => {
                 self.points = Timeline::empty();
+                self.calm = Calm::nowhere();
                 Err(refused)
             }
         }
@@ -165,6 +201,7 @@ impl Planner for MinTree {
             taken: quantity,
             given: 0,
         };
+        self.calm = self.calm.with(window, quantity);
         match self
             .points
             .change_twice(alloc, Change::More(stop), Change::More(start), steps)
@@ -172,6 +209,7 @@ impl Planner for MinTree {
             Ok(()) => Ok(()),
             Err(refused) => {
                 self.points = Timeline::empty();
+                self.calm = Calm::nowhere();
                 Err(refused)
             }
         }
@@ -202,6 +240,7 @@ impl Planner for MinTree {
             taken: 0,
             given: quantity,
         };
+        self.calm = self.calm.without(window, quantity);
         match self
             .points
             .change_twice(alloc, Change::Less(start), Change::Less(stop), steps)
@@ -209,6 +248,7 @@ impl Planner for MinTree {
             Ok(()) => Ok(()),
             Err(refused) => {
                 self.points = Timeline::empty();
+                self.calm = Calm::nowhere();
                 Err(refused)
             }
         }
@@ -262,8 +302,33 @@ impl Planner for MinTree {
         ensures work { steps.new ≤ steps.old + 4 * dig (length self.now.points + 2) }
         ensures counted { steps.old ≤ steps.new }
     {
+        if self.calm.covers(window) {
+            return self.calm.level;
+        }
         self.points
             .lowest_in(window.from, window.to, self.total, steps)
+    }
+
+    #[tactic(auto, using(crate::proofs::PlanFacts::marks_run))]
+    fn has_room<L: Ledger>(&self, window: Window, quantity: u64, steps: &mut Steps<L>) -> bool
+        requires { window.from < window.to }
+        ensures answer { (spans : List Span) → StandsFor self.now spans →
+            MatchBool result (HasRoom self.now.total spans window quantity)
+            (SomeMoment window (λ m. free_at self.now.total spans m < quantity)) }
+        ensures work { steps.new ≤ steps.old + 4 * dig (length self.now.points + 2) }
+        ensures counted { steps.old ≤ steps.new }
+    {
+        if self.calm.has(window.from) {
+            if self.calm.level < quantity {
+                return false;
+            }
+            if window.to <= self.calm.to {
+                return true;
+            }
+        }
+        self.points
+            .lowest_in(window.from, window.to, self.total, steps)
+            >= quantity
     }
 
     #[tactic(auto, using(crate::proofs::PlanFacts::marks_run))]
@@ -280,6 +345,12 @@ impl Planner for MinTree {
         ensures work { steps.new ≤ steps.old + 4 * dig (length self.now.points + 2) }
         ensures counted { steps.old ≤ steps.new }
     {
+        if self.calm.covers(window) {
+            if self.calm.level < quantity {
+                return Some(window.to - 1);
+            }
+            return None;
+        }
         match self
             .points
             .low_after(window.from, window.to, quantity, self.total, steps)

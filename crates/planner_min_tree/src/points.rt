@@ -151,27 +151,6 @@ pub fn count_before(points: &[Point], t: u64) -> usize
     }
 }
 
-/// Whether no point is later than the moment. The last one is looked at first.
-#[tactic(auto, using(crate::proofs::Dips::latest_at))]
-pub fn are_over(points: &[Point], moment: u64) -> bool
-    ensures { IsTrue result ↔ latest_of points.now ≤ moment }
-{
-    if points.is_empty() {
-        return true;
-    }
-    points[points.len() - 1].time <= moment && none_later(points, moment)
-}
-
-/// Whether no point is later than the moment, one by one.
-fn none_later(points: &[Point], moment: u64) -> bool
-    ensures { IsTrue result ↔ latest_of points.now ≤ moment }
-{
-    match points {
-        [] => true,
-        [point, rest @ ..] => point.time <= moment && none_later(rest, moment),
-    }
-}
-
 /// The first point that isn't before the moment, which may be one later than the last of all.
 pub fn first_from(points: &[Point], t: u128) -> Option<Point>
     ensures { result ≡ first_from t points.now }

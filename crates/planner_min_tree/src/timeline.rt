@@ -11,7 +11,7 @@ ghost use Rattle.planner_min_tree.specs.Marks.{changed, StaysLate};
 use crate::changing::{change_once, change_twice, edit};
 use crate::chunks::{Chunk, PAST_POINTS};
 use crate::marking::Change;
-use crate::points::{Dip, Point, are_over};
+use crate::points::{Dip, Point};
 use crate::walks::{self, Side};
 use balanced_tree::{Edit, Tree};
 use flux_defs::Steps;
@@ -187,13 +187,12 @@ fn settle_first<L: Ledger>(
     ensures same { OnOk result (flat (past.new.0 ++ coming.new.0) ≡ flat (past.old.0 ++ coming.old.0)) }
     ensures past { AreFilled past.new.0 }
     ensures coming { AreFilled coming.new.0 }
-    ensures work { steps.new ≤ steps.old + 4 * past.old.1 + 4 * coming.old.1 + 7 }
+    ensures work { steps.new ≤ steps.old + 4 * past.old.1 + 5 * coming.old.1 + 6 }
 {
-    let first = coming.get(0, steps);
-    if !are_over(first.look(steps), moment) {
+    if coming.first_sum(steps).latest > moment {
         return Ok(());
     }
-    let chunk = first.share()?;
+    let chunk = coming.get(0, steps).share()?;
     put_behind(alloc, past, chunk, steps)?;
     cut_first(alloc, coming, steps)
 }
@@ -395,7 +394,7 @@ impl Timeline {
         steps: &mut Steps<L>,
     ) -> Result<(), AllocError>
         ensures same { OnOk result (self.new ≡ self.old) }
-        ensures work { steps.new ≤ steps.old + 128 * dig (length self.old + 2) }
+        ensures work { steps.new ≤ steps.old + 64 * dig (length self.old + 2) }
     {
         let _past = self.past.height();
         let _coming = self.coming.height();

@@ -1,5 +1,6 @@
 //! What every planner answers.
-ghost use Rattle.std.specs.Prelude.{◌≡◌, ℕ, ◌+◌, ◌<◌, ◌≤◌, List, [], ◌∷◌, ◌++◌, ◌↔◌, IfOk, OnOk, MatchOption};
+ghost use Rattle.std.specs.Prelude.{◌≡◌, ℕ, ◌+◌, ◌<◌, ◌≤◌, List, [], ◌∷◌, ◌++◌, ◌↔◌, IfOk, OnOk, MatchOption, MatchBool};
+ghost use Rattle.flux_defs.specs.Jobs.{SomeMoment};
 ghost use Rattle.planner_points.specs.declared.spans.Span.{Span};
 ghost use Rattle.planner_points.specs.Spans.{free_at, span_of, HasRoom, HasSpan, IsLeastFree, IsEnd, IsNextEnd};
 ghost use Rattle.planner_points.specs.Spans.{MayStart, IsFirstStart, IsFirstFree, IsLastBelow};
@@ -21,7 +22,7 @@ pub trait Planner: Sized {
     /// The planner stands for these spans. It need not keep them.
     ghost stands_for: { Self → List Span → Type 0 };
 
-    /// How many steps `min_over`, `last_below`, `first_free` and `next_point` take at most.
+    /// How many steps `min_over`, `has_room`, `last_below`, `first_free` and `next_point` take at most.
     ghost look_cost: { Self → ℕ };
 
     /// How many steps a span more or less takes at most.
@@ -131,6 +132,15 @@ pub trait Planner: Sized {
         requires { window.from < window.to }
         ensures least { (spans : List Span) → stands_for self.now spans →
             IsLeastFree (total_of self.now) spans window result }
+        ensures work { steps.new ≤ steps.old + look_cost self.now }
+        ensures counted { steps.old ≤ steps.new };
+
+    /// Whether so much is free at each second of the window. It takes no memory.
+    fn has_room<L: Ledger>(&self, window: Window, quantity: u64, steps: &mut Steps<L>) -> bool
+        requires { window.from < window.to }
+        ensures answer { (spans : List Span) → stands_for self.now spans →
+            MatchBool result (HasRoom (total_of self.now) spans window quantity)
+            (SomeMoment window (λ m. free_at (total_of self.now) spans m < quantity)) }
         ensures work { steps.new ≤ steps.old + look_cost self.now }
         ensures counted { steps.old ≤ steps.new };
 

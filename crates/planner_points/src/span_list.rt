@@ -298,6 +298,10 @@ impl Planner for SpanList {
         self.least_over(window)
     }
 
+    fn has_room<L: Ledger>(&self, window: Window, quantity: u64, _steps: &mut Steps<L>) -> bool {
+        self.least_over(window) >= quantity
+    }
+
     fn last_below<L: Ledger>(
         &self,
         window: Window,

@@ -183,40 +183,14 @@ module _ {P : Type 0} (vertices : List Vertex)
   place_in = let w = is.places v item there in
       let lt = slice_get_within counted.quantities place q of in omega (arith, w, lt)
 
-  -- the least of the planner at a place of a vertex's item
-  pub least_here : (total_of : P → ℕ) (stands_for : P → List Span → Type 0) (jobs : List Job) (w : Window) (n : ℕ) →
-      AreAllKept total_of stands_for vertices jobs counted items →
+  -- what the planner at a place of a vertex's item says of all lists that it stands for is so of what jobs amount to
+  pub told_here : (Says : ℕ → List Span → Type 0) (total_of : P → ℕ) (stands_for : P → List Span → Type 0)
+      (jobs : List Job) → AreAllKept total_of stands_for vertices jobs counted items →
       ((p : P) → slice_get item place ≡ Some p →
-      (spans : List Span) → stands_for p spans → IsLeastFree (total_of p) spans w n) →
-      IsLeastFree (total_in vertices q v) (grouped (amount_in vertices q v) jobs) w n
-  least_here total_of stands_for jobs w n kept least =
+      (spans : List Span) → stands_for p spans → Says (total_of p) spans) →
+      Says (total_in vertices q v) (grouped (amount_in vertices q v) jobs)
+  told_here Says total_of stands_for jobs kept says =
       let (p, at, among) = planner_there
       (length counted.quantities) place items is.places (slice_get_within counted.quantities place q of) v item there in
-      subst (λ (t : ℕ). IsLeastFree t (grouped (amount_in vertices q v) jobs) w n) ((kept place q of).totals v p among)
-      (least p at (grouped (amount_in vertices q v) jobs) ((kept place q of).spans v p among))
-
-  -- the first second of the planner at a place of a vertex's item at which so much is left
-  pub first_here : (total_of : P → ℕ) (stands_for : P → List Span → Type 0) (jobs : List Job)
-      (from quantity : ℕ) (found : Option ℕ) → AreAllKept total_of stands_for vertices jobs counted items →
-      ((p : P) → slice_get item place ≡ Some p →
-      (spans : List Span) → stands_for p spans → FirstOrNone (total_of p) spans from quantity found) →
-      FirstOrNone (total_in vertices q v) (grouped (amount_in vertices q v) jobs) from quantity found
-  first_here total_of stands_for jobs from quantity found kept first =
-      let (p, at, among) = planner_there
-      (length counted.quantities) place items is.places (slice_get_within counted.quantities place q of) v item there in
-      subst (λ (t : ℕ). FirstOrNone t (grouped (amount_in vertices q v) jobs) from quantity found)
-      ((kept place q of).totals v p among)
-      (first p at (grouped (amount_in vertices q v) jobs) ((kept place q of).spans v p among))
-
-  -- the last second of the planner at a place of a vertex's item at which less is left
-  pub below_here : (total_of : P → ℕ) (stands_for : P → List Span → Type 0) (jobs : List Job) (w : Window)
-      (quantity : ℕ) (found : Option ℕ) → AreAllKept total_of stands_for vertices jobs counted items →
-      ((p : P) → slice_get item place ≡ Some p →
-      (spans : List Span) → stands_for p spans → BelowOrNone (total_of p) spans w quantity found) →
-      BelowOrNone (total_in vertices q v) (grouped (amount_in vertices q v) jobs) w quantity found
-  below_here total_of stands_for jobs w quantity found kept last =
-      let (p, at, among) = planner_there
-      (length counted.quantities) place items is.places (slice_get_within counted.quantities place q of) v item there in
-      subst (λ (t : ℕ). BelowOrNone t (grouped (amount_in vertices q v) jobs) w quantity found)
-      ((kept place q of).totals v p among)
-      (last p at (grouped (amount_in vertices q v) jobs) ((kept place q of).spans v p among))
+      subst (λ (t : ℕ). Says t (grouped (amount_in vertices q v) jobs)) ((kept place q of).totals v p among)
+      (says p at (grouped (amount_in vertices q v) jobs) ((kept place q of).spans v p among))

@@ -1,5 +1,6 @@
 -- What stays so from a moment on through another one.
 use Rattle.std.proofs.Common.{◌≡◌, ℕ, ◌<◌, ◌≤◌, List, length, Option, Some, None, inl, inr, refl, subst, arith, IsTrue}
+use Rattle.std.proofs.Common.{◌↔◌, Bool, true, false, not, MatchBool}
 use Rattle.std.proofs.lemmas.Bool.{cases_lt}
 use Rattle.flux_defs.specs.declared.vertices.Vertex.{Vertex}
 use Rattle.flux_defs.specs.declared.claims.Job.{Job}
@@ -100,6 +101,17 @@ module _ (vertices : List Vertex) (jobs : List Job) (v : ℕ) where
               absurd (omega (arith, lt, le))
               )
         ]
+
+    -- so where no job holds it, it is touched exactly where less than all claims are left at some moment
+    pub touched_by : (w : Window) →
+        HasRoom (total_in vertices Holds v) (grouped (amount_in vertices Holds v) jobs) w most_claims →
+        (room : Bool) → MatchBool room
+        (HasRoom (total_in vertices Claims v) (grouped (amount_in vertices Claims v) jobs) w most_claims)
+        (SomeMoment w
+        (λ m. free_at (total_in vertices Claims v) (grouped (amount_in vertices Claims v) jobs) m < most_claims)) →
+        (IsTrue (not room) ↔ SomeMoment w (λ m. IsTrue (is_touched (no_bars vertices jobs) m v)))
+    touched_by w unheld true unclaimed = (λ no. absurd (cc), λ t. absurd (never_touched w unheld unclaimed t))
+    touched_by w unheld false (m, lo, hi, less) = (λ yes. (m, lo, hi, claimed_touched m less), λ t. refl)
 
 -- where there is room for the amount, the total is too little while the vertex is closed, and else never
 pub closed_or_through : (g : ResourceGraph) (o : StandsInPreorder g) (jobs : List Job) → AreFair g.vertices jobs →

@@ -1,11 +1,11 @@
 //! What the accounts say of a vertex over a window.
 ghost use Rattle.std.specs.Prelude.{◌≡◌, ℕ, ◌+◌, ◌*◌, ◌<◌, ◌≤◌, ◌↔◌, IsTrue, List, length, Option, Some, slice_get};
-ghost use Rattle.std.specs.Prelude.{IfSome, MatchOption};
+ghost use Rattle.std.specs.Prelude.{IfSome, MatchOption, MatchBool};
 ghost use Rattle.flux_defs.specs.declared.vertices.Vertex.{Vertex};
 ghost use Rattle.flux_defs.specs.declared.claims.Job.{Job};
 ghost use Rattle.flux_defs.specs.Digits.{dig};
 ghost use Rattle.flux_defs.specs.Graph.{chain, is_pool, parent_of};
-ghost use Rattle.flux_defs.specs.Jobs.{some_live_claim, IsPoint, IsNextPoint};
+ghost use Rattle.flux_defs.specs.Jobs.{some_live_claim, IsPoint, IsNextPoint, SomeMoment};
 ghost use Rattle.flux_defs.specs.Closed.{no_bars, is_closed, is_touched, IsClosedOver, IsTouchedOver};
 ghost use Rattle.flux_defs.specs.Free.{IsFreeOver, IsTotalOver, IsTooLittleAt};
 ghost use Rattle.planner_points.specs.Spans.{free_at, IsLeastFree, HasRoom, IsLastBelow};
@@ -124,6 +124,33 @@ impl<P: Planner + Drop> Accounts<P> {
         item.least(place, window, steps)
     }
 
+    /// Whether jobs leave so much of a quantity at the vertex, whose item this is, at each moment of the window.
+    fn room_in<L: Ledger>(
+        &self,
+        item: &Item<P>,
+        vertex: u32,
+        place: usize,
+        window: Window,
+        amount: u64,
+        steps: &mut Steps<L>,
+    ) -> bool
+        requires item { slice_get (items_of self.now.planners) vertex ≡ Some item.now }
+        requires place { place < length item.now }
+        requires window { window.from < window.to }
+        ensures room { (vertices : List Vertex) (jobs : List Job) (q : Quantity) →
+            AreAccounts P.total_of P.stands_for vertices jobs self.now →
+            slice_get (counted_of self.now).quantities place ≡ Some q →
+            MatchBool result
+            (HasRoom (total_in vertices q vertex) (grouped (amount_in vertices q vertex) jobs) window amount)
+            (SomeMoment window
+            (λ m. free_at (total_in vertices q vertex) (grouped (amount_in vertices q vertex) jobs) m < amount)) }
+        ensures counted { steps.old ≤ steps.new }
+        ensures work { (most_looks : ℕ) →
+            CostWithin P.look_cost most_looks (items_of self.now.planners) → steps.new ≤ steps.old + most_looks }
+    {
+        item.has_room(place, window, amount, steps)
+    }
+
     /// The last moment of the window at which jobs leave less than the amount of a quantity at the vertex, whose item
     /// this is; `None` exactly where there is none.
     fn below_in<L: Ledger>(
@@ -230,10 +257,10 @@ impl<P: Planner + Drop> Accounts<P> {
     {
         graph.is_valid();
         let item = self.planners.at(vertex, steps);
-        if self.least_in(&item, vertex, HOLDS, window, steps) < u64::MAX {
+        if !self.room_in(&item, vertex, HOLDS, window, u64::MAX, steps) {
             return true;
         }
-        self.least_in(&item, vertex, CLAIMS, window, steps) < u64::MAX
+        !self.room_in(&item, vertex, CLAIMS, window, u64::MAX, steps)
     }
 
     /// Through which moment, after this one of the window, jobs leave less than the amount of a quantity at the vertex,

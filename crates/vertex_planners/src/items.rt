@@ -1,5 +1,7 @@
 //! The planners of one vertex.
 ghost use Rattle.std.specs.Prelude.{◌≡◌, ℕ, ◌+◌, ◌*◌, ◌<◌, ◌≤◌, List, length, slice_get, Some, MatchOption};
+ghost use Rattle.std.specs.Prelude.{MatchBool};
+ghost use Rattle.flux_defs.specs.Jobs.{SomeMoment};
 ghost use Rattle.planner_points.specs.declared.spans.Span.{Span};
 ghost use Rattle.planner_points.specs.Spans.{free_at, HasRoom, IsLeastFree, IsFirstFree, IsLastBelow};
 ghost use Rattle.vertex_planners.specs.Groups.{sixteenths};
@@ -62,6 +64,25 @@ impl<'a, P: Planner + Drop> Item<'a, P> {
         ensures work { (p : P) → slice_get self.now place ≡ Some p → steps.new ≤ steps.old + P.look_cost p }
     {
         self.planner(place).min_over(window, steps)
+    }
+
+    /// Whether so much is free at the place at each second of the window. It takes no memory.
+    pub fn has_room<L: Ledger>(
+        &self,
+        place: usize,
+        window: Window,
+        quantity: u64,
+        steps: &mut Steps<L>,
+    ) -> bool
+        requires place { place < length self.now }
+        requires window { window.from < window.to }
+        ensures answer { (p : P) → slice_get self.now place ≡ Some p → (spans : List Span) → P.stands_for p spans →
+            MatchBool result (HasRoom (P.total_of p) spans window quantity)
+            (SomeMoment window (λ m. free_at (P.total_of p) spans m < quantity)) }
+        ensures counted { steps.old ≤ steps.new }
+        ensures work { (p : P) → slice_get self.now place ≡ Some p → steps.new ≤ steps.old + P.look_cost p }
+    {
+        self.planner(place).has_room(window, quantity, steps)
     }
 
     /// The last second of the window at which less than so much is free at the place; `None` exactly where at each so

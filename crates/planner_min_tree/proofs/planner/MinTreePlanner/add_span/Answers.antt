@@ -13,11 +13,16 @@ invariant_of-self g c =
       marks = rw c.in-Ok.ensures.items
           (marks_with c.self.inside.total c.self.inside.points c.args.window c.args.quantity c.requires.window
           [] spans marks (room spans marks));
+      calm = c.with-self-inside.ensures c.self.inside.total [] spans c.self.invariant.calm;
     }
 
 pub invariant_of-self-in-Err : goal.invariant_of-self-in-Err
 invariant_of-self-in-Err g c =
-    record { spans = []; marks = rw c.empty.ensures (marks_none c.self.inside.total) }
+    record {
+      spans = [];
+      marks = rw c.empty.ensures (marks_none c.self.inside.total);
+      calm = c.nowhere-self-inside.ensures c.self.inside.total [];
+    }
 
 pub returns-in-Ok-clause-spans : goal.returns-in-Ok-clause-spans
 returns-in-Ok-clause-spans g c = λ before after now.

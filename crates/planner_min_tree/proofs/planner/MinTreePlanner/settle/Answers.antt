@@ -4,4 +4,8 @@ use Rattle.planner_min_tree.proofs.planner.MinTreePlanner.settle.Goals as goal
 
 pub invariant_of-self-in-Err : goal.invariant_of-self-in-Err
 invariant_of-self-in-Err g c =
-    record { spans = []; marks = rw c.empty.ensures (marks_none c.self.inside.total) }
+    record {
+      spans = [];
+      marks = rw c.empty.ensures (marks_none c.self.inside.total);
+      calm = c.nowhere-self-inside.ensures c.self.inside.total [];
+    }

@@ -2,15 +2,15 @@ use Rattle.std.proofs.Common.{arith}
 use Rattle.list_laws.proofs.Lists.{get_some}
 use Rattle.vertex_planners.specs.Lists.{items_of}
 use Rattle.vertex_accounts.specs.Books.{counted_of}
-use Rattle.vertex_accounts.proofs.AskingLaws.{below_here}
+use Rattle.vertex_accounts.proofs.AskingLaws.{told_here, BelowOrNone}
 use Rattle.vertex_accounts.proofs.books.Accounts.below_in.Goals as goal
 
 pub returns-clause-last : goal.returns-clause-last
 returns-clause-last g c = λ vertices jobs q is of.
-    below_here vertices (counted_of c.args.self.now)
+    told_here vertices (counted_of c.args.self.now)
     (items_of c.args.self.now.planners) is.graph c.args.vertex c.args.item.now c.requires.item c.args.place q of
-    g.P.Planner.total_of g.P.Planner.stands_for jobs c.args.window c.args.amount c.last_below.result is.kept
-    c.last_below.ensures.last
+    (λ total spans. BelowOrNone total spans c.args.window c.args.amount c.last_below.result)
+    g.P.Planner.total_of g.P.Planner.stands_for jobs is.kept c.last_below.ensures.last
 
 pub returns-clause-work : goal.returns-clause-work
 returns-clause-work g c = λ n looks.

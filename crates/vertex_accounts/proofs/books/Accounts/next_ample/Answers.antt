@@ -4,7 +4,7 @@ use Rattle.list_laws.proofs.Lists.{get_some}
 use Rattle.vertex_planners.specs.Lists.{items_of}
 use Rattle.vertex_accounts.specs.declared.counted.Counted.{Counted}
 use Rattle.vertex_accounts.specs.Books.{counted_of}
-use Rattle.vertex_accounts.proofs.AskingLaws.{place_in, first_here}
+use Rattle.vertex_accounts.proofs.AskingLaws.{place_in, told_here, FirstOrNone}
 use Rattle.vertex_accounts.proofs.RootLaws.{next_ample_is, units_first}
 use Rattle.vertex_accounts.proofs.books.Accounts.next_ample.Goals as goal
 
@@ -27,10 +27,10 @@ returns-clause-answer g c = λ jobs is.
     next_ample_is graph.resources c.is_valid.ensures.valid.preorder jobs is.fair c.args.kind
     c.args.after c.in-Some.next c.args.amount (c.in-Some.ensures.answer vertices jobs is) c.first_free.result
     (units_first vertices jobs c.args.kind c.in-Some.next c.args.amount c.first_free.result q units
-    (first_here vertices (counted_of c.args.self.now) (items_of c.args.self.now.planners)
+    (told_here vertices (counted_of c.args.self.now) (items_of c.args.self.now.planners)
     is.graph 0 c.at-item.result c.at-item.ensures.item c.in-Some-place_of.place q of
-    g.P.Planner.total_of g.P.Planner.stands_for
-    jobs c.in-Some.next c.args.amount c.first_free.result is.kept c.first_free.ensures.first))
+    (λ total spans. FirstOrNone total spans c.in-Some.next c.args.amount c.first_free.result)
+    g.P.Planner.total_of g.P.Planner.stands_for jobs is.kept c.first_free.ensures.first))
 
 pub returns-clause-work : goal.returns-clause-work
 returns-clause-work g c = λ n looks.
