@@ -5,6 +5,7 @@ pub mod WriteLaws
 pub mod DemandLaws
 pub mod TableLaws
 pub mod WalkLaws
+pub mod SingleLaws
 pub mod PairLaws
 pub mod OpenLaws
 pub mod StepLaws

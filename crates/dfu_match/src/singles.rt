@@ -44,16 +44,7 @@ pub(crate) fn reach_singles<F: FreeView>(
         let ok : Claim → Type 0 = open_to vs jobs s.now.barred.now s.now.window in
         IsGreatest (SomeGroup vs ok (scope_of scope) need.now) most result) }
 {
-    s.graph.is_valid();
     let span = span_of(s.graph, scope);
-    let mut reached: u32 = 0;
-    let mut at = span.from;
-    while u128::from(reached) < most {
-        let Some(vertex) = s.graph.next_of_kind(kind, at, span.to) else {
-            return u128::from(reached);
-        };
-        reached += 1;
-        at = s.graph.past(vertex);
-    }
-    u128::from(reached)
+    let few = most.min(u128::from(u32::MAX)) as u32;
+    u128::from(s.graph.count_of_kind(kind, span.from, span.to, few))
 }

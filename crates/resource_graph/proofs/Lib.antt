@@ -1,6 +1,7 @@
 pub mod NestLaws
 pub mod Finds
 pub mod Queries
+pub mod CountLaws
 pub mod ChainLaws
 pub mod TableLaws
 pub mod PastLaws

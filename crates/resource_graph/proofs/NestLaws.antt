@@ -33,14 +33,14 @@ some_index test low (suc count) h = by (test low) refl h (some_index test (low +
     by true is h later = (low, is)
     by false is h later = later h
 
-of_kind : (vertices : List Vertex) (kind v : ℕ) → IsTrue (has_kind vertices kind v) → HasKind vertices kind v
+pub of_kind : (vertices : List Vertex) (kind v : ℕ) → IsTrue (has_kind vertices kind v) → HasKind vertices kind v
 of_kind vertices kind v h = by (slice_get vertices v) h
   where
     by : (o : Option Vertex) → IsTrue (option_map_or (λ x. x.kind == kind) o false) → IsSomeAnd o (λ x. x.kind ≡ kind)
     by None h = absurd (true≢false (sym h))
     by (Some x) h = eqb-true x.kind kind h
 
-is_of_kind : (vertices : List Vertex) (kind v : ℕ) → HasKind vertices kind v → IsTrue (has_kind vertices kind v)
+pub is_of_kind : (vertices : List Vertex) (kind v : ℕ) → HasKind vertices kind v → IsTrue (has_kind vertices kind v)
 is_of_kind vertices kind v h = by (slice_get vertices v) h
   where
     by : (o : Option Vertex) → IsSomeAnd o (λ x. x.kind ≡ kind) → IsTrue (option_map_or (λ x. x.kind == kind) o false)
@@ -76,7 +76,7 @@ nests_is vertices upper lower answer is =
     same_tests answer (contains_kind vertices upper lower) (λ h. from (is.0 h)) (λ h. is.1 (to h))
 
 -- a kind is one of the graph's
-kind_in : (vertices : List Vertex) (kinds kind v : ℕ) →
+pub kind_in : (vertices : List Vertex) (kinds kind v : ℕ) →
     KnowsKinds vertices kinds → HasKind vertices kind v → kind < kinds
 kind_in vertices kinds kind v known h =
     let x = value_of (slice_get vertices v) (λ x. x.kind ≡ kind) h in

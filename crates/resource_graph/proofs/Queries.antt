@@ -1,10 +1,10 @@
 -- From the tables to what the queries answer.
 use Rattle.std.proofs.Common.{◌≡◌, ℕ, ◌<◌, ◌≤◌, false, List, length, get_or, Option, Some, None, refl, sym, subst}
-use Rattle.std.proofs.Common.{arith, ltb, MatchOption}
+use Rattle.std.proofs.Common.{arith, ltb, MatchOption, Vec, Global}
 use Rattle.std.specs.Prelude.{slice_get}
 use Rattle.std.specs.Option.{IsSomeAnd}
 use Rattle.std.proofs.lemmas.Bool.{false_from_ne_true, lt-ltb, ltb-true}
-use Rattle.std.proofs.lemmas.Option.{slice_get-get_or}
+use Rattle.std.proofs.lemmas.Option.{slice_get-get_or, slice_get_read}
 use Rattle.flux_defs.specs.declared.limits.TheConstants.{MOST_LEVELS}
 use Rattle.flux_defs.specs.declared.vertices.Vertex.{Vertex}
 use Rattle.flux_defs.specs.Graph.{ResourceGraph, is_below, HasKind}
@@ -13,6 +13,7 @@ use Rattle.graph_laws.proofs.Containment.{ParentsFirst, below_le, below_from, be
 use Rattle.graph_laws.proofs.Preorder.{parents_first, has_parent}
 use Rattle.list_laws.proofs.Tests.{same_tests}
 use Rattle.resource_graph.specs.Chains.{chain_of, KnowsParents}
+use Rattle.resource_graph.specs.Holds.{HasLists}
 use Rattle.resource_graph.specs.Preorder.{InPreorder}
 use Rattle.resource_graph.specs.Tables.{IsPast, IsNextOfKind, HasNoneOfKind, IsNextIn, HasNoneIn, ListsKind}
 
@@ -43,6 +44,14 @@ kind_within vertices kind v h = at (slice_get vertices v) refl h
         IsSomeAnd o (λ x. x.kind ≡ kind) → (x : Vertex) × (slice_get vertices v ≡ Some x) × (x.kind ≡ kind)
     at None e p = absurd p
     at (Some x) e p = (x, e, p)
+
+-- a list that was read is that of its kind
+pub read_list : (vertices : List Vertex) (kinds kind : ℕ) (lists : List (Vec ℕ Global))
+    (list : Vec ℕ Global) (items : List ℕ) → HasLists vertices kinds lists → kind < length lists →
+    list ≡ get_or lists kind list → items ≡ list.items → ListsKind vertices kind items
+read_list vertices kinds kind lists list items has lt read same =
+    subst (λ (xs : List ℕ). ListsKind vertices kind xs)
+    (sym same) (has.each kind list (slice_get_read lists (length lists) kind list refl lt read))
 
 -- the next of a list of a kind is the next of that kind
 pub next_of_list : (vertices : List Vertex) (kind : ℕ) (list : List ℕ) (from to : ℕ) (found : Option ℕ) →

@@ -1,12 +1,13 @@
 -- What the queries of a graph answer, and what its tables hold.
 use Rattle.std.specs.Prelude.{◌≡◌, ◌≢◌, ℕ, ◌<◌, ◌≤◌, Bool, false, ◌&&◌, ◌==◌, List, length, Option, Some, MatchOption}
-use Rattle.std.specs.Prelude.{[], option_and_then, unwrap_or, slice_get, slice_index, IsTrue}
-use Rattle.std.specs.List.{list_any, range_with_len}
+use Rattle.std.specs.Prelude.{◌+◌, ◌-◌, min, [], option_and_then, unwrap_or, slice_get, slice_index, IsTrue}
+use Rattle.std.specs.List.{list_any, count_by, range_with_len}
 use Rattle.std.specs.Option.{option_map_or}
 use Rattle.std.specs.List.Sorted.{IsStrictlyIncreasing}
 use Rattle.flux_defs.specs.declared.vertices.Vertex.{Vertex}
 use Rattle.flux_defs.specs.Graph.{ResourceGraph, is_at_or_below, is_below, HasKind, IsNode}
 use Rattle.flux_defs.specs.ValidGraph.{HasRank}
+use Rattle.text_forms.specs.Rising.{IsIndexOf}
 use Rattle.resource_graph.specs.NamedGraph.{NamedGraph}
 
 -- `after` is the number after the last vertex at or below v: exactly the vertices from v on and before it are at or
@@ -60,12 +61,21 @@ contains_kind vertices upper lower =
     list_any (λ u. list_any (λ v. has_kind vertices upper u && (has_kind vertices lower v && is_below vertices v u))
     (range_with_len 0 (length vertices))) (range_with_len 0 (length vertices))
 
+-- how many vertices of the kind stand from `from` on and before `to`
+abbrev pub kind_count : List Vertex → ℕ → ℕ → ℕ → ℕ
+kind_count vertices kind from to = count_by (has_kind vertices kind) (range_with_len from (to - from))
+
 -- v is the least vertex of the kind from `from` on and before `to`
 pub record IsNextOfKind (vertices : List Vertex) (kind from to v : ℕ) : Type 0 where
   pub of_kind : HasKind vertices kind v
   pub low : from ≤ v
   pub high : v < to
   pub least : (u : ℕ) → HasKind vertices kind u → from ≤ u → v ≤ u
+
+-- so many vertices from `from` on stand before `to` and are of the kind
+abbrev pub IsRunOfKind : List Vertex → ℕ → ℕ → ℕ → ℕ → Type 0
+IsRunOfKind vertices kind from to run =
+    (v : ℕ) → from ≤ v → v < from + run → (v < to) × HasKind vertices kind v
 
 -- no vertex of the kind stands from `from` on and before `to`
 abbrev pub HasNoneOfKind : List Vertex → ℕ → ℕ → ℕ → Type 0
@@ -81,6 +91,11 @@ pub record IsNextIn (list : List ℕ) (from to v : ℕ) : Type 0 where
 -- the list has no number from `from` on and before `to`
 abbrev pub HasNoneIn : List ℕ → ℕ → ℕ → Type 0
 HasNoneIn list from to = (i : ℕ) → i < length list → from ≤ slice_index list i → slice_index list i < to → ⊥
+
+-- so many numbers of the rising list stand from `from` on and before `to`, where no more than `most` are counted
+abbrev pub IsCountIn : List ℕ → ℕ → ℕ → ℕ → ℕ → Type 0
+IsCountIn list from to most count = (first after : ℕ) →
+    IsIndexOf list from first → IsIndexOf list to after → count ≡ min most (after - first)
 
 -- the list has exactly the vertices of the kind, rising
 pub record ListsKind (vertices : List Vertex) (kind : ℕ) (list : List ℕ) : Type 0 where

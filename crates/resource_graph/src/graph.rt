@@ -1,5 +1,5 @@
 //! The graph and its queries.
-ghost use Rattle.std.specs.Prelude.{◌≡◌, ℕ, ◌<◌, ◌≤◌, ◌↔◌, IsTrue, IfOk, length, reverse, slice_get, MatchOption};
+ghost use Rattle.std.specs.Prelude.{◌≡◌, ℕ, ◌<◌, ◌≤◌, ◌↔◌, IsTrue, IfOk, length, min, reverse, slice_get, MatchOption};
 ghost use Rattle.std.specs.Option.{option_copied};
 ghost use Rattle.std.specs.List.{flat_map};
 ghost use Rattle.flux_defs.specs.Graph.{HasKind, is_below, is_pool_kind};
@@ -8,6 +8,7 @@ ghost use Rattle.resource_graph.specs.NamedGraph.{IsWhole, name_step, path_text}
 ghost use Rattle.resource_graph.specs.Made.{named_graph};
 ghost use Rattle.resource_graph.specs.Tables.{IsPast, IsNodeOf, IsRanked, IsNamedKind, contains_kind, IsNextOfKind};
 ghost use Rattle.resource_graph.specs.Tables.{HasNoneOfKind, IsNextIn, HasNoneIn, IsFirstIndex, rank_at, name_at};
+ghost use Rattle.resource_graph.specs.Tables.{kind_count, IsCountIn, IsRunOfKind};
 ghost use Rattle.std.specs.List.Sorted.{IsStrictlyIncreasing};
 
 use crate::chains::chain_up;
@@ -17,6 +18,9 @@ use std::alloc::{AllocError, Global};
 use std::collections::BTreeMap;
 use std::marker::Model;
 use text_forms::index_of;
+
+/// Up to so many vertices are counted one by one, which takes no longer than a search.
+const FEW: u32 = 16;
 
 /// A valid resource graph: vertices in preorder, with their texts. Contracts see its types and vertices, and by the
 /// vertex's number its name, basename, unit and properties.
@@ -202,6 +206,34 @@ impl Graph {
         next_in(list.as_slice(), from, to)
     }
 
+    /// How many vertices of the type stand from `from` on and before `to`, at most so many. Logarithmic in the type's
+    /// list: it looks at no vertex, but for a few that follow one another from `from` on.
+    pub fn count_of_kind(&self, kind: u32, from: u32, to: u32, most: u32) -> u32
+        ensures { result ≡ min most (kind_count self.now.resources.vertices kind from to) }
+    {
+        if most <= FEW && self.run_of_kind(kind, from, to, most) == most {
+            return most;
+        }
+        if kind as usize >= self.lists.len() {
+            return 0;
+        }
+        let list = &self.lists[kind as usize];
+        count_in(list.as_slice(), from, to, most)
+    }
+
+    /// How many vertices of the type follow one another from `from` on, before `to` and at most so many.
+    fn run_of_kind(&self, kind: u32, from: u32, to: u32, most: u32) -> u32
+        ensures { IsRunOfKind self.now.resources.vertices kind from to result }
+    {
+        let vertices = self.vertices.items();
+        let end = from.saturating_add(most).min(to).min(self.len());
+        let mut at = from;
+        while at < end && vertices[at as usize].kind == kind {
+            at += 1;
+        }
+        at - from
+    }
+
     /// The node that the vertex is or lies below.
     pub fn node_of(&self, vertex: u32) -> Option<u32>
         requires { vertex < length self.now.resources.vertices }
@@ -317,4 +349,21 @@ fn next_in(list: &[u32], from: u32, to: u32) -> Option<u32>
         return None;
     }
     Some(v)
+}
+
+/// How many numbers of a rising list stand from `from` on and before `to`, at most so many.
+fn count_in(list: &[u32], from: u32, to: u32, most: u32) -> u32
+    requires { IsStrictlyIncreasing list.now }
+    ensures { IsCountIn list.now from to most result }
+{
+    if most == 0 {
+        return 0;
+    }
+    let first = index_of(list, from);
+    let last = first + (most as usize - 1);
+    if last < list.len() && list[last] < to {
+        return most;
+    }
+    let after = index_of(list, to);
+    after.saturating_sub(first).min(most as usize) as u32
 }
