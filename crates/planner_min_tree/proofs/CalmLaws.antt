@@ -1,15 +1,14 @@
 -- A stretch over which the same is free, when a span comes or goes, and what it says of a window.
-use Rattle.std.proofs.Common.{◌≡◌, ℕ, ◌+◌, ◌-◌, ◌<◌, ◌≤◌, nat_le, Bool, true, false, List, ◌∷◌, ◌++◌, ◌∙◌, sym, ap, subst}
-use Rattle.std.proofs.Common.{arith, cond, inl, inr, MatchBool}
+use Rattle.std.proofs.Common.{◌≡◌, ℕ, ◌+◌, ◌-◌, ◌<◌, ◌≤◌, nat_le, Bool, true, false, List, ◌∷◌, ◌++◌, ◌∙◌, sym, ap}
+use Rattle.std.proofs.Common.{subst, arith, cond, inl, inr, MatchBool}
 use Rattle.std.proofs.lemmas.Bool.{cases_lt}
 use Rattle.std.proofs.lemmas.Bool.Decides.{nat_tests}
 use Rattle.flux_defs.specs.Jobs.{SomeMoment}
-use Rattle.planner_points.specs.Spans.{IsEnd}
 use Rattle.planner_points.proofs.Starts.{same_free}
 use Rattle.planner_min_tree.specs.Points.{value_at}
 use Rattle.flux_defs.specs.declared.claims.Window.{Window}
 use Rattle.planner_points.specs.declared.spans.Span.{Span}
-use Rattle.planner_points.specs.Spans.{is_in, used_at, free_at, span_of, HasRoom, IsLeastFree, IsLastBelow}
+use Rattle.planner_points.specs.Spans.{is_in, used_at, free_at, span_of, HasRoom, IsLeastFree, IsEnd}
 use Rattle.planner_min_tree.specs.declared.calm.Calm.{Calm}
 use Rattle.planner_min_tree.specs.Calms.{IsCalm}
 use Rattle.planner_min_tree.specs.Marks.{Marks}
@@ -69,31 +68,6 @@ pub calm_same : (total : ℕ) (points : List Point) (some others : List Span) (c
     Marks total points some → Marks total points others → IsCalm total some calm → IsCalm total others calm
 calm_same total points some others calm a b is m lo hi =
     let s = a.free m in let o = b.free m in let e = is m lo hi in omega arith
-
-module _ (total : ℕ) (spans : List Span) (calm : Calm) (is : IsCalm total spans calm) (w : Window)
-    (some : w.from < w.to) (from : calm.from ≤ w.from) where
-  -- over a window in it
-  module _ (to : w.to ≤ calm.to) where
-    pub least_in : IsLeastFree total spans w calm.level
-    least_in = record {
-      each = λ m lo hi. (let e = is m (omega arith) (omega arith) in omega arith);
-      reached = (w.from, omega arith, omega arith, is w.from from (omega arith));
-    }
-
-    pub room_in : (q : ℕ) → q ≤ calm.level → HasRoom total spans w q
-    room_in q le m lo hi = (let e = is m (omega arith) (omega arith) in omega arith)
-
-    pub last_in : (q t : ℕ) → calm.level < q → t + 1 ≡ w.to → IsLastBelow total spans w q t
-    last_in q t lt e = record {
-      later = omega arith;
-      sooner = omega arith;
-      less = (let f = is t (omega arith) (omega arith) in omega arith);
-      last = λ u a b. absurd (omega arith);
-    }
-
-  -- where a window begins in it and less is free, there is no room
-  pub no_room : (q : ℕ) → w.from < calm.to → calm.level < q → HasRoom total spans w q → ⊥
-  no_room q to lt room = let e = is w.from from to in let r = room w.from (omega arith) (omega arith) in omega arith
 
 -- from a moment on, up to the next start or end of a span
 pub calm_on : (total : ℕ) (points : List Point) (spans : List Span) → Marks total points spans →

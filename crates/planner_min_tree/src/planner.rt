@@ -54,8 +54,8 @@ impl MinTree {
     ghost use Rattle.std.specs.Prelude.{◌↔◌, IsTrue};
     ghost use Rattle.planner_min_tree.specs.Points.{first_from};
 
-    /// A stretch from that second on over which the same is free: what is left of the one that is known, or the one up to
-    /// the next point.
+    /// A stretch from that second on over which the same is free: what is left of the one that is known, or the one up
+    /// to the next point.
     #[tactic(auto, using(crate::proofs::PlanFacts::marks_run))]
     fn calm_since<L: Ledger>(&self, moment: u64, steps: &mut Steps<L>) -> Calm
         ensures calm { (spans : List Span) → StandsFor self.now spans → IsCalm self.now.total spans result }
@@ -318,17 +318,10 @@ impl Planner for MinTree {
         ensures work { steps.new ≤ steps.old + 4 * dig (length self.now.points + 2) }
         ensures counted { steps.old ≤ steps.new }
     {
-        if self.calm.has(window.from) {
-            if self.calm.level < quantity {
-                return false;
-            }
-            if window.to <= self.calm.to {
-                return true;
-            }
+        if self.calm.has(window.from) && self.calm.level < quantity {
+            return false;
         }
-        self.points
-            .lowest_in(window.from, window.to, self.total, steps)
-            >= quantity
+        self.min_over(window, steps) >= quantity
     }
 
     #[tactic(auto, using(crate::proofs::PlanFacts::marks_run))]

@@ -1,7 +1,6 @@
 -- What the accounts' least values say, and how many steps they take.
-use Rattle.std.proofs.Common.{◌≡◌, ℕ, ◌+◌, ◌-◌, ◌*◌, ◌<◌, ◌≤◌, nat_lt, List, ◌∷◌, length, Option, Some, None}
+use Rattle.std.proofs.Common.{◌≡◌, ℕ, ◌+◌, ◌-◌, ◌*◌, ◌<◌, ◌≤◌, List, ◌∷◌, length, Option, Some, None}
 use Rattle.std.proofs.Common.{IfSome, MatchOption, slice_get, ◌↔◌, inl, inr, refl, sym, ◌∙◌, ap, subst, arith, IsTrue}
-use Rattle.std.proofs.lemmas.Bool.Decides.{Decides-ltb}
 use Rattle.std.proofs.lemmas.Option.{slice_get_within}
 use Rattle.std.proofs.Math.Nat.{mul-le-mul_right}
 use Rattle.flux_defs.specs.declared.vertices.Vertex.{Vertex}
@@ -29,9 +28,6 @@ use Rattle.vertex_accounts.specs.declared.counted.Counted.{Counted}
 use Rattle.vertex_accounts.specs.Books.{ArePlanned, AreAllKept}
 use Rattle.vertex_accounts.specs.Quantities.{amount_in, total_in, claim_count, part_count, most_claims, IsUnitsOf}
 use Rattle.vertex_accounts.specs.Costs.{look_most, rest_most}
-
-pub less_tells : (n total : ℕ) (A : Type 0) → (n < total ↔ A) → (IsTrue (nat_lt n total) ↔ A)
-less_tells n total A t = let d = Decides-ltb n total in (λ h. t.0 (d.0 h), λ a. d.1 (t.1 a))
 
 -- held: less than all holds are left
 pub held_is : (vertices : List Vertex) (jobs : List Job) (w : Window) (v n : ℕ) →
