@@ -23,7 +23,7 @@ module _ {V E K : Type 0} (history : V → List E) (setting : V → K) (k : K) w
 
   -- what a seat that has the turn knows
   pub record HasIt (turn : ℕ) (homes : Homes) (views : List (View E K)) (i : ℕ) : Type 0 where
-    pub turn_is : turn ≡ 1
+    pub turn_is : turn ≢ 0
     pub home : homes ≡ none ∷ []
     pub others : EachOther i IsIdle views
 

@@ -73,6 +73,10 @@ module _ {V E K : Type 0} where
         (b : V) → m.1 ≡ (0, Some b) ∷ []
         → (m' ≡ (stores (history b) m.0, m.1)) × RisesBelow (length (history b)) m'.0.mine
 
+  -- nothing changed for the seat
+  abbrev pub IsNothingTold : Step (Option V) → Hand V E K → ℕ → Hand V E K → Type 0
+  IsNothingTold st m found m' = m' ≡ m
+
   -- the turn and the slot were given up
   abbrev pub IsTurnGiven : Step (Option V) → Hand V E K → ℕ → Hand V E K → Type 0
   IsTurnGiven st m stored m' = m' ≡ (rests m.0, rest m.1)

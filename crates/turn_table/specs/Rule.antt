@@ -70,11 +70,11 @@ module _ {V E K : Type 0} (history : V → List E) (setting : V → K) (k : K) w
     pub setting_is : setting value ≡ k
     pub idle : Each IsIdle views
 
-  -- One seat has the turn, and the slot is out with it.
+  -- One seat has the turn, and the slot is out with it. The turn word says no more than that.
   pub record IsTaken (turn : ℕ) (homes : Homes) (views : List (View E K)) : Type 0 where
     pub holder : ℕ
     pub holds : View E K
-    pub turn_is : turn ≡ 1
+    pub turn_is : turn ≢ 0
     pub home : homes ≡ none ∷ []
     pub at : get_elem? views holder ≡ some holds
     pub busy : holds.phase ≢ Idle

@@ -8,7 +8,7 @@ ghost use Rattle.turn_table.specs.Seats.{seen, mine, share, Rests, HasTurn, IsTu
 ghost use Rattle.turn_table.specs.Turns.{setting_of, Belongs};
 
 use crate::logged::Logged;
-use crate::moves::{FREE, VALUE};
+use crate::moves::{FREE, TAKEN, VALUE, WAITED};
 use crate::plays::{Merge, Part};
 use crate::turn::{Seat, Turn};
 use atomic_table::{Refused, Table};
@@ -82,17 +82,21 @@ impl<V: Logged> Turn<V> {
         ensures setting { V.setting result ≡ setting_of V.setting self.now }
         ensures same { (mine seat.new ≡ mine seat.old) × (share seat.new ≡ share seat.old) }
     {
+        if self.try_turn(seat, TAKEN) {
+            return self.lift(seat);
+        }
         for _ in rt.forever() {
-            if self.try_turn(seat) {
+            if self.try_turn(seat, WAITED) {
                 return self.lift(seat);
             }
+            self.ask_to_wake(seat);
             self.sleep(rt);
         }
         unreachable!()
     }
 
     /// Gives the turn up with a value whose history begins with that of the value that was taken. The seat has then
-    /// seen it, and the positions that it adds are the seat's. It never waits, and wakes one of those who do.
+    /// seen it, and the positions that it adds are the seat's. It never waits, and wakes one of those who do, if any does.
     pub fn give(&self, seat: &mut Seat<V>, value: V)
         requires own { Belongs V.setting self.now seat.old × HasTurn seat.old }
         requires later { IsPrefix (seen seat.old) (V.history value) }

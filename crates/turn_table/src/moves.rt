@@ -1,5 +1,5 @@
 //! One function for each kind of step.
-ghost use Rattle.std.specs.Prelude.{◌≡◌, [], ◌∷◌, length, Some, None, MatchBool};
+ghost use Rattle.std.specs.Prelude.{◌≡◌, ◌≢◌, [], ◌∷◌, length, Some, None, MatchBool};
 ghost use mathlib.Core.List.{IsPrefix};
 ghost use Rattle.turn_table.specs.declared.view.TurnPhase.TheVariants.{Holding, Stored};
 ghost use Rattle.turn_table.specs.Positions.{RisesBelow};
@@ -8,7 +8,7 @@ ghost use Rattle.turn_table.specs.Seats.{seen, HasInHand, Took};
 ghost use Rattle.turn_table.specs.Turns.{setting_of, Stands};
 
 use crate::logged::Logged;
-use crate::plays::{Give, Load, Store, Take};
+use crate::plays::{Ask, Give, Load, Store, Take};
 use crate::turn::{Seat, Turn};
 use std::sync::Wait;
 
@@ -19,15 +19,18 @@ const COUNT: usize = 1;
 
 pub(crate) const VALUE: usize = 0;
 
-// What the turn word is while nobody has the turn, and while somebody has it.
+// What the turn word is while nobody has the turn, while somebody has it, and while others may wait for it too.
 pub(crate) const FREE: u64 = 0;
 
-const TAKEN: u64 = 1;
+pub(crate) const TAKEN: u64 = 1;
+
+pub(crate) const WAITED: u64 = 2;
 
 impl<V: Logged> Turn<V> {
-    // Takes the turn, and with it the slot, if it is free.
-    pub(crate) fn try_turn(&self, seat: &mut Seat<V>) -> bool
+    // Takes the turn, and with it the slot, if it is free. The turn word then is the given one.
+    pub(crate) fn try_turn(&self, seat: &mut Seat<V>, word: u64) -> bool
         requires own { Stands V.setting self.now seat.old }
+        requires word { word ≢ 0 }
         requires hand { seat.old.me.1 ≡ [] }
         ensures own { seat.new.table_id ≡ seat.old.table_id }
         ensures took { MatchBool result
@@ -36,13 +39,25 @@ impl<V: Logged> Turn<V> {
     {
         self.table
             .shared
-            .compare_exchange::<Take>(seat, TURN, FREE, TAKEN)
+            .compare_exchange::<Take>(seat, TURN, FREE, word)
             == FREE
     }
 
-    // Sleeps while somebody has the turn. It may also return for no reason.
+    // Lets who has the turn know that somebody waits.
+    pub(crate) fn ask_to_wake(&self, seat: &mut Seat<V>)
+        requires own { Stands V.setting self.now seat.old }
+        ensures own { seat.new.table_id ≡ seat.old.table_id }
+        ensures same { seat.new.me ≡ seat.old.me }
+    {
+        let _found = self
+            .table
+            .shared
+            .compare_exchange::<Ask>(seat, TURN, TAKEN, WAITED);
+    }
+
+    // Sleeps while somebody has the turn who knows that others wait. It may also return for no reason.
     pub(crate) fn sleep<R: Wait>(&self, rt: &R) {
-        self.table.shared.park(rt, TURN, TAKEN as u32);
+        self.table.shared.park(rt, TURN, WAITED as u32);
     }
 
     // Takes the value out of the slot in hand.
@@ -84,7 +99,8 @@ impl<V: Logged> Turn<V> {
         self.table.shared.store::<Store>(seat, COUNT, count);
     }
 
-    // Gives the turn up, and with it the slot and the value in it. Wakes one of those who wait.
+    // Gives the turn up, and with it the slot and the value in it. Wakes one of those who wait, if any does: so a turn
+    // that nobody waits for costs no call of the system.
     pub(crate) fn give_turn(&self, seat: &mut Seat<V>)
         requires own { Stands V.setting self.now seat.old }
         requires hand { (value : V) × HasInHand seat.old value × (seen seat.old ≡ V.history value)
@@ -93,8 +109,10 @@ impl<V: Logged> Turn<V> {
         ensures own { seat.new.table_id ≡ seat.old.table_id }
         ensures gave { seat.new.me ≡ (rests seat.old.me.0, []) }
     {
-        self.table.shared.store::<Give>(seat, TURN, FREE);
-        self.table.shared.wake_one(TURN);
+        let found = self.table.shared.swap::<Give>(seat, TURN, FREE);
+        if found == WAITED {
+            self.table.shared.wake_one(TURN);
+        }
     }
 
     // Reads how long the history is.

@@ -2,8 +2,8 @@ use Rattle.std.proofs.Common.{rules}
 use Rattle.turn_table.proofs.Turning.{give_allows}
 use Rattle.turn_table.proofs.turn.Turn.give_turn.Goals as goal
 
-pub store-requires : goal.store-requires
-store-requires g c =
+pub swap-found-requires : goal.swap-found-requires
+swap-found-requires g c =
     let h = c.requires.hand in (
       search rules,
       search rules,
