@@ -38,7 +38,8 @@ module _ {V E K : Type 0} (history : V → List E) (setting : V → K) (k : K) w
 
   -- the turn is free: it is taken, with the value
   take_free : (s : State (Option V) (View E K)) (r : Rule s) (to : ℕ) → to ≢ 0 → (i : ℕ) (v : View E K)
-      (c : List (ℕ × Option V)) → v.setting ≡ Some k → get_elem? s.views i ≡ some v → IsFree history setting k r.log r.turn s.homes s.views
+      (c : List (ℕ × Option V)) → v.setting ≡ Some k → get_elem? s.views i ≡ some v
+      → IsFree history setting k r.log r.turn s.homes s.views
       → Goes s to i v c (0 ∷ length r.log ∷ [])
   take_free s r to set_to i v c is at free =
       let w : View E K = holds r.log v in

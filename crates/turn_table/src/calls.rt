@@ -96,7 +96,8 @@ impl<V: Logged> Turn<V> {
     }
 
     /// Gives the turn up with a value whose history begins with that of the value that was taken. The seat has then
-    /// seen it, and the positions that it adds are the seat's. It never waits, and wakes one of those who do, if any does.
+    /// seen it, and the positions that it adds are the seat's. It never waits, and wakes one of those who do, if any
+    /// does.
     pub fn give(&self, seat: &mut Seat<V>, value: V)
         requires own { Belongs V.setting self.now seat.old × HasTurn seat.old }
         requires later { IsPrefix (seen seat.old) (V.history value) }
