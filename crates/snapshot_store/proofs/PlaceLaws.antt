@@ -1,8 +1,9 @@
 -- Where an item stands in parts of one width.
-use Rattle.std.proofs.Common.{◌≡◌, ℕ, zero, suc, ◌+◌, ◌*◌, ◌/◌, ◌%◌, ◌^◌, ◌<◌, ◌≤◌, List, [], ◌∷◌, ◌++◌, length, refl}
-use Rattle.std.proofs.Common.{ap, sym, ◌∙◌, inl, inr, arith, Some, slice_get, slice_set, length-append, append-nil}
-use Rattle.std.proofs.Common.{append_assoc, subst}
-use Rattle.std.proofs.Math.Nat.{mod-eq_of_lt, div-add-mod, mod-lt, div-lt_iff_lt-mul}
+use Rattle.std.proofs.Common.{◌≡◌, ℕ, zero, suc, ◌+◌, ◌-◌, ◌*◌, ◌/◌, ◌%◌, ◌^◌, ◌<◌, ◌≤◌, List, [], ◌∷◌, ◌++◌, length}
+use Rattle.std.proofs.Common.{refl, ap, sym, ◌∙◌, inl, inr, arith, Some, slice_get, slice_set, length-append}
+use Rattle.std.proofs.Common.{append-nil, append_assoc, subst}
+use Rattle.std.proofs.Math.Nat.{mod-eq_of_lt, div-add-mod, mod-lt, div-lt_iff_lt-mul, mod-mod_of_dvd, dvd-mul_right}
+use Rattle.std.proofs.lemmas.Nat.{pow-add}
 use Rattle.std.proofs.Math.Pow.{pow_mono, pow-lt}
 use Rattle.std.proofs.lemmas.Bool.{cases_lt}
 use Rattle.snapshot_store.specs.Parts.{parts_in, items_in, IsPart, ArePacked, IsPage}
@@ -19,23 +20,24 @@ width_fits b l =
 some_width : (b : ℕ) → 0 < 2 ^ (4 * b)
 some_width b = let p : 2 ^ 0 ≤ 2 ^ (4 * b) = pow_mono {i = 0} {j = 4 * b} (omega arith) in omega (arith, p)
 
-get_left : {E : Type 0} (xs ys : List E) (i : ℕ) → i < length xs → slice_get (xs ++ ys) i ≡ slice_get xs i
+pub get_left : {E : Type 0} (xs ys : List E) (i : ℕ) → i < length xs → slice_get (xs ++ ys) i ≡ slice_get xs i
 get_left [] ys i h = absurd (omega arith)
 get_left (x ∷ xs) ys zero h = refl
 get_left (x ∷ xs) ys (suc i) h = get_left xs ys i (omega arith)
 
-get_right : {E : Type 0} (xs ys : List E) (i k : ℕ) → k ≡ length xs + i → slice_get (xs ++ ys) k ≡ slice_get ys i
+pub get_right : {E : Type 0} (xs ys : List E) (i k : ℕ) → k ≡ length xs + i →
+    slice_get (xs ++ ys) k ≡ slice_get ys i
 get_right [] ys i k h = (let e : k ≡ i = omega arith in ap (λ u. slice_get ys u) e)
 get_right (x ∷ xs) ys i zero h = absurd (omega arith)
 get_right (x ∷ xs) ys i (suc k) h = get_right xs ys i k (omega arith)
 
-set_left : {E : Type 0} (xs ys : List E) (i : ℕ) (e : E) → i < length xs →
+pub set_left : {E : Type 0} (xs ys : List E) (i : ℕ) (e : E) → i < length xs →
     slice_set (xs ++ ys) i e ≡ slice_set xs i e ++ ys
 set_left [] ys i e h = absurd (omega arith)
 set_left (x ∷ xs) ys zero e h = refl
 set_left (x ∷ xs) ys (suc i) e h = ap (λ l. x ∷ l) (set_left xs ys i e (omega arith))
 
-set_right : {E : Type 0} (xs ys : List E) (i k : ℕ) (e : E) → k ≡ length xs + i →
+pub set_right : {E : Type 0} (xs ys : List E) (i k : ℕ) (e : E) → k ≡ length xs + i →
     slice_set (xs ++ ys) k e ≡ xs ++ slice_set ys i e
 set_right [] ys i k e h = (let q : k ≡ i = omega arith in ap (λ u. slice_set ys u e) q)
 set_right (x ∷ xs) ys i zero e h = absurd (omega arith)
@@ -120,6 +122,29 @@ packed_most h (t ∷ ts) p =
     let m = next_row (length ts) (2 ^ (4 * h)) in
     omega (arith, packed_most h ts p.2, p.0.within)
 
+-- a width of at least one row of sixteen is so many rows
+pub four_more : (h : ℕ) → 2 ^ (4 * (h + 1)) ≡ 16 * 2 ^ (4 * h)
+four_more h =
+    let p = pow-add 2 (4 * h) 4 in
+    let n : 4 * (h + 1) ≡ 4 * h + 4 = omega arith in
+    let m : 2 ^ (4 * (h + 1)) ≡ 2 ^ (4 * h + 4) = ap (λ u. 2 ^ u) n in
+    omega (arith, p, m)
+
+row_width : (b : ℕ) → 1 ≤ b → 2 ^ (4 * b) ≡ 16 * 2 ^ (4 * (b - 1))
+row_width b some =
+    let e : b ≡ b - 1 + 1 = omega arith in
+    ap (λ (u : ℕ). 2 ^ (4 * u)) e ∙ four_more (b - 1)
+
+-- whole rows leave whole rows in a part of such a width
+pub row_rest : (at b : ℕ) → 1 ≤ b → at % 16 ≡ 0 → at % 2 ^ (4 * b) % 16 ≡ 0
+row_rest at b some rows =
+    subst (λ (u : ℕ). at % u % 16 ≡ 0) (sym (row_width b some))
+    (mod-mod_of_dvd 16 at (dvd-mul_right 16 (2 ^ (4 * (b - 1)))) ∙ rows)
+
+-- and where one more item has room, so have sixteen
+pub row_fits : (rest b : ℕ) → 1 ≤ b → rest % 16 ≡ 0 → rest < 2 ^ (4 * b) → rest + 16 ≤ 2 ^ (4 * b)
+row_fits rest b some rows room = let w = row_width b some in omega (arith, w, rows, room)
+
 within_sixteen : (at b : ℕ) → at < 16 * 2 ^ (4 * b) → at / 2 ^ (4 * b) < 16
 within_sixteen at b l = (div-lt_iff_lt-mul {k = 2 ^ (4 * b)} {x = at} {y = 16} (some_width b)).1 (omega arith)
 
@@ -148,17 +173,17 @@ item_place page at width e p l =
     let m = packed_most page.below (parts_in page) p.packed in
     subst (λ u. at / u < 16) (sym e) (within_sixteen at page.below (omega (arith, m)))
 
--- the part that has room for one more item
+-- the part that has room for more items
 pub record Grows {E : Type 0} (h : ℕ) (parts : List (List E × ℕ)) (part : List E × ℕ) (d r : ℕ) : Type 0 where
   pub len : r ≡ length part.0
   pub fits : IsPart h part
-  pub items : (x : E) → items_in (slice_set parts d (part.0 ++ x ∷ [], h)) ≡ items_in parts ++ x ∷ []
-  pub packed : (x : E) → ArePacked h (slice_set parts d (part.0 ++ x ∷ [], h))
+  pub items : (xs : List E) → items_in (slice_set parts d (part.0 ++ xs, h)) ≡ items_in parts ++ xs
+  pub packed : (xs : List E) → r + length xs ≤ 2 ^ (4 * h) → ArePacked h (slice_set parts d (part.0 ++ xs, h))
 
-one_more : {E : Type 0} (h w : ℕ) (t : List E × ℕ) (x : E) → w ≡ 2 ^ (4 * h) → length t.0 < w →
-    IsPart h (t.0 ++ x ∷ [], h)
-one_more h w t x e l = let m = length-append t.0 (x ∷ []) in
-    record { within = omega arith; high = omega arith; tall = λ z. refl; forked = λ z. refl }
+pub more : {E : Type 0} (h : ℕ) (t : List E × ℕ) (xs : List E) → length t.0 + length xs ≤ 2 ^ (4 * h) →
+    IsPart h (t.0 ++ xs, h)
+more h t xs l = let m = length-append t.0 xs in
+    record { within = omega (arith, m, l); high = omega arith; tall = λ z. refl; forked = λ z. refl }
 
 grows : {E : Type 0} (h w : ℕ) (parts : List (List E × ℕ)) (d r : ℕ) (part : List E × ℕ) → w ≡ 2 ^ (4 * h) →
     ArePacked h parts → length (items_in parts) ≡ d * w + r → r < w
@@ -168,14 +193,13 @@ grows h w (t ∷ ts) zero r part e p a q g =
     let n = length-append t.0 (items_in ts) in
     let none : items_in ts ≡ [] = p.1 (omega arith) in
     let zero_left : length (items_in ts) ≡ 0 = ap length none in
-    let room : length t.0 < w = omega arith in
     let same : t ≡ part = cc in
     subst (λ u. Grows h (t ∷ ts) u 0 r) same (record {
       len = omega arith;
       fits = p.0;
-      items = λ x. ap (λ u. (t.0 ++ x ∷ []) ++ u) none ∙ append-nil (t.0 ++ x ∷ [])
-          ∙ sym (ap (λ u. u ++ x ∷ []) (ap (λ u. t.0 ++ u) none ∙ append-nil t.0));
-      packed = λ x. (one_more h w t x e room, λ z. none, p.2);
+      items = λ xs. ap (λ u. (t.0 ++ xs) ++ u) none ∙ append-nil (t.0 ++ xs)
+          ∙ sym (ap (λ u. u ++ xs) (ap (λ u. t.0 ++ u) none ∙ append-nil t.0));
+      packed = λ xs l. (more h t xs (omega (arith, l)), λ z. none, p.2);
     })
 grows h w (t ∷ ts) (suc d) r part e p a q g =
     let n = length-append t.0 (items_in ts) in
@@ -189,8 +213,8 @@ grows h w (t ∷ ts) (suc d) r part e p a q g =
     record {
       len = later.len;
       fits = later.fits;
-      items = λ x. ap (λ u. t.0 ++ u) (later.items x) ∙ sym (append_assoc t.0 (items_in ts) (x ∷ []));
-      packed = λ x. (p.0, λ z. absurd (omega arith), later.packed x);
+      items = λ xs. ap (λ u. t.0 ++ u) (later.items xs) ∙ sym (append_assoc t.0 (items_in ts) xs);
+      packed = λ xs l. (p.0, λ z. absurd (omega arith), later.packed xs l);
     }
 
 pub has_room : {E : Type 0} (page : Page E) (at width : ℕ) (part : List E × ℕ) → width ≡ 2 ^ (4 * page.below) →

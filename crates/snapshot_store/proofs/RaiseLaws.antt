@@ -4,7 +4,7 @@ use Rattle.std.proofs.Common.{◌∙◌, arith, slice_set, append-nil, subst}
 use Rattle.std.proofs.Math.Pow.{pow_mono}
 use Rattle.node_store.specs.Lending.{with_part}
 use Rattle.node_store.proofs.PartLaws.{parts_with}
-use Rattle.snapshot_store.specs.Parts.{parts_in, items_in, IsPart, ArePacked, IsPage}
+use Rattle.snapshot_store.specs.Parts.{parts_in, items_in, IsPart, ArePacked, IsPage, IsFull}
 use Rattle.snapshot_store.specs.declared.parts.Page.{Page}
 use Rattle.snapshot_store.proofs.PageLaws.{pairs}
 
@@ -54,14 +54,10 @@ module _ {E : Type 0} (page : Page E) (part : List E × ℕ) (vacant : parts_in 
       ) (part.0, height + 1)
   first_seen height below = pairs _ _ _ _ first_items (ap (λ u. u + 1) below)
 
--- one item is a part of any height
-pub one_item : {E : Type 0} (height : ℕ) (item : E) (part : List E × ℕ) → part ≡ (item ∷ [], height) →
-    IsPart height part
-one_item height item part e =
-    let p : 2 ^ 0 ≤ 2 ^ (4 * height) = pow_mono {i = 0} {j = 4 * height} (omega arith) in
+-- a full part's items are a part of any height from 1 on
+pub full_part : {E : Type 0} (height : ℕ) (full part : List E × ℕ) → IsFull full → 1 ≤ height →
+    part ≡ (full.0, height) → IsPart height part
+full_part height full part is low e =
+    let p : 2 ^ 4 ≤ 2 ^ (4 * height) = pow_mono {i = 4} {j = 4 * height} (omega arith) in
     subst (λ u. IsPart height u) (sym e) (record
-    { within = omega (arith, p); high = omega arith; tall = λ h. refl; forked = λ h. refl })
-
-pub one_seen : {E : Type 0} (height below : ℕ) (item : E) (part : List E × ℕ) → part ≡ (item ∷ [], below) →
-    below + 1 ≡ height → Path (List E × ℕ) (part.0, below + 1) (item ∷ [], height)
-one_seen {E} height below item part e h = pairs _ _ _ _ (ap (λ (u : List E × ℕ). u.0) e) h
+    { within = omega (arith, p, is.all); high = omega arith; tall = λ h. refl; forked = λ h. refl })

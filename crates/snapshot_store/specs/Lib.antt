@@ -1,4 +1,5 @@
 pub mod Parts
 pub mod Heights
 pub mod Places
+pub mod Trees
 pub mod Lists

@@ -31,6 +31,11 @@ pub record IsPart {E : Type 0} (height : ℕ) (part : List E × ℕ) : Type 0 wh
   pub tall : 0 < length part.0 → part.1 ≡ height
   pub forked : 0 < part.1 → part.1 ≡ height
 
+-- a part of height 1 with as many items as it has room for
+pub record IsFull {E : Type 0} (part : List E × ℕ) : Type 0 where
+  pub fits : IsPart 1 part
+  pub all : length part.0 ≡ 16
+
 -- parts of that height, of which those before an item are full
 abbrev pub ArePacked : {E : Type 0} → ℕ → List (List E × ℕ) → Type 0
 ArePacked height [] = Unit {0}

@@ -4,73 +4,94 @@ ghost use Rattle.std.specs.Prelude.{slice_get, slice_set, Some, IfOk, IfErr, OnO
 ghost use Rattle.std.specs.Option.{option_copied};
 ghost use Rattle.flux_defs.specs.Digits.{dig};
 ghost use Rattle.snapshot_store.specs.Parts.{IsPart};
+ghost use Rattle.snapshot_store.specs.Places.{IsGiven};
 
 use crate::changes::Change;
 use crate::parts::Part;
+use crate::trees::Tree;
 use flux_defs::Steps;
 use node_store::{Share, Vacant};
 use std::alloc::{AllocError, Global};
 use std::marker::Model;
-use std::mem;
 use std::sync::ledger::Ledger;
 
-/// A list of items; contracts see just that. `snap` gives the same list again at the cost of one shared node. `put`,
+/// A list of items; contracts see just that. `snap` gives the same list again at the cost of two shared nodes. `put`,
 /// `change` and `push` change a list in place, and `with` and `with_pushed` give a changed one: in each case every list
 /// that was taken before stays as it was, and the nodes that a change doesn't lead through are held in common.
 ///
 /// A call takes at most a step for each level of sixteen parts a node, and one for the item: five for 65,536 items.
 /// Where no memory is left a call that was given an item gives it back, and the list is as before.
-#[derive(Drop)]
+///
+/// The last items, sixteen at most, stand in a page of their own, and go into the tree all at once when they are
+/// sixteen. So of sixteen additions, each after a snapshot, fifteen copy that page alone, and not those from the tree's
+/// root down.
 pub struct Pages<T: Drop> {
-    height: u64,
     len: u64,
-    root: Part<T>,
+    tree: Tree<T>,
+    tail: Part<T>,
 }
 
 impl<T: Drop> Model for Pages<T> {
-    ghost use Rattle.std.specs.Prelude.{List};
+    ghost use Rattle.std.specs.Prelude.{List, ◌++◌};
 
     ghost Value = { List T };
 
-    ghost use Rattle.snapshot_store.specs.Lists.{IsTree};
+    ghost use Rattle.snapshot_store.specs.Lists.{IsList};
 
-    ghost view = { λ pages. pages.root.0 };
+    ghost view = { λ pages. pages.tree ++ pages.tail.0 };
 
-    ghost invariant = { λ pages. IsTree pages };
+    ghost invariant = { λ pages. IsList pages };
 }
 
-/// The tree of a list and its height, made one higher where it has no room for one more item.
-#[tactic(auto, using(crate::proofs::ListLaws::list_facts))]
-fn roomy<T: Drop>(
-    alloc: Global,
-    height: u64,
-    len: u64,
-    root: Part<T>,
-) -> Result<(u64, Part<T>), (Part<T>, AllocError)>
-    requires part { IsPart height root }
-    requires len { len ≡ length root.0 }
-    requires low { height ≤ 16 }
-    requires tight { 2 ^ (4 * height) ≤ 16 * len + 1 }
-    ensures items { IfOk result (λ r. r.1.0 ≡ root.0) }
-    ensures part { IfOk result (λ r. IsPart r.0 r.1) }
-    ensures low { IfOk result (λ r. r.0 ≤ 16) }
-    ensures tight { IfOk result (λ r. 2 ^ (4 * r.0) ≤ 16 * len + 1) }
-    ensures room { IfOk result (λ r. len < 2 ^ (4 * r.0)) }
-    ensures same { IfErr result (λ e. e.0 ≡ root) }
-{
-    if height == 16 || len < 1u64 << (4 * height) {
-        return Ok((height, root));
+impl<T: Drop> Drop for Pages<T> {
+    /// Lets go of the tree and of the last items. It is written out, so that to drop a list is one call: a derived drop
+    /// is stated where a list is dropped, with each kind of part that its tree and its last items may be.
+    fn drop(self) {
+        let Pages {
+            len: _,
+            tree: _,
+            tail: _,
+        } = self;
     }
-    match root.raised(alloc, height) {
-        Ok(root) => Ok((height + 1, root)),
-        Err(refused) => Err(refused),
+}
+
+/// Moves the last items of a list into its tree where they are sixteen, so that there is room for one more. Where no
+/// memory is left both are as before.
+#[tactic(auto, using(crate::proofs::ListLaws::joined_facts))]
+fn settle<T: Drop, L: Ledger>(
+    alloc: Global,
+    tree: &mut Tree<T>,
+    tail: &mut Part<T>,
+    count: u64,
+    steps: &mut Steps<L>,
+) -> Result<(), AllocError>
+    requires part { IsPart 1 tail.old }
+    requires count { count ≡ length tail.old.0 }
+    requires fits { length tree.old + count < 2 ^ 64 }
+    ensures items { OnOk result (tree.new ++ tail.new.0 ≡ tree.old ++ tail.old.0) }
+    ensures len { OnOk result (length tree.new + length tail.new.0 ≡ length tree.old + length tail.old.0) }
+    ensures part { OnOk result (IsPart 1 tail.new) }
+    ensures room { OnOk result (length tail.new.0 < 16) }
+    ensures tree { OnErr result (tree.new ≡ tree.old) }
+    ensures tail { OnErr result (tail.new ≡ tail.old) }
+    ensures work { steps.new + 1 ≤ steps.old + dig (length tree.old + 1) }
+{
+    if count < 16 {
+        return Ok(());
+    }
+    match tree.append(alloc, tail, steps) {
+        Ok(()) => {
+            *tail = Part::vacant();
+            return Ok(());
+        }
+        Err(refused) => return Err(refused),
     }
 }
 
 impl<T: Share + Drop> Pages<T> {
     /// Changes the item at a place of the list where it stands. Where no memory is left some item stands there, and the
     /// others are as before.
-    #[tactic(auto, using(crate::proofs::ListLaws::list_facts))]
+    #[tactic(auto, using(crate::proofs::ListLaws::joined_facts))]
     pub fn change<C: Change<T>, L: Ledger>(
         &mut self,
         alloc: Global,
@@ -85,8 +106,14 @@ impl<T: Share + Drop> Pages<T> {
         ensures work { (x : T) (most : ℕ) → slice_get self.old at ≡ Some x → C.takes change.now x most →
             steps.new ≤ steps.old + (2 * dig (length self.old + 1) + most) }
     {
-        let _len = self.len;
-        match self.root.change(alloc, at, change, steps) {
+        let front = self.tree.len();
+        if at >= front {
+            match self.tail.change(alloc, at - front, change, steps) {
+                Ok(()) => return Ok(()),
+                Err(refused) => return Err(refused),
+            }
+        }
+        match self.tree.change(alloc, at, change, steps) {
             Ok(()) => return Ok(()),
             Err(refused) => return Err(refused),
         }
@@ -95,14 +122,14 @@ impl<T: Share + Drop> Pages<T> {
 
 impl<T: Drop> Pages<T> {
     /// The empty list. It takes no memory.
-    #[tactic(auto, using(crate::proofs::ListLaws::list_facts))]
+    #[tactic(auto, using(crate::proofs::ListLaws::joined_facts))]
     pub fn empty() -> Pages<T>
         ensures { result ≡ [] }
     {
         Pages {
-            height: 0,
             len: 0,
-            root: Part::vacant(),
+            tree: Tree::empty(),
+            tail: Part::vacant(),
         }
     }
 
@@ -121,7 +148,7 @@ impl<T: Drop> Pages<T> {
     }
 
     /// The item at a place from 0, and `None` exactly from the list's end on. It takes no memory.
-    #[tactic(auto, using(crate::proofs::ListLaws::list_facts))]
+    #[tactic(auto, using(crate::proofs::ListLaws::joined_facts))]
     pub fn get<L: Ledger>(&self, at: u64, steps: &mut Steps<L>) -> Option<&T>
         ensures value { option_copied result ≡ slice_get self.now at }
         ensures work { steps.new ≤ steps.old + 2 * dig (length self.now + 1) }
@@ -130,23 +157,57 @@ impl<T: Drop> Pages<T> {
         if at >= self.len {
             return None;
         }
-        Some(self.root.get(self.height, at, steps))
+        let front = self.tree.len();
+        if at >= front {
+            return Some(self.tail.get(1, at - front, steps));
+        }
+        Some(self.tree.get(at, steps))
     }
 
-    /// The same list. It costs one shared node, whatever the list's length.
+    /// The same list. It costs two shared nodes, whatever the list's length.
     pub fn snap(&self) -> Result<Pages<T>, AllocError>
         ensures { IfOk result (λ same. same ≡ self.now) }
     {
-        let root = self.root.share()?;
+        let tree = self.tree.share()?;
+        let tail = self.tail.share()?;
         Ok(Pages {
-            height: self.height,
             len: self.len,
-            root,
+            tree,
+            tail,
         })
     }
 
+    /// Stores the item that is given at a place of the list, and takes it. Where no memory is left it isn't taken.
+    #[tactic(auto, using(crate::proofs::ListLaws::joined_facts))]
+    fn put_given<L: Ledger>(
+        &mut self,
+        alloc: Global,
+        at: u64,
+        given: &mut Option<T>,
+        steps: &mut Steps<L>,
+    ) -> Result<(), AllocError>
+        requires within { at < length self.old }
+        requires some { IsGiven given.old }
+        ensures new { OnOk result ((item : T) → given.old ≡ Some item → self.new ≡ slice_set self.old at item) }
+        ensures given { OnErr result (given.new ≡ given.old) }
+        ensures same { OnErr result (self.new ≡ self.old) }
+        ensures work { steps.new ≤ steps.old + 2 * dig (length self.old + 1) }
+    {
+        let front = self.tree.len();
+        if at >= front {
+            match self.tail.put(alloc, at - front, given, steps) {
+                Ok(()) => return Ok(()),
+                Err(refused) => return Err(refused),
+            }
+        }
+        match self.tree.put(alloc, at, given, steps) {
+            Ok(()) => return Ok(()),
+            Err(refused) => return Err(refused),
+        }
+    }
+
     /// Stores the item at a place of the list.
-    #[tactic(auto, using(crate::proofs::ListLaws::list_facts))]
+    #[tactic(auto, using(crate::proofs::ListLaws::joined_facts))]
     pub fn put<L: Ledger>(
         &mut self,
         alloc: Global,
@@ -160,9 +221,8 @@ impl<T: Drop> Pages<T> {
         ensures same { OnErr result (self.new ≡ self.old) }
         ensures work { steps.new ≤ steps.old + 2 * dig (length self.old + 1) }
     {
-        let _len = self.len;
         let mut given = Some(item);
-        match self.root.put(alloc, at, &mut given, steps) {
+        match self.put_given(alloc, at, &mut given, steps) {
             Ok(()) => return Ok(()),
             Err(refused) => match given {
                 Some(item) => return Err((item, refused)),
@@ -172,7 +232,7 @@ impl<T: Drop> Pages<T> {
     }
 
     /// Adds the item at the end. A list of 2^64 - 1 items is not made longer: that is answered as want of memory.
-    #[tactic(auto, using(crate::proofs::ListLaws::list_facts))]
+    #[tactic(auto, using(crate::proofs::ListLaws::joined_facts))]
     pub fn push<L: Ledger>(
         &mut self,
         alloc: Global,
@@ -187,25 +247,19 @@ impl<T: Drop> Pages<T> {
         if self.len == u64::MAX {
             return Err((item, AllocError));
         }
-        let old = mem::replace(&mut self.root, Part::vacant());
-        match roomy(alloc, self.height, self.len, old) {
-            Ok((height, mut root)) => match root.push(alloc, height, self.len, item, steps) {
-                Ok(()) => {
-                    self.root = root;
-                    self.height = height;
-                    self.len += 1;
-                    return Ok(());
-                }
-                Err(refused) => {
-                    self.root = root;
-                    self.height = height;
-                    return Err(refused);
-                }
-            },
-            Err((old, refused)) => {
-                self.root = old;
-                return Err((item, refused));
+        let count = self.len - self.tree.len();
+        if let Err(refused) = settle(alloc, &mut self.tree, &mut self.tail, count, steps) {
+            return Err((item, refused));
+        }
+        match self
+            .tail
+            .push(alloc, self.len - self.tree.len(), item, steps)
+        {
+            Ok(()) => {
+                self.len += 1;
+                return Ok(());
             }
+            Err(refused) => return Err(refused),
         }
     }
 

@@ -117,10 +117,42 @@ impl<T: Drop> Page<T> {
         requires end { at ≡ length (items_in (parts_in self.now)) }
         requires room { at < 16 * 2 ^ (4 * self.now.below) }
         ensures place { result.0 < 16 }
+        ensures rest { result.1 ≡ at % 2 ^ (4 * self.now.below) }
         ensures room { (part : List T × ℕ) → slice_get (parts_in self.now) result.0 ≡ Some part →
             HasRoom self.now part result.0 result.1 }
     {
         split(self.below, at)
+    }
+
+    /// Adds the item at the end of a page of items, in place where no other holds the page and in a copy otherwise.
+    /// Where no memory is left the page is as before.
+    fn add(alloc: Global, node: &mut Node<Page<T>>, at: u64, item: T) -> Result<(), (T, AllocError)>
+        requires page { IsPage node.old }
+        requires below { node.old.below ≡ 0 }
+        requires end { at ≡ length (items_in (parts_in node.old)) }
+        requires room { at < 16 }
+        ensures page { OnOk result (IsPage node.new) }
+        ensures below { OnOk result (node.new.below ≡ 0) }
+        ensures new { OnOk result (items_in (parts_in node.new) ≡ items_in (parts_in node.old) ++ item ∷ []) }
+        ensures item { IfErr result (λ e. e.0 ≡ item) }
+        ensures same { OnErr result (node.new ≡ node.old) }
+    {
+        if let Err(refused) = node.own(alloc) {
+            return Err((item, refused));
+        }
+        let Some(page) = node.get_mut() else {
+            return Err((item, AllocError));
+        };
+        let (place, _) = page.room_of(at);
+        match Node::new(alloc, item) {
+            Ok(node) => {
+                *page.parts.get_mut(place) = Part {
+                    body: Body::Item(node),
+                };
+                return Ok(());
+            }
+            Err(refused) => return Err(refused),
+        }
     }
 
     /// The part that has the item, and the item's place in it; `below` is the height of the parts.
@@ -239,7 +271,7 @@ impl<T: Share + Drop> Part<T> {
 }
 
 impl<T: Drop> Part<T> {
-    ghost use Rattle.snapshot_store.specs.Parts.{IsPart};
+    ghost use Rattle.snapshot_store.specs.Parts.{IsPart, IsFull};
 
     /// The item at a place of a part of this height. It takes a step for each page on the way to it, and one for the
     /// item. The pages' own heights, which lie in other cache lines than their parts, aren't read.
@@ -301,38 +333,6 @@ impl<T: Drop> Part<T> {
         }
     }
 
-    /// A part of that height with one item.
-    fn path(alloc: Global, height: u64, item: T) -> Result<Part<T>, (T, AllocError)>
-        requires { height ≤ 16 }
-        ensures new { IfOk result (λ part. part ≡ (item ∷ [], height)) }
-        ensures item { IfErr result (λ e. e.0 ≡ item) }
-    {
-        if height == 0 {
-            match Node::new(alloc, item) {
-                Ok(node) => {
-                    return Ok(Part {
-                        body: Body::Item(node),
-                    });
-                }
-                Err(refused) => return Err(refused),
-            }
-        }
-        let mut node = match Node::of(alloc, Page::vacant(height - 1)) {
-            Ok(node) => node,
-            Err(refused) => return Err((item, refused)),
-        };
-        let Some(page) = node.get_mut() else {
-            return Err((item, AllocError));
-        };
-        match Part::path(alloc, height - 1, item) {
-            Ok(first) => *page.parts.get_mut(0) = first,
-            Err(refused) => return Err(refused),
-        }
-        Ok(Part {
-            body: Body::Fork(node),
-        })
-    }
-
     /// A part one higher, of which this one is the first part. Where no memory is left it comes back.
     pub fn raised(self, alloc: Global, height: u64) -> Result<Part<T>, (Part<T>, AllocError)>
         requires low { height < 16 }
@@ -353,27 +353,59 @@ impl<T: Drop> Part<T> {
         })
     }
 
-    /// Adds the item at the end of a part of that height, as `put` stores one.
-    pub fn push<L: Ledger>(
+    /// A part of that height that has the items of a full part: pages of one part each lead down to it.
+    fn path(alloc: Global, height: u64, full: &Part<T>) -> Result<Part<T>, AllocError>
+        requires full { IsFull full.now }
+        requires low { 1 ≤ height }
+        requires high { height ≤ 16 }
+        ensures { IfOk result (λ part. part ≡ (full.now.0, height)) }
+    {
+        if height == 1 {
+            return full.share();
+        }
+        let part = match Part::path(alloc, height - 1, full) {
+            Ok(part) => part,
+            Err(refused) => return Err(refused),
+        };
+        match part.raised(alloc, height - 1) {
+            Ok(part) => Ok(part),
+            Err((_, refused)) => Err(refused),
+        }
+    }
+
+    /// Adds the items of a full part at the end of a part of that height, which has whole rows of sixteen: in the pages
+    /// that no other part holds and in copies of the others. Where no memory is left the part is as before.
+    pub fn append<L: Ledger>(
         &mut self,
         alloc: Global,
         height: u64,
         at: u64,
-        item: T,
+        full: &Part<T>,
         steps: &mut Steps<L>,
-    ) -> Result<(), (T, AllocError)>
+    ) -> Result<(), AllocError>
         requires part { IsPart height self.old }
+        requires full { IsFull full.now }
         requires end { at ≡ length self.old.0 }
+        requires rows { at % 16 ≡ 0 }
         requires room { at < 2 ^ (4 * height) }
-        requires low { height ≤ 16 }
-        ensures new { OnOk result (self.new ≡ (self.old.0 ++ item ∷ [], height)) }
-        ensures item { IfErr result (λ e. e.0 ≡ item) }
+        requires low { 1 ≤ height }
+        requires high { height ≤ 16 }
+        ensures new { OnOk result (self.new ≡ (self.old.0 ++ full.now.0, height)) }
         ensures same { OnErr result (self.new ≡ self.old) }
-        ensures work { steps.new ≤ steps.old + height }
+        ensures work { steps.new + 1 ≤ steps.old + height }
     {
+        if height == 1 {
+            match full.share() {
+                Ok(part) => {
+                    *self = part;
+                    return Ok(());
+                }
+                Err(refused) => return Err(refused),
+            }
+        }
         match &mut self.body {
             Body::Item(_) => unreachable!(),
-            Body::Empty => match Part::path(alloc, height, item) {
+            Body::Empty => match Part::path(alloc, height, full) {
                 Ok(part) => {
                     *self = part;
                     return Ok(());
@@ -383,21 +415,60 @@ impl<T: Drop> Part<T> {
             Body::Fork(node) => {
                 steps.tick();
                 if let Err(refused) = node.own(alloc) {
-                    return Err((item, refused));
+                    return Err(refused);
                 }
                 let Some(page) = node.get_mut() else {
-                    return Err((item, AllocError));
+                    return Err(AllocError);
                 };
                 let below = page.below;
                 let (place, rest) = page.room_of(at);
                 match page
                     .parts
                     .get_mut(place)
-                    .push(alloc, below, rest, item, steps)
+                    .append(alloc, below, rest, full, steps)
                 {
                     Ok(()) => return Ok(()),
                     Err(refused) => return Err(refused),
                 }
+            }
+        }
+    }
+
+    /// Adds the item at the end of a part of height 1, in its page where no other part holds that and in a copy
+    /// otherwise. Where no memory is left the part is as before.
+    pub fn push<L: Ledger>(
+        &mut self,
+        alloc: Global,
+        at: u64,
+        item: T,
+        steps: &mut Steps<L>,
+    ) -> Result<(), (T, AllocError)>
+        requires part { IsPart 1 self.old }
+        requires end { at ≡ length self.old.0 }
+        requires room { at < 16 }
+        ensures new { OnOk result (self.new ≡ (self.old.0 ++ item ∷ [], 1)) }
+        ensures item { IfErr result (λ e. e.0 ≡ item) }
+        ensures same { OnErr result (self.new ≡ self.old) }
+        ensures work { steps.new ≤ steps.old + 1 }
+    {
+        match &mut self.body {
+            Body::Item(_) => unreachable!(),
+            Body::Empty => {
+                let mut node = match Node::of(alloc, Page::vacant(0)) {
+                    Ok(node) => node,
+                    Err(refused) => return Err((item, refused)),
+                };
+                match Page::add(alloc, &mut node, 0, item) {
+                    Ok(()) => {
+                        self.body = Body::Fork(node);
+                        return Ok(());
+                    }
+                    Err(refused) => return Err(refused),
+                }
+            }
+            Body::Fork(node) => {
+                steps.tick();
+                return Page::add(alloc, node, at, item);
             }
         }
     }
