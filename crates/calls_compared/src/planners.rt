@@ -130,7 +130,13 @@ fn differing<L: Ledger>(tried: &Tried, seed: &mut Seed, steps: &mut Steps<L>) ->
     let next = tried.tree.next_point(from, steps) != tried.plain.next_point(from, steps);
     let first = tried.tree.first_at_least(from, duration, quantity, steps)
         != tried.plain.first_at_least(from, duration, quantity, steps);
-    least as u64 + next as u64 + first as u64
+    let room = tried.tree.has_room(window, quantity, steps)
+        != tried.plain.has_room(window, quantity, steps);
+    let last = tried.tree.last_below(window, quantity, steps)
+        != tried.plain.last_below(window, quantity, steps);
+    let free = tried.tree.first_free(from, quantity, steps)
+        != tried.plain.first_free(from, quantity, steps);
+    least as u64 + next as u64 + first as u64 + room as u64 + last as u64 + free as u64
 }
 
 /// How many answers differ in 2,000 turns, in each of which a span goes in or out, and how many spans stand at the end.
