@@ -13,14 +13,15 @@ use std::sync::ledger::Ledger;
 
 /// A balanced tree of items in order. Contracts see the list of its items and its height, which is how many nodes stand
 /// one below the other. The height, the number of items and their measure stand beside the pointer to the node, so that
-/// to read them takes no step.
+/// to read them takes no step. The measure stands last: of two trees side by side the way down reads that of the first
+/// and the pointer of the second.
 #[cycle(tree)]
 #[derive(Drop)]
 pub struct Tree<E: Share + Drop, M: Measure<E>> {
+    body: Body<E, M>,
     height: u64,
     len: u64,
     sum: M,
-    body: Body<E, M>,
 }
 
 /// What a tree is made of.

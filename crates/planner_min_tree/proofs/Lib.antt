@@ -7,7 +7,8 @@ pub mod Values
 pub mod Keeps
 pub mod Nexts
 pub mod Counts
-pub mod CalmLaws
+pub mod Doubles
+pub mod NearLaws
 pub mod PlanFacts
 pub mod Rises
 pub mod Timelines

@@ -6,5 +6,5 @@ use Rattle.planner_min_tree.specs.declared.chunks.Holder.TheVariants.{Few, Many}
 
 -- the points that stand in a node
 abbrev pub points_in : Holder → List Point
-points_in (Few block) = block.points.items
-points_in (Many block) = block.points.items
+points_in (Few points) = points
+points_in (Many points) = points

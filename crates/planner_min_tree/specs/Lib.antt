@@ -3,5 +3,5 @@ pub mod Chunks
 pub mod Blocks
 pub mod Marks
 pub mod Plans
-pub mod Calms
+pub mod Nears
 pub mod Stands

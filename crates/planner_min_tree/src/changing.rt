@@ -59,7 +59,7 @@ fn long_changed(alloc: Global, points: &[Point], change: Change) -> Result<Edit<
     ensures items { IfOk result (λ edit. flat (made edit) ≡ changed change points.now) }
     ensures filled { IfOk result (λ edit. AreFilled (made edit)) }
 {
-    let mut many = copied::<PAST_ROOM>(points)?;
+    let mut many = copied::<_, PAST_ROOM>(points)?;
     change.apply(&mut many)?;
     put_many(alloc, many.as_slice(), PAST_POINTS)
 }
@@ -70,14 +70,14 @@ fn changed(alloc: Global, points: &[Point], change: Change) -> Result<Edit<Chunk
     ensures filled { IfOk result (λ edit. AreFilled (made edit)) }
 {
     if points.len() < FEW {
-        let mut few = copied::<FEW>(points)?;
+        let mut few = copied::<_, FEW>(points)?;
         change.apply(&mut few)?;
         return put_few(alloc, few);
     }
     if points.len() > FEW {
         return long_changed(alloc, points, change);
     }
-    let mut many = copied::<FEW_ROOM>(points)?;
+    let mut many = copied::<_, FEW_ROOM>(points)?;
     change.apply(&mut many)?;
     put_many(alloc, many.as_slice(), FEW)
 }
@@ -93,7 +93,7 @@ fn long_changed_twice(
     ensures items { IfOk result (λ edit. flat (made edit) ≡ changed second (changed first points.now)) }
     ensures filled { IfOk result (λ edit. AreFilled (made edit)) }
 {
-    let mut many = copied::<PAST_ROOM>(points)?;
+    let mut many = copied::<_, PAST_ROOM>(points)?;
     first.apply(&mut many)?;
     second.apply(&mut many)?;
     put_many(alloc, many.as_slice(), PAST_POINTS)
@@ -110,7 +110,7 @@ fn changed_twice(
     ensures filled { IfOk result (λ edit. AreFilled (made edit)) }
 {
     if points.len() + 1 < FEW {
-        let mut few = copied::<FEW>(points)?;
+        let mut few = copied::<_, FEW>(points)?;
         first.apply(&mut few)?;
         second.apply(&mut few)?;
         return put_few(alloc, few);
@@ -118,7 +118,7 @@ fn changed_twice(
     if points.len() > FEW {
         return long_changed_twice(alloc, points, first, second);
     }
-    let mut many = copied::<FEW_ROOM>(points)?;
+    let mut many = copied::<_, FEW_ROOM>(points)?;
     first.apply(&mut many)?;
     second.apply(&mut many)?;
     put_many(alloc, many.as_slice(), FEW)

@@ -1,5 +1,5 @@
 //! Some points in a node.
-ghost use Rattle.std.specs.Prelude.{◌≡◌, ◌+◌, ◌<◌, ◌≤◌, List, [], ◌++◌, length, IfOk, IfSome, MatchOption};
+ghost use Rattle.std.specs.Prelude.{◌≡◌, ◌+◌, ◌<◌, ◌≤◌, List, [], ◌++◌, length, IfOk, IfSome, MatchOption, OnOk};
 ghost use Rattle.planner_min_tree.specs.Chunks.{flat, AreFilled};
 ghost use Rattle.planner_min_tree.specs.Marks.{changed};
 ghost use Rattle.planner_min_tree.specs.Points.{dip_of};
@@ -21,10 +21,23 @@ pub const FEW: usize = 16;
 /// How many points that are past stand in one node at most.
 pub const PAST_POINTS: usize = 32;
 
-/// So many points at most, one after the other.
+/// So many points at most, one after the other. How many there are stands before the first of them, so that most
+/// questions read the front of a node alone: the array keeps it behind its last place. Contracts see the list of them.
 #[derive(Drop)]
 struct Block<const N: usize> {
+    count: usize,
     points: ArrayVec<Point, N>,
+}
+
+impl<const N: usize> Model for Block<N> {
+    ghost use Rattle.std.specs.Prelude.{◌≡◌, List, length};
+    ghost use Rattle.planner_min_tree.specs.declared.points.Point.{Point};
+
+    ghost Value = { List Point };
+
+    ghost view = { λ block. block.points.items };
+
+    ghost invariant = { λ block. block.count ≡ length block.points.items };
 }
 
 /// A node of up to `FEW` points, or one of more, as there are of the past.
@@ -53,8 +66,8 @@ impl Model for Chunk {
 
 impl<const N: usize> Share for Block<N> {
     fn share(&self) -> Result<Block<N>, AllocError> {
-        let points = copied(self.points.as_slice())?;
-        Ok(Block { points })
+        let points = copied(self.items())?;
+        Ok(Block::of(points))
     }
 }
 
@@ -68,16 +81,16 @@ impl Share for Chunk {
     }
 }
 
-/// The points in an array of room for so many.
-pub fn copied<const N: usize>(points: &[Point]) -> Result<ArrayVec<Point, N>, AllocError>
-    ensures { IfOk result (λ copy. copy.items ≡ points.now) }
+/// The items in an array of room for so many.
+pub fn copied<T: Copy + Default, const N: usize>(items: &[T]) -> Result<ArrayVec<T, N>, AllocError>
+    ensures { IfOk result (λ copy. copy.items ≡ items.now) }
 {
     let mut copy = ArrayVec::new();
-    for point in points {
+    for item in items {
         if copy.is_full() {
             return Err(AllocError);
         }
-        copy.push(*point);
+        copy.push(*item);
     }
     Ok(copy)
 }
@@ -94,6 +107,59 @@ fn in_turn<const N: usize>(
         return Err(AllocError);
     }
     Ok(both)
+}
+
+impl<const N: usize> Block<N> {
+    /// These points.
+    fn of(points: ArrayVec<Point, N>) -> Block<N>
+        ensures { result ≡ points.entry.items }
+    {
+        Block {
+            count: points.len(),
+            points,
+        }
+    }
+
+    /// How many points there are.
+    #[inline(always)]
+    fn len(&self) -> usize
+        ensures { result ≡ length self.now }
+    {
+        self.count
+    }
+
+    /// Its points.
+    #[inline(always)]
+    fn items(&self) -> &[Point]
+        ensures { result.now ≡ self.now }
+    {
+        &self.points.as_slice()[..self.count]
+    }
+
+    /// Changes its points twice, and tells how many it then has.
+    #[inline(always)]
+    fn change_twice(&mut self, first: Change, second: Change) -> Result<usize, AllocError>
+        ensures points { OnOk result (self.new ≡ changed second (changed first self.old)) }
+        ensures len { IfOk result (λ n. n ≡ length self.new) }
+    {
+        let both = apply_both(&mut self.points, first, second);
+        self.count = self.points.len();
+        both?;
+        Ok(self.count)
+    }
+}
+
+/// Makes both changes of a few points.
+#[inline(always)]
+fn apply_both<const N: usize>(
+    points: &mut ArrayVec<Point, N>,
+    first: Change,
+    second: Change,
+) -> Result<(), AllocError>
+    ensures { OnOk result (points.new.items ≡ changed second (changed first points.old.items)) }
+{
+    first.apply(points)?;
+    second.apply(points)
 }
 
 impl Chunk {
@@ -113,7 +179,7 @@ impl Chunk {
             return Chunk::of(alloc, few);
         }
         let points = in_turn(first, others)?;
-        match Node::new(alloc, Block { points }) {
+        match Node::new(alloc, Block::of(points)) {
             Ok(node) => Ok(Chunk {
                 holder: Holder::Many(node),
             }),
@@ -125,7 +191,7 @@ impl Chunk {
     pub fn of(alloc: Global, points: ArrayVec<Point, FEW>) -> Result<Chunk, AllocError>
         ensures { IfOk result (λ chunk. chunk ≡ points.items) }
     {
-        match Node::new(alloc, Block { points }) {
+        match Node::new(alloc, Block::of(points)) {
             Ok(node) => Ok(Chunk {
                 holder: Holder::Few(node),
             }),
@@ -139,8 +205,8 @@ impl Chunk {
         ensures work { steps.new ≡ steps.old + 1 }
     {
         match &self.holder {
-            Holder::Few(node) => node.look(steps).points.as_slice(),
-            Holder::Many(node) => node.look(steps).points.as_slice(),
+            Holder::Few(node) => node.look(steps).items(),
+            Holder::Many(node) => node.look(steps).items(),
         }
     }
 }
@@ -164,16 +230,15 @@ impl Chunk {
         let Holder::Few(node) = &mut self.holder else {
             return Ok(None);
         };
-        if node.look(steps).points.len() + 2 > FEW {
+        if node.look(steps).len() > FEW - 2 {
             return Ok(None);
         }
         node.own(alloc)?;
         let Some(block) = node.get_mut() else {
             return Err(AllocError);
         };
-        first.apply(&mut block.points)?;
-        second.apply(&mut block.points)?;
-        Ok(Some(block.points.len()))
+        let len = block.change_twice(first, second)?;
+        Ok(Some(len))
     }
 }
 

@@ -5,10 +5,10 @@
 //! common.
 #![tactic(auto)]
 
-mod calm;
 mod changing;
 mod chunks;
 mod marking;
+mod near;
 mod planner;
 mod points;
 mod timeline;

@@ -6,11 +6,10 @@ ghost use Rattle.flux_defs.specs.Digits.{dig};
 ghost use Rattle.planner_points.specs.declared.spans.Span.{Span};
 ghost use Rattle.planner_points.specs.Spans.{span_of, HasRoom, HasSpan, IsLeastFree, IsEnd, IsNextEnd, MayStart};
 ghost use Rattle.planner_points.specs.Spans.{IsFirstStart, IsFirstFree, IsLastBelow, free_at};
-ghost use Rattle.planner_min_tree.specs.Calms.{IsCalm};
 ghost use Rattle.planner_min_tree.specs.Plans.{StandsFor};
 
-use crate::calm::Calm;
 use crate::marking::{Change, Mark};
+use crate::near::Near;
 use crate::points::Point;
 use crate::timeline::Timeline;
 use flux_defs::{Steps, Window};
@@ -22,13 +21,13 @@ use std::sync::ledger::Ledger;
 
 /// A planner as a shared balanced tree of points, one for each second at which spans start or end. Each call takes a
 /// number of steps that grows with the binary digits of the number of points, and `first_at_least` that many for each
-/// point. It keeps a stretch of time over which the same is free, from the last moment on for which it was made ready:
-/// questions about that stretch look at no point.
+/// point. It keeps the next stretches of time over each of which the same is free, from the last moment on for which it
+/// was made ready: questions about these look at no point.
 #[derive(Drop)]
 pub struct MinTree {
-    total: u64,
     horizon: u64,
-    calm: Calm,
+    total: u64,
+    near: Near,
     points: Timeline,
 }
 
@@ -52,28 +51,38 @@ pub fn has_few_points(planner: &MinTree)
 
 impl MinTree {
     ghost use Rattle.std.specs.Prelude.{◌↔◌, IsTrue};
-    ghost use Rattle.planner_min_tree.specs.Points.{first_from};
+    ghost use Rattle.planner_min_tree.specs.Points.{first_from, value_at};
+    ghost use Rattle.planner_min_tree.specs.Nears.{AreStretches};
 
-    /// A stretch from that second on over which the same is free: what is left of the one that is known, or the one up
-    /// to the next point.
+    /// The next stretches from a second on: as many as are kept, or one where the points stand in several nodes.
     #[tactic(auto, using(crate::proofs::PlanFacts::marks_run))]
-    fn calm_since<L: Ledger>(&self, moment: u64, steps: &mut Steps<L>) -> Calm
-        ensures calm { (spans : List Span) → StandsFor self.now spans → IsCalm self.now.total spans result }
-        ensures work { steps.new ≤ steps.old + 4 * dig (length self.now.points + 2) }
+    fn near_since<L: Ledger>(&self, moment: u64, steps: &mut Steps<L>) -> Near
+        ensures from { result.from ≡ moment }
+        ensures near { AreStretches (λ m. value_at m self.now.points self.now.total) moment result.stretches.items }
+        ensures work { steps.new ≤ steps.old + (4 * dig (length self.now.points + 2) + 1) }
     {
-        if self.calm.has(moment) {
-            return self.calm.since(moment);
+        let mut near = Near::none(moment);
+        if self
+            .points
+            .note_near(moment, self.total, &mut near.stretches, steps)
+        {
+            return near;
         }
         let level = self.points.value_at(moment, self.total, steps);
         let to = match self.next(moment, steps) {
             None => u64::MAX,
             Some(point) => point.time,
         };
-        Calm {
-            from: moment,
-            to,
-            level,
-        }
+        near.put(to, level);
+        near
+    }
+
+    /// Notes the next stretches anew, after a change of the points.
+    fn renew<L: Ledger>(&mut self, steps: &mut Steps<L>)
+        ensures same { self.new ≡ self.old }
+        ensures work { steps.new ≤ steps.old + (4 * dig (length self.old.points + 2) + 1) }
+    {
+        self.near = self.near_since(self.near.from, steps);
     }
 
     /// The first point after that second.
@@ -133,11 +142,7 @@ impl Planner for MinTree {
         Ok(MinTree {
             total,
             horizon,
-            calm: Calm {
-                from: 0,
-                to: u64::MAX,
-                level: total,
-            },
+            near: Near::always(total),
             points: Timeline::empty(),
         })
     }
@@ -145,11 +150,12 @@ impl Planner for MinTree {
     fn share(&self) -> Result<MinTree, AllocError>
         ensures { IfOk result (λ same. same ≡ self.now) }
     {
+        let near = self.near.copy()?;
         let points = self.points.share()?;
         Ok(MinTree {
             total: self.total,
             horizon: self.horizon,
-            calm: self.calm,
+            near,
             points,
         })
     }
@@ -164,12 +170,11 @@ impl Planner for MinTree {
         ensures same { OnOk result (self.new ≡ self.old) }
         ensures work { steps.new ≤ steps.old + 128 * dig (length self.old.points + 2) }
     {
-        self.calm = self.calm_since(moment, steps);
+        self.near = Near::none(moment);
         match self.points.settle(alloc, moment, steps) {
             Ok(()) => Ok(()),
             Err(refused) => {
                 self.points = Timeline::empty();
-                self.calm = Calm::nowhere();
                 Err(refused)
             }
         }
@@ -201,15 +206,17 @@ impl Planner for MinTree {
             taken: quantity,
             given: 0,
         };
-        self.calm = self.calm.with(window, quantity);
+        self.near = Near::none(self.near.from);
         match self
             .points
             .change_twice(alloc, Change::More(stop), Change::More(start), steps)
         {
-            Ok(()) => Ok(()),
+            Ok(()) => {
+                self.renew(steps);
+                Ok(())
+            }
             Err(refused) => {
                 self.points = Timeline::empty();
-                self.calm = Calm::nowhere();
                 Err(refused)
             }
         }
@@ -240,15 +247,17 @@ impl Planner for MinTree {
             taken: 0,
             given: quantity,
         };
-        self.calm = self.calm.without(window, quantity);
+        self.near = Near::none(self.near.from);
         match self
             .points
             .change_twice(alloc, Change::Less(start), Change::Less(stop), steps)
         {
-            Ok(()) => Ok(()),
+            Ok(()) => {
+                self.renew(steps);
+                Ok(())
+            }
             Err(refused) => {
                 self.points = Timeline::empty();
-                self.calm = Calm::nowhere();
                 Err(refused)
             }
         }
@@ -302,11 +311,12 @@ impl Planner for MinTree {
         ensures work { steps.new ≤ steps.old + 4 * dig (length self.now.points + 2) }
         ensures counted { steps.old ≤ steps.new }
     {
-        if self.calm.covers(window) {
-            return self.calm.level;
+        match self.near.level(window) {
+            Some(level) => level,
+            None => self
+                .points
+                .lowest_in(window.from, window.to, self.total, steps),
         }
-        self.points
-            .lowest_in(window.from, window.to, self.total, steps)
     }
 
     #[tactic(auto, using(crate::proofs::PlanFacts::marks_run))]
@@ -318,10 +328,10 @@ impl Planner for MinTree {
         ensures work { steps.new ≤ steps.old + 4 * dig (length self.now.points + 2) }
         ensures counted { steps.old ≤ steps.new }
     {
-        if self.calm.has(window.from) && self.calm.level < quantity {
-            return false;
+        match self.near.room(window, quantity) {
+            Some(room) => room,
+            None => self.min_over(window, steps) >= quantity,
         }
-        self.min_over(window, steps) >= quantity
     }
 
     #[tactic(auto, using(crate::proofs::PlanFacts::marks_run))]
@@ -338,8 +348,8 @@ impl Planner for MinTree {
         ensures work { steps.new ≤ steps.old + 4 * dig (length self.now.points + 2) }
         ensures counted { steps.old ≤ steps.new }
     {
-        if self.calm.covers(window) {
-            if self.calm.level < quantity {
+        if let Some(level) = self.near.level(window) {
+            if level < quantity {
                 return Some(window.to - 1);
             }
             return None;

@@ -32,7 +32,7 @@ pub struct Dip {
 
 impl Point {
     /// What is free after the point.
-    fn past(&self, free: u64) -> u64
+    pub fn past(&self, free: u64) -> u64
         requires covered { self.now.taken ≤ free + self.now.given }
         requires fits { past self.now free < 2 ^ 64 }
         ensures { result ≡ past self.now free }

@@ -7,12 +7,15 @@ ghost use Rattle.planner_min_tree.specs.declared.points.Point.{Point};
 ghost use Rattle.planner_min_tree.specs.Chunks.{flat, AreFilled};
 ghost use Rattle.planner_min_tree.specs.Points.{Runs, lowest_in, first_from, value_at, rise_after, low_end, HasPlace};
 ghost use Rattle.planner_min_tree.specs.Marks.{changed, StaysLate};
+ghost use Rattle.planner_min_tree.specs.Nears.{GoOn};
 
 use crate::changing::{change_once, change_twice, edit};
 use crate::chunks::{Chunk, PAST_POINTS};
 use crate::marking::Change;
+use crate::near::{NEXT, Stretch};
 use crate::points::{Dip, Point};
 use crate::walks::{self, Side};
+use arrayvec::ArrayVec;
 use balanced_tree::{Edit, Tree};
 use flux_defs::Steps;
 use node_store::Share;
@@ -208,6 +211,35 @@ impl Timeline {
         }
     }
 
+    /// Adds the stretches that the points tell of from a second on, as far as there is room for them: `false` where what
+    /// is to come then stands in more than one node, or is past.
+    #[tactic(auto, using(crate::proofs::TwoSides::value_facts))]
+    pub fn note_near<L: Ledger>(
+        &self,
+        from: u64,
+        free: u64,
+        stretches: &mut ArrayVec<Stretch, NEXT>,
+        steps: &mut Steps<L>,
+    ) -> bool
+        requires { Runs self.now free }
+        ensures noted { IsTrue result →
+            GoOn (λ m. value_at m self.now free) stretches.old.items from stretches.new.items }
+        ensures same { result ≡ false → stretches.new.items ≡ stretches.old.items }
+        ensures work { steps.new ≤ steps.old + 1 }
+    {
+        let sum = self.past.sum();
+        if from < sum.latest {
+            return false;
+        }
+        walks::note_near(
+            Side { tree: &self.coming },
+            from,
+            sum.past(free),
+            stretches,
+            steps,
+        )
+    }
+
     /// The first point that isn't before a moment.
     #[tactic(auto, using(crate::proofs::TwoSides::first_facts))]
     pub fn first_from<L: Ledger>(&self, t: u128, steps: &mut Steps<L>) -> Option<Point>
@@ -370,7 +402,7 @@ impl Timeline {
     ) -> Result<(), AllocError>
         requires { StaysLate first second }
         ensures items { OnOk result (self.new ≡ changed second (changed first self.old)) }
-        ensures work { steps.new ≤ steps.old + 128 * dig (length self.old + 2) }
+        ensures work { steps.new ≤ steps.old + 64 * dig (length self.old + 2) }
     {
         let _past = self.past.height();
         let _coming = self.coming.height();

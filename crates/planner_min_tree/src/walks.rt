@@ -1,11 +1,14 @@
 //! What a tree of points says of a moment or a window.
-ghost use Rattle.std.specs.Prelude.{◌≡◌, ◌+◌, ◌-◌, ◌*◌, ◌^◌, ◌<◌, ◌≤◌, length, IfNone};
+ghost use Rattle.std.specs.Prelude.{◌≡◌, ◌+◌, ◌-◌, ◌*◌, ◌^◌, ◌<◌, ◌≤◌, length, IfNone, IsTrue, false};
 ghost use Rattle.planner_min_tree.specs.Chunks.{flat, chunk_at};
 ghost use Rattle.planner_min_tree.specs.Points.{Runs, lowest_before, lowest_from, lowest_in, first_from, value_at};
 ghost use Rattle.planner_min_tree.specs.Points.{first_rise, rise_after, after, low_end, last_rise};
+ghost use Rattle.planner_min_tree.specs.Nears.{GoOn};
 
 use crate::chunks::Chunk;
+use crate::near::{NEXT, Stretch, note_points};
 use crate::points::{self, Dip, Point};
+use arrayvec::ArrayVec;
 use balanced_tree::{Shape, Tree};
 use flux_defs::Steps;
 use std::sync::ledger::Ledger;
@@ -159,6 +162,34 @@ pub fn value_at<L: Ledger>(side: Side<'_>, m: u64, free: u64, steps: &mut Steps<
                 value_at(Side { tree: left }, m, free, steps)
             }
         }
+    }
+}
+
+/// Adds the stretches that the points tell of from a moment on, as far as there is room for them: `false`, and none are
+/// added, where the points stand in more than one chunk.
+pub fn note_near<L: Ledger>(
+    side: Side<'_>,
+    from: u64,
+    free: u64,
+    stretches: &mut ArrayVec<Stretch, NEXT>,
+    steps: &mut Steps<L>,
+) -> bool
+    requires { Runs (flat side.tree.now.0) free }
+    ensures noted { IsTrue result →
+        GoOn (λ m. value_at m (flat side.entry.tree.now.0) free) stretches.old.items from stretches.new.items }
+    ensures same { result ≡ false → stretches.new.items ≡ stretches.old.items }
+    ensures work { steps.new ≤ steps.old + 1 }
+{
+    match side.tree.shape(steps) {
+        Shape::Empty => {
+            note_points(&[], from, free, stretches);
+            true
+        }
+        Shape::Leaf(chunk) => {
+            note_points(chunk.look(steps), from, free, stretches);
+            true
+        }
+        Shape::Fork(_, _) => false,
     }
 }
 

@@ -8,10 +8,10 @@ returns-in-None-clause-last g c = λ spans now.
     (room_before c.self.inside.total c.self.inside.points spans marks c.args.window c.args.quantity
     c.in-None.ensures.none)
 
-pub returns-in-Some-clause-last : goal.returns-in-Some-clause-last
-returns-in-Some-clause-last g c = λ spans now.
+pub returns-in-Some-low_after-clause-last : goal.returns-in-Some-low_after-clause-last
+returns-in-Some-low_after-clause-last g c = λ spans now.
     let marks = rw (← c.self.view_is) at now in
-    let some = c.in-Some.ensures.some in
+    let some = c.in-Some-low_after.ensures.some in
     rw (← c.self.view_is)
-    (last_there c.self.inside.total c.self.inside.points spans marks c.args.window c.args.quantity c.in-Some.end
+    (last_there c.self.inside.total c.self.inside.points spans marks c.args.window c.args.quantity c.in-Some-low_after.end
     some.1 some.0)

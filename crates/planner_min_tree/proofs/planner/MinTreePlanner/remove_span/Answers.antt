@@ -1,7 +1,10 @@
-use Rattle.std.proofs.Common.{[], ◌∷◌, ◌++◌}
+use Rattle.std.proofs.Common.{arith, length, ◌+◌, [], ◌∷◌, ◌++◌}
 use Rattle.planner_points.specs.Spans.{span_of}
+use Rattle.planner_min_tree.specs.Marks.{start_of, stop_of}
+use Rattle.planner_min_tree.specs.declared.marking.Change.TheVariants.{Less}
+use Rattle.planner_min_tree.proofs.Doubles.{dig_changed}
+use Rattle.flux_defs.proofs.DigitLaws.{some_dig}
 use Rattle.planner_min_tree.proofs.PlanFacts.{marks_none, marks_without}
-use Rattle.planner_min_tree.proofs.CalmLaws.{calm_same}
 use Rattle.planner_min_tree.proofs.planner.MinTreePlanner.remove_span.Goals as goal
 
 pub invariant_of-self : goal.invariant_of-self
@@ -14,9 +17,7 @@ invariant_of-self g c =
       marks = rw c.in-Ok.ensures.items
           (marks_without inside.total inside.points c.args.window c.args.quantity
           c.requires.window span.0 span.1 span.2);
-      calm = c.without-self-inside.ensures inside.total span.0 span.1 span.2.tallies.room
-          (calm_same inside.total inside.points c.self.invariant.spans with inside.calm c.self.invariant.marks span.2
-          c.self.invariant.calm);
+      near = rw c.none-self-inside.ensures.none tt;
     }
 
 pub invariant_of-self-in-Err : goal.invariant_of-self-in-Err
@@ -24,12 +25,20 @@ invariant_of-self-in-Err g c =
     record {
       spans = [];
       marks = rw c.empty.ensures (marks_none c.self.inside.total);
-      calm = c.nowhere-self-inside.ensures c.self.inside.total [];
+      near = rw c.none-self-inside.ensures.none tt;
     }
 
 pub returns-in-Ok-clause-spans : goal.returns-in-Ok-clause-spans
 returns-in-Ok-clause-spans g c = λ before after now.
     let marks = rw (← c.self.view_is) at now in
-    rw c.in-Ok.ensures.items
+    rw (c.renew.ensures.same, c.in-Ok.ensures.items)
     (marks_without c.self.inside.total c.self.inside.points c.args.window c.args.quantity c.requires.window
     before after marks)
+
+pub returns-in-Ok-clause-work : goal.returns-in-Ok-clause-work
+returns-in-Ok-clause-work g c =
+    let points = c.self.inside.points in
+    let more = dig_changed
+    (Less (start_of c.args.window c.args.quantity)) (Less (stop_of c.args.window c.args.quantity)) points c.change_twice.new.self c.in-Ok.ensures.items in
+    rw (← c.self.view_is)
+    (omega (arith, more, c.renew.ensures.work, c.change_twice.ensures.work, some_dig (length points + 2)))
