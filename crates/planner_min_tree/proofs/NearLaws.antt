@@ -77,7 +77,8 @@ module _ (x from : ℕ) (old new : List Stretch) where
 -- the same of some points, which are the first and the others
 pub went_past : (x from : ℕ) (old new : List Stretch) (points : List Point) (d : Point) → 1 ≤ length points →
     (slice_index_or points 0 d).time ≤ from →
-    GoOn (λ m. value_at m (take (length points - 1) (drop 1 points)) (past (slice_index_or points 0 d) x)) old from new →
+    GoOn (λ m. value_at m (take (length points - 1) (drop 1 points)) (past (slice_index_or points 0 d) x))
+    old from new →
     GoOn (λ m. value_at m points x) old from new
 went_past x from old new points d some h on =
     subst (λ l. GoOn (λ m. value_at m l x) old from new) (sym (split points d some))
@@ -92,7 +93,7 @@ went_later x from old new points d some h on =
     subst (λ l. GoOn (λ m. value_at m l x) old from new) (sym (split points d some))
     (go_later x from old new (slice_index_or points 0 d) (take (length points - 1) (drop 1 points)) h on)
 
--- so much is free over a window where it is over its first part and over the rest, and less where it is so over the rest
+-- so much is free over a window where it is over its first part and the rest, and less where it is over the rest
 pub room_behind : (f : ℕ → ℕ) (w : Window) (to q level : ℕ) (told : Option Bool) → w.from < to → to < w.to →
     ((m : ℕ) → w.from ≤ m → m < to → f m ≡ level) → q ≤ level →
     IfSome told (λ room. MatchBool room (EachMoment (record { from = to; to = w.to }) (λ m. q ≤ f m))

@@ -211,8 +211,8 @@ impl Timeline {
         }
     }
 
-    /// Adds the stretches that the points tell of from a second on, as far as there is room for them: `false` where what
-    /// is to come then stands in more than one node, or is past.
+    /// Adds the stretches that the points tell of from a second on, as far as there is room for them: `false`, and none
+    /// are added, where what is to come then stands in more than one node, or is past.
     #[tactic(auto, using(crate::proofs::TwoSides::value_facts))]
     pub fn note_near<L: Ledger>(
         &self,

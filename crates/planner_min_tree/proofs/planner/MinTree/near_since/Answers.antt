@@ -17,14 +17,16 @@ returns-clause-near g c =
     (c.note_near.ensures.same c.if-note_near.false ∙ c.none-near.ensures.none)
     (elim c.match-next.branch [
       | in-None w ↦ omega (arith, w.to-is, c.ranges.moment.fits)
-      | in-Some w ↦ (let is = next_is inside.total inside.points spans marks.tallies c.args.moment w.in-Some.point (cc) in
+      | in-Some w ↦ (let is =
+          next_is inside.total inside.points spans marks.tallies c.args.moment w.in-Some.point (cc) in
           omega (arith, w.to-is, is.later))
     ])
     (even_on inside.total inside.points spans marks c.args.moment c.value_at-level.result c.match-next.to
     c.value_at-level.ensures.value
     (λ t later sooner. elim c.match-next.branch [
       | in-None w ↦ next_none inside.total inside.points spans marks.tallies c.args.moment (cc) t later
-      | in-Some w ↦ (let is = next_is inside.total inside.points spans marks.tallies c.args.moment w.in-Some.point (cc) in
+      | in-Some w ↦ (let is =
+          next_is inside.total inside.points spans marks.tallies c.args.moment w.in-Some.point (cc) in
           λ end. (let least = is.least t later end in absurd (omega (arith, least, sooner, w.to-is))))
     ]))
     c.put.ensures.put)

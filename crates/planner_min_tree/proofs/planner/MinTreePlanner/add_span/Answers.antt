@@ -40,6 +40,7 @@ pub returns-in-Ok-clause-work : goal.returns-in-Ok-clause-work
 returns-in-Ok-clause-work g c =
     let points = c.self.inside.points in
     let more = dig_changed
-    (More (stop_of c.args.window c.args.quantity)) (More (start_of c.args.window c.args.quantity)) points c.change_twice.new.self c.in-Ok.ensures.items in
+    (More (stop_of c.args.window c.args.quantity)) (More (start_of c.args.window c.args.quantity)) points
+    c.change_twice.new.self c.in-Ok.ensures.items in
     rw (← c.self.view_is)
     (omega (arith, more, c.renew.ensures.work, c.change_twice.ensures.work, some_dig (length points + 2)))

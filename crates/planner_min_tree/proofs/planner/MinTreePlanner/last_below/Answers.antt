@@ -13,5 +13,5 @@ returns-in-Some-low_after-clause-last g c = λ spans now.
     let marks = rw (← c.self.view_is) at now in
     let some = c.in-Some-low_after.ensures.some in
     rw (← c.self.view_is)
-    (last_there c.self.inside.total c.self.inside.points spans marks c.args.window c.args.quantity c.in-Some-low_after.end
-    some.1 some.0)
+    (last_there c.self.inside.total c.self.inside.points spans marks c.args.window c.args.quantity
+    c.in-Some-low_after.end some.1 some.0)
