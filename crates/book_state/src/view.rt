@@ -28,6 +28,7 @@ impl FreeView for BookState {
         false
     }
 
+    #[inline(always)]
     fn closed_over<L: Ledger>(&self, vertex: u32, window: Window, steps: &mut Steps<L>) -> bool {
         let graph = self.graph();
         let accounts = self.accounts();
@@ -45,6 +46,7 @@ impl FreeView for BookState {
         accounts.closed_until(graph, vertex, window, steps)
     }
 
+    #[inline(always)]
     fn touched_over<L: Ledger>(&self, vertex: u32, window: Window, steps: &mut Steps<L>) -> bool {
         let graph = self.graph();
         let accounts = self.accounts();

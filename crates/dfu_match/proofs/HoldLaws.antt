@@ -20,7 +20,7 @@ use Rattle.flux_laws.proofs.Live.{live_either}
 use Rattle.graph_laws.proofs.Containment.{ParentsFirst, up, up-None, steps_of, at_or_below, below_self, below_parent}
 use Rattle.graph_laws.proofs.Containment.{below_trans, not_to}
 use Rattle.graph_laws.proofs.Preorder.{has_parent}
-use Rattle.match_laws.proofs.ViewLaws.{available_hold, admits_none, admits_pass}
+use Rattle.match_laws.proofs.ViewLaws.{available_hold, admits_none, admits_pass, closed_unbarred, touched_unbarred}
 use Rattle.dfu_match.specs.Searches.{meets, claim_on}
 
 -- what the jobs close and touch is closed and touched where an ask bars some too
@@ -56,10 +56,26 @@ module _ (scene : Scene) (w : Window) (v : ℕ) where
       not_to (is_touched scene m v) (and_parts _ _ (each m lo hi)).1 h
   touched_holds_none false holds h each = true≢false (sym holds)
 
+  pub admitted_open : (hold : Bool) → IsAvailable scene w (claim_on hold v) → IsClosedIn scene w v → ⊥
+  admitted_open hold each closed = closed_admits_none hold closed each
+
   pub touched_held : (hold touched : Bool) → hold ≡ true → touched ≡ true → (IsTrue touched ↔ IsTouchedIn scene w v) →
       (IsTrue false ↔ IsAvailable scene w (claim_on hold v))
   touched_held hold touched holds is k =
       (λ t. absurd (true≢false (sym t)), λ each. absurd (touched_holds_none hold holds (k.0 is) each))
+
+-- what no job closes or touches isn't closed or touched where the ask bars nothing there
+module _ (vertices : List Vertex) (jobs : List Job) (barred : List ℕ) (w : Window) (v : ℕ) (opens : w.from < w.to) where
+  not_so : {A B : Type 0} → ((IsTrue false ↔ A) → (IsTrue false ↔ B)) → (A → ⊥) → B → ⊥
+  not_so same none b = true≢false (sym ((same (λ t. absurd (true≢false (sym t)), λ a. absurd (none a))).1 b))
+
+  pub not_closed : (bars : Bool) → bars ≡ false → bars ≡ list_any (is_at_or_below vertices v) barred →
+      (IsClosedOver vertices jobs w v → ⊥) → IsClosedIn (meets vertices jobs barred) w v → ⊥
+  not_closed bars none is = not_so (closed_unbarred vertices jobs barred w v opens false bars none is)
+
+  pub not_touched : (bars : Bool) → bars ≡ false → bars ≡ list_any (λ u. is_at_or_below vertices u v) barred →
+      (IsTouchedOver vertices jobs w v → ⊥) → IsTouchedIn (meets vertices jobs barred) w v → ⊥
+  not_touched bars none is = not_so (touched_unbarred vertices jobs barred w v opens false bars none is)
 
 -- the vertex above is one of the graph
 pub above_inside : (vertices : List Vertex) →
@@ -211,6 +227,21 @@ module _ (vertices : List Vertex)
       ],
     )
 
+  -- where the vertex above isn't closed, what closes v touches it
+  pub closed_touches : (w : Window) →
+      (IsSomeAnd (parent_of vertices v) (IsClosedIn (meets vertices jobs barred) w) → ⊥) →
+      IsClosedIn (meets vertices jobs barred) w v → IsTouchedIn (meets vertices jobs barred) w v
+  closed_touches w never closed = by_parent (parent_of vertices v) refl never
+    where
+      by_parent : (o : Option ℕ) →
+          parent_of vertices v ≡ o → (IsSomeAnd o (IsClosedIn (meets vertices jobs barred) w) → ⊥) →
+          IsTouchedIn (meets vertices jobs barred) w v
+      by_parent None e never = closed_root e w closed
+      by_parent (Some p) e never = elim (closed_up p e w closed) [
+        | inl up_closed ↦ absurd (never up_closed)
+        | inr touch ↦ touch
+      ]
+
   module _ (w : Window) (hold : Bool) (holds : hold ≡ true) (above : Bool)
       (tells : IsTrue above ↔ IsSomeAnd (parent_of vertices v) (IsClosedIn (meets vertices jobs barred) w)) where
     -- a vertex below a closed one is not held
@@ -233,16 +264,7 @@ module _ (vertices : List Vertex)
         (sym holds) (by_test touched k)
       where
         closed_touched : IsClosedIn (meets vertices jobs barred) w v → IsTouchedIn (meets vertices jobs barred) w v
-        closed_touched c = by_parent (parent_of vertices v) refl (λ h. true≢false (sym (tells.1 h) ∙ open_))
-          where
-            by_parent : (o : Option ℕ) →
-                parent_of vertices v ≡ o → (IsSomeAnd o (IsClosedIn (meets vertices jobs barred) w) → ⊥) →
-                IsTouchedIn (meets vertices jobs barred) w v
-            by_parent None e never = closed_root e w c
-            by_parent (Some p) e never = elim (closed_up p e w c) [
-              | inl up_closed ↦ absurd (never up_closed)
-              | inr touch ↦ touch
-            ]
+        closed_touched = closed_touches w (λ h. true≢false (sym (tells.1 h) ∙ open_))
 
         by_test : (t : Bool) → (IsTrue t ↔ IsTouchedIn (meets vertices jobs barred) w v) →
             (IsTrue (not t) ↔ IsAvailable (meets vertices jobs barred) w (Hold v))

@@ -4,7 +4,7 @@ use Rattle.std.proofs.Common.{arith, append_assoc, append-nil, take, length}
 use Rattle.std.proofs.Math.Seq.{take-append_seam}
 use Rattle.flux_defs.specs.declared.vertices.Vertex.{Vertex}
 use Rattle.flux_defs.specs.declared.claims.Claim.{Claim}
-use Rattle.flux_defs.specs.declared.claims.Claim.TheVariants.{Hold}
+use Rattle.flux_defs.specs.declared.claims.Claim.TheVariants.{Hold, Pass}
 use Rattle.flux_defs.specs.declared.requests.Need.{Need, Vert, Spread}
 use Rattle.flux_defs.specs.Graph.{Scope, Beneath, IsIn, HasKind}
 use Rattle.flux_defs.specs.Lowest.{CanServe, FollowsPass, LowestPiece, Lowest}
@@ -90,6 +90,12 @@ module _ (vertices : List Vertex) (ok : Claim → Type 0) where
       offers_some _ _ most q claims (omega arith) g
       (subst (LowestPiece vertices ok (Spread count needs) v q) (sym low.1)
       (writes_copies vertices ok count needs v q low.0 low.2))
+
+  -- where some copies can be, the node may be passed
+  pub copies_pass : (scope : Scope) (count : ℕ) (needs : List Need) (v most q : ℕ) → (q ≡ 0 → ⊥) →
+      IsGreatest (CanServe vertices ok scope (Spread count needs) v) most q → ok (Pass v)
+  copies_pass scope count needs v most q some g =
+      (copies_serve vertices ok scope count needs v q (g.can_be (omega arith))).0
 
   -- so many copies as can be always fit
   pub copies_fit : (scope : Scope) (count : ℕ) (needs : List Need) (v most q : ℕ) → (q ≡ 0 → ⊥) →

@@ -9,7 +9,7 @@ use Rattle.flux_defs.specs.declared.claims.Job.{Job}
 use Rattle.flux_defs.specs.declared.claims.Window.{Window}
 use Rattle.flux_defs.specs.declared.requests.Need.{Need, Vert', Pool, Spread'}
 use Rattle.flux_defs.specs.Graph.{Scope, Everywhere, Beneath, IsIn, HasKind}
-use Rattle.flux_defs.specs.Closed.{Scene}
+use Rattle.flux_defs.specs.Closed.{Scene, IsClosedIn}
 use Rattle.flux_defs.specs.Available.{IsAvailable}
 use Rattle.flux_defs.specs.Needs.{IsOfNeed, HasNoSpread}
 
@@ -29,6 +29,11 @@ meets vertices jobs barred = record { vertices = vertices; jobs = jobs; barred =
 -- the claims that are available over the window to an ask with these bars
 abbrev pub open_to : List Vertex → List Job → List ℕ → Window → Claim → Type 0
 open_to vertices jobs barred w = IsAvailable (meets vertices jobs barred) w
+
+-- the vertex, where there is one, isn't closed over the window, whatever jobs the view stands for
+abbrev pub IsOpenScope : List Vertex → (List Job → Type 0) → List ℕ → Window → Option ℕ → Type 0
+IsOpenScope vertices stands barred w scope = MatchOption scope (Unit {0})
+    (λ u. (jobs : List Job) → stands jobs → IsClosedIn (meets vertices jobs barred) w u → ⊥)
 
 -- what a need of vertices claims of one of them: all of it, or its pass
 abbrev pub claim_on : Bool → ℕ → Claim

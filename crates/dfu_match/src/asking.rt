@@ -122,7 +122,7 @@ fn ask<F: FreeView, L: Ledger>(
             }
         }
         Need::Pool { .. } => {
-            let most = serves(s, need, index, vertex, u128::from(whole), steps);
+            let most = serves(s, need, index, vertex, None, u128::from(whole), steps);
             Row {
                 vertex,
                 most,
@@ -321,21 +321,19 @@ fn ask_rows<F: FreeView, L: Ledger>(
         moment: 0,
     };
     let mut low = 0;
-    let mut at = 0;
+    let mut start = 0;
     'each: while left.room >= amount {
-        let Some(row) = known.row_at(at) else {
+        let Some((at, row)) = known.next_old(start, from) else {
             return None;
         };
-        if row.moment < from {
-            low = renew(
-                s, need, index, own, at, low, row.vertex, &mut dead, known, steps,
-            );
-            let Some(now) = known.row_at(at) else {
-                return None;
-            };
-            left = left.renewed(need, &now);
-        }
-        at = known.index_after(at);
+        low = renew(
+            s, need, index, own, at, low, row.vertex, &mut dead, known, steps,
+        );
+        let Some(now) = known.row_at(at) else {
+            return None;
+        };
+        left = left.renewed(need, &now);
+        start = at + 1;
     }
     Some(left.until)
 }

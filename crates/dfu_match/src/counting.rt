@@ -7,7 +7,7 @@ ghost use Rattle.flux_defs.specs.Graph.{Scope, IsIn};
 ghost use Rattle.flux_defs.specs.Needs.{IsOfNeed, IsValidNeed, AreValidNeeds};
 ghost use Rattle.flux_defs.specs.Lowest.{CanServe};
 ghost use Rattle.match_laws.specs.Offers.{IsGreatest, SomeGroup, SomeFits};
-ghost use Rattle.dfu_match.specs.Searches.{open_to, scope_of, IsScope, MayAsk, MayScale};
+ghost use Rattle.dfu_match.specs.Searches.{open_to, scope_of, IsOpenScope, IsScope, MayAsk, MayScale};
 ghost use Rattle.dfu_match.specs.Tables.{all_of, needs_all, StandsAt, StandAt};
 ghost use Rattle.dfu_match.specs.Pairs.{HasEachOpen, IsClear, IsClearWithin, IsClearScope};
 ghost use Rattle.dfu_match.specs.Pairs.{IsPlaceOf, IsPlaceOfAll, IsSpanOf};
@@ -23,7 +23,7 @@ use crate::walking::{index_after, index_within, next_open_until};
 use flux_defs::{FreeView, List, Need, Steps};
 use std::sync::ledger::Ledger;
 
-/// As much of the need as the scope can serve, at most so much.
+/// As much of the need as the scope, which isn't closed, can serve, at most so much.
 #[cycle(counting)]
 fn reach<F: FreeView, L: Ledger>(
     s: &Search<F>,
@@ -35,6 +35,8 @@ fn reach<F: FreeView, L: Ledger>(
 ) -> u128
     requires stands { StandsAt (needs_all s.now.needs.now) s.now.wanted.now index need.now }
     requires scope { IsScope s.now.graph.now.resources.vertices scope }
+    requires open { IsOpenScope s.now.graph.now.resources.vertices (F.stands_for s.now.view.now) s.now.barred.now
+        s.now.window scope }
     requires valid { IsValidNeed s.now.graph.now.resources.vertices need.now }
     requires may { MayAsk most need.now }
     ensures within { result ≤ most }
@@ -67,24 +69,28 @@ fn reach<F: FreeView, L: Ledger>(
         else {
             return reached;
         };
-        reached += u128::from(serves(s, need, index, vertex, most - reached, steps));
+        reached += u128::from(serves(s, need, index, vertex, scope, most - reached, steps));
         at = s.graph.past(vertex);
     }
     reached
 }
 
-/// As much of the need as the vertex can serve, at most so much.
+/// As much of the need as the vertex can serve, at most so much, where `entered` isn't closed.
 #[cycle(counting)]
+#[inline(always)]
 pub(crate) fn serves<F: FreeView, L: Ledger>(
     s: &Search<F>,
     need: &Need,
     index: usize,
     vertex: u32,
+    entered: Option<u32>,
     most: u128,
     steps: &mut Steps<L>,
 ) -> u64
     requires stands { StandsAt (needs_all s.now.needs.now) s.now.wanted.now index need.now }
     requires vertex { vertex < length s.now.graph.now.resources.vertices }
+    requires open { IsOpenScope s.now.graph.now.resources.vertices (F.stands_for s.now.view.now) s.now.barred.now
+        s.now.window entered }
     requires of_need { IsOfNeed s.now.graph.now.resources.vertices need.now vertex }
     requires valid { IsValidNeed s.now.graph.now.resources.vertices need.now }
     requires may { MayAsk most need.now }
@@ -108,7 +114,7 @@ pub(crate) fn serves<F: FreeView, L: Ledger>(
     s.graph.is_valid();
     match need {
         Need::Vert { hold, needs, .. } => {
-            if !admits(s, *hold, vertex, steps) {
+            if !admits(s, *hold, vertex, entered, steps) {
                 return 0;
             }
             if needs.is_empty() {
@@ -125,7 +131,7 @@ pub(crate) fn serves<F: FreeView, L: Ledger>(
         }
         Need::Pool { .. } => u128::from(free(s, vertex, steps)).min(most) as u64,
         Need::Spread { needs, .. } => {
-            if !admits(s, false, vertex, steps) {
+            if !admits(s, false, vertex, entered, steps) {
                 return 0;
             }
             copies(
@@ -140,8 +146,8 @@ pub(crate) fn serves<F: FreeView, L: Ledger>(
     }
 }
 
-/// The greatest number of copies of the needs that fit in the scope, at most so many: each need bounds it by what it
-/// can be filled with.
+/// The greatest number of copies of the needs that fit in the scope, which isn't closed, at most so many: each need
+/// bounds it by what it can be filled with.
 #[cycle(counting)]
 pub(crate) fn copies<F: FreeView, L: Ledger>(
     s: &Search<F>,
@@ -153,6 +159,8 @@ pub(crate) fn copies<F: FreeView, L: Ledger>(
 ) -> u64
     requires stand { StandAt (needs_all s.now.needs.now) s.now.wanted.now index needs.now }
     requires scope { IsScope s.now.graph.now.resources.vertices scope }
+    requires open { IsOpenScope s.now.graph.now.resources.vertices (F.stands_for s.now.view.now) s.now.barred.now
+        s.now.window scope }
     requires valid { AreValidNeeds s.now.graph.now.resources.vertices needs.now }
     requires may { MayScale most needs.now }
     ensures within { result ≤ most }

@@ -1,6 +1,6 @@
 //! How much vertices serve of one own need of an ask, as matches over windows before have found it.
 ghost use Rattle.std.specs.Prelude.{◌≡◌, ◌⊎◌, ◌*◌, ◌/◌, ◌<◌, ◌≤◌, [], length, take, drop, slice_get, Contains};
-ghost use Rattle.std.specs.Prelude.{IsTrue, false};
+ghost use Rattle.std.specs.Prelude.{IfSome, IsTrue, Some, false};
 ghost use Rattle.dfu_match.specs.declared.knowing.Row.{Row};
 ghost use Rattle.dfu_match.specs.Rows.{AreLefts, IsForgotten, IsLeft, IsNoted, IsPut, IsSetAt};
 
@@ -80,6 +80,7 @@ impl Known {
     }
 
     /// The row at the index.
+    #[inline(always)]
     pub(crate) fn row_at(&self, at: usize) -> Option<Row>
         ensures { result ≡ slice_get self.now.rows.items at }
     {
@@ -98,6 +99,7 @@ impl Known {
     }
 
     /// Whether what is found of this own need is noted.
+    #[inline(always)]
     pub(crate) fn notes_of(&self, own: usize) -> bool
         ensures { IsTrue result → self.now.own ≡ own }
     {
@@ -105,6 +107,7 @@ impl Known {
     }
 
     /// Whether the row at the index tells that the vertex serves nothing over windows that begin at this second.
+    #[inline(always)]
     pub(crate) fn serves_none(&self, own: usize, at: usize, vertex: u32, from: u64) -> bool
         ensures { IsTrue result → (self.now.own ≡ own) × ((row : Row) × Contains self.now.rows.items row
             × (row.vertex ≡ vertex) × (row.most ≡ 0) × (from ≤ row.moment)) }
@@ -117,6 +120,7 @@ impl Known {
     }
 
     /// Puts the row where one of its vertex stands at the index, if the need is this one.
+    #[inline(always)]
     pub(crate) fn put(&mut self, own: usize, at: usize, row: Row)
         ensures own { self.new.own ≡ self.old.own }
         ensures put { IsPut own row self.old self.new }
@@ -134,6 +138,7 @@ impl Known {
     }
 
     /// What the rows of this place leave isn't known any more.
+    #[inline(always)]
     fn forget(&mut self, block: usize)
         ensures own { self.new.own ≡ self.old.own }
         ensures rows { self.new.rows.items ≡ self.old.rows.items }
@@ -167,6 +172,7 @@ impl Known {
 
     /// What the rows of this place leave together, windows that begin at this second too: it adds them up anew where
     /// that isn't told.
+    #[inline(always)]
     fn left_at(&mut self, need: &Need, block: usize, from: u64) -> Left
         requires within { block < length self.old.blocks.items }
         requires lefts { AreLefts need.now self.old.rows.items self.old.blocks.items }
@@ -188,19 +194,38 @@ impl Known {
         left
     }
 
-    /// A later index, past those of a place of which no row was found to tell nothing.
-    pub(crate) fn index_after(&self, at: usize) -> usize
-        requires { at < length self.now.rows.items }
-        ensures { at < result }
+    /// The next row from the index `start` on that tells nothing of windows that begin at this second, and its index.
+    /// Rows of a place of which none was found to tell nothing aren't looked at.
+    #[inline(always)]
+    pub(crate) fn next_old(&self, start: usize, from: u64) -> Option<(usize, Row)>
+        ensures later { IfSome result (λ found. start ≤ found.0) }
+        ensures there { IfSome result (λ found. slice_get self.now.rows.items found.0 ≡ Some found.1) }
+        ensures old { IfSome result (λ found. found.1.moment < from) }
     {
-        let block = at / BLOCK;
-        if block < self.blocks.len() && !self.blocks[block].old {
-            return at.saturating_add(BLOCK);
+        let rows = self.rows.as_slice();
+        let mut at = start;
+        'each: while at < rows.len() {
+            if at % BLOCK == 0 && self.tells_all(at / BLOCK) {
+                at = at.saturating_add(BLOCK);
+            } else {
+                let row = rows[at];
+                if row.moment < from {
+                    return Some((at, row));
+                }
+                at += 1;
+            }
         }
-        at + 1
+        None
+    }
+
+    /// Whether no row of this place was found to tell nothing.
+    #[inline(always)]
+    fn tells_all(&self, block: usize) -> bool {
+        block < self.blocks.len() && !self.blocks[block].old
     }
 
     /// The same; or adds it, where the rows reach to `from` and there is memory for it: then they reach to `past`.
+    #[inline(always)]
     pub(crate) fn note(&mut self, own: usize, at: usize, from: u32, row: Row, past: u32)
         ensures own { self.new.own ≡ self.old.own }
         ensures noted { IsNoted own from past row self.old self.new }
@@ -222,6 +247,7 @@ impl Known {
     }
 
     /// Makes a place for one row more, of which no sum is known: `false` where there is no memory for it.
+    #[inline(always)]
     fn has_place(&mut self) -> bool
         ensures own { self.new.own ≡ self.old.own }
         ensures rows { self.new.rows.items ≡ self.old.rows.items }
@@ -244,6 +270,7 @@ impl Known {
     }
 
     /// The rows that reach to `from` reach to `to`.
+    #[inline(always)]
     pub(crate) fn pass(&mut self, own: usize, from: u32, to: u32)
         ensures own { self.new.own ≡ self.old.own }
         ensures rows { self.new.rows.items ≡ self.old.rows.items }

@@ -48,6 +48,7 @@ impl Left {
     }
 
     /// Whether it tells of windows that begin at this second.
+    #[inline(always)]
     pub(crate) fn tells(&self, from: u64) -> bool
         ensures { IsTrue result → (self.now.from ≤ from) × (from ≤ self.now.until) }
     {
@@ -55,6 +56,7 @@ impl Left {
     }
 
     /// What the rows leave with one row more.
+    #[inline(always)]
     pub(crate) fn with(self, need: &Need, row: &Row) -> Left
         ensures left { (rows : List Row) → IsLeft need.now rows self → IsLeft need.now (rows ++ row.now ∷ []) result }
         ensures from { result.from ≡ self.from }
@@ -111,6 +113,7 @@ impl Left {
     }
 
     /// What both leave together.
+    #[inline(always)]
     pub(crate) fn and(self, other: Left) -> Left
         ensures left { (need : Need) (rows others : List Row) → IsLeft need rows self → IsLeft need others other →
             other.from ≤ self.from → IsLeft need (rows ++ others) result }

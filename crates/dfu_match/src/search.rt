@@ -1,5 +1,6 @@
 //! What a search looks at, and which claims are available to it.
-ghost use Rattle.std.specs.Prelude.{◌≡◌, ◌≢◌, ◌+◌, ◌*◌, ◌^◌, ℕ, [], ◌<◌, ◌≤◌, ◌↔◌, IsTrue, length, List};
+ghost use Rattle.std.specs.Prelude.{◌≡◌, ◌≢◌, ◌+◌, ◌*◌, ◌^◌, ℕ, [], ◌<◌, ◌≤◌, ◌↔◌, IsTrue, false, length, List};
+ghost use Rattle.std.specs.Prelude.{Some};
 ghost use Rattle.std.specs.List.{list_any};
 ghost use Rattle.flux_defs.specs.declared.claims.Job.{Job};
 ghost use Rattle.flux_defs.specs.declared.claims.Claim.{Claim};
@@ -10,7 +11,7 @@ ghost use Rattle.flux_defs.specs.Closed.{IsClosedIn, IsTouchedIn};
 ghost use Rattle.flux_defs.specs.Free.{IsFreeIn};
 ghost use Rattle.flux_defs.specs.Later.{ReachesOver};
 ghost use Rattle.dfu_match.specs.Reaches.{FallsWithin};
-ghost use Rattle.dfu_match.specs.Searches.{meets, open_to, claim_on};
+ghost use Rattle.dfu_match.specs.Searches.{meets, open_to, claim_on, IsOpenScope};
 ghost use Rattle.std.specs.List.Sorted.{IsStrictlyIncreasing};
 ghost use Rattle.dfu_match.specs.Bars.{AreNodesOf, BarsAll};
 ghost use Rattle.dfu_match.specs.Tables.{needs_all, AreWantedBy};
@@ -77,6 +78,7 @@ fn bars_below<F: FreeView>(s: &Search<F>, vertex: u32) -> bool
 }
 
 /// Whether the vertex is closed at some moment of the window.
+#[inline(always)]
 fn closed<F: FreeView, L: Ledger>(s: &Search<F>, vertex: u32, steps: &mut Steps<L>) -> bool
     requires { vertex < length s.now.graph.now.resources.vertices }
     ensures work { steps.new ≤ steps.old + F.cost s.now.view.now }
@@ -88,6 +90,7 @@ fn closed<F: FreeView, L: Ledger>(s: &Search<F>, vertex: u32, steps: &mut Steps<
 }
 
 /// Whether the vertex is touched at some moment of the window.
+#[inline(always)]
 fn touched<F: FreeView, L: Ledger>(s: &Search<F>, vertex: u32, steps: &mut Steps<L>) -> bool
     requires { vertex < length s.now.graph.now.resources.vertices }
     ensures work { steps.new ≤ steps.old + F.cost s.now.view.now }
@@ -112,14 +115,19 @@ pub(crate) fn free<F: FreeView, L: Ledger>(s: &Search<F>, vertex: u32, steps: &m
 }
 
 /// Whether the vertex may be held, or passed. A vertex that is held is touched too, so one may be held where the vertex
-/// above it isn't closed and it isn't touched: its own claims are looked at once.
+/// above it isn't closed and it isn't touched: its own claims are looked at once. `entered` isn't closed, so it isn't
+/// looked at where it is the one above.
+#[inline(always)]
 pub(crate) fn admits<F: FreeView, L: Ledger>(
     s: &Search<F>,
     hold: bool,
     vertex: u32,
+    entered: Option<u32>,
     steps: &mut Steps<L>,
 ) -> bool
-    requires { vertex < length s.now.graph.now.resources.vertices }
+    requires vertex { vertex < length s.now.graph.now.resources.vertices }
+    requires open { IsOpenScope s.now.graph.now.resources.vertices (F.stands_for s.now.view.now) s.now.barred.now
+        s.now.window entered }
     ensures work { steps.new ≤ steps.old + 2 * F.cost s.now.view.now }
     ensures answer { (jobs : List Job) → F.stands_for s.now.view.now jobs →
         (IsTrue result ↔ open_to s.now.graph.now.resources.vertices jobs s.now.barred.now s.now.window
@@ -132,12 +140,20 @@ pub(crate) fn admits<F: FreeView, L: Ledger>(
     if touched(s, vertex, steps) {
         return false;
     }
-    !closed_above(s, vertex, steps)
+    !closed_above(s, vertex, entered, steps)
 }
 
-/// Whether the vertex above this one, if there is one, is closed at some moment of the window.
-fn closed_above<F: FreeView, L: Ledger>(s: &Search<F>, vertex: u32, steps: &mut Steps<L>) -> bool
-    requires { vertex < length s.now.graph.now.resources.vertices }
+/// Whether the vertex above this one, if there is one, is closed at some moment of the window. `entered` isn't.
+#[inline(always)]
+fn closed_above<F: FreeView, L: Ledger>(
+    s: &Search<F>,
+    vertex: u32,
+    entered: Option<u32>,
+    steps: &mut Steps<L>,
+) -> bool
+    requires vertex { vertex < length s.now.graph.now.resources.vertices }
+    requires open { IsOpenScope s.now.graph.now.resources.vertices (F.stands_for s.now.view.now) s.now.barred.now
+        s.now.window entered }
     ensures work { steps.new ≤ steps.old + F.cost s.now.view.now }
     ensures answer { (jobs : List Job) → F.stands_for s.now.view.now jobs →
         (IsTrue result ↔ IsSomeAnd (parent_of s.now.graph.now.resources.vertices vertex)
@@ -145,12 +161,29 @@ fn closed_above<F: FreeView, L: Ledger>(s: &Search<F>, vertex: u32, steps: &mut 
 {
     s.graph.is_valid();
     match above(s.graph, vertex) {
-        Some(upper) => return closed(s, upper, steps),
-        None => return false,
+        Some(upper) => {
+            if is_one(entered, upper) {
+                return false;
+            }
+            closed(s, upper, steps)
+        }
+        None => false,
+    }
+}
+
+/// Whether it is this vertex.
+#[inline(always)]
+fn is_one(one: Option<u32>, vertex: u32) -> bool
+    ensures { IsTrue result → one ≡ Some vertex }
+{
+    match one {
+        None => false,
+        Some(same) => same == vertex,
     }
 }
 
 /// The vertex above this one, if there is one.
+#[inline(always)]
 fn above(graph: &Graph, vertex: u32) -> Option<u32>
     ensures { result ≡ parent_of graph.now.resources.vertices vertex }
 {
@@ -161,7 +194,7 @@ fn above(graph: &Graph, vertex: u32) -> Option<u32>
 }
 
 /// Whether it is known that the vertex is closed over all windows that reach over what is left of this one from
-/// `until` on, which falls to such a moment.
+/// `until` on, which falls to such a moment. Where that isn't known it isn't closed over this one.
 fn closed_until<F: FreeView, L: Ledger>(
     s: &Search<F>,
     vertex: u32,
@@ -172,6 +205,8 @@ fn closed_until<F: FreeView, L: Ledger>(
     ensures closed { IsTrue result → (jobs : List Job) → F.stands_for s.now.view.now jobs → (w : Window) →
         ReachesOver s.now.window until.new w →
         IsClosedIn (meets s.now.graph.now.resources.vertices jobs s.now.barred.now) w vertex }
+    ensures open { result ≡ false → (jobs : List Job) → F.stands_for s.now.view.now jobs →
+        IsClosedIn (meets s.now.graph.now.resources.vertices jobs s.now.barred.now) s.now.window vertex → ⊥ }
     ensures falls { FallsWithin s.now.window until.old until.new }
     ensures work { steps.new ≤ steps.old + F.cost s.now.view.now }
 {
@@ -198,6 +233,8 @@ fn touched_until<F: FreeView, L: Ledger>(
     ensures touched { IsTrue result → (jobs : List Job) → F.stands_for s.now.view.now jobs → (w : Window) →
         ReachesOver s.now.window until.new w →
         IsTouchedIn (meets s.now.graph.now.resources.vertices jobs s.now.barred.now) w vertex }
+    ensures untouched { result ≡ false → (jobs : List Job) → F.stands_for s.now.view.now jobs →
+        IsTouchedIn (meets s.now.graph.now.resources.vertices jobs s.now.barred.now) s.now.window vertex → ⊥ }
     ensures falls { FallsWithin s.now.window until.old until.new }
     ensures work { steps.new ≤ steps.old + F.cost s.now.view.now }
 {
@@ -214,7 +251,7 @@ fn touched_until<F: FreeView, L: Ledger>(
 }
 
 /// Whether it is known that the vertex may not be held, or passed, over all windows that reach over what is left of
-/// this one from `until` on, which falls to such a moment. Where that isn't known it may be over this window.
+/// this one from `until` on, which falls to such a moment. Where that isn't known it isn't closed over this one.
 pub(crate) fn refuses_until<F: FreeView, L: Ledger>(
     s: &Search<F>,
     hold: bool,
@@ -226,6 +263,8 @@ pub(crate) fn refuses_until<F: FreeView, L: Ledger>(
     ensures refuses { IsTrue result → (jobs : List Job) → F.stands_for s.now.view.now jobs → (w : Window) →
         ReachesOver s.now.window until.new w →
         open_to s.now.graph.now.resources.vertices jobs s.now.barred.now w (claim_on hold vertex) → ⊥ }
+    ensures open { result ≡ false → IsOpenScope s.now.graph.now.resources.vertices (F.stands_for s.now.view.now)
+        s.now.barred.now s.now.window (Some vertex) }
     ensures falls { FallsWithin s.now.window until.old until.new }
     ensures work { steps.new ≤ steps.old + 2 * F.cost s.now.view.now }
 {

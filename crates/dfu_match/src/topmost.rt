@@ -87,7 +87,7 @@ fn note_short<F: FreeView>(
     }
     s.graph.is_valid();
     let mut at = from;
-    'each: loop {
+    'each: while at < past {
         let Some(vertex) = s.graph.next_of_kind(kind, at, past) else {
             known.pass(own, at, past);
             return;
@@ -233,7 +233,7 @@ fn write_top_group<F: FreeView, L: Ledger>(
             return Ok(false);
         };
         let next = s.graph.past(vertex);
-        let served = offer(s, need, index, vertex, missing, out, steps)?;
+        let served = offer(s, need, index, vertex, None, missing, out, steps)?;
         let all = served >= whole || u128::from(served) >= missing;
         let row = unknown(s, need, vertex, all);
         known.put(own, count, row);

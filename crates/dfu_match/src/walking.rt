@@ -48,6 +48,7 @@ fn short_at<F: FreeView, L: Ledger>(
 }
 
 /// The vertex's parent, where it has one from `low` on.
+#[inline(always)]
 pub(crate) fn parent_from(graph: &Graph, vertex: u32, low: u32) -> Option<u32>
     requires vertex { vertex < length graph.now.resources.vertices }
     ensures { IsParentFrom graph.now.resources.vertices vertex low result }
@@ -128,6 +129,7 @@ pub(crate) fn top_short<F: FreeView, L: Ledger>(
 }
 
 /// The uppermost vertex above this one, from `low` on, that is short for the need, as `top_short` tells it.
+#[inline(always)]
 pub(crate) fn top_over<F: FreeView, L: Ledger>(
     s: &Search<F>,
     need: &Need,
@@ -158,6 +160,7 @@ pub(crate) fn top_over<F: FreeView, L: Ledger>(
 }
 
 /// Whether something is asked within a vertex of the need.
+#[inline(always)]
 fn asks_within(need: &Need) -> bool
     ensures yes { IsTrue result → AsksWithin need.now }
     ensures no { AsksWithin need.now → IsTrue result }
@@ -171,6 +174,7 @@ fn asks_within(need: &Need) -> bool
 
 /// The uppermost vertex above this one, from `low` on, that is short for the need, as `top_short` tells it, or the
 /// vertex itself where something is asked within it: else what is asked of it tells as much.
+#[inline(always)]
 pub(crate) fn top_within<F: FreeView, L: Ledger>(
     s: &Search<F>,
     need: &Need,
@@ -205,6 +209,7 @@ pub(crate) fn top_within<F: FreeView, L: Ledger>(
 /// The least vertex of the need's kind from `from` on and before `to` that lies in no subtree which is short for the
 /// need. Those passed over can't serve it over any window that reaches over what is left of this one from `until` on,
 /// which falls to the least moment that tells so.
+#[inline(always)]
 pub(crate) fn next_open_until<F: FreeView, L: Ledger>(
     s: &Search<F>,
     need: &Need,

@@ -1,5 +1,5 @@
 //! Writes the lowest-first claims, each once, at the end of a list.
-ghost use Rattle.std.specs.Prelude.{◌≡◌, ℕ, ◌+◌, ◌*◌, ◌<◌, ◌≤◌, [], false, length, List, IfOk, MatchBool};
+ghost use Rattle.std.specs.Prelude.{◌≡◌, ℕ, ◌+◌, ◌*◌, ◌<◌, ◌≤◌, [], false, length, List, IfOk, MatchBool, Some};
 ghost use Rattle.flux_defs.specs.declared.vertices.Vertex.{Vertex};
 ghost use Rattle.flux_defs.specs.declared.claims.Job.{Job};
 ghost use Rattle.flux_defs.specs.declared.claims.Claim.{Claim};
@@ -7,7 +7,7 @@ ghost use Rattle.flux_defs.specs.Graph.{Scope, Beneath, IsIn};
 ghost use Rattle.flux_defs.specs.Needs.{amount_of, IsOfNeed, IsValidNeed, AreValidNeeds};
 ghost use Rattle.flux_defs.specs.Lowest.{CanServe, FollowsPass, LowestPiece, Lowest};
 ghost use Rattle.match_laws.specs.Offers.{Extends, Offers, SomeGroup, SomeFits, LowestGroup};
-ghost use Rattle.dfu_match.specs.Searches.{open_to, scope_of, IsScope, MayAsk, MayScale, MayScaleNeed};
+ghost use Rattle.dfu_match.specs.Searches.{open_to, scope_of, IsOpenScope, IsScope, MayAsk, MayScale, MayScaleNeed};
 ghost use Rattle.dfu_match.specs.Tables.{all_of, needs_all, StandsAt, StandAt};
 ghost use Rattle.dfu_match.specs.Pairs.{HasEachOpen, IsClear, IsClearWithin, IsClearScope};
 ghost use Rattle.dfu_match.specs.Pairs.{IsPlaceOf, IsPlaceOfAll, IsSpanOf};
@@ -25,8 +25,8 @@ use std::alloc::AllocError;
 use std::sync::ledger::Ledger;
 use text_forms::push;
 
-/// Writes the lowest-first claims of the needs scaled by `k` in the scope. `false` exactly where no claims fit; what
-/// was written by then is of no use.
+/// Writes the lowest-first claims of the needs scaled by `k` in the scope, which isn't closed. `false` exactly where no
+/// claims fit; what was written by then is of no use.
 #[cycle(writing)]
 pub(crate) fn write_needs<F: FreeView, L: Ledger>(
     s: &Search<F>,
@@ -39,6 +39,8 @@ pub(crate) fn write_needs<F: FreeView, L: Ledger>(
 ) -> Result<bool, AllocError>
     requires stand { StandAt (needs_all s.now.needs.now) s.now.wanted.now index needs.now }
     requires scope { IsScope s.now.graph.now.resources.vertices scope }
+    requires open { IsOpenScope s.now.graph.now.resources.vertices (F.stands_for s.now.view.now) s.now.barred.now
+        s.now.window scope }
     requires valid { AreValidNeeds s.now.graph.now.resources.vertices needs.now }
     requires may { MayScale k needs.now }
     requires some { 1 ≤ k }
@@ -70,8 +72,8 @@ pub(crate) fn write_needs<F: FreeView, L: Ledger>(
     Ok(true)
 }
 
-/// Writes the need's lowest-first group of `k` times its amount in the scope. `false` exactly where there is no such
-/// group; what was written by then is of no use.
+/// Writes the need's lowest-first group of `k` times its amount in the scope, which isn't closed. `false` exactly where
+/// there is no such group; what was written by then is of no use.
 #[cycle(writing)]
 fn write_group<F: FreeView, L: Ledger>(
     s: &Search<F>,
@@ -84,6 +86,8 @@ fn write_group<F: FreeView, L: Ledger>(
 ) -> Result<bool, AllocError>
     requires stands { StandsAt (needs_all s.now.needs.now) s.now.wanted.now index need.now }
     requires scope { IsScope s.now.graph.now.resources.vertices scope }
+    requires open { IsOpenScope s.now.graph.now.resources.vertices (F.stands_for s.now.view.now) s.now.barred.now
+        s.now.window scope }
     requires valid { IsValidNeed s.now.graph.now.resources.vertices need.now }
     requires may { MayScaleNeed k need.now }
     requires some { 1 ≤ k }
@@ -117,26 +121,30 @@ fn write_group<F: FreeView, L: Ledger>(
             return Ok(false);
         };
         let next = s.graph.past(vertex);
-        let served = offer(s, need, index, vertex, missing, out, steps)?;
+        let served = offer(s, need, index, vertex, scope, missing, out, steps)?;
         missing -= u128::from(served);
         at = next;
     }
     Ok(true)
 }
 
-/// Lets the vertex serve as much of the need as it can, at most so much, and writes its piece.
+/// Lets the vertex serve as much of the need as it can, at most so much, and writes its piece, where `entered` isn't
+/// closed.
 #[cycle(writing)]
 pub(crate) fn offer<F: FreeView, L: Ledger>(
     s: &Search<F>,
     need: &Need,
     index: usize,
     vertex: u32,
+    entered: Option<u32>,
     most: u128,
     out: &mut Vec<Claim>,
     steps: &mut Steps<L>,
 ) -> Result<u64, AllocError>
     requires stands { StandsAt (needs_all s.now.needs.now) s.now.wanted.now index need.now }
     requires vertex { vertex < length s.now.graph.now.resources.vertices }
+    requires open { IsOpenScope s.now.graph.now.resources.vertices (F.stands_for s.now.view.now) s.now.barred.now
+        s.now.window entered }
     requires of_need { IsOfNeed s.now.graph.now.resources.vertices need.now vertex }
     requires valid { IsValidNeed s.now.graph.now.resources.vertices need.now }
     requires may { MayAsk most need.now }
@@ -162,7 +170,7 @@ pub(crate) fn offer<F: FreeView, L: Ledger>(
     s.graph.is_valid();
     match need {
         Need::Vert { hold, needs, .. } => {
-            if !admits(s, *hold, vertex, steps) {
+            if !admits(s, *hold, vertex, entered, steps) {
                 return Ok(0);
             }
             if *hold {
@@ -195,7 +203,7 @@ pub(crate) fn offer<F: FreeView, L: Ledger>(
             Ok(1)
         }
         Need::Pool { .. } => {
-            let quantity = serves(s, need, index, vertex, most, steps);
+            let quantity = serves(s, need, index, vertex, entered, most, steps);
             if quantity == 0 {
                 return Ok(0);
             }
@@ -203,7 +211,7 @@ pub(crate) fn offer<F: FreeView, L: Ledger>(
             Ok(quantity)
         }
         Need::Spread { needs, .. } => {
-            let count = serves(s, need, index, vertex, most, steps);
+            let count = serves(s, need, index, vertex, entered, most, steps);
             if count == 0 {
                 return Ok(0);
             }
@@ -224,8 +232,8 @@ pub(crate) fn offer<F: FreeView, L: Ledger>(
     }
 }
 
-/// Writes the vertex's pass and the lowest-first claims of the needs scaled by `k` below it. `false` exactly where no
-/// claims fit; then nothing is written.
+/// Writes the pass of the vertex, which isn't closed, and the lowest-first claims of the needs scaled by `k` below it.
+/// `false` exactly where no claims fit; then nothing is written.
 #[cycle(writing)]
 fn write_shared<F: FreeView, L: Ledger>(
     s: &Search<F>,
@@ -238,6 +246,8 @@ fn write_shared<F: FreeView, L: Ledger>(
 ) -> Result<bool, AllocError>
     requires stand { StandAt (needs_all s.now.needs.now) s.now.wanted.now index needs.now }
     requires vertex { vertex < length s.now.graph.now.resources.vertices }
+    requires open { IsOpenScope s.now.graph.now.resources.vertices (F.stands_for s.now.view.now) s.now.barred.now
+        s.now.window (Some vertex) }
     requires valid { AreValidNeeds s.now.graph.now.resources.vertices needs.now }
     requires may { MayScale k needs.now }
     requires some { 1 ≤ k }

@@ -320,6 +320,7 @@ impl Planner for MinTree {
     }
 
     #[tactic(auto, using(crate::proofs::PlanFacts::marks_run))]
+    #[inline(always)]
     fn has_room<L: Ledger>(&self, window: Window, quantity: u64, steps: &mut Steps<L>) -> bool
         requires { window.from < window.to }
         ensures answer { (spans : List Span) → StandsFor self.now spans →

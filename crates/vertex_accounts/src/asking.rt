@@ -72,6 +72,7 @@ impl<P: Planner + Drop> Accounts<P> {
     }
 
     /// Whether the vertex is wider than those that jobs hold, as is each above it then.
+    #[inline(always)]
     fn is_wider(&self, graph: &Graph, vertex: u32) -> bool
         requires { vertex < length graph.now.resources.vertices }
         ensures { IsTrue result → IsWider graph.now.resources.vertices self.now.widest vertex }
@@ -80,6 +81,7 @@ impl<P: Planner + Drop> Accounts<P> {
     }
 
     /// The last moment of the window at which a job holds the vertex itself; `None` exactly where there is none.
+    #[inline(always)]
     fn held_over<L: Ledger>(
         &self,
         graph: &Graph,
@@ -125,6 +127,7 @@ impl<P: Planner + Drop> Accounts<P> {
     }
 
     /// Whether jobs leave so much of a quantity at the vertex, whose item this is, at each moment of the window.
+    #[inline(always)]
     fn room_in<L: Ledger>(
         &self,
         item: &Item<P>,
@@ -153,6 +156,7 @@ impl<P: Planner + Drop> Accounts<P> {
 
     /// The last moment of the window at which jobs leave less than the amount of a quantity at the vertex, whose item
     /// this is; `None` exactly where there is none.
+    #[inline(always)]
     fn below_in<L: Ledger>(
         &self,
         item: &Item<P>,
@@ -180,6 +184,7 @@ impl<P: Planner + Drop> Accounts<P> {
 
     /// A moment of the window at which a job holds the vertex, whose item this is, or one above it; `None` exactly
     /// where there is none. It looks at no vertex that is wider than those that jobs hold.
+    #[inline(always)]
     fn closed_moment<L: Ledger>(
         &self,
         graph: &Graph,
@@ -215,6 +220,7 @@ impl<P: Planner + Drop> Accounts<P> {
     }
 
     /// Whether a job holds the vertex or one above it at some moment of the window.
+    #[inline(always)]
     pub fn closed_over<L: Ledger>(
         &self,
         graph: &Graph,
@@ -238,6 +244,7 @@ impl<P: Planner + Drop> Accounts<P> {
     }
 
     /// Whether a job has a claim on the vertex or below it at some moment of the window.
+    #[inline(always)]
     pub fn touched_over<L: Ledger>(
         &self,
         graph: &Graph,

@@ -67,6 +67,7 @@ impl<'a, P: Planner + Drop> Item<'a, P> {
     }
 
     /// Whether so much is free at the place at each second of the window. It takes no memory.
+    #[inline(always)]
     pub fn has_room<L: Ledger>(
         &self,
         place: usize,

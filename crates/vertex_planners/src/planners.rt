@@ -121,6 +121,7 @@ impl<P: Planner + Drop> VertexPlanners<P> {
     }
 
     /// The vertex's planners. It takes no memory.
+    #[inline(always)]
     pub fn at<'a, L: Ledger>(&'a self, vertex: u32, steps: &mut Steps<L>) -> Item<'a, P>
         requires { vertex < length (items_of self.now) }
         ensures item { slice_get (items_of self.now) vertex ≡ Some result }

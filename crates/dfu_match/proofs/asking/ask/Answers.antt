@@ -35,6 +35,9 @@ copies-most-requires-clause-valid g c =
     valid_inside c.args.s.now.graph.now.resources.vertices c.in-Vert.kind c.in-Vert.count c.in-Vert.hold
     c.in-Vert.needs (rw c.in-Vert.is at c.requires.valid)
 
+pub copies-most-requires-clause-open : goal.copies-most-requires-clause-open
+copies-most-requires-clause-open g c = c.refuses_until.ensures.open c.if-refuses_until.false
+
 pub returns-else-refuses_until-clause-row : goal.returns-else-refuses_until-clause-row
 returns-else-refuses_until-clause-row g c =
     let s = c.args.s.now in

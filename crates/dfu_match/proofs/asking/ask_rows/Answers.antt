@@ -8,7 +8,6 @@ use Rattle.dfu_match.specs.Pairs.{asked_totals}
 use Rattle.dfu_match.proofs.AskLaws.{knows_left}
 use Rattle.dfu_match.proofs.AskSteps.{asked_all, asked_next, asked_start}
 use Rattle.dfu_match.proofs.RowLaws.{row_known}
-use Rattle.dfu_match.proofs.asking.ask_rows.Goals.{then-row-from+in-Some-row_at, else-row-from}
 use Rattle.dfu_match.proofs.asking.ask_rows.Goals as goal
 
 pub left-left-requires : goal.left-left-requires
@@ -50,10 +49,10 @@ renew-low-requires-clause-of_need g c =
     let s = c.args.s.now in
     let rows = c.each.known.rows.items in
     let row = c.in-Some.row in
-    let there : slice_get rows c.each.at ≡ Some row = sym c.row_at.ensures ∙ c.in-Some.is in
+    let there : slice_get rows c.in-Some.at ≡ Some row = c.in-Some.ensures.there in
     (row_known s.graph.now.resources.vertices (g.F.FreeView.stands_for s.view.now) s.barred.now s.needs.now s.window
     c.each.known c.args.own c.args.need.now row c.requires.of_own c.each.invariant.own
-    (c.each.at, slice_get_within rows c.each.at row there, get_or_from_slice_get rows c.each.at row row there)
+    (c.in-Some.at, slice_get_within rows c.in-Some.at row there, get_or_from_slice_get rows c.in-Some.at row row there)
     c.each.invariant.known).of_need
 
 pub returns-in_default-row_at-clause-work : goal.returns-in_default-row_at-clause-work
@@ -71,77 +70,47 @@ returns-in_default-row_at-clause-work g c = λ jobs stands place at.
     c.each.steps c.renew-low.new.steps 0 c.each.low c.renew-low.result before
     (c.renew-low.ensures.work jobs stands place at before.clear before.within))
 
--- the rows are as many as before
-pub index_after-at-requires : goal.index_after-at-requires
-index_after-at-requires g c =
-    let rows = c.each.known.rows.items in
-    let inside : c.each.at < length rows = slice_get_within rows c.each.at c.in-Some.row
-    (sym c.row_at.ensures ∙ c.in-Some.is) in
-    elim c.if-row-from.branch [
-      | then-row-from+in-Some-row_at w ↦ rw w.known-is (slice_get_within w.renew-low.new.known.rows.items c.each.at
-          w.in-Some-row_at.now (sym w.row_at-then-row-from.ensures ∙ w.in-Some-row_at.is))
-      | else-row-from w ↦ rw w.known-is inside
-    ]
-
 pub each-smaller : goal.each-smaller
 each-smaller g c =
     let rows = c.each.known.rows.items in
-    let at = c.each.at in
-    let inside : at < length rows = slice_get_within rows at c.in-Some.row (sym c.row_at.ensures ∙ c.in-Some.is) in
-    let later = c.index_after-at.ensures in
-    let same : length c.if-row-from.known.rows.items ≡ length rows = elim c.if-row-from.branch [
-      | then-row-from+in-Some-row_at w ↦
-          let now = w.in-Some-row_at.now in
-          rw w.known-is (ap (λ (rs : List Row). length rs)
-          (w.renew-low.ensures.place now (sym w.row_at-then-row-from.ensures ∙ w.in-Some-row_at.is))
-          ∙ set_length rows at now)
-      | else-row-from w ↦ rw w.known-is refl
-    ] in
+    let at = c.in-Some.at in
+    let now = c.in-Some-row_at.now in
+    let inside : at < length rows = slice_get_within rows at c.in-Some.row c.in-Some.ensures.there in
+    let later = c.in-Some.ensures.later in
+    let same : length c.renew-low.new.known.rows.items ≡ length rows =
+    ap (λ (rs : List Row). length rs) (c.renew-low.ensures.place now (sym c.in-Some-row_at.ensures))
+    ∙ set_length rows at now in
     omega (arith, inside, later, same)
 
 pub each-preserved : goal.each-preserved
 each-preserved g c =
     let from = c.each.invariant.from in
     let opens = c.each.invariant.opens in
-    elim c.if-row-from.branch [
-      | then-row-from+in-Some-row_at w ↦ rw (w.known-is, w.steps-is, w.left-is, w.dead-is, w.low-is) (record {
-        known = w.renew-low.ensures.known;
-        own = w.renew-low.ensures.own ∙ c.each.invariant.own;
-        end = w.renew-low.ensures.end ∙ c.each.invariant.end;
-        dead = w.renew-low.ensures.dead;
-        asked = λ jobs stands place at.
-            let s = c.args.s.now in
-            let graph = s.graph.now in
-            let before = c.each.invariant.asked jobs stands place at in
-            asked_next graph.resources graph.names c.is_valid.ensures.valid jobs s.window
-            (asked_totals s.wanted.now (g.F.FreeView.keeps s.view.now)) (needs_all s.needs.now) c.args.need.now place
-            (g.F.FreeView.cost s.view.now) c.args.steps.now c.each.steps w.renew-low.new.steps 0 c.each.low
-            w.renew-low.result before
-            (w.renew-low.ensures.work jobs stands place at before.clear before.within);
-        left =
-            let now = w.in-Some-row_at.now in
-            let old = w.if-row-from.true in
-            subst (λ (rs : List Row). IsLeft c.args.need.now rs w.renewed-left.result)
-            (sym (w.renew-low.ensures.place now (sym w.row_at-then-row-from.ensures ∙ w.in-Some-row_at.is)))
-            (w.renewed-left.ensures.left c.each.known.rows.items c.each.at c.in-Some.row
-            (sym c.row_at.ensures ∙ c.in-Some.is) (omega (arith, old, from)) c.each.invariant.left);
-        from = w.renewed-left.ensures.from ∙ from;
-        opens =
-            let told = w.renewed-left.ensures.opens (omega (arith, from, opens)) in
-            let kept = w.renewed-left.ensures.from in
-            omega (arith, told, kept, from);
-      })
-      | else-row-from w ↦ rw (w.known-is, w.steps-is, w.left-is, w.dead-is, w.low-is) (record {
-        known = c.each.invariant.known;
-        own = c.each.invariant.own;
-        end = c.each.invariant.end;
-        dead = c.each.invariant.dead;
-        asked = c.each.invariant.asked;
-        left = c.each.invariant.left;
-        from = from;
-        opens = opens;
-      })
-    ]
+    let now = c.in-Some-row_at.now in
+    let old = c.in-Some.ensures.old in
+    record {
+      known = c.renew-low.ensures.known;
+      own = c.renew-low.ensures.own ∙ c.each.invariant.own;
+      end = c.renew-low.ensures.end ∙ c.each.invariant.end;
+      dead = c.renew-low.ensures.dead;
+      asked = λ jobs stands place at.
+          let s = c.args.s.now in
+          let graph = s.graph.now in
+          let before = c.each.invariant.asked jobs stands place at in
+          asked_next graph.resources graph.names c.is_valid.ensures.valid jobs s.window
+          (asked_totals s.wanted.now (g.F.FreeView.keeps s.view.now)) (needs_all s.needs.now) c.args.need.now place
+          (g.F.FreeView.cost s.view.now) c.args.steps.now c.each.steps c.renew-low.new.steps 0 c.each.low
+          c.renew-low.result before (c.renew-low.ensures.work jobs stands place at before.clear before.within);
+      left = subst (λ (rs : List Row). IsLeft c.args.need.now rs c.renewed-left.result)
+          (sym (c.renew-low.ensures.place now (sym c.in-Some-row_at.ensures)))
+          (c.renewed-left.ensures.left c.each.known.rows.items c.in-Some.at c.in-Some.row c.in-Some.ensures.there
+          (omega (arith, old, from)) c.each.invariant.left);
+      from = c.renewed-left.ensures.from ∙ from;
+      opens =
+          let told = c.renewed-left.ensures.opens (omega (arith, from, opens)) in
+          let kept = c.renewed-left.ensures.from in
+          omega (arith, told, kept, from);
+    }
 
 pub returns-clause-work : goal.returns-clause-work
 returns-clause-work g c = λ jobs stands place at.

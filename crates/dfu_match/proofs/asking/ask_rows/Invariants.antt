@@ -28,4 +28,4 @@ invariant-each g l = record {
 
 -- the rows that are still to come
 abbrev pub decreases-each : goal.decreases-each
-decreases-each g l = length l.known.rows.items - l.at
+decreases-each g l = length l.known.rows.items - l.start

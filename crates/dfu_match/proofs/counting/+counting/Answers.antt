@@ -1,5 +1,5 @@
 use Rattle.std.proofs.Common.{arith, rules, ◌≡◌, ◌+◌, ◌*◌, ◌<◌, ◌≤◌, ◌^◌, List, ◌∷◌, length, take, drop, refl, sym, ◌∙◌}
-use Rattle.std.proofs.Common.{inl, inr, true≢false}
+use Rattle.std.proofs.Common.{inl, inr, false, true≢false}
 use Rattle.std.proofs.lemmas.List.{drop_all}
 use denote.Param.Weighed.{most}
 use Rattle.flux_defs.specs.declared.claims.Claim.{Claim}
@@ -20,6 +20,7 @@ use Rattle.dfu_match.proofs.ScopeLaws.{none_before, none_skipped, none_after, no
 use Rattle.dfu_match.specs.Tables.{needs_all}
 use Rattle.dfu_match.proofs.TableLaws as tables
 use Rattle.dfu_match.proofs.CountLaws as laws
+use Rattle.dfu_match.proofs.HoldLaws.{admitted_open}
 use Rattle.dfu_match.specs.Tables.{all_of}
 use Rattle.dfu_match.specs.Pairs.{IsClearScope, asked_totals}
 use Rattle.dfu_match.proofs.OpenLaws.{none_inside, span_same}
@@ -50,10 +51,14 @@ copies-reach-reached-requires g t c κs h =
             (
               c.requires.scope,
               (
-                laws.valid_at c.args.s.now.graph.now.resources.vertices items i need (drop (i + 1) items) split valid,
-                rw (c.from.ensures, c.from-in-loop-need.ensures, c.amount-amount.ensures)
-                    (laws.may_ask_at c.args.most c.loop-need.best items i need (drop (i + 1) items)
-                    c.loop-need.invariant.within split small (rw c.items-need-items.ensures c.requires.may)),
+                c.requires.open,
+                (
+                  laws.valid_at c.args.s.now.graph.now.resources.vertices items i need (drop (i + 1) items) split
+                      valid,
+                  rw (c.from.ensures, c.from-in-loop-need.ensures, c.amount-amount.ensures)
+                      (laws.may_ask_at c.args.most c.loop-need.best items i need (drop (i + 1) items)
+                      c.loop-need.invariant.within split small (rw c.items-need-items.ensures c.requires.may)),
+                ),
               ),
             ),
           ),
@@ -374,9 +379,13 @@ serves-copies-requires g t c κs h =
             (
               c.requires.vertex,
               (
-                laws.valid_inside vs c.in-Vert.kind c.in-Vert.count c.in-Vert.hold c.in-Vert.needs
-                    (rw c.in-Vert.is at c.requires.valid),
-                inl refl,
+                λ jobs stands. admitted_open (meets vs jobs c.args.s.now.barred.now) c.args.s.now.window c.args.vertex
+                    c.in-Vert.hold ((c.admits.ensures.answer jobs stands).0 c.if-not-admits.false),
+                (
+                  laws.valid_inside vs c.in-Vert.kind c.in-Vert.count c.in-Vert.hold c.in-Vert.needs
+                      (rw c.in-Vert.is at c.requires.valid),
+                  inl refl,
+                ),
               ),
             ),
           ),
@@ -402,8 +411,12 @@ serves-copies-requires-in-Spread g t c κs h =
             (
               c.requires.vertex,
               (
-                laws.valid_copy vs c.in-Spread.count c.in-Spread.needs valid,
-                inr (laws.plain_copy vs c.in-Spread.count c.in-Spread.needs valid),
+                λ jobs stands. admitted_open (meets vs jobs c.args.s.now.barred.now) c.args.s.now.window c.args.vertex
+                    false ((c.admits-in-Spread.ensures.answer jobs stands).0 c.if-not-admits-2.false),
+                (
+                  laws.valid_copy vs c.in-Spread.count c.in-Spread.needs valid,
+                  inr (laws.plain_copy vs c.in-Spread.count c.in-Spread.needs valid),
+                ),
               ),
             ),
           ),

@@ -21,6 +21,6 @@ returns-clause-answer g c = λ jobs stands.
     let s = c.args.s.now in
     let graph = s.graph.now.resources in
     untouched_held graph.vertices (parents_first graph c.is_valid.ensures.valid.preorder)
-    c.args.vertex c.requires jobs s.barred.now s.window c.args.hold c.if-not-hold.false
+    c.args.vertex c.requires.vertex jobs s.barred.now s.window c.args.hold c.if-not-hold.false
     c.closed_above.result (c.closed_above.ensures.answer jobs stands) c.touched.result c.if-touched.false
     (c.touched.ensures.answer jobs stands)

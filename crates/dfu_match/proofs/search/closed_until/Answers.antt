@@ -1,7 +1,7 @@
 use Rattle.std.proofs.Common.{arith, List, subst}
 use Rattle.flux_defs.specs.declared.vertices.Vertex.{Vertex}
 use Rattle.flux_defs.specs.Closed.{IsClosedOver}
-use Rattle.dfu_match.proofs.HoldLaws.{closed_too}
+use Rattle.dfu_match.proofs.HoldLaws.{closed_too, not_closed}
 use Rattle.dfu_match.proofs.ReachLaws.{reach_later}
 use Rattle.dfu_match.proofs.search.closed_until.Goals as goal
 
@@ -12,3 +12,11 @@ returns-in-Some-clause-closed g c = λ is jobs stands w reach.
     closed_too s.graph.now.resources.vertices jobs s.barred.now w c.args.vertex
     (subst (λ (vs : List Vertex). IsClosedOver vs jobs w c.args.vertex) s.over
     (c.in-Some.ensures.answer jobs stands w later))
+
+pub returns-in-None-clause-open : goal.returns-in-None-clause-open
+returns-in-None-clause-open g c = λ is jobs stands.
+    let s = c.args.s.now in
+    not_closed s.graph.now.resources.vertices jobs s.barred.now s.window c.args.vertex s.opens c.bars_over.result
+    c.if-bars_over.false c.bars_over.ensures
+    (subst (λ (vs : List Vertex). IsClosedOver vs jobs s.window c.args.vertex → ⊥) s.over
+    (c.in-None.ensures.answer jobs stands))

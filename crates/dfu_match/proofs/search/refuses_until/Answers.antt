@@ -1,8 +1,10 @@
-use Rattle.std.proofs.Common.{◌≡◌, Some, sym}
+use Rattle.std.proofs.Common.{◌≡◌, ℕ, Option, Some, subst, sym}
+use Rattle.std.specs.Option.{IsSomeAnd}
+use Rattle.flux_defs.specs.Closed.{IsClosedIn}
 use Rattle.flux_defs.specs.Graph.{parent_of}
 use Rattle.graph_laws.proofs.Preorder.{parents_first}
 use Rattle.dfu_match.specs.Searches.{meets}
-use Rattle.dfu_match.proofs.HoldLaws.{above_inside, closed_admits_none, closed_down, touched_holds_none}
+use Rattle.dfu_match.proofs.HoldLaws.{above_inside, closed_admits_none, closed_down, closed_touches, touched_holds_none}
 use Rattle.dfu_match.proofs.search.refuses_until.Goals as goal
 
 pub returns-then-not-hold-clause-refuses : goal.returns-then-not-hold-clause-refuses
@@ -32,3 +34,23 @@ returns-in-Some-clause-refuses g c = λ is jobs stands w reach.
     closed_admits_none (meets graph.vertices jobs s.barred.now) w c.args.vertex c.args.hold
     (closed_down graph.vertices (parents_first graph c.is_valid.ensures.valid.preorder) c.args.vertex c.requires jobs
     s.barred.now c.in-Some.upper (sym up) w (c.closed_until-in-Some.ensures.closed is jobs stands w reach))
+
+pub returns-in-None-clause-open : goal.returns-in-None-clause-open
+returns-in-None-clause-open g c = λ is jobs stands closed.
+    let s = c.args.s.now in
+    let graph = s.graph.now.resources in
+    c.touched_until.ensures.untouched c.if-touched_until.false jobs stands
+    (closed_touches graph.vertices (parents_first graph c.is_valid.ensures.valid.preorder) c.args.vertex c.requires
+    jobs s.barred.now s.window
+    (subst (λ (o : Option ℕ). IsSomeAnd o (IsClosedIn (meets graph.vertices jobs s.barred.now) s.window) → ⊥)
+    c.in-None.ensures (λ none. none)) closed)
+
+pub returns-in-Some-clause-open : goal.returns-in-Some-clause-open
+returns-in-Some-clause-open g c = λ is jobs stands closed.
+    let s = c.args.s.now in
+    let graph = s.graph.now.resources in
+    c.touched_until.ensures.untouched c.if-touched_until.false jobs stands
+    (closed_touches graph.vertices (parents_first graph c.is_valid.ensures.valid.preorder) c.args.vertex c.requires
+    jobs s.barred.now s.window
+    (subst (λ (o : Option ℕ). IsSomeAnd o (IsClosedIn (meets graph.vertices jobs s.barred.now) s.window) → ⊥)
+    c.in-Some.ensures (c.closed_until-in-Some.ensures.open is jobs stands)) closed)

@@ -1,7 +1,7 @@
 use Rattle.std.proofs.Common.{arith, List, subst}
 use Rattle.flux_defs.specs.declared.vertices.Vertex.{Vertex}
 use Rattle.flux_defs.specs.Closed.{IsTouchedOver}
-use Rattle.dfu_match.proofs.HoldLaws.{touched_too}
+use Rattle.dfu_match.proofs.HoldLaws.{touched_too, not_touched}
 use Rattle.dfu_match.proofs.ReachLaws.{reach_later}
 use Rattle.dfu_match.proofs.search.touched_until.Goals as goal
 
@@ -12,3 +12,11 @@ returns-in-Some-clause-touched g c = λ is jobs stands w reach.
     touched_too s.graph.now.resources.vertices jobs s.barred.now w c.args.vertex
     (subst (λ (vs : List Vertex). IsTouchedOver vs jobs w c.args.vertex) s.over
     (c.in-Some.ensures.answer jobs stands w later))
+
+pub returns-in-None-clause-untouched : goal.returns-in-None-clause-untouched
+returns-in-None-clause-untouched g c = λ is jobs stands.
+    let s = c.args.s.now in
+    not_touched s.graph.now.resources.vertices jobs s.barred.now s.window c.args.vertex s.opens c.bars_below.result
+    c.if-bars_below.false c.bars_below.ensures
+    (subst (λ (vs : List Vertex). IsTouchedOver vs jobs s.window c.args.vertex → ⊥) s.over
+    (c.in-None.ensures.answer jobs stands))

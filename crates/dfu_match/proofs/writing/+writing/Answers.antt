@@ -1,5 +1,5 @@
 use Rattle.std.proofs.Common.{arith, rules, ◌≡◌, ◌+◌, ◌*◌, ◌-◌, ◌<◌, ◌≤◌, List, [], ◌∷◌, ◌++◌, length, take, drop}
-use Rattle.std.proofs.Common.{append-nil, refl, sym, ◌∙◌, inl, inr, true≢false}
+use Rattle.std.proofs.Common.{append-nil, refl, sym, ◌∙◌, inl, inr, false, true≢false}
 use Rattle.std.proofs.lemmas.List.{drop_all}
 use Rattle.std.proofs.Math.Nat.{mul-le-mul}
 use denote.Param.Weighed.{most}
@@ -7,6 +7,7 @@ use Rattle.flux_defs.specs.declared.claims.Claim.{Claim}
 use Rattle.flux_defs.specs.declared.claims.Claim.TheVariants.{Take, Hold, Pass}
 use Rattle.flux_defs.specs.declared.requests.Need.{Need, Vert}
 use Rattle.flux_defs.proofs.requests.Need.TheLaws.{the_size}
+use Rattle.flux_defs.specs.Graph.{Everywhere}
 use Rattle.flux_defs.specs.Needs.{amount_of, AreValidNeeds}
 use Rattle.flux_laws.proofs.Takes.{takes_less}
 use Rattle.flux_laws.proofs.FitLaws.{serves_less}
@@ -14,11 +15,12 @@ use Rattle.match_laws.proofs.Walk.{filled_start, filled_over, filled_next, fille
 use Rattle.match_laws.proofs.NeedLists.{group_to, group_at, completes_next, completes_end}
 use Rattle.match_laws.proofs.Sizes.{size_Vert, size_Spread, size_item}
 use Rattle.prune_laws.proofs.Demanded.{amount_some}
-use Rattle.dfu_match.specs.Searches.{open_to, scope_of}
+use Rattle.dfu_match.specs.Searches.{meets, open_to, scope_of}
 use Rattle.dfu_match.proofs.ScopeLaws.{none_before, none_skipped, none_after, none_at_all, found}
 use Rattle.dfu_match.specs.Tables.{needs_all}
 use Rattle.dfu_match.proofs.TableLaws as tables
 use Rattle.dfu_match.proofs.CountLaws as counts
+use Rattle.dfu_match.proofs.HoldLaws.{admitted_open}
 use Rattle.dfu_match.proofs.WriteLaws as laws
 use Rattle.dfu_match.specs.Tables.{all_of}
 use Rattle.dfu_match.specs.Pairs.{IsClearScope, asked_totals}
@@ -48,6 +50,12 @@ pub offer-copies-requires-clause-valid : goal.offer-copies-requires-clause-valid
 offer-copies-requires-clause-valid g t c =
     counts.valid_inside c.args.s.now.graph.now.resources.vertices c.in-Vert.kind c.in-Vert.count c.in-Vert.hold
     c.in-Vert.needs (rw c.in-Vert.is at c.requires.valid)
+
+pub offer-copies-requires-clause-open : goal.offer-copies-requires-clause-open
+offer-copies-requires-clause-open g t c = λ jobs stands.
+    let s = c.args.s.now in
+    admitted_open (meets s.graph.now.resources.vertices jobs s.barred.now) s.window c.args.vertex c.in-Vert.hold
+    ((c.admits.ensures.answer jobs stands).0 c.if-not-admits.false)
 
 pub offer-returns-then-copies-eq0-clause-offers : goal.offer-returns-then-copies-eq0-clause-offers
 offer-returns-then-copies-eq0-clause-offers g t c =
@@ -90,9 +98,13 @@ offer-write_shared-requires g t c κs h =
             (
               c.requires.vertex,
               (
-                counts.valid_inside vs c.in-Vert.kind c.in-Vert.count c.in-Vert.hold c.in-Vert.needs
-                    (rw c.in-Vert.is at c.requires.valid),
-                (inl refl, omega arith),
+                λ jobs stands. admitted_open (meets vs jobs c.args.s.now.barred.now) c.args.s.now.window c.args.vertex
+                    c.in-Vert.hold ((c.admits.ensures.answer jobs stands).0 c.if-not-admits.false),
+                (
+                  counts.valid_inside vs c.in-Vert.kind c.in-Vert.count c.in-Vert.hold c.in-Vert.needs
+                      (rw c.in-Vert.is at c.requires.valid),
+                  (inl refl, omega arith),
+                ),
               ),
             ),
           ),
@@ -169,10 +181,19 @@ offer-write_shared-requires-in-Spread g t c κs h =
             (
               c.requires.vertex,
               (
-                counts.valid_copy vs c.in-Spread.count c.in-Spread.needs valid,
+                λ jobs stands.
+                    let ok : Claim → Type 0 = open_to vs jobs c.args.s.now.barred.now c.args.s.now.window in
+                    let greatest = rw c.in-Spread.is at (c.serves-count.ensures.greatest jobs stands Everywhere
+                    c.requires.vertex) in
+                    admitted_open (meets vs jobs c.args.s.now.barred.now) c.args.s.now.window c.args.vertex false
+                    (laws.copies_pass vs ok Everywhere c.in-Spread.count c.in-Spread.needs c.args.vertex c.args.most
+                    c.serves-count.result c.if-count-eq0.false greatest),
                 (
-                  inr (counts.plain_copy vs c.in-Spread.count c.in-Spread.needs valid),
-                  (let some = c.if-count-eq0.false in omega arith),
+                  counts.valid_copy vs c.in-Spread.count c.in-Spread.needs valid,
+                  (
+                    inr (counts.plain_copy vs c.in-Spread.count c.in-Spread.needs valid),
+                    (let some = c.if-count-eq0.false in omega arith),
+                  ),
                 ),
               ),
             ),
@@ -362,11 +383,14 @@ write_needs-write_group-requires g t c κs h =
             (
               c.requires.scope,
               (
-                counts.valid_at vs items i need (drop (i + 1) items) split valid,
+                c.requires.open,
                 (
-                  counts.may_scale_at c.args.k items i need (drop (i + 1) items) split
-                      (rw c.items-need-items.ensures c.requires.may),
-                  c.requires.some,
+                  counts.valid_at vs items i need (drop (i + 1) items) split valid,
+                  (
+                    counts.may_scale_at c.args.k items i need (drop (i + 1) items) split
+                        (rw c.items-need-items.ensures c.requires.may),
+                    c.requires.some,
+                  ),
                 ),
               ),
             ),
