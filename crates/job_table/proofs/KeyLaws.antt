@@ -9,7 +9,6 @@ use Rattle.std.specs.Cmp.{nat_cmp_total, eq_by_cmp_equiv}
 use Rattle.std.specs.FinMap.{find}
 use Rattle.std.proofs.lemmas.Option.{slice_get_within}
 use Rattle.node_store.specs.Lending.{with_part}
-use Rattle.node_store.proofs.PartLaws.{parts_with}
 use Rattle.job_table.specs.declared.tables.Row.{Row}
 use Rattle.job_table.specs.declared.parts.Branch.{Branch}
 use Rattle.job_table.specs.declared.parts.Body.{Body}
@@ -192,26 +191,25 @@ changed branch digit part = record { below = branch.below; parts = with_part bra
 
 module _ (branch : Branch) (key : ℕ) (part new : List (ℕ × Row) × ℕ)
     (at_digit : slice_get (parts_in branch) (key % 16) ≡ Some part) where
-  after : parts_in (changed branch (key % 16) new) ≡ slice_set (parts_in branch) (key % 16) new
-  after = parts_with branch.parts (key % 16) new (omega arith)
-
   pub set_level : IsBranch branch → IsPart branch.below new → IsBranch (changed branch (key % 16) new)
   set_level level p = record {
-    parts = subst (λ u. AreParts branch.below u) (sym after)
-        (parts_set branch.below (key % 16) (parts_in branch) new level.parts p);
+    sixteen = set_length (parts_in branch) (key % 16) new ∙ level.sixteen;
+    parts = parts_set branch.below (key % 16) (parts_in branch) new level.parts p;
   }
 
-  pub set_row : (row : Row) → Sets part.0 new.0 (key / 16) row →
+  pub set_row : (row : Row) → length (parts_in branch) ≡ 16 → Sets part.0 new.0 (key / 16) row →
       Sets (entries_from 0 (parts_in branch)) (entries_from 0 (parts_in (changed branch (key % 16) new))) key row
-  set_row row s = subst (λ u. Sets (entries_from 0 (parts_in branch)) (entries_from 0 u) key row) (sym after)
-      (sets_parts key row (parts_in branch) part new refl at_digit s)
+  set_row row sixteen s = sets_parts key row (parts_in branch) part new sixteen at_digit s
 
   pub kept : new ≡ part → parts_in (changed branch (key % 16) new) ≡ parts_in branch
-  kept e = after ∙ ap (λ u. slice_set (parts_in branch) (key % 16) u) e
+  kept e = ap (λ u. slice_set (parts_in branch) (key % 16) u) e
       ∙ set_back (parts_in branch) (key % 16) part at_digit
 
   pub kept_level : new ≡ part → IsBranch branch → IsBranch (changed branch (key % 16) new)
-  kept_level e level = record { parts = subst (λ u. AreParts branch.below u) (sym (kept e)) level.parts }
+  kept_level e level = record {
+    sixteen = ap length (kept e) ∙ level.sixteen;
+    parts = subst (λ u. AreParts branch.below u) (sym (kept e)) level.parts;
+  }
 
 part_at : (digits at : ℕ) (parts : List (List (ℕ × Row) × ℕ)) (part : List (ℕ × Row) × ℕ) → AreParts digits parts →
     slice_get parts at ≡ Some part → IsPart digits part
@@ -226,7 +224,8 @@ part_in branch at part level g = part_at branch.below at (parts_in branch) part 
 -- a node is a part of one digit more than its parts
 pub branch_part : (branch : Branch) (digits : ℕ) → IsBranch branch → branch.below + 1 ≡ digits →
     IsPart digits (entries_from 0 (parts_in branch), branch.below + 1)
-branch_part branch digits level e = part_of branch.below digits (parts_in branch) _ refl level.parts (sym e) refl
+branch_part branch digits level e =
+    part_of branch.below digits (parts_in branch) _ level.sixteen level.parts (sym e) refl
 
 pub tall : (seen : List (ℕ × Row) × ℕ) (branch : Branch) (digits : ℕ) →
     seen ≡ (entries_from 0 (parts_in branch), branch.below + 1) → IsPart digits seen → branch.below + 1 ≡ digits
@@ -285,6 +284,7 @@ module _ (branch : Branch) (key digits : ℕ) (row : Row) (new : List (ℕ × Ro
   pub first_level : branch.below ≡ digits → key < 16 ^ (digits + 1) → IsBranch (changed branch (key % 16) new)
   first_level below l =
       let level : IsBranch branch = record {
+        sixteen = ap length vacant;
         parts = subst (λ u. AreParts branch.below u) (sym vacant)
             (empty_parts branch.below 16);
       } in
@@ -295,7 +295,7 @@ module _ (branch : Branch) (key digits : ℕ) (row : Row) (new : List (ℕ × Ro
   first_row =
       let none : entries_from 0 (parts_in branch) ≡ [] = ap (entries_from 0) vacant ∙ empty_entries 0 16 in
       subst (λ u. Sets u (entries_from 0 (parts_in (changed branch (key % 16) new))) key row) none
-      (set_row branch key ([], 0) new empty_here row
+      (set_row branch key ([], 0) new empty_here row (ap length vacant)
       (subst (λ (u : List (ℕ × Row) × ℕ). Sets [] u.0 (key / 16) row) (sym one) (sets_none (key / 16) row)))
 
 -- what a part is seen as while its node is open

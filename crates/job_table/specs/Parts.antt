@@ -1,5 +1,5 @@
 -- What a part of a table holds, and what is true of each node.
-use Rattle.std.specs.Prelude.{◌≡◌, ◌≢◌, ℕ, suc, ◌+◌, ◌*◌, ◌^◌, ◌<◌, ◌≤◌, List, [], ◌∷◌, ◌++◌, map, Some}
+use Rattle.std.specs.Prelude.{◌≡◌, ◌≢◌, ℕ, suc, ◌+◌, ◌*◌, ◌^◌, ◌<◌, ◌≤◌, List, [], ◌∷◌, ◌++◌, length, map, Some}
 use Rattle.std.specs.Ordering.{nat_cmp}
 use Rattle.std.specs.FinMap.{find}
 use Rattle.node_store.specs.Parts.{parts_of}
@@ -48,6 +48,7 @@ AreParts digits (part ∷ parts) = IsPart digits part × AreParts digits parts
 
 -- sixteen parts, of which the keys have at most so many digits as are left
 pub record IsBranch (branch : Branch) : Type 0 where
+  pub sixteen : length (parts_in branch) ≡ 16
   pub parts : AreParts branch.below (parts_in branch)
 
 abbrev pub IsLevel : Body → Type 0

@@ -1,1 +1,2 @@
-pub mod PartLaws
+mod PartMemory
+mod PartLaws

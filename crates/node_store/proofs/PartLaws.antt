@@ -1,28 +1,9 @@
--- Sixteen parts, as a list: a write to one of them, and what holds of sixteen equal ones.
-use Rattle.std.proofs.Common.{◌≡◌, ℕ, zero, suc, ◌<◌, refl, arith, slice_set}
-use Rattle.node_store.specs.declared.sixteen.Sixteen.{Sixteen}
-use Rattle.node_store.specs.Parts.{parts_of}
-use Rattle.node_store.specs.Lending.{with_part}
+-- Equal parts, as a list.
+use Rattle.std.proofs.Common.{◌≡◌, ℕ, suc, ◌<◌, List, ◌∷◌, length, get_or, drop, sym, ◌∙◌, ap}
+use Rattle.std.proofs.Math.Seq.{drop-cons}
 
--- the part that was written is another one at its place, and no other changes
-pub parts_with : {S : Type 0} (s : Sixteen S) (place : ℕ) (x : S) → place < 16 →
-    parts_of (with_part s place x) ≡ slice_set (parts_of s) place x
-unfolding with_part
-parts_with s zero x h = refl
-parts_with s (suc zero) x h = refl
-parts_with s (suc (suc zero)) x h = refl
-parts_with s (suc (suc (suc zero))) x h = refl
-parts_with s (suc (suc (suc (suc zero)))) x h = refl
-parts_with s (suc (suc (suc (suc (suc zero))))) x h = refl
-parts_with s (suc (suc (suc (suc (suc (suc zero)))))) x h = refl
-parts_with s (suc (suc (suc (suc (suc (suc (suc zero))))))) x h = refl
-parts_with s (suc (suc (suc (suc (suc (suc (suc (suc zero)))))))) x h = refl
-parts_with s (suc (suc (suc (suc (suc (suc (suc (suc (suc zero))))))))) x h = refl
-parts_with s (suc (suc (suc (suc (suc (suc (suc (suc (suc (suc zero)))))))))) x h = refl
-parts_with s (suc (suc (suc (suc (suc (suc (suc (suc (suc (suc (suc zero))))))))))) x h = refl
-parts_with s (suc (suc (suc (suc (suc (suc (suc (suc (suc (suc (suc (suc zero)))))))))))) x h = refl
-parts_with s (suc (suc (suc (suc (suc (suc (suc (suc (suc (suc (suc (suc (suc zero))))))))))))) x h = refl
-parts_with s (suc (suc (suc (suc (suc (suc (suc (suc (suc (suc (suc (suc (suc (suc zero)))))))))))))) x h = refl
-parts_with s (suc (suc (suc (suc (suc (suc (suc (suc (suc (suc (suc (suc (suc (suc (suc zero))))))))))))))) x h = refl
-parts_with s (suc (suc (suc (suc (suc (suc (suc (suc (suc (suc (suc (suc (suc (suc (suc (suc n)))))))))))))))) x h =
-    absurd (omega arith)
+-- a list from a place on is the part there, and the list from the next place on
+pub from_place : {S : Type 0} (parts : List S) (place : ℕ) (part : S) (others : List S) → place < length parts →
+    part ≡ get_or parts place part → others ≡ drop (suc place) parts → part ∷ others ≡ drop place parts
+from_place parts place part others within here rest =
+    ap (λ p. p ∷ others) here ∙ ap (λ l. get_or parts place part ∷ l) rest ∙ sym (drop-cons parts place part within)

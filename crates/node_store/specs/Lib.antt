@@ -1,4 +1,3 @@
 pub mod formers
 pub mod Lending
 pub mod Parts
-pub mod Most

@@ -1,12 +1,11 @@
 //! Sixteen parts of a node.
-ghost use Rattle.std.specs.Prelude.{◌≡◌, ℕ, ◌<◌, if◌then◌else◌, Some, slice_get, slice_set, replicate};
+ghost use Rattle.std.specs.Prelude.{◌≡◌, ℕ, ◌<◌, Some, slice_get, replicate};
 ghost use Rattle.std.specs.Borrow.{sem};
-ghost use Rattle.node_store.specs.Lending.{LendsSide, LendsPart};
+ghost use Rattle.node_store.specs.Lending.{LendsPart};
 ghost use Rattle.node_store.specs.Parts.{parts_of};
 
 use crate::node::Share;
 use std::alloc::AllocError;
-use std::mem;
 
 /// A value that can be empty.
 pub trait Vacant: Sized {
@@ -17,40 +16,10 @@ pub trait Vacant: Sized {
         ensures { result ≡ vacant };
 }
 
-/// Two parts side by side.
-#[derive(Drop)]
-pub struct Two<S> {
-    left: S,
-    right: S,
-}
-
-/// Sixteen parts, in halves of halves: one of them is found by four choices between two, which need no jump.
+/// Sixteen parts in an array: one of them is found by a shift and an addition.
 #[derive(Drop)]
 pub struct Sixteen<S> {
-    halves: Two<Two<Two<Two<S>>>>,
-}
-
-impl<S> Two<S> {
-    /// The part on that side.
-    #[inline(always)]
-    fn side(&self, right: bool) -> &S
-        ensures { result.now ≡ (if right then self.now.right else self.now.left) }
-    {
-        if right { &self.right } else { &self.left }
-    }
-
-    /// The part on that side, to write to.
-    #[inline(always)]
-    fn side_mut(&mut self, right: bool) -> &mut S
-        ensures* writes_back { sem 𝓛 (LendsSide S.row self.entry right result) }
-        ensures value { result.now ≡ (if right then self.old.right else self.old.left) }
-    {
-        if right {
-            &mut self.right
-        } else {
-            &mut self.left
-        }
-    }
+    parts: [S; 16],
 }
 
 impl<S> Sixteen<S> {
@@ -60,35 +29,17 @@ impl<S> Sixteen<S> {
         requires { place < 16 }
         ensures { slice_get (parts_of self.now) place ≡ Some result.now }
     {
-        let eight = self.halves.side(place >= 8);
-        let four = eight.side(place % 8 >= 4);
-        let two = four.side(place % 4 >= 2);
-        two.side(place % 2 == 1)
+        &self.parts[place as usize]
     }
 
     /// The part at a place, to write to.
     #[inline(always)]
-    #[tactic(auto, unfolding(crate::specs::Lending::with_part))]
     pub fn get_mut(&mut self, place: u64) -> &mut S
         requires { place < 16 }
         ensures* writes_back { sem 𝓛 (LendsPart S.row self.entry place result) }
         ensures value { slice_get (parts_of self.old) place ≡ Some result.now }
     {
-        let eight = self.halves.side_mut(place >= 8);
-        let four = eight.side_mut(place % 8 >= 4);
-        let two = four.side_mut(place % 4 >= 2);
-        two.side_mut(place % 2 == 1)
-    }
-}
-
-impl<S: Vacant> Vacant for Two<S> {
-    ghost vacant = { record { left = S.vacant; right = S.vacant } };
-
-    fn vacant() -> Two<S> {
-        Two {
-            left: S::vacant(),
-            right: S::vacant(),
-        }
+        &mut self.parts[place as usize]
     }
 }
 
@@ -98,25 +49,51 @@ impl<S: Vacant> Sixteen<S> {
         ensures { parts_of result ≡ replicate 16 S.vacant }
     {
         Sixteen {
-            halves: Two::vacant(),
+            parts: [
+                S::vacant(),
+                S::vacant(),
+                S::vacant(),
+                S::vacant(),
+                S::vacant(),
+                S::vacant(),
+                S::vacant(),
+                S::vacant(),
+                S::vacant(),
+                S::vacant(),
+                S::vacant(),
+                S::vacant(),
+                S::vacant(),
+                S::vacant(),
+                S::vacant(),
+                S::vacant(),
+            ],
         }
     }
 }
 
-impl<S: Share + Drop> Share for Two<S> {
-    /// Two equal parts. All sixteen are made in one function, so that none is moved from half to half.
-    #[inline(always)]
-    fn share(&self) -> Result<Two<S>, AllocError> {
-        let left = self.left.share()?;
-        let right = self.right.share()?;
-        Ok(Two { left, right })
-    }
-}
-
 impl<S: Share + Drop> Share for Sixteen<S> {
+    /// Sixteen equal parts, all made in one function.
     #[inline(always)]
     fn share(&self) -> Result<Sixteen<S>, AllocError> {
-        let halves = self.halves.share()?;
-        Ok(Sixteen { halves })
+        Ok(Sixteen {
+            parts: [
+                self.parts[0].share()?,
+                self.parts[1].share()?,
+                self.parts[2].share()?,
+                self.parts[3].share()?,
+                self.parts[4].share()?,
+                self.parts[5].share()?,
+                self.parts[6].share()?,
+                self.parts[7].share()?,
+                self.parts[8].share()?,
+                self.parts[9].share()?,
+                self.parts[10].share()?,
+                self.parts[11].share()?,
+                self.parts[12].share()?,
+                self.parts[13].share()?,
+                self.parts[14].share()?,
+                self.parts[15].share()?,
+            ],
+        })
     }
 }

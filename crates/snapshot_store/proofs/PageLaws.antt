@@ -5,14 +5,13 @@ use Rattle.std.proofs.Common.{Some, slice_get, slice_set, subst, refl}
 use Rattle.std.proofs.lemmas.List.{nil_from_length}
 use Rattle.std.proofs.lemmas.Option.{same_Some}
 use Rattle.node_store.specs.Lending.{with_part}
-use Rattle.node_store.proofs.PartLaws.{parts_with}
 use Rattle.snapshot_store.specs.Parts.{parts_in, items_in, items_of, height_of, ArePacked, IsPage, IsFull}
 use Rattle.snapshot_store.specs.Places.{HasItem, HasRoom}
 use Rattle.snapshot_store.specs.declared.parts.Body.{Body}
 use Rattle.snapshot_store.specs.declared.parts.Body.TheVariants.{Item, Fork}
 use Rattle.snapshot_store.specs.declared.parts.Page.{Page}
 use Rattle.snapshot_store.proofs.PlaceLaws.{four_more, row_rest, row_fits}
-use Rattle.list_laws.proofs.Lists.{set_back, get_some}
+use Rattle.list_laws.proofs.Lists.{set_back, set_length, get_some}
 
 -- the page with another part at a place
 abbrev pub changed : {E : Type 0} → Page E → ℕ → List E × ℕ → Page E
@@ -29,15 +28,16 @@ pub opened : {E : Type 0} (seen : List E × ℕ) (body : Body E) (node page : Pa
 opened seen body node page e f g = sym e ∙ ap (λ u. (items_of u, height_of u)) f
     ∙ ap (λ (u : Page _). (items_in (parts_in u), u.below + 1)) (sym g)
 
-module _ {E : Type 0} (page : Page E) (place : ℕ) (part new : List E × ℕ) (at_place : place < 16) where
+module _ {E : Type 0} (page : Page E) (place : ℕ) (part new : List E × ℕ) where
   -- the parts after the change, where the new part is this one
   parts_after : (s : List E × ℕ) → new ≡ s → parts_in (changed page place new) ≡ slice_set (parts_in page) place s
-  parts_after s e = parts_with page.parts place new at_place ∙ ap (λ u. slice_set (parts_in page) place u) e
+  parts_after s e = ap (λ u. slice_set (parts_in page) place u) e
 
   is_page : (s : List E × ℕ) → new ≡ s → IsPage page → ArePacked page.below (slice_set (parts_in page) place s) →
       IsPage (changed page place new)
   is_page s e p packed = record {
     low = p.low;
+    sixteen = set_length (parts_in page) place new ∙ p.sixteen;
     packed = subst (λ u. ArePacked page.below u) (sym (parts_after s e))
         packed;
   }

@@ -171,7 +171,9 @@ pub item_place : {E : Type 0} (page : Page E) (at width : ℕ) → width ≡ 2 ^
     at < length (items_in (parts_in page)) → at / width < 16
 item_place page at width e p l =
     let m = packed_most page.below (parts_in page) p.packed in
-    subst (λ u. at / u < 16) (sym e) (within_sixteen at page.below (omega (arith, m)))
+    let all : length (parts_in page) * 2 ^ (4 * page.below) ≡ 16 * 2 ^ (4 * page.below) =
+    ap (λ (n : ℕ). n * 2 ^ (4 * page.below)) p.sixteen in
+    subst (λ u. at / u < 16) (sym e) (within_sixteen at page.below (omega (arith, m, all)))
 
 -- the part that has room for more items
 pub record Grows {E : Type 0} (h : ℕ) (parts : List (List E × ℕ)) (part : List E × ℕ) (d r : ℕ) : Type 0 where

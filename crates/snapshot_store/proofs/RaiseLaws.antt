@@ -1,9 +1,8 @@
 -- A page of which only the first part is not empty.
 use Rattle.std.proofs.Common.{◌≡◌, ℕ, zero, suc, ◌+◌, ◌*◌, ◌^◌, ◌<◌, ◌≤◌, List, [], ◌∷◌, ◌++◌, replicate, refl, ap, sym}
-use Rattle.std.proofs.Common.{◌∙◌, arith, slice_set, append-nil, subst}
+use Rattle.std.proofs.Common.{◌∙◌, arith, length, slice_set, append-nil, subst}
 use Rattle.std.proofs.Math.Pow.{pow_mono}
 use Rattle.node_store.specs.Lending.{with_part}
-use Rattle.node_store.proofs.PartLaws.{parts_with}
 use Rattle.snapshot_store.specs.Parts.{parts_in, items_in, IsPart, ArePacked, IsPage, IsFull}
 use Rattle.snapshot_store.specs.declared.parts.Page.{Page}
 use Rattle.snapshot_store.proofs.PageLaws.{pairs}
@@ -34,12 +33,13 @@ module _ (E : Type 0) (height : ℕ) where
 module _ {E : Type 0} (page : Page E) (part : List E × ℕ) (vacant : parts_in page ≡ replicate 16 ([], 0)) where
   firsts : parts_in (record { below = page.below; parts = with_part page.parts 0 part }) ≡ part
       ∷ empties E page.below 15
-  firsts = parts_with page.parts 0 part (omega arith) ∙ ap (λ u. slice_set u 0 part) vacant
+  firsts = ap (λ u. slice_set u 0 part) vacant
 
   pub first_page : (height : ℕ) → page.below ≡ height → height < 16 → IsPart height part →
       IsPage (record { below = page.below; parts = with_part page.parts 0 part })
   first_page height below low p = record {
     low = omega arith;
+    sixteen = ap length firsts;
     packed = subst (λ u. ArePacked page.below u) (sym firsts)
         (subst (λ u. IsPart u part) (sym below) p, λ h. no_items E page.below 15, packed E page.below 15);
   }

@@ -42,8 +42,10 @@ ArePacked height [] = Unit {0}
 ArePacked height (part ∷ parts) = IsPart height part × (length part.0 < 2 ^ (4 * height) → items_in parts ≡ [])
     × ArePacked height parts
 
+-- sixteen parts of one height
 pub record IsPage {E : Type 0} (page : Page E) : Type 0 where
   pub low : page.below < 16
+  pub sixteen : length (parts_in page) ≡ 16
   pub packed : ArePacked page.below (parts_in page)
 
 abbrev pub IsLevel : {E : Type 0} → Body E → Type 0

@@ -1,6 +1,6 @@
 use Rattle.std.proofs.Common.{rules, ◌≡◌, ◌∙◌, ◌+◌, ◌%◌, ◌^◌, ◌<◌, arith, ap, refl, sym, subst}
 use Rattle.job_table.specs.declared.parts.Branch.{Branch}
-use Rattle.job_table.specs.Parts.{IsBranch, IsPart, Sets, entries_from, parts_in}
+use Rattle.job_table.specs.Parts.{IsBranch, Sets, entries_from, parts_in}
 use Rattle.job_table.proofs.KeyLaws.{changed, opened, part_in, rest_of, tall, set_level, set_row, kept, kept_level}
 use Rattle.job_table.proofs.KeyLaws.{branch_part, some_digits}
 use Rattle.job_table.proofs.parts.+setting.Goals as goal
@@ -53,10 +53,13 @@ set_below-set-requires g t c κs within =
 
 pub set_below-returns-in-Ok-clause-sets : goal.set_below-returns-in-Ok-clause-sets
 set_below-returns-in-Ok-clause-sets g t c =
+    let same = c.in-Some.ensures.value ∙ c.own.ensures in
+    let level = subst (λ (u : Branch). IsBranch u) (sym same) c.requires.level in
     subst (λ (u : Branch). Sets (entries_from 0 (parts_in u))
     (entries_from 0 (parts_in (changed c.in-Some.branch.now (c.args.key % 16) c.set.new.self))) c.args.key c.args.row)
-    (c.in-Some.ensures.value ∙ c.own.ensures)
-    (set_row c.in-Some.branch.now c.args.key _ _ c.get_mut-2.ensures.value c.args.row c.in-Ok.ensures.sets)
+    same
+    (set_row c.in-Some.branch.now c.args.key _ _ c.get_mut-2.ensures.value c.args.row level.sixteen
+    c.in-Ok.ensures.sets)
 
 pub set_below-returns-in-Ok-clause-level : goal.set_below-returns-in-Ok-clause-level
 set_below-returns-in-Ok-clause-level g t c =

@@ -45,7 +45,7 @@ invariant_of-self-in-Ok-change g t c =
     let page : IsPage c.in-Some.page.now = search rules in
     let it = c.place_of-place.ensures.item _ c.get_mut-in-Fork.ensures.value in
     let new = c.change.ensures.new in
-    put_page c.in-Some.page.now _ _ _ c.place_of-place.ensures.place _ _ new.0 page it new.1
+    put_page c.in-Some.page.now _ _ _ _ _ new.0 page it new.1
 
 pub returns-in-Ok-change-clause-new : goal.returns-in-Ok-change-clause-new
 returns-in-Ok-change-clause-new g t c =
@@ -53,7 +53,7 @@ returns-in-Ok-change-clause-new g t c =
     let seen = opened _ _ _ _ c.self.view_is c.in-Fork.is (c.in-Some.ensures.value ∙ c.own.ensures) in
     let new = c.in-Ok-change.ensures.new in (
       new.0,
-      put_seen c.in-Some.page.now _ _ _ c.place_of-place.ensures.place _ _ _ new.0 seen it new.1,
+      put_seen c.in-Some.page.now _ _ _ _ _ _ new.0 seen it new.1,
       λ x is. new.2 x (item_of _ c.in-Some.page.now _ _ _ _ x seen it is),
     )
 
@@ -62,11 +62,11 @@ invariant_of-self-in-Err-change g t c =
     let page : IsPage c.in-Some.page.now = search rules in
     let it = c.place_of-place.ensures.item _ c.get_mut-in-Fork.ensures.value in
     let new = c.change.ensures.new in
-    put_page c.in-Some.page.now _ _ _ c.place_of-place.ensures.place _ _ new.0 page it new.1
+    put_page c.in-Some.page.now _ _ _ _ _ new.0 page it new.1
 
 pub returns-in-Err-change-clause-new : goal.returns-in-Err-change-clause-new
 returns-in-Err-change-clause-new g t c =
     let it = c.place_of-place.ensures.item _ c.get_mut-in-Fork.ensures.value in
     let seen = opened _ _ _ _ c.self.view_is c.in-Fork.is (c.in-Some.ensures.value ∙ c.own.ensures) in
     let new = c.in-Err-change.ensures.new in
-    (new.0, put_seen c.in-Some.page.now _ _ _ c.place_of-place.ensures.place _ _ _ new.0 seen it new.1, tt)
+    (new.0, put_seen c.in-Some.page.now _ _ _ _ _ _ new.0 seen it new.1, tt)
