@@ -1,10 +1,11 @@
 -- What rows of how much vertices serve of a need come to.
 use Rattle.std.proofs.Common.{◌≡◌, ℕ, zero, suc, ◌+◌, ◌-◌, ◌*◌, ◌<◌, ◌≤◌, List, [], ◌∷◌, ◌++◌, length, ◌⊎◌, inl, inr}
-use Rattle.std.proofs.Common.{Some, Contains, slice_get, slice_set, refl, sym, ◌∙◌, ap, subst, arith}
+use Rattle.std.proofs.Common.{Some, MatchOption, Contains, slice_get, slice_set, refl, sym, ◌∙◌, ap, subst, arith}
 use Rattle.std.proofs.lemmas.Bool.{cases_lt}
 use Rattle.std.proofs.lemmas.Bool.Decides.{leb_tells}
 use Rattle.std.proofs.lemmas.List.Elements.{Contains-push_cases}
 use Rattle.std.proofs.lemmas.List.Sums.{sum_by-cons}
+use Rattle.std.proofs.lemmas.Option.{slice_get_within, get_or_from_slice_get}
 use Rattle.std.proofs.Math.Seq.{drop-nil}
 use Rattle.flux_defs.specs.declared.vertices.Vertex.{Vertex}
 use Rattle.flux_defs.specs.declared.claims.Claim.{Claim}
@@ -69,6 +70,49 @@ module _ (vertices : List Vertex) (need : Need) where
       )
   stand_set low to (suc i) (first ∷ rows) was row at same stand =
       (stand.0, stand_set (first.vertex + 1) to i rows was row at same stand.1)
+
+  -- each vertex of the need before a row's, or before where the rows reach to, has a row before that one
+  row_before : (low to j position v : ℕ) (rows : List Row) → StandFrom vertices need low rows to →
+      MatchOption (slice_get rows j) (position ≡ to) (λ row. position ≡ row.vertex) → IsOfNeed vertices need v →
+      low ≤ v → v < position →
+      (k : ℕ) × (row : Row) × (k < j) × (slice_get rows k ≡ Some row) × (row.vertex ≡ v)
+  row_before low to j position v [] stand at is lo hi = absurd (stand v lo (omega (arith, at, hi)) is)
+  row_before low to zero position v (row ∷ rows) stand at is lo hi = absurd (stand.0 v lo (omega (arith, at, hi)) is)
+  row_before low to (suc j) position v (row ∷ rows) stand at is lo hi = elim (cases_lt v row.vertex) [
+    | inl before ↦ absurd (stand.0 v lo before is)
+    | inr after ↦ elim (cases_lt row.vertex v) [
+      | inl behind ↦
+          let found = row_before (row.vertex + 1) to j position v rows stand.1 at is (omega (arith, behind)) hi in
+          (suc found.0, found.1, (let lt = found.2 in omega (arith, lt)), found.3, found.4)
+      | inr same ↦ (zero, row, omega arith, refl, omega (arith, after, same))
+    ]
+  ]
+
+  -- and one behind another row, where the vertex is behind that row's
+  pub row_between : (low to i j position v : ℕ) (rows : List Row) (was : Row) → slice_get rows i ≡ Some was → i ≤ j →
+      StandFrom vertices need low rows to →
+      MatchOption (slice_get rows j) (position ≡ to) (λ row. position ≡ row.vertex) → IsOfNeed vertices need v →
+      was.vertex < v → v < position →
+      (k : ℕ) × (row : Row) × (i < k) × (k < j) × (slice_get rows k ≡ Some row) × (row.vertex ≡ v)
+  row_between low to i j position v [] was there lt stand at is lo hi = absurd (cc)
+  row_between low to zero zero position v (row ∷ rows) was there lt stand at is lo hi =
+      let first : row ≡ was = cc in
+      let same : row.vertex ≡ was.vertex = ap (λ (r : Row). r.vertex) first in
+      absurd (omega (arith, same, at, lo, hi))
+  row_between low to (suc i) zero position v (row ∷ rows) was there lt stand at is lo hi = absurd (omega (arith, lt))
+  row_between low to zero (suc j) position v (row ∷ rows) was there lt stand at is lo hi =
+      let first : row ≡ was = cc in
+      let found = row_before (row.vertex + 1) to j position v rows stand.1 at is (rw first (omega (arith, lo))) hi in
+      (suc found.0, found.1, omega arith, (let few = found.2 in omega (arith, few)), found.3, found.4)
+  row_between low to (suc i) (suc j) position v (row ∷ rows) was there lt stand at is lo hi =
+      let found = row_between (row.vertex + 1) to i j position v rows was there (omega (arith, lt)) stand.1 at is lo
+          hi in
+      (suc found.0, found.1, (let few = found.2 in omega (arith, few)), (let few = found.3 in omega (arith, few)),
+      found.4, found.5)
+
+-- the row at an index is one of them
+pub row_there : (rows : List Row) (i : ℕ) (row : Row) → slice_get rows i ≡ Some row → Contains rows row
+row_there rows i row at = (i, slice_get_within rows i row at, get_or_from_slice_get rows i row row at)
 
 -- an item of a list one of whose items was set is an item of the old one, or the new item
 set_cases : (rows : List Row) (i : ℕ) (row x : Row) → Contains (slice_set rows i row) x → Contains rows x ⊎ (row ≡ x)

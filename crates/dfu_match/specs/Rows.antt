@@ -1,6 +1,6 @@
 -- What rows say of how much vertices serve of one need, and over which later windows.
 use Rattle.std.specs.Prelude.{◌≡◌, ◌≢◌, ℕ, ◌+◌, ◌-◌, ◌*◌, ◌^◌, ◌<◌, ◌≤◌, ◌⊎◌, nat_le, if◌then◌else◌, List, [], ◌∷◌}
-use Rattle.std.specs.Prelude.{◌++◌, Some, slice_get, slice_set, sum_by, take, drop, length, Contains}
+use Rattle.std.specs.Prelude.{◌++◌, Some, MatchOption, slice_get, slice_set, sum_by, take, drop, length, Contains}
 use Rattle.flux_defs.specs.declared.vertices.Vertex.{Vertex}
 use Rattle.flux_defs.specs.declared.claims.Job.{Job}
 use Rattle.flux_defs.specs.declared.claims.Window.{Window}
@@ -57,6 +57,20 @@ abbrev pub AreLefts : Need → List Row → List Left → Type 0
 AreLefts need rows lefts =
     ((b : ℕ) (left : Left) → slice_get lefts b ≡ Some left → IsLeft need (take 16 (drop (16 * b) rows)) left)
     × (length rows ≤ 16 * length lefts)
+
+-- the row tells that its vertex serves nothing over windows that begin at this second
+abbrev pub IsNone : ℕ → Row → Type 0
+IsNone from row = (row.most ≡ 0) × (from ≤ row.moment)
+
+-- and so does each of the rows from the index `start` on and before `after`
+abbrev pub AreNone : ℕ → ℕ → ℕ → List Row → Type 0
+AreNone from start after rows = (i : ℕ) (row : Row) → start ≤ i → i < after → slice_get rows i ≡ Some row →
+    IsNone from row
+
+-- the position is that of the row at the index, and where the rows reach to if that is past the last one
+abbrev pub IsReachBefore : Known → ℕ → ℕ → Type 0
+IsReachBefore known i position =
+    MatchOption (slice_get known.rows.items i) (position ≡ known.end) (λ row. position ≡ row.vertex)
 
 -- what is known is so: the rows are of one own need of the ask, and of its vertices before `end`
 pub record Knows (vertices : List Vertex) (stands : List Job → Type 0) (barred : List ℕ) (needs : List Need)

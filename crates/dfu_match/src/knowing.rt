@@ -1,8 +1,8 @@
 //! How much vertices serve of one own need of an ask, as matches over windows before have found it.
-ghost use Rattle.std.specs.Prelude.{◌≡◌, ◌⊎◌, ◌*◌, ◌/◌, ◌<◌, ◌≤◌, [], length, take, drop, slice_get, Contains};
+ghost use Rattle.std.specs.Prelude.{◌≡◌, ◌⊎◌, ◌*◌, ◌/◌, ◌<◌, ◌≤◌, [], length, take, drop, slice_get};
 ghost use Rattle.std.specs.Prelude.{IfSome, IsTrue, Some, false};
 ghost use Rattle.dfu_match.specs.declared.knowing.Row.{Row};
-ghost use Rattle.dfu_match.specs.Rows.{AreLefts, IsForgotten, IsLeft, IsNoted, IsPut, IsSetAt};
+ghost use Rattle.dfu_match.specs.Rows.{AreLefts, AreNone, IsForgotten, IsLeft, IsNoted, IsPut, IsReachBefore, IsSetAt};
 
 use crate::leaving::{Left, left_of};
 use flux_defs::Need;
@@ -33,6 +33,9 @@ pub struct Known {
 
 /// Of how many rows together it is kept what they leave.
 const BLOCK: usize = 16;
+
+/// For how many rows there is room once there is one, so that most searches never move them.
+const FIRST_ROWS: usize = 256;
 
 impl Known {
     /// Nothing yet. It takes no memory.
@@ -109,7 +112,7 @@ impl Known {
     /// Whether the row at the index tells that the vertex serves nothing over windows that begin at this second.
     #[inline(always)]
     pub(crate) fn serves_none(&self, own: usize, at: usize, vertex: u32, from: u64) -> bool
-        ensures { IsTrue result → (self.now.own ≡ own) × ((row : Row) × Contains self.now.rows.items row
+        ensures { IsTrue result → (self.now.own ≡ own) × ((row : Row) × (slice_get self.now.rows.items at ≡ Some row)
             × (row.vertex ≡ vertex) × (row.most ≡ 0) × (from ≤ row.moment)) }
     {
         if self.own != own || at >= self.rows.len() {
@@ -117,6 +120,37 @@ impl Known {
         }
         let row = self.rows[at];
         row.vertex == vertex && row.most == 0 && from <= row.moment
+    }
+
+    /// The index of the first row from this one on that doesn't tell that its vertex serves nothing over windows that
+    /// begin at this second, and how many rows there are where each does.
+    #[inline(always)]
+    pub(crate) fn first_serving(&self, start: usize, from: u64) -> usize
+        ensures later { start ≤ result }
+        ensures none { AreNone from start result self.now.rows.items }
+    {
+        let rows = self.rows.as_slice();
+        let mut at = start;
+        'each: while at < rows.len() {
+            let row = rows[at];
+            if row.most != 0 || row.moment < from {
+                return at;
+            }
+            at += 1;
+        }
+        at
+    }
+
+    /// The vertex of the row at the index, and where the rows reach to if it is past the last one: each vertex of the
+    /// need before it has a row before that.
+    #[inline(always)]
+    pub(crate) fn reach_before(&self, at: usize) -> u32
+        ensures { IsReachBefore self.now at result }
+    {
+        match self.row_at(at) {
+            Some(row) => row.vertex,
+            None => self.end,
+        }
     }
 
     /// Puts the row where one of its vertex stands at the index, if the need is this one.
@@ -262,6 +296,9 @@ impl Known {
         if block < self.blocks.len() {
             self.forget(block);
             return true;
+        }
+        if block == 0 && self.rows.reserve(FIRST_ROWS).is_err() {
+            return false;
         }
         match self.blocks.push(Left::unknown()) {
             Ok(()) => true,

@@ -161,8 +161,8 @@ fn next_open_known<F: FreeView, L: Ledger>(
         }
         let next = s.graph.past(vertex);
         if known.serves_none(own, *count, vertex, s.window.from) {
-            *count = count.saturating_add(1);
-            at = next;
+            *count = known.first_serving(*count, s.window.from);
+            at = next.max(known.reach_before(*count));
         } else {
             let mut moment = u64::MAX;
             match top_within(s, need, index, low, vertex, &mut moment, steps) {

@@ -1,9 +1,9 @@
 -- From the tables to what the queries answer.
-use Rattle.std.proofs.Common.{◌≡◌, ℕ, ◌<◌, ◌≤◌, false, List, length, get_or, Option, Some, None, refl, sym, subst}
+use Rattle.std.proofs.Common.{◌≡◌, ℕ, ◌+◌, ◌<◌, ◌≤◌, inl, inr, false, List, length, get_or, Option, Some, None, refl, sym, subst}
 use Rattle.std.proofs.Common.{arith, ltb, MatchOption, Vec, Global}
 use Rattle.std.specs.Prelude.{slice_get}
 use Rattle.std.specs.Option.{IsSomeAnd}
-use Rattle.std.proofs.lemmas.Bool.{false_from_ne_true, lt-ltb, ltb-true}
+use Rattle.std.proofs.lemmas.Bool.{cases_lt, false_from_ne_true, lt-ltb, ltb-true}
 use Rattle.std.proofs.lemmas.Option.{slice_get-get_or, slice_get_read}
 use Rattle.flux_defs.specs.declared.limits.TheConstants.{MOST_LEVELS}
 use Rattle.flux_defs.specs.declared.vertices.Vertex.{Vertex}
@@ -72,6 +72,32 @@ next_of_list vertices kind list from to (Some v) lists next = record {
       let le : v ≤ get_or list there.0 0 = next.least there.0 there.1 (omega arith) in
       omega arith;
 }
+
+-- where a vertex isn't of the kind, the next one behind it is the next one from it on
+pub next_from_behind : (vertices : List Vertex) (kind from to : ℕ) (found : Option ℕ) →
+    (HasKind vertices kind from → ⊥) →
+    MatchOption found (HasNoneOfKind vertices kind (from + 1) to) (λ v. IsNextOfKind vertices kind (from + 1) to v) →
+    MatchOption found (HasNoneOfKind vertices kind from to) (λ v. IsNextOfKind vertices kind from to v)
+next_from_behind vertices kind from to found never next = at found next
+  where
+    behind : (u : ℕ) → HasKind vertices kind u → from ≤ u → from + 1 ≤ u
+    behind u has low = elim (cases_lt from u) [
+      | inl later ↦ omega arith
+      | inr same ↦ (let e : u ≡ from = omega arith in
+          absurd (never (subst (λ (w : ℕ). HasKind vertices kind w) e has)))
+    ]
+
+    at : (found : Option ℕ) →
+        MatchOption found (HasNoneOfKind vertices kind (from + 1) to)
+        (λ v. IsNextOfKind vertices kind (from + 1) to v) →
+        MatchOption found (HasNoneOfKind vertices kind from to) (λ v. IsNextOfKind vertices kind from to v)
+    at None none = λ u has low high. none u has (behind u has low) high
+    at (Some v) next = record {
+      of_kind = next.of_kind;
+      low = let low = next.low in omega (arith, low);
+      high = next.high;
+      least = λ u has low. next.least u has (behind u has low);
+    }
 
 -- in a valid graph each parent is a vertex, and each chain is short
 pub parents_known : (g : ResourceGraph) (names : List (List ℕ)) → IsValidGraph g names → KnowsParents g.vertices

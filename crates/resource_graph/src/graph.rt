@@ -174,7 +174,23 @@ impl Graph {
     }
 
     /// The least vertex of the type from `from` on and before `to`.
+    #[inline(always)]
     pub fn next_of_kind(&self, kind: u32, from: u32, to: u32) -> Option<u32>
+        ensures { MatchOption result (HasNoneOfKind self.now.resources.vertices kind from to)
+            (λ v. IsNextOfKind self.now.resources.vertices kind from to v) }
+    {
+        if from >= to {
+            return None;
+        }
+        if self.has_kind(kind, from) {
+            return Some(from);
+        }
+        self.next_behind(kind, from + 1, to)
+    }
+
+    /// The same where the vertex before `from` isn't of the type: `from` is its first child, if it has one, and most
+    /// often of the type.
+    fn next_behind(&self, kind: u32, from: u32, to: u32) -> Option<u32>
         ensures { MatchOption result (HasNoneOfKind self.now.resources.vertices kind from to)
             (λ v. IsNextOfKind self.now.resources.vertices kind from to v) }
     {

@@ -95,7 +95,7 @@ fn ids_among(
 ) -> Result<List<u32>, AllocError>
     ensures { IfOk result (λ list. list ≡ ids_among vertices.now kind part.now) }
 {
-    let mut ids = Vec::new(alloc);
+    let mut ids = Vec::with_capacity(alloc, part.len())?;
     'vertices: for vertex in part {
         if let Some(id) = id_of_type(vertices, kind, *vertex) {
             add(&mut ids, id)?;
