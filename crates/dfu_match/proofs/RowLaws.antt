@@ -29,7 +29,7 @@ use Rattle.dfu_match.specs.declared.knowing.Known.{Known}
 use Rattle.dfu_match.specs.Searches.{open_to}
 use Rattle.dfu_match.specs.Walks.{ServesNone}
 use Rattle.dfu_match.specs.Rows.{whole_of, NoneOfNeed, StandFrom, IsRowOf, Knows, bound_at, served_most}
-use Rattle.dfu_match.specs.Rows.{KeepsLefts, IsPut, IsNoted}
+use Rattle.dfu_match.specs.Rows.{IsNone, KeepsLefts, IsPut, IsNoted}
 use Rattle.dfu_match.proofs.LeftLaws.{keeps_same}
 use Rattle.dfu_match.proofs.ReachLaws.{reach_all, reach_later}
 
@@ -106,12 +106,17 @@ module _ (vertices : List Vertex) (need : Need) where
       (suc found.0, found.1, omega arith, (let few = found.2 in omega (arith, few)), found.3, found.4)
   row_between low to (suc i) (suc j) position v (row ∷ rows) was there lt stand at is lo hi =
       let found = row_between (row.vertex + 1) to i j position v rows was there (omega (arith, lt)) stand.1 at is lo
-          hi in
-      (suc found.0, found.1, (let few = found.2 in omega (arith, few)), (let few = found.3 in omega (arith, few)),
-      found.4, found.5)
+      hi in (
+        suc found.0,
+        found.1,
+        (let few = found.2 in omega (arith, few)),
+        (let few = found.3 in omega (arith, few)),
+        found.4,
+        found.5,
+      )
 
 -- the row at an index is one of them
-pub row_there : (rows : List Row) (i : ℕ) (row : Row) → slice_get rows i ≡ Some row → Contains rows row
+row_there : (rows : List Row) (i : ℕ) (row : Row) → slice_get rows i ≡ Some row → Contains rows row
 row_there rows i row at = (i, slice_get_within rows i row at, get_or_from_slice_get rows i row row at)
 
 -- an item of a list one of whose items was set is an item of the old one, or the new item
@@ -266,7 +271,7 @@ whole_some vertices (Pool kind quantity) v = v.0
 whole_some vertices (Spread' count m needs) v = v.0
 
 -- a row of nothing tells that the vertex serves nothing over the window itself
-pub row_none : (g : ResourceGraph) (stands : List Job → Type 0) (barred : List ℕ) (w : Window) (need : Need)
+row_none : (g : ResourceGraph) (stands : List Job → Type 0) (barred : List ℕ) (w : Window) (need : Need)
     (row : Row) → IsValidNeed g.vertices need → IsRowOf g.vertices stands barred w need row → row.most ≡ 0 →
     w.from ≤ row.moment → w.from < w.to → (jobs : List Job) → stands jobs → (scope : Scope) (q : ℕ) → 1 ≤ q →
     CanServe g.vertices (open_to g.vertices jobs barred w) scope need row.vertex q → ⊥
@@ -274,6 +279,20 @@ row_none g stands barred w need row valid is none le opens jobs here scope q som
     let whole = whole_some g.vertices need valid in
     is.bounds (omega (arith, none, whole)) jobs here w (reach_all w row.moment le opens) scope q
     (omega (arith, none, some)) can
+
+-- and so does one of those that are known
+pub none_at : (g : ResourceGraph) (stands : List Job → Type 0) (barred : List ℕ) (needs : List Need) (w : Window)
+    (known : Known) (own : ℕ) (need : Need) → IsValidNeed g.vertices need → slice_get needs own ≡ Some need →
+    known.own ≡ own → Knows g.vertices stands barred needs w known → w.from < w.to → (jobs : List Job) → stands jobs →
+    (scope : Scope) (v q : ℕ) → 1 ≤ q → CanServe g.vertices (open_to g.vertices jobs barred w) scope need v q →
+    (i : ℕ) (row : Row) → slice_get known.rows.items i ≡ Some row → row.vertex ≡ v → IsNone w.from row → ⊥
+none_at g stands barred needs w known own need valid of_own same knows opens jobs here scope v q some can i row at is
+    none =
+    row_none g stands barred w need row valid
+    (row_known g.vertices stands barred needs w known own need row of_own same (row_there known.rows.items i row at)
+    knows)
+    none.0 none.1 opens jobs here scope q some
+    (subst (λ (u : ℕ). CanServe g.vertices (open_to g.vertices jobs barred w) scope need u q) (sym is) can)
 
 module _ (g : ResourceGraph) (stands : List Job → Type 0) (barred : List ℕ) (w other : Window) (need : Need)
     (until : ℕ) (reach : ReachesOver w until other) (jobs : List Job) (here : stands jobs) where

@@ -1,6 +1,6 @@
 -- From the tables to what the queries answer.
-use Rattle.std.proofs.Common.{◌≡◌, ℕ, ◌+◌, ◌<◌, ◌≤◌, inl, inr, false, List, length, get_or, Option, Some, None, refl, sym, subst}
-use Rattle.std.proofs.Common.{arith, ltb, MatchOption, Vec, Global}
+use Rattle.std.proofs.Common.{◌≡◌, ℕ, ◌+◌, ◌<◌, ◌≤◌, inl, inr, false, List, length, get_or, Option, Some, None, refl}
+use Rattle.std.proofs.Common.{sym, subst, arith, ltb, MatchOption, Vec, Global}
 use Rattle.std.specs.Prelude.{slice_get}
 use Rattle.std.specs.Option.{IsSomeAnd}
 use Rattle.std.proofs.lemmas.Bool.{cases_lt, false_from_ne_true, lt-ltb, ltb-true}

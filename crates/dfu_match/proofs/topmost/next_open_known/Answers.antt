@@ -1,22 +1,19 @@
-use Rattle.std.proofs.Common.{◌≡◌, ℕ, ◌+◌, ◌*◌, ◌≤◌, length, min, arith, ap, sym, subst, ◌∙◌, is_some, inl, inr, refl}
-use Rattle.std.proofs.Common.{Some, slice_get}
+use Rattle.std.proofs.Common.{◌+◌, ◌*◌, ◌≤◌, length, min, arith, ap, sym, ◌∙◌, is_some, inl, inr, refl}
+use Rattle.std.proofs.Common.{slice_get}
 use Rattle.match_laws.proofs.NeedLists.{server}
 use Rattle.std.proofs.lemmas.Bool.{cases_lt}
 use Rattle.graph_laws.proofs.Containment.{below_le}
 use Rattle.graph_laws.proofs.Preorder.{parents_first}
-use Rattle.flux_defs.specs.Lowest.{CanServe}
 use Rattle.dfu_match.proofs.BarLaws.{rank_node}
 use Rattle.dfu_match.proofs.WalkLaws as laws
 use Rattle.dfu_match.specs.Pairs.{asked_totals}
 use Rattle.dfu_match.specs.Searches.{open_to}
-use Rattle.dfu_match.specs.declared.knowing.Row.{Row}
-use Rattle.dfu_match.specs.Rows.{IsNone}
 use Rattle.dfu_match.specs.Tables.{all_of}
 use Rattle.dfu_match.proofs.NotingLaws.{none_to, none_before, none_below}
 use Rattle.dfu_match.proofs.OpenLaws.{clear_within, clear_past, none_inside}
 use Rattle.dfu_match.proofs.PairLaws.{takes_upto, takes_within}
 use Rattle.dfu_match.proofs.ReachLaws.{reach_all}
-use Rattle.dfu_match.proofs.RowLaws.{knows_noted, knows_passed, row_between, row_known, row_none, row_there}
+use Rattle.dfu_match.proofs.RowLaws.{knows_noted, knows_passed, none_at, row_between}
 use Rattle.dfu_match.proofs.topmost.next_open_known.Goals as goal
 
 pub returns-in_default-clause-skipped : goal.returns-in_default-clause-skipped
@@ -83,15 +80,9 @@ look-preserved-then-serves_none g c =
       order = omega (arith, order, low, later);
       skipped = λ jobs stands scope u q lo hi some can.
           let ok = open_to vs jobs s.barred.now s.window in
-          let dead : (i : ℕ) (row : Row) → slice_get c.look.known.rows.items i ≡ Some row → row.vertex ≡ u →
-              IsNone s.window.from row → ⊥ = λ i row there here none.
-              row_none graph.resources (g.F.FreeView.stands_for s.view.now) s.barred.now s.window need row
-              c.requires.valid
-              (row_known vs (g.F.FreeView.stands_for s.view.now) s.barred.now s.needs.now s.window c.look.known
-              c.args.own need row c.requires.of_own told.0 (row_there c.look.known.rows.items i row there)
-              c.look.invariant.known)
-              none.0 none.1 s.opens jobs stands scope q some
-              (subst (λ v. CanServe vs ok scope need v q) (sym here) can) in
+          let dead = none_at graph.resources (g.F.FreeView.stands_for s.view.now) s.barred.now s.needs.now s.window
+          c.look.known c.args.own need c.requires.valid c.requires.of_own told.0 c.look.invariant.known s.opens jobs
+          stands scope u q some can in
           elim (cases_lt u c.in-Some.vertex) [
             | inl before ↦ laws.skipped_to graph.resources graph.names valid jobs s.barred.now s.window need
                 c.args.kind c.requires.of_kind c.args.from c.look.at c.args.to c.in-Some.vertex next
@@ -103,10 +94,10 @@ look-preserved-then-serves_none g c =
                     (omega (arith, below)) inside some can
                 | inr outside ↦ (
                     let found = row_between vs need 0 c.look.known.end c.look.count c.first_serving.result
-                        c.reach_before.result u c.look.known.rows.items told.1.0 told.1.1
-                        passed (c.look.invariant.known.order need
-                        (ap (slice_get s.needs.now) told.0 ∙ c.requires.of_own)) c.reach_before.ensures
-                        (server vs ok scope need u q can).0 (rw told.1.2 below) (omega (arith, hi, outside)) in
+                    c.reach_before.result u c.look.known.rows.items told.1.0 told.1.1
+                    passed (c.look.invariant.known.order need
+                    (ap (slice_get s.needs.now) told.0 ∙ c.requires.of_own)) c.reach_before.ensures
+                    (server vs ok scope need u q can).0 (rw told.1.2 below) (omega (arith, hi, outside)) in
                     let first = found.2 in
                     dead found.0 found.1 found.4 found.5
                     (c.first_serving.ensures.none found.0 found.1 (omega (arith, first)) found.3 found.4))
