@@ -1,6 +1,7 @@
 -- What counting keeps: how much a vertex serves, and how many copies each need leaves.
 use Rattle.std.proofs.Common.{◌≡◌, ℕ, zero, suc, ◌+◌, ◌*◌, ◌^◌, ◌<◌, ◌≤◌, ◌↔◌, inl, inr, Bool, true, false, List, []}
 use Rattle.std.proofs.Common.{◌∷◌, length, drop, drop-cons, add-one, get_or, min, refl, sym, ◌∙◌, ap, subst, arith}
+use Rattle.std.proofs.Common.{Some, slice_get}
 use Rattle.std.proofs.Math.Nat.{mul-le-mul_right}
 use Rattle.std.proofs.lemmas.Bool.{cases_lt}
 use Rattle.std.specs.List.{AllByRecursion}
@@ -26,6 +27,12 @@ pub item_split : (items : List Need) (i : ℕ) (need : Need) → i < length item
     drop i items ≡ need ∷ drop (i + 1) items
 item_split items i need lt is = drop-cons items i need lt
     ∙ (ap (λ n. n ∷ drop (suc i) items) (sym is) ∙ ap (λ k. need ∷ drop k items) (sym (add-one i)))
+
+-- a list of one need is its first one alone
+pub alone : (needs : List Need) (need : Need) → length needs ≡ 1 → Some need ≡ slice_get needs 0 → needs ≡ need ∷ []
+alone [] need one first = absurd (omega (arith, one))
+alone (n ∷ []) need one first = let same : need ≡ n = cc in cc
+alone (n ∷ m ∷ more) need one first = absurd (omega (arith, one))
 
 -- the members of a valid list
 pub valid_at : (vertices : List Vertex) (needs : List Need) (i : ℕ) (need : Need) (rest : List Need) →
@@ -221,6 +228,17 @@ module _ (vertices : List Vertex) (ok : Claim → Type 0) where
             (enough best (omega arith) (subst (λ (ns : List Need). AllFill vertices ok scope best ns) (sym over) tt));
         full = full;
       })
+
+  -- of one need alone as many copies fit as what was reached is times its amount
+  pub copies_alone : TakesLess ok → (scope : Scope) (need : Need) (most reached copies : ℕ) →
+      IsGreatest (SomeGroup vertices ok scope need) (most * amount_of need) reached →
+      copies * amount_of need ≤ reached → reached < (copies + 1) * amount_of need → copies ≤ most →
+      IsGreatest (SomeFits vertices ok scope (need ∷ [])) most copies
+  copies_alone less scope need most reached copies g low high few =
+      copies_end scope (need ∷ []) (need ∷ []) [] most copies refl refl few
+      (enough_next less scope (need ∷ []) 0 need [] most reached copies refl g low few (λ k le each. each))
+      (full_next less scope (need ∷ []) 0 need [] most most reached copies refl g high few
+      (λ lt. absurd (omega (arith, lt))))
 
   -- one need leaves no copy
   pub copies_none : (scope : Scope) (items needs : List Need) (most new : ℕ) → items ≡ needs → new ≡ 0 →

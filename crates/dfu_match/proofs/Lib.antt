@@ -11,6 +11,7 @@ pub mod OpenLaws
 pub mod StepLaws
 pub mod MatchedLaws
 pub mod HoldLaws
+pub mod HoldingLaws
 pub mod ReachLaws
 pub mod LeftLaws
 pub mod RowLaws

@@ -70,6 +70,13 @@ pub after_Spread : (place count : ℕ) (needs : List Need) →
     place + 1 + length (needs_all needs) ≡ place + length (all_of (Spread count needs))
 after_Spread place count needs = let e = ap length (all_Spread count needs) in omega (arith, e)
 
+pub after_alone : (place count : ℕ) (needs : List Need) (need : Need) → needs ≡ need ∷ [] →
+    place + 1 + length (all_of need) ≡ place + length (all_of (Spread count needs))
+after_alone place count needs need is =
+    let same : length (needs_all needs) ≡ length (all_of need) = rw is (ap length (append-nil (all_of need))) in
+    let all = after_Spread place count needs in
+    omega (arith, same, all)
+
 module _ (each : List Pair → Type 0) where
   -- begun later, and with the places named otherwise
   pub takes_later : (steps old mid new first after past from to : ℕ) → mid ≤ old → after ≡ past →

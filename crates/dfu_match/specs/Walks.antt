@@ -1,8 +1,8 @@
 -- What a walk over the vertices of a need passes over.
-use Rattle.std.specs.Prelude.{◌≡◌, ℕ, ◌<◌, ◌≤◌, List, Option, Some, MatchOption}
+use Rattle.std.specs.Prelude.{◌≡◌, ℕ, ◌<◌, ◌≤◌, true, List, [], Option, Some, MatchOption}
 use Rattle.flux_defs.specs.declared.vertices.Vertex.{Vertex}
 use Rattle.flux_defs.specs.declared.claims.Claim.{Claim}
-use Rattle.flux_defs.specs.declared.requests.Need.{Need}
+use Rattle.flux_defs.specs.declared.requests.Need.{Need, Vert}
 use Rattle.flux_defs.specs.Graph.{Scope, IsIn, parent_of}
 use Rattle.flux_defs.specs.Needs.{IsOfNeed}
 use Rattle.flux_defs.specs.Lowest.{CanServe}
@@ -24,3 +24,7 @@ abbrev pub ServesOneEach : List Vertex → (Claim → Type 0) → Need → Type 
 ServesOneEach vertices ok need =
     (scope : Scope) (v most : ℕ) → IsOfNeed vertices need v → IsIn vertices scope v → 1 ≤ most →
     IsGreatest (CanServe vertices ok scope need v) most 1
+
+-- a need of vertices that are held, within which nothing is asked
+abbrev pub IsPlainHold : Need → Type 0
+IsPlainHold need = (kind : ℕ) × (count : ℕ) × (need ≡ Vert kind count true [])

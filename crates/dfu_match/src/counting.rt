@@ -199,7 +199,7 @@ pub(crate) fn copies<F: FreeView, L: Ledger>(
 }
 
 /// How many times the amount is in what was reached, which is at most so many times.
-fn whole_times(reached: u128, amount: u64, most: u64) -> u64
+pub(crate) fn whole_times(reached: u128, amount: u64, most: u64) -> u64
     requires some { 1 ≤ amount }
     requires within { reached ≤ most * amount }
     ensures low { result * amount ≤ reached }

@@ -8,6 +8,7 @@ mod bars;
 mod bounding;
 mod counting;
 mod demanding;
+mod holding;
 mod knowing;
 mod leaving;
 mod matching;

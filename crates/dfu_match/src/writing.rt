@@ -17,6 +17,7 @@ ghost use Rattle.resource_graph.specs.Tables.{IsPast};
 ghost use Rattle.std.specs.List.{AllByRecursion};
 
 use crate::counting::{copies, serves};
+use crate::holding::{held_alone, offer_held};
 use crate::scopes::{kind_of, span_of};
 use crate::search::{Search, admits};
 use crate::walking::{index_after, index_within, next_open_until};
@@ -211,6 +212,11 @@ pub(crate) fn offer<F: FreeView, L: Ledger>(
             Ok(quantity)
         }
         Need::Spread { needs, .. } => {
+            if let Some(held) = held_alone(needs) {
+                let within = index_within(s, need, index);
+                let copies = offer_held(s, held, within, vertex, entered, most as u64, out, steps)?;
+                return Ok(copies);
+            }
             let count = serves(s, need, index, vertex, entered, most, steps);
             if count == 0 {
                 return Ok(0);

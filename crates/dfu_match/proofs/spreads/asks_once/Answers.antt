@@ -1,12 +1,6 @@
-use Rattle.std.proofs.Common.{◌≡◌, ◌∷◌, List, [], Some, inr, length, slice_get, arith}
-use Rattle.flux_defs.specs.declared.requests.Need.{Need}
+use Rattle.std.proofs.Common.{inr, arith}
+use Rattle.dfu_match.proofs.CountLaws.{alone}
 use Rattle.dfu_match.proofs.spreads.asks_once.Goals as goal
-
--- a list of one need is its first one alone
-alone : (needs : List Need) (need : Need) → length needs ≡ 1 → Some need ≡ slice_get needs 0 → needs ≡ need ∷ []
-alone [] need one first = absurd (omega (arith, one))
-alone (n ∷ []) need one first = let same : need ≡ n = cc in cc
-alone (n ∷ m ∷ more) need one first = absurd (omega (arith, one))
 
 pub returns-then-is_spread : goal.returns-then-is_spread
 returns-then-is_spread c = λ is. inr (

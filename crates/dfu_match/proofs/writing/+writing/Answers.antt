@@ -158,6 +158,29 @@ offer-returns-in_ok-push-in-Pool-clause-offers g t c = (
       refl),
 )
 
+pub offer-offer_held-requires-clause-stands : goal.offer-offer_held-requires-clause-stands
+offer-offer_held-requires-clause-stands g t c =
+    let s = c.args.s.now in
+    tables.stand_first (needs_all s.needs.now) s.wanted.now c.index_within-within.result c.in-Spread.needs []
+    c.in-Some.held.now c.in-Some.ensures.0
+    (tables.inside_Spread (needs_all s.needs.now) s.wanted.now c.args.index c.index_within-within.result
+    c.in-Spread.count c.in-Spread.needs c.index_within-within.ensures (rw c.in-Spread.is at c.requires.stands))
+
+pub offer-offer_held-requires-clause-valid : goal.offer-offer_held-requires-clause-valid
+offer-offer_held-requires-clause-valid g t c =
+    let vs = c.args.s.now.graph.now.resources.vertices in
+    counts.valid_at vs c.in-Spread.needs 0 c.in-Some.held.now [] c.in-Some.ensures.0
+    (counts.valid_copy vs c.in-Spread.count c.in-Spread.needs (rw c.in-Spread.is at c.requires.valid))
+
+pub offer-returns-in-Some-clause-offers : goal.offer-returns-in-Some-clause-offers
+offer-returns-in-Some-clause-offers g t c =
+    let wrote = c.in_ok-copies-in-Spread.ensures.offers in (
+      wrote.0,
+      wrote.1,
+      λ jobs stands scope within.
+          rw (c.in-Spread.is, c.in-Some.ensures.0) (wrote.2 jobs stands scope c.in-Spread.count within),
+    )
+
 pub offer-returns-then-count-eq0-clause-offers : goal.offer-returns-then-count-eq0-clause-offers
 offer-returns-then-count-eq0-clause-offers g t c =
     laws.extends_none c.args.out.now.items _ (λ jobs stands scope within. laws.offers_none _ _ c.args.most
@@ -570,6 +593,32 @@ pub offer-returns-in_ok-push-in-Pool-clause-work : goal.offer-returns-in_ok-push
 offer-returns-in_ok-push-in-Pool-clause-work g t c = λ jobs stands place past times here clear after look.
     steps.takes_times _ times _ _ _ _ _ _ _ (steps.looks_some times c.args.need.now look)
     (c.serves-quantity.ensures.work jobs stands place past here clear after)
+
+pub offer-returns-in_err-copies-in-Spread-clause-work : goal.offer-returns-in_err-copies-in-Spread-clause-work
+offer-returns-in_err-copies-in-Spread-clause-work g t c = λ jobs stands place past times here clear after look.
+    let within = steps.in_copy _ _ c.is_valid.ensures.valid _ _ _ (needs_all c.args.s.now.needs.now) place _ _ _
+    (rw c.in-Spread.is at c.requires.valid) (rw c.in-Spread.is at here) (rw c.in-Spread.is at clear) in
+    let alone = c.in-Some.ensures.0 in
+    steps.takes_times _ times _ _ _ _ _ _ _ (steps.looks_some times c.args.need.now look)
+    (steps.takes_later _ _ _ _ _ _ _ _ _ _ (omega arith)
+    (rw c.in-Spread.is (steps.after_alone place c.in-Spread.count c.in-Spread.needs c.in-Some.held.now alone))
+    (c.offer_held.ensures.work jobs stands (place + 1) past
+    (tables.place_first (needs_all c.args.s.now.needs.now) (place + 1) c.in-Spread.needs [] c.in-Some.held.now alone
+    within.0)
+    (rw alone at within.1).0 after))
+
+pub offer-returns-in-Some-clause-work : goal.offer-returns-in-Some-clause-work
+offer-returns-in-Some-clause-work g t c = λ jobs stands place past times here clear after look.
+    let within = steps.in_copy _ _ c.is_valid.ensures.valid _ _ _ (needs_all c.args.s.now.needs.now) place _ _ _
+    (rw c.in-Spread.is at c.requires.valid) (rw c.in-Spread.is at here) (rw c.in-Spread.is at clear) in
+    let alone = c.in-Some.ensures.0 in
+    steps.takes_times _ times _ _ _ _ _ _ _ (steps.looks_some times c.args.need.now look)
+    (steps.takes_later _ _ _ _ _ _ _ _ _ _ (omega arith)
+    (rw c.in-Spread.is (steps.after_alone place c.in-Spread.count c.in-Spread.needs c.in-Some.held.now alone))
+    (c.offer_held.ensures.work jobs stands (place + 1) past
+    (tables.place_first (needs_all c.args.s.now.needs.now) (place + 1) c.in-Spread.needs [] c.in-Some.held.now alone
+    within.0)
+    (rw alone at within.1).0 after))
 
 pub offer-returns-then-count-eq0-clause-work : goal.offer-returns-then-count-eq0-clause-work
 offer-returns-then-count-eq0-clause-work g t c = λ jobs stands place past times here clear after look.
