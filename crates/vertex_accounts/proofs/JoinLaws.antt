@@ -12,7 +12,7 @@ use Rattle.flux_defs.specs.declared.claims.Job.{Job}
 use Rattle.flux_defs.specs.Graph.{ResourceGraph}
 use Rattle.flux_defs.specs.ValidGraph.{StandsInPreorder}
 use Rattle.flux_defs.specs.Jobs.{is_live, take_of}
-use Rattle.list_laws.proofs.Lists.{all_along, all_append}
+use Rattle.list_laws.proofs.Lists.{all_append}
 use Rattle.list_laws.proofs.Tests.{one_at_most}
 use Rattle.planner_points.specs.declared.spans.Span.{Span}
 use Rattle.planner_points.specs.Spans.{span_of, free_at}
@@ -35,22 +35,11 @@ use Rattle.vertex_accounts.specs.declared.counted.Counted.{Counted}
 use Rattle.vertex_accounts.specs.declared.books.Accounts.{Accounts}
 use Rattle.vertex_accounts.specs.Quantities.{amount_in, total_in, claim_count, part_count, most_claims}
 use Rattle.vertex_accounts.specs.Counts.{AreNumbers}
-use Rattle.vertex_accounts.specs.Books.{ArePlanned, AreAllKept, IsOnGraph, HoldsNoWider, HoldNoWider, AreAccounts}
+use Rattle.vertex_accounts.specs.Books.{ArePlanned, AreAllKept, IsOnGraph, AreAccounts, OfEachClaim, HoldsNoWider}
+use Rattle.vertex_accounts.specs.Books.{HoldNoWider, CountsNoNarrower, CountNoNarrower}
 use Rattle.vertex_accounts.proofs.AccountLaws.{gained_kept, lost_kept, spans_there}
 use Rattle.vertex_accounts.proofs.OwnLaws.{part_less}
-
--- what holds no vertex that is wider than so many holds none that is wider than more
-pub claim_wider : (vertices : List Vertex) (few more : ℕ) → few ≤ more → (c : Claim) →
-    HoldsNoWider vertices few c → HoldsNoWider vertices more c
-claim_wider vertices few more le c free v (k, far, lt, below) = free v (k, omega (arith, le, far), lt, below)
-
-jobs_wider : (vertices : List Vertex) (few more : ℕ) → few ≤ more → (jobs : List Job) →
-    HoldNoWider vertices few jobs → HoldNoWider vertices more jobs
-jobs_wider vertices few more le jobs free =
-    all_along (λ (j : Job). AllByRecursion (HoldsNoWider vertices few) j.claims)
-    (λ (j : Job). AllByRecursion (HoldsNoWider vertices more) j.claims)
-    (λ j. all_along (HoldsNoWider vertices few) (HoldsNoWider vertices more) (claim_wider vertices few more le)
-    j.claims) jobs free
+use Rattle.vertex_accounts.proofs.WidthLaws.{each_claim, claim_wider, claim_narrower}
 
 -- a number of at most 1 for each claim sums to at most the number of claims
 few_sum : (f : Claim → ℕ) → ((c : Claim) → f c ≤ 1) → (cs : List Claim) → sum_by f cs ≤ length cs
@@ -170,8 +159,8 @@ module _ {P : Type 0} (total_of : P → ℕ) (stands_for : P → List Span → T
         AreAllKept total_of stands_for vertices ks (arc_value old.counted) (items_of new.planners) →
         stands_for new.times (times_of ks) → new.count ≡ count_claims ks → AreFair vertices ks →
         AllByRecursion (IsOnGraph vertices) ks → HoldNoWider vertices new.widest ks →
-        AreAccounts total_of stands_for vertices ks new
-    changed js ks is kept times count fair on_graph widths = record {
+        CountNoNarrower vertices new.narrowest ks → AreAccounts total_of stands_for vertices ks new
+    changed js ks is kept times count fair on_graph widths counting = record {
       graph = subst (λ (c : Counted). ArePlanned vertices c (items_of new.planners)) (sym counted)
           (record { counts = is.graph.counts; len = len ∙ is.graph.len; places = wide });
       kept = subst (λ (c : Counted). AreAllKept total_of stands_for vertices ks c (items_of new.planners))
@@ -179,6 +168,7 @@ module _ {P : Type 0} (total_of : P → ℕ) (stands_for : P → List Span → T
       times = times;
       count = count;
       widths = widths;
+      counting = counting;
       fair = fair;
       on_graph = on_graph;
     }
@@ -188,10 +178,11 @@ module _ {P : Type 0} (total_of : P → ℕ) (stands_for : P → List Span → T
         AreAllKept total_of stands_for vertices (jobs ++ job ∷ []) (arc_value old.counted) (items_of new.planners)) →
         ((before after : List Span) → stands_for old.times (before ++ after) → stands_for new.times
         (before ++ span_of (time_of job) 0 ∷ after)) → new.count ≡ old.count + length job.claims →
-        old.widest ≤ new.widest → AllByRecursion (HoldsNoWider vertices new.widest) job.claims →
+        (old.widest ≤ new.widest) × AllByRecursion (HoldsNoWider vertices new.widest) job.claims →
+        (new.narrowest ≤ old.narrowest) × AllByRecursion (CountsNoNarrower vertices new.narrowest) job.claims →
         AreAccounts total_of stands_for vertices jobs old →
         AreAccounts total_of stands_for vertices (jobs ++ job ∷ []) new
-    joined jobs on_graph fair step times count wider own is =
+    joined jobs on_graph fair step times count (wider, held) (narrower, counted_at) is =
         changed jobs (jobs ++ job ∷ []) is
         (step (subst (λ (js : List Job). AreAllKept total_of stands_for vertices js
         (arc_value old.counted) (items_of old.planners)) (sym (append-nil jobs)) is.kept))
@@ -199,8 +190,15 @@ module _ {P : Type 0} (total_of : P → ℕ) (stands_for : P → List Span → T
         (times (times_of jobs) [] (subst (stands_for old.times) (sym (append-nil (times_of jobs))) is.times)))
         (count ∙ ap (λ n. n + length job.claims) is.count ∙ sym (count_push jobs job)) fair
         (all_append (IsOnGraph vertices) jobs (job ∷ []) is.on_graph (on_graph, tt))
-        (all_append (λ (j : Job). AllByRecursion (HoldsNoWider vertices new.widest) j.claims) jobs (job ∷ [])
-        (jobs_wider vertices old.widest new.widest wider jobs is.widths) (own, tt))
+        (one_more (HoldsNoWider vertices old.widest) (HoldsNoWider vertices new.widest)
+        (claim_wider vertices old.widest new.widest wider) is.widths held)
+        (one_more (CountsNoNarrower vertices old.narrowest) (CountsNoNarrower vertices new.narrowest)
+        (claim_narrower vertices new.narrowest old.narrowest narrower) is.counting counted_at)
+      where
+        one_more : (P Q : Claim → Type 0) → ((c : Claim) → P c → Q c) → OfEachClaim P jobs →
+            AllByRecursion Q job.claims → OfEachClaim Q (jobs ++ job ∷ [])
+        one_more P Q h all own =
+            all_append (λ (j : Job). AllByRecursion Q j.claims) jobs (job ∷ []) (each_claim P Q h jobs all) (own, tt)
 
     pub left : (before after : List Job) →
         (AreAllKept total_of stands_for vertices
@@ -208,10 +206,10 @@ module _ {P : Type 0} (total_of : P → ℕ) (stands_for : P → List Span → T
         AreAllKept total_of stands_for vertices (before ++ after) (arc_value old.counted) (items_of new.planners)) →
         ((xs ys : List Span) → stands_for old.times (xs ++ span_of (time_of job) 0 ∷ ys) →
         stands_for new.times (xs ++ ys)) → new.count ≡ old.count - length job.claims →
-        new.widest ≡ old.widest →
+        new.widest ≡ old.widest → new.narrowest ≡ old.narrowest →
         AreAccounts total_of stands_for vertices (before ++ job ∷ after) old →
         AreAccounts total_of stands_for vertices (before ++ after) new
-    left before after step times count widest is =
+    left before after step times count widest narrowest is =
         let middle = count_middle before job after in
         let was = is.count in
         changed (before ++ job ∷ after) (before ++ after) is (step is.kept)
@@ -220,5 +218,9 @@ module _ {P : Type 0} (total_of : P → ℕ) (stands_for : P → List Span → T
         (omega (arith, count, middle, was)) (fair_removed vertices before job after is.fair)
         (all_removed (IsOnGraph vertices) before job after is.on_graph)
         (subst (λ (n : ℕ). HoldNoWider vertices n (before ++ after)) (sym widest)
-        (all_removed (λ (j : Job). AllByRecursion (HoldsNoWider vertices old.widest) j.claims) before job after
-        is.widths))
+        (one_less (HoldsNoWider vertices old.widest) is.widths))
+        (subst (λ (n : ℕ). CountNoNarrower vertices n (before ++ after)) (sym narrowest)
+        (one_less (CountsNoNarrower vertices old.narrowest) is.counting))
+      where
+        one_less : (P : Claim → Type 0) → OfEachClaim P (before ++ job ∷ after) → OfEachClaim P (before ++ after)
+        one_less P all = all_removed (λ (j : Job). AllByRecursion P j.claims) before job after all

@@ -1,21 +1,18 @@
 -- Moments at which a vertex is held or closed, and at which its total of a type is too little.
-use Rattle.std.proofs.Common.{◌≡◌, ℕ, zero, suc, ◌+◌, ◌-◌, ◌<◌, ◌≤◌, ◌↔◌, Bool, false, ◌||◌, ◌&&◌, is_some, List, []}
-use Rattle.std.proofs.Common.{◌∷◌, length, Option, Some}
-use Rattle.std.proofs.Common.{None, MatchOption, inl, inr}
-use Rattle.std.proofs.Common.{refl, sym, ◌∙◌, subst, arith, IsTrue, true≢false}
+use Rattle.std.proofs.Common.{◌≡◌, ℕ, zero, suc, ◌+◌, ◌-◌, ◌<◌, ◌≤◌, ◌↔◌, Bool, false, is_some, List, length, Option}
+use Rattle.std.proofs.Common.{Some, None, MatchOption, inl, inr, refl, sym, ◌∙◌, subst, arith, IsTrue, true≢false}
 use Rattle.std.proofs.lemmas.Bool.{cases_Bool}
 use Rattle.flux_defs.specs.declared.vertices.Vertex.{Vertex}
-use Rattle.std.specs.List.{AllByRecursion, list_any}
 use Rattle.flux_defs.specs.declared.claims.Claim.{Claim}
 use Rattle.flux_defs.specs.declared.claims.Job.{Job}
 use Rattle.flux_defs.specs.declared.claims.Window.{Window}
-use Rattle.flux_defs.specs.Graph.{ResourceGraph, chain, parent_of, is_at_or_below}
+use Rattle.flux_defs.specs.Graph.{ResourceGraph, chain, parent_of}
 use Rattle.flux_defs.specs.ValidGraph.{StandsInPreorder}
-use Rattle.flux_defs.specs.Jobs.{is_live, some_live_claim, SomeMoment}
+use Rattle.flux_defs.specs.Jobs.{some_live_claim, SomeMoment}
 use Rattle.flux_defs.specs.Closed.{no_bars, is_closed, IsClosedOver}
 use Rattle.flux_defs.specs.Free.{total_at, IsTotalOver, IsTooLittle, IsTooLittleAt}
 use Rattle.graph_laws.proofs.Preorder.{parents_first}
-use Rattle.graph_laws.proofs.Containment.{ParentsFirst, below_parent, below_trans}
+use Rattle.graph_laws.proofs.Containment.{ParentsFirst, below_parent}
 use Rattle.planner_points.specs.declared.spans.Span.{Span}
 use Rattle.planner_points.specs.Spans.{free_at, HasRoom, IsLeastFree}
 use Rattle.book_laws.specs.Amounts.{is_hold, holds_along, capacity, part_within}
@@ -32,6 +29,7 @@ use Rattle.vertex_accounts.specs.Moments.{IsMomentOrNone}
 use Rattle.vertex_accounts.specs.Books.{IsWider, HoldsNoWider, HoldNoWider}
 use Rattle.vertex_accounts.proofs.AskingLaws.{BelowOrNone, held_is, held_here, held_above}
 use Rattle.vertex_accounts.proofs.OwnLaws.{counts_all, part_less}
+use Rattle.vertex_accounts.proofs.WidthLaws.{each_claim, neither, none_live, wider_up}
 
 -- the window of one moment
 abbrev pub second : ℕ → Window
@@ -101,65 +99,26 @@ module _ (jobs : List Job) (w : Window) (vertices : List Vertex) (most v : ℕ) 
         (there (along_at jobs vertices (most - 1) above) m h)),
   )
 
--- neither of two tests passes
-neither : (a b : Bool) → a ≡ false → b ≡ false → (a || b) ≡ false
-neither a b ea eb = subst (λ x. (x || b) ≡ false) (sym ea) eb
-
-not_both : (a b : Bool) → b ≡ false → (a && b) ≡ false
-not_both a b e = elim (cases_Bool a) [
-  | inl so ↦ subst (λ x. (x && b) ≡ false) (sym so) e
-  | inr never ↦ subst (λ x. (x && b) ≡ false) (sym never) refl
-]
-
 module _ (vertices : List Vertex) (first : ParentsFirst vertices) (wide : ℕ) where
-  -- what contains a wide vertex is as wide
-  wider_up : (v p : ℕ) → parent_of vertices v ≡ Some p → IsWider vertices wide v → IsWider vertices wide p
-  wider_up v p parent (k, le, lt, below) =
-      let up = first v p parent in
-      let same : v + k ≡ p + (v + k - p) = omega (arith, up) in
-      let down = below_trans vertices first (v + k) v p lt below
-      (below_parent vertices first v p (omega (arith, lt)) parent) in (
-        v + k - p,
-        omega (arith, le, up),
-        omega (arith, lt, up),
-        subst (λ (n : ℕ). IsTrue (is_at_or_below vertices n p)) same down,
-      )
-
-  module _ (m : ℕ) where
-    -- a claim that holds no wide vertex holds none from one on upward
-    holds_none : (c : Claim) → HoldsNoWider vertices wide c → (most : ℕ) (from : Option ℕ) →
-        ((v : ℕ) → from ≡ Some v → IsWider vertices wide v) → holds_along (chain vertices most from) c ≡ false
-    holds_none c free zero from wider = refl
-    holds_none c free (suc most) None wider = refl
-    holds_none c free (suc most) (Some v) wider =
-        let here = wider v refl in
-        neither (is_hold v c) (holds_along (chain vertices most (parent_of vertices v)) c) (free v here)
-        (holds_none c free most (parent_of vertices v) (λ p e. wider_up v p e here))
-
-    claims_none : (cs : List Claim) → AllByRecursion (HoldsNoWider vertices wide) cs → (most : ℕ) (from : Option ℕ) →
-        ((v : ℕ) → from ≡ Some v → IsWider vertices wide v) →
-        list_any (holds_along (chain vertices most from)) cs ≡ false
-    claims_none [] free most from wider = refl
-    claims_none (c ∷ cs) free most from wider =
-        neither (holds_along (chain vertices most from) c) (list_any (holds_along (chain vertices most from)) cs)
-        (holds_none c free.0 most from wider) (claims_none cs free.1 most from wider)
-
-    jobs_none : (jobs : List Job) → HoldNoWider vertices wide jobs → (most : ℕ) (from : Option ℕ) →
-        ((v : ℕ) → from ≡ Some v → IsWider vertices wide v) →
-        some_live_claim jobs m (holds_along (chain vertices most from)) ≡ false
-    jobs_none [] free most from wider = refl
-    jobs_none (job ∷ jobs) free most from wider =
-        neither (is_live m job && list_any (holds_along (chain vertices most from)) job.claims)
-        (some_live_claim jobs m (holds_along (chain vertices most from)))
-        (not_both (is_live m job) (list_any (holds_along (chain vertices most from)) job.claims)
-        (claims_none job.claims free.0 most from wider)) (jobs_none jobs free.1 most from wider)
+  -- a claim that holds no wide vertex holds none from one on upward
+  holds_none : (c : Claim) → HoldsNoWider vertices wide c → (most : ℕ) (from : Option ℕ) →
+      ((v : ℕ) → from ≡ Some v → IsWider vertices wide v) → holds_along (chain vertices most from) c ≡ false
+  holds_none c free zero from wider = refl
+  holds_none c free (suc most) None wider = refl
+  holds_none c free (suc most) (Some v) wider =
+      let (k, le, within, below) = wider v refl in
+      neither (is_hold v c) (holds_along (chain vertices most (parent_of vertices v)) c) (free v (wider v refl))
+      (holds_none c free most (parent_of vertices v) (λ p e. wider_up vertices first wide p v
+      (below_parent vertices first v p (omega (arith, within)) e) (wider v refl)))
 
   -- where no job holds a wide vertex neither such a one is held nor one above it
   pub wide_none : (jobs : List Job) (w : Window) (v most : ℕ) → HoldNoWider vertices wide jobs →
       IsWider vertices wide v → IsMomentOrNone w (along_at jobs vertices most (Some v)) None
   wide_none jobs w v most free wider = λ (m, lo, hi, h).
-      true≢false (sym h ∙ jobs_none m jobs free most (Some v)
-      (λ x e. (let is : v ≡ x = cc in subst (IsWider vertices wide) is wider)))
+      let along = holds_along (chain vertices most (Some v)) in
+      true≢false (sym h ∙ none_live along m jobs
+      (each_claim (HoldsNoWider vertices wide) (λ c. along c ≡ false) (λ c none. holds_none c none most (Some v)
+      (λ x e. (let is : v ≡ x = cc in subst (IsWider vertices wide) is wider))) jobs free))
 
 -- closed is held along the chain
 pub closed_moment_is : (vertices : List Vertex) (jobs : List Job) (w : Window) (v : ℕ) (found : Option ℕ) →

@@ -28,7 +28,7 @@ counted : (b own there : Bool) → own ≡ false → cond (b && own) false there
 counted true own there e = ap (λ o. cond o false there) e
 counted false own there e = refl
 
-counted_there : (own there : Bool) → IsTrue (cond own false there) → IsTrue there
+pub counted_there : (own there : Bool) → IsTrue (cond own false there) → IsTrue there
 counted_there true there h = absurd (true≢false (sym h))
 counted_there false there h = h
 

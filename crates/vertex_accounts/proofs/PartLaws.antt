@@ -9,7 +9,7 @@ use Rattle.vertex_accounts.specs.declared.counted.Counted.{Counted}
 use Rattle.vertex_accounts.specs.declared.books.Accounts.{Accounts}
 use Rattle.vertex_accounts.specs.Counts.{types_in}
 use Rattle.vertex_accounts.specs.Books.{counted_of, types_of, ArePlanned, AreAllKept, AreAccounts, HasTotals}
-use Rattle.vertex_accounts.specs.Books.{HaveSameParts, HoldNoWider}
+use Rattle.vertex_accounts.specs.Books.{HaveSameParts, HoldNoWider, CountNoNarrower}
 
 pub parts_back : {P : Type 0} (a b : Accounts P) → HaveSameParts a b → HaveSameParts b a
 parts_back a b same = record {
@@ -18,6 +18,7 @@ parts_back a b same = record {
   times = sym same.times;
   count = sym same.count;
   widest = sym same.widest;
+  narrowest = sym same.narrowest;
 }
 
 -- they stand for the same jobs, and keep the same totals
@@ -34,6 +35,7 @@ same_accounts {P = P} total_of stands_for vertices jobs a b same x = record {
   times = subst (λ (p : P). stands_for p (times_of jobs)) (sym same.times) x.times;
   count = same.count ∙ x.count;
   widths = subst (λ (n : ℕ). HoldNoWider vertices n jobs) (sym same.widest) x.widths;
+  counting = subst (λ (n : ℕ). CountNoNarrower vertices n jobs) (sym same.narrowest) x.counting;
   fair = x.fair;
   on_graph = x.on_graph;
 }

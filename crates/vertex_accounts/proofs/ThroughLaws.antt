@@ -1,13 +1,13 @@
 -- What stays so from a moment on through another one.
 use Rattle.std.proofs.Common.{◌≡◌, ℕ, ◌<◌, ◌≤◌, List, length, Option, Some, None, inl, inr, refl, subst, arith, IsTrue}
-use Rattle.std.proofs.Common.{◌↔◌, Bool, true, false, not, MatchBool}
+use Rattle.std.proofs.Common.{◌↔◌, sym, ◌∙◌, true≢false, Bool, true, false, not, MatchBool}
 use Rattle.std.proofs.lemmas.Bool.{cases_lt}
 use Rattle.flux_defs.specs.declared.vertices.Vertex.{Vertex}
 use Rattle.flux_defs.specs.declared.claims.Job.{Job}
 use Rattle.flux_defs.specs.declared.claims.Window.{Window}
 use Rattle.flux_defs.specs.Graph.{ResourceGraph}
 use Rattle.flux_defs.specs.ValidGraph.{StandsInPreorder}
-use Rattle.flux_defs.specs.Jobs.{SomeMoment}
+use Rattle.flux_defs.specs.Jobs.{some_live_claim, SomeMoment}
 use Rattle.flux_defs.specs.Closed.{no_bars, is_closed, is_touched}
 use Rattle.flux_defs.specs.Free.{IsTooLittleAt}
 use Rattle.graph_laws.proofs.Containment.{ParentsFirst}
@@ -15,11 +15,14 @@ use Rattle.planner_points.specs.Spans.{free_at, HasRoom}
 use Rattle.book_laws.specs.Amounts.{capacity}
 use Rattle.book_laws.specs.Grouped.{grouped}
 use Rattle.book_laws.specs.TotalLaws.{AreFair}
+use Rattle.vertex_planners.specs.Counting.{counts_at}
 use Rattle.vertex_accounts.specs.declared.quantities.Quantity.TheVariants.{Holds, Claims}
 use Rattle.vertex_accounts.specs.Quantities.{amount_in, total_in, part_count, most_claims}
 use Rattle.vertex_accounts.specs.Moments.{IsThroughOrNone}
+use Rattle.vertex_accounts.specs.Books.{IsNarrower, CountsNoNarrower, CountNoNarrower}
 use Rattle.vertex_accounts.proofs.AskingLaws.{held_is, counted_is}
 use Rattle.vertex_accounts.proofs.OwnLaws.{touched_either}
+use Rattle.vertex_accounts.proofs.WidthLaws.{each_claim, none_live}
 use Rattle.vertex_accounts.proofs.LittleLaws.{second, there, here, least_there, held_at, here_along, closed_moment_is}
 use Rattle.vertex_accounts.proofs.LittleLaws.{enough_left, closed_little}
 
@@ -36,6 +39,23 @@ through_is w P t m from to le at after = (
     | inr same ↦ (let e : t ≡ u = omega (arith, lo, same) in subst P e at)
   ],
 )
+
+-- at a vertex that is narrower than those at which claims count all claims are left
+pub narrow_room : (vertices : List Vertex) (jobs : List Job) (v least : ℕ) (w : Window) →
+    CountNoNarrower vertices least jobs → IsNarrower vertices least v →
+    HasRoom (total_in vertices Claims v) (grouped (amount_in vertices Claims v) jobs) w most_claims
+narrow_room vertices jobs v least w free narrow = λ m lo hi.
+    let spans = grouped (amount_in vertices Claims v) jobs in
+    let total = total_in vertices Claims v in
+    elim (cases_lt (free_at total spans m) most_claims) [
+      | inl lt ↦ (
+          let counted = counted_is vertices jobs (second m) v (free_at total spans m) (least_there total spans m) in
+          let some = here (λ k. IsTrue (some_live_claim jobs k (counts_at vertices v))) m (counted.0 lt) in
+          absurd (true≢false (sym some ∙ none_live (counts_at vertices v) m jobs
+          (each_claim (CountsNoNarrower vertices least) (λ c. counts_at vertices v c ≡ false)
+          (λ c none. none v narrow) jobs free))))
+      | inr all ↦ all
+    ]
 
 module _ (vertices : List Vertex) (jobs : List Job) (v : ℕ) where
   -- less than all holds are left where the vertex is held

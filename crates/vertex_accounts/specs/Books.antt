@@ -12,6 +12,7 @@ use Rattle.book_laws.specs.Amounts.{is_hold}
 use Rattle.book_laws.specs.Grouped.{AreKept, times_of, count_claims}
 use Rattle.book_laws.specs.TotalLaws.{AreFair}
 use Rattle.vertex_planners.specs.Lists.{items_of, AreWide, at_place}
+use Rattle.vertex_planners.specs.Counting.{counts_at}
 use Rattle.vertex_accounts.specs.declared.quantities.Quantity.{Quantity}
 use Rattle.vertex_accounts.specs.declared.counted.Counted.{Counted}
 use Rattle.vertex_accounts.specs.declared.books.Accounts.{Accounts}
@@ -56,6 +57,10 @@ pub record IsOnGraph (vertices : List Vertex) (job : Job) : Type 0 where
   pub begins : job.start < job.end
   pub on_vertices : AllByRecursion (λ c. vertex_of c < length vertices) job.claims
 
+-- each claim of each job has the property
+abbrev pub OfEachClaim : (Claim → Type 0) → List Job → Type 0
+OfEachClaim P jobs = AllByRecursion (λ job. AllByRecursion P job.claims) jobs
+
 -- v has more than so many vertices at or below it: one of those that stand so far behind it is
 abbrev pub IsWider : List Vertex → ℕ → ℕ → Type 0
 IsWider vertices most v =
@@ -67,10 +72,23 @@ HoldsNoWider vertices most c = (v : ℕ) → IsWider vertices most v → is_hold
 
 -- no job holds one
 abbrev pub HoldNoWider : List Vertex → ℕ → List Job → Type 0
-HoldNoWider vertices most jobs = AllByRecursion (λ job. AllByRecursion (HoldsNoWider vertices most) job.claims) jobs
+HoldNoWider vertices most jobs = OfEachClaim (HoldsNoWider vertices most) jobs
+
+-- v has fewer than so many vertices at or below it: those that are stand nearer behind it than a lesser number
+abbrev pub IsNarrower : List Vertex → ℕ → ℕ → Type 0
+IsNarrower vertices least v = (n : ℕ) × (n < least)
+    × ((k : ℕ) → v + k < length vertices → IsTrue (is_at_or_below vertices (v + k) v) → k < n)
+
+-- the claim counts at no vertex that has
+abbrev pub CountsNoNarrower : List Vertex → ℕ → Claim → Type 0
+CountsNoNarrower vertices least c = (v : ℕ) → IsNarrower vertices least v → counts_at vertices v c ≡ false
+
+-- no claim of a job counts at one
+abbrev pub CountNoNarrower : List Vertex → ℕ → List Job → Type 0
+CountNoNarrower vertices least jobs = OfEachClaim (CountsNoNarrower vertices least) jobs
 
 -- the planners have what the claims of the jobs amount to, the planner of times has the time of each, their claims are
--- counted, and it is noted how wide the vertices are at most that they hold
+-- counted, and it is noted how wide the vertices are at most that they hold, and at least at which their claims count
 pub record AreAccounts {P : Type 0} (total_of : P → ℕ)
     (stands_for : P → List Span → Type 0) (vertices : List Vertex) (jobs : List Job) (book : Accounts P) : Type 0 where
   pub graph : AreAccountsOf vertices book
@@ -78,6 +96,7 @@ pub record AreAccounts {P : Type 0} (total_of : P → ℕ)
   pub times : stands_for book.times (times_of jobs)
   pub count : book.count ≡ count_claims jobs
   pub widths : HoldNoWider vertices book.widest jobs
+  pub counting : CountNoNarrower vertices book.narrowest jobs
   pub fair : AreFair vertices jobs
   pub on_graph : AllByRecursion (IsOnGraph vertices) jobs
 
@@ -88,3 +107,4 @@ pub record HaveSameParts {P : Type 0} (book other : Accounts P) : Type 0 where
   pub times : other.times ≡ book.times
   pub count : other.count ≡ book.count
   pub widest : other.widest ≡ book.widest
+  pub narrowest : other.narrowest ≡ book.narrowest

@@ -28,7 +28,8 @@ use std::sync::ledger::Ledger;
 use vertex_planners::{Item, parent_in};
 
 impl<P: Planner + Drop> Accounts<P> {
-    ghost use Rattle.vertex_accounts.specs.Books.{AreAccountsOf, AreAccounts, HasPlace, HasTotals, IsWider, counted_of};
+    ghost use Rattle.vertex_accounts.specs.Books.{AreAccountsOf, AreAccounts, HasPlace, HasTotals, counted_of};
+    ghost use Rattle.vertex_accounts.specs.Books.{IsWider, IsNarrower};
 
     /// A moment of the window at which a job holds one of the first so many vertices on the way up from this one;
     /// `None` exactly where there is none. It looks at none that is wider than those that jobs hold.
@@ -78,6 +79,15 @@ impl<P: Planner + Drop> Accounts<P> {
         ensures { IsTrue result → IsWider graph.now.resources.vertices self.now.widest vertex }
     {
         graph.past(vertex) - vertex > self.widest
+    }
+
+    /// Whether the vertex is narrower than those at which claims of jobs count.
+    #[inline(always)]
+    fn is_narrower(&self, graph: &Graph, vertex: u32) -> bool
+        requires { vertex < length graph.now.resources.vertices }
+        ensures { IsTrue result → IsNarrower graph.now.resources.vertices self.now.narrowest vertex }
+    {
+        graph.past(vertex) - vertex < self.narrowest
     }
 
     /// The last moment of the window at which a job holds the vertex itself; `None` exactly where there is none.
@@ -243,7 +253,8 @@ impl<P: Planner + Drop> Accounts<P> {
             .is_some()
     }
 
-    /// Whether a job has a claim on the vertex or below it at some moment of the window.
+    /// Whether a job has a claim on the vertex or below it at some moment of the window. Claims aren't looked for at a
+    /// vertex that is narrower than those at which they count.
     #[inline(always)]
     pub fn touched_over<L: Ledger>(
         &self,
@@ -266,6 +277,9 @@ impl<P: Planner + Drop> Accounts<P> {
         let item = self.planners.at(vertex, steps);
         if !self.room_in(&item, vertex, HOLDS, window, u64::MAX, steps) {
             return true;
+        }
+        if self.is_narrower(graph, vertex) {
+            return false;
         }
         !self.room_in(&item, vertex, CLAIMS, window, u64::MAX, steps)
     }
@@ -365,7 +379,8 @@ impl<P: Planner + Drop> Accounts<P> {
     }
 
     /// A moment through which, from one of the window on, a job has a claim on the vertex or below it; `None` exactly
-    /// where none has at a moment of the window.
+    /// where none has at a moment of the window. Claims aren't looked for at a vertex that is narrower than those at
+    /// which they count.
     pub fn touched_until<L: Ledger>(
         &self,
         graph: &Graph,
@@ -388,6 +403,9 @@ impl<P: Planner + Drop> Accounts<P> {
         let item = self.planners.at(vertex, steps);
         if let Some(moment) = self.below_in(&item, vertex, HOLDS, window, u64::MAX, steps) {
             return Some(self.through(&item, vertex, HOLDS, moment, window, u64::MAX, steps));
+        }
+        if self.is_narrower(graph, vertex) {
+            return None;
         }
         match self.below_in(&item, vertex, CLAIMS, window, u64::MAX, steps) {
             None => None,
@@ -594,7 +612,7 @@ fn is_pool_vertex(graph: &Graph, vertex: u32) -> bool
 }
 
 /// The vertex that contains this one, if one does.
-fn upper(graph: &Graph, vertex: u32) -> Option<u32>
+pub(crate) fn upper(graph: &Graph, vertex: u32) -> Option<u32>
     ensures value { result ≡ parent_of graph.now.resources.vertices vertex }
     ensures inside { IfSome result (λ v. v < length graph.now.resources.vertices) }
 {

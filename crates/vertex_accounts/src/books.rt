@@ -7,8 +7,8 @@ use vertex_planners::VertexPlanners;
 
 /// What jobs have of a graph over time: at each vertex a planner of holds, of claims and of takes side by side, and of
 /// the units of each type of which totals are kept; the times of the jobs, how many claims they have, and how wide the
-/// vertices are at most that jobs hold. A call that adds or removes a job makes the new accounts of the old ones, in
-/// place where no others share them; `share` keeps the old ones.
+/// vertices are at most that jobs hold, and at least at which their claims count. A call that adds or removes a job
+/// makes the new accounts of the old ones, in place where no others share them; `share` keeps the old ones.
 #[derive(Drop)]
 pub struct Accounts<P: Planner + Drop> {
     pub(crate) counted: Arc<Counted, Global>,
@@ -17,6 +17,8 @@ pub struct Accounts<P: Planner + Drop> {
     pub(crate) count: u64,
     /// No job holds a vertex with more than so many vertices at or below it.
     pub(crate) widest: u32,
+    /// No claim of a job counts at a vertex with fewer than so many vertices at or below it.
+    pub(crate) narrowest: u32,
 }
 
 impl<P: Planner + Drop> Accounts<P> {

@@ -6,10 +6,11 @@ ghost use Rattle.planner_points.specs.Work.{renew_cost};
 ghost use Rattle.vertex_planners.specs.Lists.{items_of};
 ghost use Rattle.vertex_planners.specs.Work.{CostWithin};
 ghost use Rattle.std.specs.List.{AllByRecursion};
-ghost use Rattle.vertex_accounts.specs.Books.{IsOnGraph, HoldsNoWider, AreAccounts, HasTotals, types_of};
-ghost use Rattle.vertex_accounts.specs.Books.{HaveSameParts};
+ghost use Rattle.vertex_accounts.specs.Books.{IsOnGraph, AreAccounts, HasTotals, HaveSameParts, types_of};
+ghost use Rattle.vertex_accounts.specs.Books.{IsWider, HoldsNoWider, IsNarrower, CountsNoNarrower};
 ghost use Rattle.vertex_accounts.specs.Costs.{accounts_most};
 
+use crate::asking::upper;
 use crate::books::Accounts;
 use crate::counted::rows_of;
 use flux_defs::{Claim, Job, Steps, Window};
@@ -30,6 +31,7 @@ impl<P: Planner + Drop> Accounts<P> {
             times: self.times.share()?,
             count: self.count,
             widest: self.widest,
+            narrowest: self.narrowest,
         })
     }
 
@@ -71,11 +73,13 @@ impl<P: Planner + Drop> Accounts<P> {
         let claims = job.claims.items();
         let rows = rows_of(alloc, graph, quantities, claims)?;
         let widest = self.widest_with(graph, claims);
+        let narrowest = self.narrowest_with(graph, claims);
         let mut book = self;
         book.planners.gain(alloc, moment, window, rows, steps)?;
         renew_with(&mut book.times, alloc, moment, window, 0, steps)?;
         book.count = count;
         book.widest = widest;
+        book.narrowest = narrowest;
         Ok(book)
     }
 
@@ -89,6 +93,18 @@ impl<P: Planner + Drop> Accounts<P> {
             widest = widest.max(width_held(graph, &claims[at]));
         }
         widest
+    }
+
+    /// How wide the vertices are at least at which claims of jobs count, where a job with these comes to the others.
+    fn narrowest_with(&self, graph: &Graph, claims: &[Claim]) -> u32
+        ensures { (result ≤ self.now.narrowest)
+            × AllByRecursion (CountsNoNarrower graph.now.resources.vertices result) claims.now }
+    {
+        let mut narrowest = self.narrowest;
+        for at in 0..claims.len() {
+            narrowest = narrowest.min(width_counted(graph, &claims[at]));
+        }
+        narrowest
     }
 
     /// The accounts of one job less. The planners that change are made ready before for questions from that second on.
@@ -134,12 +150,30 @@ fn width_held(graph: &Graph, claim: &Claim) -> u32
     ensures { HoldsNoWider graph.now.resources.vertices result claim.now }
 {
     match claim {
-        Claim::Hold { vertex } => {
-            if *vertex >= graph.len() {
-                return 0;
-            }
-            graph.past(*vertex) - *vertex
-        }
+        Claim::Hold { vertex } => width_of(graph, *vertex),
         Claim::Take { .. } | Claim::Pass { .. } => 0,
     }
+}
+
+/// How many vertices are at or below the lowest one at which the claim counts: a hold counts only above the vertex that
+/// it holds, unless that is the root.
+fn width_counted(graph: &Graph, claim: &Claim) -> u32
+    ensures { CountsNoNarrower graph.now.resources.vertices result claim.now }
+{
+    graph.is_valid();
+    match claim {
+        Claim::Hold { vertex } => width_of(graph, upper(graph, *vertex).unwrap_or(*vertex)),
+        Claim::Take { vertex, .. } | Claim::Pass { vertex } => width_of(graph, *vertex),
+    }
+}
+
+/// How many vertices are at or below this one.
+fn width_of(graph: &Graph, vertex: u32) -> u32
+    ensures no_wider { IsWider graph.now.resources.vertices result vertex → ⊥ }
+    ensures no_narrower { IsNarrower graph.now.resources.vertices result vertex → ⊥ }
+{
+    if vertex >= graph.len() {
+        return 0;
+    }
+    graph.past(vertex) - vertex
 }

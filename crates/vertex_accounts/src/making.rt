@@ -65,6 +65,7 @@ impl<P: Planner + Drop> Accounts<P> {
             times,
             count: 0,
             widest: 0,
+            narrowest: u32::MAX,
         })
     }
 }

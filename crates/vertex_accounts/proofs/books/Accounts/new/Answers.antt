@@ -26,6 +26,7 @@ returns-clause-accounts g c =
       times = c.in_ok-times.ensures.spans;
       count = refl;
       widths = tt;
+      counting = tt;
       fair = fair_none vertices;
       on_graph = tt;
     }

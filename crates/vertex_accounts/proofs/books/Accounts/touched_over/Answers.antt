@@ -4,7 +4,7 @@ use Rattle.vertex_planners.specs.Lists.{items_of}
 use Rattle.vertex_accounts.specs.declared.quantities.Quantity.TheVariants.{Holds, Claims}
 use Rattle.vertex_accounts.specs.Books.{counted_of}
 use Rattle.vertex_accounts.proofs.AskingLaws.{place_in, look_work}
-use Rattle.vertex_accounts.proofs.ThroughLaws.{less_touched, touched_by}
+use Rattle.vertex_accounts.proofs.ThroughLaws.{less_touched, narrow_room, touched_by}
 use Rattle.vertex_accounts.proofs.books.Accounts.touched_over.Goals as goal
 
 pub room_in-requires-clause-place : goal.room_in-requires-clause-place
@@ -28,6 +28,16 @@ returns-then-not-room_in-clause-work g c = λ n looks.
     (length c.args.graph.now.resources.vertices) n c.args.steps.now c.at-item.new.steps c.room_in.new.steps
     c.requires.graph.len c.at-item.ensures.work (c.room_in.ensures.work n looks) in
     omega (arith, look)
+
+pub returns-then-is_narrower-clause-answer : goal.returns-then-is_narrower-clause-answer
+returns-then-is_narrower-clause-answer g c = λ jobs is.
+    let resources = c.args.graph.now.resources in
+    let yes : c.room_in.result ≡ true = cc in
+    let unheld = rw yes at (c.room_in.ensures.room resources.vertices jobs Holds is is.graph.counts.holds) in
+    touched_by resources.vertices jobs c.args.vertex (parents_first resources c.is_valid.ensures.valid.preorder)
+    c.requires.inside c.args.window unheld true
+    (narrow_room resources.vertices jobs c.args.vertex c.args.self.now.narrowest c.args.window is.counting
+    (c.is_narrower.ensures c.if-is_narrower.true))
 
 pub room_in-requires-2-clause-place : goal.room_in-requires-2-clause-place
 room_in-requires-2-clause-place g c =

@@ -5,7 +5,7 @@ use Rattle.vertex_planners.specs.Lists.{items_of}
 use Rattle.vertex_accounts.specs.declared.quantities.Quantity.TheVariants.{Holds, Claims}
 use Rattle.vertex_accounts.specs.Books.{counted_of}
 use Rattle.vertex_accounts.proofs.AskingLaws.{place_in}
-use Rattle.vertex_accounts.proofs.ThroughLaws.{through_is, less_touched, claimed_touched, never_touched}
+use Rattle.vertex_accounts.proofs.ThroughLaws.{through_is, less_touched, claimed_touched, never_touched, narrow_room}
 use Rattle.vertex_accounts.proofs.books.Accounts.touched_until.Goals as goal
 
 pub below_in-requires-clause-place : goal.below_in-requires-clause-place
@@ -38,6 +38,14 @@ returns-in-Some-clause-answer g c = λ jobs is.
     (less_touched graph.vertices jobs c.args.vertex first c.requires.inside c.in-Some.moment held.less)
     (λ u lo hi. less_touched graph.vertices jobs c.args.vertex first c.requires.inside u
     (c.through.ensures.less graph.vertices jobs Holds is is.graph.counts.holds u lo hi))
+
+pub returns-then-is_narrower-clause-answer : goal.returns-then-is_narrower-clause-answer
+returns-then-is_narrower-clause-answer g c = λ jobs is.
+    let graph = c.args.graph.now.resources in
+    never_touched graph.vertices jobs c.args.vertex (parents_first graph c.is_valid.ensures.valid.preorder)
+    c.requires.inside c.args.window (c.in_default.ensures.last graph.vertices jobs Holds is is.graph.counts.holds)
+    (narrow_room graph.vertices jobs c.args.vertex c.args.self.now.narrowest c.args.window is.counting
+    (c.is_narrower.ensures c.if-is_narrower.true))
 
 pub returns-in-None-clause-answer : goal.returns-in-None-clause-answer
 returns-in-None-clause-answer g c = λ jobs is.

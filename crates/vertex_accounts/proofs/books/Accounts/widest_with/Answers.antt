@@ -3,7 +3,7 @@ use Rattle.std.proofs.Math.Nat.{le-max_left, le-max_right}
 use Rattle.std.proofs.lemmas.Option.{slice_get_within, get_or_from_slice_get}
 use Rattle.list_laws.proofs.Lists.{all_from}
 use Rattle.vertex_accounts.specs.Books.{HoldsNoWider}
-use Rattle.vertex_accounts.proofs.JoinLaws.{claim_wider}
+use Rattle.vertex_accounts.proofs.WidthLaws.{claim_wider}
 use Rattle.vertex_accounts.proofs.books.Accounts.widest_with.Goals as goal
 
 pub loop-at-preserved : goal.loop-at-preserved

@@ -10,7 +10,7 @@ use Rattle.vertex_accounts.specs.declared.counted.Counted.{Counted}
 use Rattle.vertex_accounts.specs.Quantities.{most_claims}
 use Rattle.vertex_accounts.specs.Counts.{AreNumbers}
 use Rattle.vertex_accounts.specs.Costs.{reach_of}
-use Rattle.vertex_accounts.specs.Books.{counted_of, types_of, HoldsNoWider}
+use Rattle.vertex_accounts.specs.Books.{counted_of, types_of, HoldsNoWider, CountsNoNarrower}
 use Rattle.vertex_accounts.proofs.JoinLaws.{room_in, joined_kept, joined, count_push}
 use Rattle.vertex_accounts.proofs.WorkLaws.{numbers_cost}
 use Rattle.vertex_accounts.proofs.books.Accounts.with_job.Goals as goal
@@ -52,15 +52,21 @@ returns-clause-accounts g c = λ jobs is fair.
       times = c.renew_with.new.planner;
       count = c.in-Some.count;
       widest = c.widest_with-widest.result;
+      narrowest = c.narrowest_with-narrowest.result;
     })
     refl c.in_ok-gain.ensures.len wide jobs c.requires.on_graph fair
     (joined_kept g.P.Planner.total_of g.P.Planner.stands_for vertices jobs job []
     (counted_of c.args.self) (places_of c.in_ok-rows.rows) numbers (items_of c.args.self.planners) new
     c.in_ok-gain.ensures.len is.graph.places wide c.in_ok-gain.ensures.gains)
-    c.in_ok-renew_with.ensures.spans (c.in-Some.ensures.1 ∙ ap (λ n. c.args.self.count + n) c.len.ensures)
-    c.widest_with-widest.ensures.0
-    (subst (AllByRecursion (HoldsNoWider vertices c.widest_with-widest.result)) c.items-claims.ensures
-    c.widest_with-widest.ensures.1) is
+    c.in_ok-renew_with.ensures.spans (c.in-Some.ensures.1 ∙ ap (λ n. c.args.self.count + n) c.len.ensures) (
+      c.widest_with-widest.ensures.0,
+      subst (AllByRecursion (HoldsNoWider vertices c.widest_with-widest.result))
+          c.items-claims.ensures c.widest_with-widest.ensures.1,
+    ) (
+      c.narrowest_with-narrowest.ensures.0,
+      subst (AllByRecursion (CountsNoNarrower vertices c.narrowest_with-narrowest.result))
+          c.items-claims.ensures c.narrowest_with-narrowest.ensures.1,
+    ) is
 
 pub returns-in_err-gain-clause-work : goal.returns-in_err-gain-clause-work
 returns-in_err-gain-clause-work g c = λ most within.

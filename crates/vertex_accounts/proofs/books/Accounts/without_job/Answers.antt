@@ -52,12 +52,13 @@ returns-clause-accounts g c = λ before after is.
       times = c.renew_without.new.planner;
       count = c.args.self.count - c.len.result;
       widest = c.args.self.widest;
+      narrowest = c.args.self.narrowest;
     })
     refl c.in_ok-lose.ensures.len wide before after
     (left_kept g.P.Planner.total_of g.P.Planner.stands_for vertices before job after
     (counted_of c.args.self) (places_of c.in_ok-rows.rows) numbers (items_of c.args.self.planners) new
     c.in_ok-lose.ensures.len is.graph.places wide c.in_ok-lose.ensures.loses)
-    c.in_ok-renew_without.ensures.spans (ap (λ n. c.args.self.count - n) c.len.ensures) refl is
+    c.in_ok-renew_without.ensures.spans (ap (λ n. c.args.self.count - n) c.len.ensures) refl refl is
 
 pub returns-in_err-lose-clause-work : goal.returns-in_err-lose-clause-work
 returns-in_err-lose-clause-work g c = λ most within.
