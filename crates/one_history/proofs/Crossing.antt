@@ -93,7 +93,10 @@ accounts_send : (P : RattleType) (d : Ghosts P.Denot) → IsSend P → IsSync P 
 accounts_send P d s y =
     declared_send (accounts.the_type P d) (
       Arc-send counted.the_row counted_send counted_sync,
-      (planners_send P d s y, (as_row_send (row_field P) s, (search sendable, (search sendable, tt)))),
+      (
+        planners_send P d s y,
+        (as_row_send (row_field P) s, (search sendable, (search sendable, (search sendable, tt)))),
+      ),
     )
 
 -- what a planner says of itself plays no part in where it may go
