@@ -1,6 +1,6 @@
 -- What the next stretches of time tell, and how the points go on with them.
-use Rattle.std.proofs.Common.{◌≡◌, ℕ, ◌-◌, ◌^◌, ◌<◌, ◌≤◌, ◌⊎◌, nat_le, Bool, true, false, List, [], ◌∷◌, ◌++◌, ◌∙◌}
-use Rattle.std.proofs.Common.{sym, refl, ap, subst, arith, inl, inr, MatchBool, length, take, drop, slice_index_or}
+use Rattle.std.proofs.Common.{◌≡◌, ℕ, ◌-◌, ◌^◌, ◌+◌, ◌<◌, ◌≤◌, ◌⊎◌, nat_le, Bool, true, false, List, [], ◌∷◌, ◌++◌, ◌∙◌}
+use Rattle.std.proofs.Common.{append-nil, sym, refl, ap, subst, arith, inl, inr, MatchBool, length, take, drop, slice_index_or}
 use Rattle.std.proofs.Math.Seq.{take-length}
 use Rattle.std.specs.Prelude.{Option, Some, None, IfSome}
 use Rattle.std.proofs.lemmas.Bool.{cases_lt}
@@ -10,12 +10,14 @@ use Rattle.flux_defs.specs.declared.claims.Window.{Window}
 use Rattle.flux_defs.proofs.DigitLaws.{if_le, if_gt}
 use Rattle.planner_points.proofs.Starts.{same_free}
 use Rattle.planner_points.specs.declared.spans.Span.{Span}
-use Rattle.planner_points.specs.Spans.{free_at, HasRoom, IsLeastFree, IsEnd}
-use Rattle.planner_min_tree.specs.Points.{past, value_at}
+use Rattle.planner_points.specs.Spans.{free_at, HasRoom, IsLeastFree, IsEnd, IsFirstFree}
+use Rattle.planner_min_tree.specs.Points.{past, Runs, value_at, latest_of, need_of, rest_of}
+use Rattle.planner_min_tree.specs.Chunks.{flat}
 use Rattle.planner_min_tree.specs.declared.points.Point.{Point}
 use Rattle.planner_min_tree.specs.declared.near.Stretch.{Stretch}
-use Rattle.planner_min_tree.specs.Nears.{AreStretches, end_of, GoOn}
+use Rattle.planner_min_tree.specs.Nears.{AreStretches, end_of, GoOn, IsFirstHigh}
 use Rattle.planner_min_tree.specs.Marks.{Marks}
+use Rattle.planner_min_tree.proofs.TwoSides as two
 
 -- a list of some items is its first and the others
 pub split : {X : Type 0} (xs : List X) (d : X) → 1 ≤ length xs →
@@ -50,21 +52,26 @@ go_more g from to level ss h each = λ f start are end is.
     stretch_more f start to level ss are (omega (arith, end))
     (λ m lo hi. is m (omega (arith, end)) ∙ each m (omega (arith, end)) hi)
 
+-- they go on the same where the points are others that say the same from there on
+pub go_like : (g h : ℕ → ℕ) (old new : List Stretch) (from : ℕ) → ((m : ℕ) → from ≤ m → h m ≡ g m) →
+    GoOn g old from new → GoOn h old from new
+go_like g h old new from like on = λ f start are end is. on f start are end (λ m lo. is m lo ∙ like m lo)
+
 -- where no point is left, or the next one is reached already, or comes later
 module _ (x from : ℕ) (old new : List Stretch) where
-  pub go_end : (points : List Point) → length points < 1 → from ≤ 2 ^ 64 - 1 →
+  go_end : (points : List Point) → length points < 1 → from ≤ 2 ^ 64 - 1 →
       (new ≡ old ++ stretch_to (2 ^ 64 - 1) x ∷ []) ⊎ (new ≡ old) → GoOn (λ m. value_at m points x) old from new
   go_end (p ∷ ps) none h put = absurd (omega (arith, none))
   go_end [] none h (inl e) = rw e (go_more (λ m. x) from (2 ^ 64 - 1) x old h (λ m lo hi. refl))
   go_end [] none h (inr e) = rw e (go_same (λ m. x) from old)
 
   module _ (p : Point) (ps : List Point) where
-    pub go_past : p.time ≤ from → GoOn (λ m. value_at m ps (past p x)) old from new →
+    go_past : p.time ≤ from → GoOn (λ m. value_at m ps (past p x)) old from new →
         GoOn (λ m. value_at m (p ∷ ps) x) old from new
     go_past h on = λ f start are end is.
         on f start are end (λ m lo. is m lo ∙ if_le {a = p.time} {b = m} _ _ (omega arith))
 
-    pub go_later : from < p.time →
+    go_later : from < p.time →
         GoOn (λ m. value_at m ps (past p x)) (old ++ stretch_to p.time x ∷ []) p.time new →
         GoOn (λ m. value_at m (p ∷ ps) x) old from new
     go_later h on = λ f start are end is.
@@ -74,24 +81,50 @@ module _ (x from : ℕ) (old new : List Stretch) where
         (end_more start old (stretch_to p.time x))
         (λ m lo. is m (omega arith) ∙ if_le {a = p.time} {b = m} _ _ lo)
 
--- the same of some points, which are the first and the others
-pub went_past : (x from : ℕ) (old new : List Stretch) (points : List Point) (d : Point) → 1 ≤ length points →
-    (slice_index_or points 0 d).time ≤ from →
-    GoOn (λ m. value_at m (take (length points - 1) (drop 1 points)) (past (slice_index_or points 0 d) x))
-    old from new →
-    GoOn (λ m. value_at m points x) old from new
-went_past x from old new points d some h on =
-    subst (λ l. GoOn (λ m. value_at m l x) old from new) (sym (split points d some))
-    (go_past x from old new (slice_index_or points 0 d) (take (length points - 1) (drop 1 points)) h on)
+-- the same of some points and more behind them
+module _ (x from : ℕ) (old new : List Stretch) (points more : List Point) where
+  pub went_end : length points < 1 → more ≡ [] → from ≤ 2 ^ 64 - 1 →
+      (new ≡ old ++ stretch_to (2 ^ 64 - 1) x ∷ []) ⊎ (new ≡ old) →
+      GoOn (λ m. value_at m (points ++ more) x) old from new
+  went_end none e h put =
+      subst (λ l. GoOn (λ m. value_at m l x) old from new) (sym (rw e (append-nil points)))
+      (go_end x from old new points none h put)
 
-pub went_later : (x from : ℕ) (old new : List Stretch) (points : List Point) (d : Point) → 1 ≤ length points →
-    from < (slice_index_or points 0 d).time →
-    GoOn (λ m. value_at m (take (length points - 1) (drop 1 points)) (past (slice_index_or points 0 d) x))
-    (old ++ stretch_to (slice_index_or points 0 d).time x ∷ []) (slice_index_or points 0 d).time new →
-    GoOn (λ m. value_at m points x) old from new
-went_later x from old new points d some h on =
-    subst (λ l. GoOn (λ m. value_at m l x) old from new) (sym (split points d some))
-    (go_later x from old new (slice_index_or points 0 d) (take (length points - 1) (drop 1 points)) h on)
+  pub went_past : (d : Point) → 1 ≤ length points → (slice_index_or points 0 d).time ≤ from →
+      GoOn (λ m. value_at m (take (length points - 1) (drop 1 points) ++ more) (past (slice_index_or points 0 d) x))
+      old from new →
+      GoOn (λ m. value_at m (points ++ more) x) old from new
+  went_past d some h on =
+      subst (λ l. GoOn (λ m. value_at m (l ++ more) x) old from new) (sym (split points d some))
+      (go_past x from old new (slice_index_or points 0 d) (take (length points - 1) (drop 1 points) ++ more) h on)
+
+  pub went_later : (d : Point) → 1 ≤ length points → from < (slice_index_or points 0 d).time →
+      GoOn (λ m. value_at m (take (length points - 1) (drop 1 points) ++ more) (past (slice_index_or points 0 d) x))
+      (old ++ stretch_to (slice_index_or points 0 d).time x ∷ []) (slice_index_or points 0 d).time new →
+      GoOn (λ m. value_at m (points ++ more) x) old from new
+  went_later d some h on =
+      subst (λ l. GoOn (λ m. value_at m (l ++ more) x) old from new) (sym (split points d some))
+      (go_later x from old new (slice_index_or points 0 d) (take (length points - 1) (drop 1 points) ++ more) h on)
+
+-- the same of chunks side by side: those of the second where the first are past, and else those of the first
+module _ (xs ys : List (List Point)) (x from : ℕ) (old new : List Stretch) where
+  pub went_right : (more : List Point) → Runs (flat (xs ++ ys)) x → latest_of (flat xs) ≤ from →
+      GoOn (λ m. value_at m (flat ys ++ more) (x - need_of (flat xs) + rest_of (flat xs))) old from new →
+      GoOn (λ m. value_at m (flat (xs ++ ys) ++ more) x) old from new
+  went_right more runs le =
+      go_like _ _ old new from (λ m lo. two.value_behind xs ys x runs m more (omega arith))
+
+  pub went_left : (more : List Point) → GoOn (λ m. value_at m (flat xs ++ (flat ys ++ more)) x) old from new →
+      GoOn (λ m. value_at m (flat (xs ++ ys) ++ more) x) old from new
+  went_left more on = subst (λ l. GoOn (λ m. value_at m l x) old from new) (sym (two.three xs ys more)) on
+
+  pub went_coming : Runs (flat (xs ++ ys)) x → latest_of (flat xs) ≤ from →
+      GoOn (λ m. value_at m (flat ys ++ []) (x - need_of (flat xs) + rest_of (flat xs))) old from new →
+      GoOn (λ m. value_at m (flat (xs ++ ys)) x) old from new
+  went_coming runs le on =
+      go_like _ _ old new from
+      (λ m lo. two.value_right xs ys x runs m (omega arith)
+      ∙ ap (λ l. value_at m l (x - need_of (flat xs) + rest_of (flat xs))) (sym (append-nil (flat ys)))) on
 
 -- so much is free over a window where it is over its first part and the rest, and less where it is over the rest
 pub room_behind : (f : ℕ → ℕ) (w : Window) (to q level : ℕ) (told : Option Bool) → w.from < to → to < w.to →
@@ -106,15 +139,6 @@ room_behind f w to q level (Some true) lt le is much told = λ m lo hi.
       | inr behind ↦ told m behind hi
     ]
 room_behind f w to q level (Some false) lt le is much told = (told.0, omega (arith, told.1), told.2, told.3)
-
--- from a moment on, up to the next start or end of a span
-pub even_on : (total : ℕ) (points : List Point) (spans : List Span) → Marks total points spans →
-    (moment level to : ℕ) → level ≡ value_at moment points total →
-    ((t : ℕ) → moment < t → t < to → IsEnd spans t → ⊥) →
-    (m : ℕ) → moment ≤ m → m < to → value_at m points total ≡ level
-even_on total points spans marks moment level to e none m lo hi =
-    marks.free m
-    ∙ (sym (same_free total spans moment m lo (λ t a b. none t a (omega arith))) ∙ (sym (marks.free moment) ∙ sym e))
 
 -- so much is free over the window exactly where the least that is free is so much
 pub room_or_less : (total : ℕ) (spans : List Span) (w : Window) (q least : ℕ) → IsLeastFree total spans w least →
@@ -150,15 +174,49 @@ module _ (total : ℕ) (points : List Point) (spans : List Span) (marks : Marks 
     );
   }
 
-  pub even_told : (level : ℕ) → EachMoment w (λ m. value_at m points total ≡ level) →
-      (m : ℕ) → w.from ≤ m → m < w.to → free_at total spans m ≡ level
-  even_told level each m lo hi = (let e = marks.free m in let t = each m lo hi in omega arith)
+-- a moment is a start or an end of the spans, or none
+same_or_not : (a b : ℕ) → (a ≡ b) ⊎ (a ≡ b → ⊥)
+same_or_not a b = elim (cases_lt a b) [
+  | inl lt ↦ inr (λ e. absurd (omega arith))
+  | inr ge ↦ elim (cases_lt b a) [ inl gt ↦ inr (λ e. absurd (omega arith)) | inr le ↦ inl (omega arith) ]
+]
 
--- one stretch alone, where it is put to none
-pub one_stretch : (f : ℕ → ℕ) (from to level : ℕ) (old new : List Stretch) → old ≡ [] → from ≤ to →
-    ((m : ℕ) → from ≤ m → m < to → f m ≡ level) → (new ≡ old ++ stretch_to to level ∷ []) ⊎ (new ≡ old) →
-    AreStretches f from new
-one_stretch f from to level [] new none h is (inl e) = rw e (h, is, tt)
-one_stretch f from to level [] new none h is (inr e) = rw e tt
-one_stretch f from to level (s ∷ ss) new none h is put =
-    absurd (let e : length (s ∷ ss) ≡ length {A = Stretch} [] = ap length none in omega (arith, e))
+end_or_not : (t : ℕ) (spans : List Span) → IsEnd spans t ⊎ (IsEnd spans t → ⊥)
+end_or_not t [] = inr (λ end. end)
+end_or_not t (s ∷ spans) =
+    elim (end_or_not t spans) [
+      | inl end ↦ inl (inr end)
+      | inr none ↦ elim (same_or_not t s.window.from) [
+        | inl from ↦ inl (inl (inl from))
+        | inr later ↦ elim (same_or_not t s.window.to) [
+          | inl to ↦ inl (inl (inr to))
+          | inr other ↦ inr (λ end. elim end [
+            | inl here ↦ elim here [ inl e ↦ later e | inr e ↦ other e ]
+            | inr there ↦ none there
+          ])
+        ]
+      ]
+    ]
+
+-- what is free changes at a start or an end alone
+pub first_told : (total : ℕ) (points : List Point) (spans : List Span) → Marks total points spans →
+    (from q t : ℕ) → IsFirstHigh (λ m. value_at m points total) from q t → IsFirstFree total spans from q t
+first_told total points spans marks from q t is = record {
+  later = is.later;
+  free = let e = marks.free t in omega (arith, is.high);
+  least = λ u lo hi. (let e = marks.free u in let l = is.first u lo hi in omega arith);
+  at = elim (cases_lt from t) [
+    | inr ge ↦ inl (omega (arith, is.later))
+    | inl lt ↦ elim (end_or_not t spans) [
+      | inl end ↦ inr end
+      | inr none ↦ absurd (
+          let before = is.first (t - 1) (omega arith) (omega arith) in
+          let e = marks.free (t - 1) in
+          let i = marks.free t in
+          let same =
+          same_free total spans (t - 1) t (omega arith)
+          (λ u lo hi end. none (subst (λ n. IsEnd spans n) (let at : u ≡ t = omega arith in at) end)) in
+          omega (arith, is.high))
+    ]
+  ];
+}

@@ -52,6 +52,10 @@ place_left t (c ∷ d ∷ xs) ys h s r =
           ∙ sym (if_gt {a = suc (latest_of c)} {b = t} _ _ (omega arith))
     ]
 
+-- the points of two lists of chunks, and more behind them
+pub three : (xs ys : Chunks) (more : List Point) → flat (xs ++ ys) ++ more ≡ flat xs ++ (flat ys ++ more)
+three xs ys more = ap (λ l. l ++ more) (flat_append xs ys) ∙ append_assoc (flat xs) (flat ys) more
+
 module _ (xs ys : Chunks) where
   both : flat xs ++ flat ys ≡ flat (xs ++ ys)
   both = sym (flat_append xs ys)
@@ -135,6 +139,13 @@ module _ (xs ys : Chunks) where
     value_right m h = ap (λ ps. value_at m ps x) (flat_append xs ys)
         ∙ dips.value_right m (flat xs) (flat ys) x h
         ∙ ap (value_at m (flat ys)) after_is
+
+    pub value_behind : (m : ℕ) (more : List Point) → latest_of (flat xs) ≤ m →
+        value_at m (flat (xs ++ ys) ++ more) x
+        ≡ value_at m (flat ys ++ more) (x - need_of (flat xs) + rest_of (flat xs))
+    value_behind m more h = ap (λ ps. value_at m ps x) (three xs ys more)
+        ∙ dips.value_right m (flat xs) (flat ys ++ more) x h
+        ∙ ap (value_at m (flat ys ++ more)) after_is
 
     pub value_left : (m : ℕ) → m < latest_of (flat xs) → value_at m (flat (xs ++ ys)) x ≡ value_at m (flat xs) x
     value_left m h = ap (λ ps. value_at m ps x) (flat_append xs ys) ∙ dips.value_left m (flat xs) (flat ys) x h

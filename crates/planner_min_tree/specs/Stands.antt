@@ -10,4 +10,4 @@ use Rattle.planner_min_tree.specs.declared.planner.MinTree.TheInside.{Inside}
 pub record IsPlan (t : Inside) : Type 0 where
   pub spans : List Span
   pub marks : Marks t.total t.points spans
-  pub near : AreStretches (λ m. value_at m t.points t.total) t.near.from t.near.stretches.items
+  pub near : AreStretches (λ m. value_at m t.points t.total) t.near.from t.near.stretches

@@ -12,6 +12,7 @@ use crate::marking::{Change, Mark};
 use crate::near::Near;
 use crate::points::Point;
 use crate::timeline::Timeline;
+use arrayvec::ArrayVec;
 use flux_defs::{Steps, Window};
 use node_store::Share;
 use planner_points::Planner;
@@ -51,38 +52,19 @@ pub fn has_few_points(planner: &MinTree)
 
 impl MinTree {
     ghost use Rattle.std.specs.Prelude.{◌↔◌, IsTrue};
-    ghost use Rattle.planner_min_tree.specs.Points.{first_from, value_at};
-    ghost use Rattle.planner_min_tree.specs.Nears.{AreStretches};
-
-    /// The next stretches from a second on: as many as are kept, or one where the points stand in several nodes.
-    #[tactic(auto, using(crate::proofs::PlanFacts::marks_run))]
-    fn near_since<L: Ledger>(&self, moment: u64, steps: &mut Steps<L>) -> Near
-        ensures from { result.from ≡ moment }
-        ensures near { AreStretches (λ m. value_at m self.now.points self.now.total) moment result.stretches.items }
-        ensures work { steps.new ≤ steps.old + (4 * dig (length self.now.points + 2) + 1) }
-    {
-        let mut near = Near::none(moment);
-        if self
-            .points
-            .note_near(moment, self.total, &mut near.stretches, steps)
-        {
-            return near;
-        }
-        let level = self.points.value_at(moment, self.total, steps);
-        let to = match self.next(moment, steps) {
-            None => u64::MAX,
-            Some(point) => point.time,
-        };
-        near.put(to, level);
-        near
-    }
+    ghost use Rattle.planner_min_tree.specs.Points.{first_from};
 
     /// Notes the next stretches anew, after a change of the points.
+    #[tactic(auto, using(crate::proofs::PlanFacts::marks_run))]
     fn renew<L: Ledger>(&mut self, steps: &mut Steps<L>)
         ensures same { self.new ≡ self.old }
-        ensures work { steps.new ≤ steps.old + (4 * dig (length self.old.points + 2) + 1) }
+        ensures work { steps.new ≤ steps.old + 2 * dig (length self.old.points + 2) }
     {
-        self.near = self.near_since(self.near.from, steps);
+        let from = self.near.from();
+        let mut stretches = ArrayVec::new();
+        self.points
+            .note_near(from, self.total, &mut stretches, steps);
+        self.near = Near::of(from, stretches);
     }
 
     /// The first point after that second.
@@ -206,7 +188,7 @@ impl Planner for MinTree {
             taken: quantity,
             given: 0,
         };
-        self.near = Near::none(self.near.from);
+        self.near = Near::none(self.near.from());
         match self
             .points
             .change_twice(alloc, Change::More(stop), Change::More(start), steps)
@@ -247,7 +229,7 @@ impl Planner for MinTree {
             taken: 0,
             given: quantity,
         };
-        self.near = Near::none(self.near.from);
+        self.near = Near::none(self.near.from());
         match self
             .points
             .change_twice(alloc, Change::Less(start), Change::Less(stop), steps)
@@ -349,11 +331,8 @@ impl Planner for MinTree {
         ensures work { steps.new ≤ steps.old + 4 * dig (length self.now.points + 2) }
         ensures counted { steps.old ≤ steps.new }
     {
-        if let Some(level) = self.near.level(window) {
-            if level < quantity {
-                return Some(window.to - 1);
-            }
-            return None;
+        if let Some(end) = self.near.low_end(window, quantity) {
+            return if end == 0 { None } else { Some(end - 1) };
         }
         match self
             .points
@@ -399,6 +378,9 @@ impl Planner for MinTree {
         ensures work { steps.new ≤ steps.old + 16 * dig (length self.now.points + 2) }
         ensures counted { steps.old ≤ steps.new }
     {
+        if let Some(first) = self.near.first_high(from, quantity) {
+            return Some(first);
+        }
         if self.points.value_at(from, self.total, steps) >= quantity {
             return Some(from);
         }

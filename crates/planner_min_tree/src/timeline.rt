@@ -1,5 +1,5 @@
 //! The points of a planner, of which those that are past stand apart.
-ghost use Rattle.std.specs.Prelude.{◌≡◌, ◌↔◌, IsTrue, false, ◌+◌, ◌*◌, ◌<◌, ◌≤◌, List, [], ◌++◌, length, Some};
+ghost use Rattle.std.specs.Prelude.{◌≡◌, ◌↔◌, IsTrue, ◌+◌, ◌*◌, ◌<◌, ◌≤◌, List, [], ◌++◌, length, Some};
 ghost use Rattle.std.specs.Prelude.{slice_get, IfOk, IfSome, IfNone, OnOk};
 ghost use Rattle.flux_defs.specs.Digits.{dig};
 ghost use Rattle.balanced_tree.specs.Edits.{made};
@@ -211,8 +211,8 @@ impl Timeline {
         }
     }
 
-    /// Adds the stretches that the points tell of from a second on, as far as there is room for them: `false`, and none
-    /// are added, where what is to come then stands in more than one node, or is past.
+    /// Adds the stretches that the points tell of from a second on, as far as there is room for them, and as the node
+    /// tells them that has the second's place: none where it is past.
     #[tactic(auto, using(crate::proofs::TwoSides::value_facts))]
     pub fn note_near<L: Ledger>(
         &self,
@@ -220,21 +220,22 @@ impl Timeline {
         free: u64,
         stretches: &mut ArrayVec<Stretch, NEXT>,
         steps: &mut Steps<L>,
-    ) -> bool
+    )
         requires { Runs self.now free }
-        ensures noted { IsTrue result →
-            GoOn (λ m. value_at m self.now free) stretches.old.items from stretches.new.items }
-        ensures same { result ≡ false → stretches.new.items ≡ stretches.old.items }
-        ensures work { steps.new ≤ steps.old + 1 }
+        ensures noted { GoOn (λ m. value_at m self.now free) stretches.old.items from stretches.new.items }
+        ensures work { steps.new ≤ steps.old + 2 * dig (length self.now + 2) }
     {
+        let _past = self.past.height();
+        let _coming = self.coming.height();
         let sum = self.past.sum();
         if from < sum.latest {
-            return false;
+            return;
         }
         walks::note_near(
             Side { tree: &self.coming },
             from,
             sum.past(free),
+            true,
             stretches,
             steps,
         )

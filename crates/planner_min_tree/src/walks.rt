@@ -1,5 +1,6 @@
 //! What a tree of points says of a moment or a window.
-ghost use Rattle.std.specs.Prelude.{◌≡◌, ◌+◌, ◌-◌, ◌*◌, ◌^◌, ◌<◌, ◌≤◌, length, IfNone, IsTrue, false};
+ghost use Rattle.std.specs.Prelude.{◌≡◌, ◌+◌, ◌-◌, ◌*◌, ◌^◌, ◌<◌, ◌≤◌, List, [], ◌++◌, length, IfNone, IsTrue};
+ghost use Rattle.planner_min_tree.specs.declared.points.Point.{Point};
 ghost use Rattle.planner_min_tree.specs.Chunks.{flat, chunk_at};
 ghost use Rattle.planner_min_tree.specs.Points.{Runs, lowest_before, lowest_from, lowest_in, first_from, value_at};
 ghost use Rattle.planner_min_tree.specs.Points.{first_rise, rise_after, after, low_end, last_rise};
@@ -165,31 +166,41 @@ pub fn value_at<L: Ledger>(side: Side<'_>, m: u64, free: u64, steps: &mut Steps<
     }
 }
 
-/// Adds the stretches that the points tell of from a moment on, as far as there is room for them: `false`, and none are
-/// added, where the points stand in more than one chunk.
+/// Adds the stretches that the points tell of from a moment on, as far as there is room for them, and as the chunk tells
+/// them that has the moment's place. What others behind them tell isn't known, unless these are the last.
+#[tactic(auto, using(crate::proofs::TwoSides::value_facts))]
 pub fn note_near<L: Ledger>(
     side: Side<'_>,
     from: u64,
     free: u64,
+    last: bool,
     stretches: &mut ArrayVec<Stretch, NEXT>,
     steps: &mut Steps<L>,
-) -> bool
+)
     requires { Runs (flat side.tree.now.0) free }
-    ensures noted { IsTrue result →
-        GoOn (λ m. value_at m (flat side.entry.tree.now.0) free) stretches.old.items from stretches.new.items }
-    ensures same { result ≡ false → stretches.new.items ≡ stretches.old.items }
-    ensures work { steps.new ≤ steps.old + 1 }
+    ensures noted { (more : List Point) → (IsTrue last → more ≡ []) →
+        GoOn (λ m. value_at m (flat side.entry.tree.now.0 ++ more) free) stretches.old.items from
+        stretches.new.items }
+    ensures work { steps.new ≤ steps.old + side.entry.tree.now.1 + 1 }
 {
     match side.tree.shape(steps) {
-        Shape::Empty => {
-            note_points(&[], from, free, stretches);
-            true
+        Shape::Empty => note_points(&[], from, free, last, stretches),
+        Shape::Leaf(chunk) => note_points(chunk.look(steps), from, free, last, stretches),
+        Shape::Fork(left, right) => {
+            let sum = left.sum();
+            if sum.latest <= from {
+                note_near(
+                    Side { tree: right },
+                    from,
+                    sum.past(free),
+                    last,
+                    stretches,
+                    steps,
+                )
+            } else {
+                note_near(Side { tree: left }, from, free, false, stretches, steps)
+            }
         }
-        Shape::Leaf(chunk) => {
-            note_points(chunk.look(steps), from, free, stretches);
-            true
-        }
-        Shape::Fork(_, _) => false,
     }
 }
 

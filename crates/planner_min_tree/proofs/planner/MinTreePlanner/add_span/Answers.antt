@@ -17,7 +17,7 @@ invariant_of-self g c =
       marks = rw c.in-Ok.ensures.items
           (marks_with c.self.inside.total c.self.inside.points c.args.window c.args.quantity c.requires.window
           [] spans marks (room spans marks));
-      near = rw c.none-self-inside.ensures.none tt;
+      near = rw c.none-self-inside.ensures tt;
     }
 
 pub invariant_of-self-in-Err : goal.invariant_of-self-in-Err
@@ -25,7 +25,7 @@ invariant_of-self-in-Err g c =
     record {
       spans = [];
       marks = rw c.empty.ensures (marks_none c.self.inside.total);
-      near = rw c.none-self-inside.ensures.none tt;
+      near = rw c.none-self-inside.ensures tt;
     }
 
 pub returns-in-Ok-clause-spans : goal.returns-in-Ok-clause-spans

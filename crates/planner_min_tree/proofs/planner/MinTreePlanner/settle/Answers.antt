@@ -7,5 +7,5 @@ invariant_of-self-in-Err g c =
     record {
       spans = [];
       marks = rw c.empty.ensures (marks_none c.self.inside.total);
-      near = rw c.none-self-inside.ensures.none tt;
+      near = rw c.none-self-inside.ensures tt;
     }
