@@ -1,7 +1,7 @@
 #!/usr/bin/env python3
 """Measures the program: how long it takes, how much memory, and how both grow with the input.
 
-  tools/bench.py                          every bench, with the program that ./fluxion built
+  tools/bench.py                          every bench, with the program that ./fluxion built, as ./fluxion runs it
   tools/bench.py --only load,satisfy --scale 0.1
   tools/bench.py --beside /path/to/other  a second program on the same inputs, run in turn with the first
 
@@ -28,7 +28,8 @@ from fluxtools.command import Fault, Parser, counted, finish, reason
 
 USAGE = """tools/bench.py [--program PATH] [--beside PATH] [--only NAME,..] [--scale X] [--runs N] [--seconds N]"""
 TOP = os.path.dirname(os.path.dirname(os.path.realpath(__file__)))
-PROGRAM = os.path.join(TOP, "crates", "fluxion", "out", "fluxion")
+PROGRAM = os.path.join(TOP, "fluxion")
+BUILT = os.path.join(TOP, "crates", "fluxion", "out", "fluxion")
 HEAD = ("bench", "size", "program", "cpu s", "clock s", "MB", "a second", "growth", "output")
 LOOK = 0.004  # seconds between two looks at a run's memory
 
@@ -194,7 +195,7 @@ def line_of(cells):
 
 def main(words):
     parser = Parser("bench.py", __doc__, USAGE)
-    parser.add_argument("--program", default=PROGRAM, metavar="PATH", help="the program; default: what ./fluxion built")
+    parser.add_argument("--program", default=PROGRAM, metavar="PATH", help="the program; default: ./fluxion")
     parser.add_argument("--beside", metavar="PATH", help="a program that takes the same words, measured in turn")
     known = ", ".join(BENCHES)
     parser.add_argument("--only", type=names, default=list(BENCHES), metavar="NAME,..", help=f"benches, of {known}")
@@ -202,6 +203,8 @@ def main(words):
     parser.add_argument("--runs", type=counted, default=1, metavar="N", help="runs of each size; default: 1")
     parser.add_argument("--seconds", type=counted, default=300, metavar="N", help="most seconds of a run; default: 300")
     chosen = parser.parse_args(words)
+    if chosen.program == PROGRAM and not os.path.exists(BUILT):
+        raise Fault(BUILT, "isn't built; ./fluxion builds it")
     print(line_of(HEAD), flush=True)
     for cells in measure(chosen):
         print(line_of(cells), flush=True)

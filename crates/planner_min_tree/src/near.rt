@@ -282,14 +282,7 @@ impl Near {
         if window.from < self.from {
             return None;
         }
-        low_end_over(
-            self.items(),
-            self.from,
-            window.from,
-            window.to,
-            quantity,
-            0,
-        )
+        low_end_over(self.items(), self.from, window.from, window.to, quantity, 0)
     }
 
     /// The first second from `from` on at which so much is free; `None` where the stretches don't tell it.
