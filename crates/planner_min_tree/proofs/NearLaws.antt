@@ -1,6 +1,7 @@
 -- What the next stretches of time tell, and how the points go on with them.
 use Rattle.std.proofs.Common.{◌≡◌, ℕ, ◌-◌, ◌^◌, ◌+◌, ◌<◌, ◌≤◌, ◌⊎◌, nat_le, Bool, true, false, List, [], ◌∷◌, ◌++◌, ◌∙◌}
-use Rattle.std.proofs.Common.{append-nil, sym, refl, ap, subst, arith, inl, inr, MatchBool, length, take, drop, slice_index_or}
+use Rattle.std.proofs.Common.{append-nil, sym, refl, ap, subst, arith, inl, inr, MatchBool, length, take, drop}
+use Rattle.std.proofs.Common.{slice_index_or}
 use Rattle.std.proofs.Math.Seq.{take-length}
 use Rattle.std.specs.Prelude.{Option, Some, None, IfSome}
 use Rattle.std.proofs.lemmas.Bool.{cases_lt}

@@ -211,8 +211,8 @@ impl Timeline {
         }
     }
 
-    /// Adds the stretches that the points tell of from a second on, as far as there is room for them, and as the node
-    /// tells them that has the second's place: none where it is past.
+    /// Adds the stretches that the points tell of from a second on, as far as there is room for them and the node that
+    /// has the second's place tells them: none where it is past.
     #[tactic(auto, using(crate::proofs::TwoSides::value_facts))]
     pub fn note_near<L: Ledger>(
         &self,

@@ -166,8 +166,8 @@ pub fn value_at<L: Ledger>(side: Side<'_>, m: u64, free: u64, steps: &mut Steps<
     }
 }
 
-/// Adds the stretches that the points tell of from a moment on, as far as there is room for them, and as the chunk tells
-/// them that has the moment's place. What others behind them tell isn't known, unless these are the last.
+/// Adds the stretches that the points tell of from a moment on, as far as there is room for them and the chunk that has
+/// the moment's place tells them. What others behind them tell isn't known, unless these are the last.
 #[tactic(auto, using(crate::proofs::TwoSides::value_facts))]
 pub fn note_near<L: Ledger>(
     side: Side<'_>,

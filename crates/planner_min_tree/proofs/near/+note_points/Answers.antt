@@ -4,8 +4,8 @@ use Rattle.planner_min_tree.proofs.near.+note_points.Goals as goal
 
 pub returns-then-point-from : goal.returns-then-point-from
 returns-then-point-from t c = λ more last.
-    went_past c.args.free c.args.from c.args.stretches.now.items c.note_points.new.stretches.items c.args.points.now more
-    _ c.in-len1-up.len_at_least (omega (arith, c.if-point-from.true))
+    went_past c.args.free c.args.from c.args.stretches.now.items c.note_points.new.stretches.items
+    c.args.points.now more _ c.in-len1-up.len_at_least (omega (arith, c.if-point-from.true))
     (rw (c.past-past.ensures) at c.note_points.ensures more last)
 
 pub returns-else-is_full : goal.returns-else-is_full

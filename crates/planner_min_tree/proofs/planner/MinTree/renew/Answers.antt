@@ -10,5 +10,6 @@ invariant_of-self g c =
     record {
       spans = c.self.invariant.spans;
       marks = c.self.invariant.marks;
-      near = rw c.of-self-inside.ensures (noted (λ m. value_at m points total) c.from-from.result tt refl (λ m lo. refl));
+      near = rw c.of-self-inside.ensures
+          (noted (λ m. value_at m points total) c.from-from.result tt refl (λ m lo. refl));
     }
