@@ -20,6 +20,7 @@ use Rattle.flux_defs.specs.Scheduler.{Setting}
 use Rattle.flux_defs.specs.Histories.{state_at}
 use Rattle.flux_defs.specs.Overtaken.{Candidate, Cause, Freed, Late, Taken, Frees, Delays, Blocks, IsFirstFrom}
 use Rattle.flux_defs.specs.Overtaken.{IsFirstTaken, IsTakenBy, IsTakenFor, IsOvertaken}
+use Rattle.flux_defs.specs.Present.{up_with}
 use Rattle.commit_laws.proofs.Firsts.{first_once}
 
 -- what holds of the first elements of a list holds of one of them
@@ -32,15 +33,15 @@ of_first P (y ∷ ys) (suc n) (suc i) x lt e all = of_first P ys n i x (omega ar
 
 module _ (vertices : List Vertex) (jobs : List Job) (w : Window) (claims : List Claim) where
   abbrev Free : Claim → Type 0
-  Free = IsAvailable (no_bars vertices jobs) w
+  Free = IsAvailable (no_bars vertices (up_with jobs)) w
 
-  not_before : (i j : ℕ) (c d : Claim) → IsFirstTaken vertices jobs w claims i c →
-      IsFirstTaken vertices jobs w claims j d → i < j → ⊥
+  not_before : (i j : ℕ) (c d : Claim) → IsFirstTaken vertices (up_with jobs) w claims i c →
+      IsFirstTaken vertices (up_with jobs) w claims j d → i < j → ⊥
   not_before i j c d f h lt =
       f.taken (of_first Free claims j i c lt f.there (recursion_from_All Free (take j claims) h.before))
 
-  index_once : (i j : ℕ) (c d : Claim) → IsFirstTaken vertices jobs w claims i c →
-      IsFirstTaken vertices jobs w claims j d → i ≡ j
+  index_once : (i j : ℕ) (c d : Claim) → IsFirstTaken vertices (up_with jobs) w claims i c →
+      IsFirstTaken vertices (up_with jobs) w claims j d → i ≡ j
   index_once i j c d f h = elim (cases_lt i j) [
     | inl less ↦ absurd (not_before i j c d f h less)
     | inr more ↦ elim (cases_lt j i) [ inl less ↦ absurd (not_before j i d c h f less) | inr same ↦ omega arith ]

@@ -16,7 +16,7 @@ use Rattle.flux_defs.specs.Graph.{Everywhere}
 use Rattle.flux_defs.specs.Closed.{Scene, no_bars}
 use Rattle.flux_defs.specs.Available.{is_available_at, IsAvailable}
 use Rattle.flux_defs.specs.Asks.{window_of, CountsWithin, scene_of, IsLowestFirst}
-use Rattle.flux_defs.specs.Scheduler.{Setting, State, Replies}
+use Rattle.flux_defs.specs.Scheduler.{Setting, State, Replies, present_of}
 use Rattle.flux_defs.specs.Histories.{state_after, state_at, IsLegal}
 use Rattle.flux_defs.specs.Verdicts.{Finds, Yields}
 use Rattle.flux_defs.specs.Overtaken.{Candidate, Freed, Late, Taken, Frees, Delays, Blocks, NoneFrom, IsTakenBy}
@@ -43,7 +43,7 @@ available_stable scene w c n m lo hi = test_stable (is_available_at scene m c) (
 -- what was found at a start: a window that counts, and the lowest-first claims over it
 abbrev pub FoundThere : Setting → State → Ask → ℕ → List Claim → Type 0
 FoundThere g s ask start claims =
-    CountsWithin g.horizon ask start × IsLowestFirst g.graph.vertices s.jobs ask (window_of g.horizon ask start) claims
+    CountsWithin g.horizon ask start × IsLowestFirst g.graph.vertices (present_of s) ask (window_of g.horizon ask start) claims
 
 module _ (g : Setting) (s : State) (ask : Ask) (start : ℕ) (claims : List Claim) where
   there : (t : ℕ) (cs : List Claim) → Found start claims ≡ Found t cs → FoundThere g s ask t cs →
@@ -73,20 +73,20 @@ module _ (g : Setting) (s : State) (ask : Ask) (start : ℕ) (claims : List Clai
 
   -- its claims were available, to an ask that bars nothing too, and are on vertices of the graph
   pub were_claimed : FoundThere g s ask start claims →
-      AllByRecursion (IsClaimed g.graph.vertices (IsAvailable (no_bars g.graph.vertices s.jobs)
+      AllByRecursion (IsClaimed g.graph.vertices (IsAvailable (no_bars g.graph.vertices (present_of s))
       (window_of g.horizon ask start))) claims
   were_claimed f =
       let vs = g.graph.vertices in
       let w = window_of g.horizon ask start in
-      let ok = IsAvailable (scene_of vs s.jobs ask) w in
-      all_along (IsClaimed vs ok) (IsClaimed vs (IsAvailable (no_bars vs s.jobs) w))
+      let ok = IsAvailable (scene_of vs (present_of s) ask) w in
+      all_along (IsClaimed vs ok) (IsClaimed vs (IsAvailable (no_bars vs (present_of s)) w))
       (λ c h. (unbarred vs s.jobs ask.barred w c h.0, h.1)) claims
-      (fits_claimed vs ok 1 Everywhere ask.needs claims (lowest_fits vs s.jobs ask w claims f.1))
+      (fits_claimed vs ok 1 Everywhere ask.needs claims (lowest_fits vs (present_of s) ask w claims f.1))
 
   pub were_available : FoundThere g s ask start claims →
-      AllByRecursion (IsAvailable (no_bars g.graph.vertices s.jobs) (window_of g.horizon ask start)) claims
+      AllByRecursion (IsAvailable (no_bars g.graph.vertices (present_of s)) (window_of g.horizon ask start)) claims
   were_available f =
-      let ok = IsAvailable (no_bars g.graph.vertices s.jobs) (window_of g.horizon ask start) in
+      let ok = IsAvailable (no_bars g.graph.vertices (present_of s)) (window_of g.horizon ask start) in
       all_along (IsClaimed g.graph.vertices ok) ok (λ c h. h.0) claims (were_claimed f)
 
 -- Nothing overtook the candidate, said fact by fact: no claim was freed since, time didn't move past it, and the claims
@@ -96,7 +96,7 @@ InTime history c = NoneFrom (Frees history) c.place × NoneFrom (Delays c histor
 
 abbrev pub FreeNow : Setting → List Entry → Ask → ℕ → List Claim → Type 0
 FreeNow g history ask start claims =
-    AllByRecursion (IsAvailable (no_bars g.graph.vertices (state_now history).jobs)
+    AllByRecursion (IsAvailable (no_bars g.graph.vertices (present_of (state_now history)))
     (window_of g.horizon ask start)) claims
 
 abbrev pub StandsAs : Setting → List Entry → Candidate → Verdict → Command → Type 0
@@ -121,14 +121,14 @@ module _ (g : Setting) (history : List Entry) (place : ℕ) where
 
   -- and its claims are free, if none of them was taken
   free_now : (w : Window) (claims : List Claim) → NoneFrom (Frees history) place →
-      AllByRecursion (IsAvailable (no_bars g.graph.vertices (state_at history place).jobs) w) claims →
+      AllByRecursion (IsAvailable (no_bars g.graph.vertices (present_of (state_at history place))) w) claims →
       ((at index : ℕ) → IsTakenBy g history place w claims at index → ⊥) →
-      AllByRecursion (IsAvailable (no_bars g.graph.vertices (state_now history).jobs) w) claims
+      AllByRecursion (IsAvailable (no_bars g.graph.vertices (present_of (state_now history))) w) claims
   free_now w claims frees was never =
       let vs = g.graph.vertices in
-      let then = IsAvailable (no_bars vs (state_at history place).jobs) w in
-      let now = IsAvailable (no_bars vs (state_now history).jobs) w in
-      all_unless_first now (available_stable (no_bars vs (state_now history).jobs) w) claims
+      let then = IsAvailable (no_bars vs (present_of (state_at history place))) w in
+      let now = IsAvailable (no_bars vs (present_of (state_now history))) w in
+      all_unless_first now (available_stable (no_bars vs (present_of (state_now history))) w) claims
       (λ i c is gone before. gone
       (still_there history place vs w c frees
       (none_from (Blocks vs w c history) place
@@ -197,9 +197,9 @@ module _ (g : Setting) (history : List Entry) (place : ℕ) where
     then = state_after s entries
 
     free_then : (ask : Ask) (start : ℕ) (claims : List Claim) → FreeNow g history ask start claims →
-        AllByRecursion (IsAvailable (no_bars g.graph.vertices then.jobs) (window_of g.horizon ask start)) claims
+        AllByRecursion (IsAvailable (no_bars g.graph.vertices (present_of then)) (window_of g.horizon ask start)) claims
     free_then ask start claims free =
-        subst (λ (x : State). AllByRecursion (IsAvailable (no_bars g.graph.vertices x.jobs)
+        subst (λ (x : State). AllByRecursion (IsAvailable (no_bars g.graph.vertices (present_of x))
         (window_of g.horizon ask start)) claims)
         (whole history place) free
 
@@ -268,11 +268,11 @@ module _ (g : Setting) (history : List Entry) where
   untaken c t never (Taken at index) (can, f) = never at index f.2
 
   not_taken : (place : ℕ) (w : Window) (claims : List Claim) →
-      AllByRecursion (IsAvailable (no_bars g.graph.vertices (state_now history).jobs) w) claims → (at index : ℕ) →
+      AllByRecursion (IsAvailable (no_bars g.graph.vertices (present_of (state_now history))) w) claims → (at index : ℕ) →
       IsTakenBy g history place w claims at index → ⊥
   not_taken place w claims free at index (claim, taken, first) =
       taken.taken
-      (all_at (IsAvailable (no_bars g.graph.vertices (state_now history).jobs) w) claims index claim free taken.there)
+      (all_at (IsAvailable (no_bars g.graph.vertices (present_of (state_now history))) w) claims index claim free taken.there)
 
   module _ (place : ℕ) where
     abbrev of : Command → Verdict → Candidate

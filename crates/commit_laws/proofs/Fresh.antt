@@ -15,9 +15,10 @@ use Rattle.flux_defs.specs.declared.verdicts.Verdict.TheVariants.{Found, NoFit, 
 use Rattle.flux_defs.specs.Closed.{no_bars}
 use Rattle.flux_defs.specs.Available.{IsAvailable}
 use Rattle.flux_defs.specs.Asks.{window_of, CountsWithin, SomeFit, IsLowestFirst, IsStart, IsEarliest, IsSatisfiable}
-use Rattle.flux_defs.specs.Scheduler.{Setting, State, Unless, AcceptedOrFull, Replies}
+use Rattle.flux_defs.specs.Scheduler.{Setting, State, Unless, AcceptedOrFull, Replies, present_of}
 use Rattle.flux_defs.specs.Histories.{state_after, IsLegalFrom}
 use Rattle.flux_defs.specs.Verdicts.{Finds, YieldsJob, Yields, job_of}
+use Rattle.flux_defs.specs.Present.{up_with}
 use Rattle.graph_laws.proofs.Containment.{ParentsFirst}
 use Rattle.flux_laws.proofs.Determined.{lowest_fits}
 use Rattle.commit_laws.proofs.Grown.{NoCancel, accepted, jobs_grow, stays_fine, used_grow}
@@ -64,17 +65,17 @@ module _ (g : Setting) (first : ParentsFirst g.graph.vertices) (s : State) (entr
   -- the claims are free now, of an ask over its window at the start
   abbrev pub AreFree : Ask → ℕ → List Claim → Type 0
   AreFree ask start claims =
-      AllByRecursion (IsAvailable (no_bars g.graph.vertices later.jobs) (window_of g.horizon ask start)) claims
+      AllByRecursion (IsAvailable (no_bars g.graph.vertices (present_of later)) (window_of g.horizon ask start)) claims
 
   -- then they are the lowest-first ones in the later state
   lowest_then : NoCancel entries → (ask : Ask) (start : ℕ) (claims : List Claim) →
-      IsLowestFirst g.graph.vertices s.jobs ask (window_of g.horizon ask start) claims → AreFree ask start claims →
-      IsLowestFirst g.graph.vertices later.jobs ask (window_of g.horizon ask start) claims
+      IsLowestFirst g.graph.vertices (present_of s) ask (window_of g.horizon ask start) claims → AreFree ask start claims →
+      IsLowestFirst g.graph.vertices (present_of later) ask (window_of g.horizon ask start) claims
   lowest_then none ask start claims low free =
       let w = window_of g.horizon ask start in
-      subst (λ (js : List Job). IsLowestFirst g.graph.vertices js ask w claims) (sym (grown none))
+      subst (λ (js : List Job). IsLowestFirst g.graph.vertices (up_with js) ask w claims) (sym (grown none))
       (still_lowest g.graph.vertices s.jobs (accepted entries) ask first w claims low
-      (subst (λ (js : List Job). AllByRecursion (IsAvailable (no_bars g.graph.vertices js) w) claims)
+      (subst (λ (js : List Job). AllByRecursion (IsAvailable (no_bars g.graph.vertices (up_with js)) w) claims)
       (grown none) free))
 
   -- what nothing overtook, for an allocate
@@ -98,7 +99,7 @@ module _ (g : Setting) (first : ParentsFirst g.graph.vertices) (s : State) (entr
     by none v w r e h = subst (λ (x : Verdict). YieldsJob g later id ask none x r) e h
 
     takes_up : (start : ℕ) (claims : List Claim) (none r : Reply) →
-        IsLowestFirst g.graph.vertices later.jobs ask (window_of g.horizon ask start) claims →
+        IsLowestFirst g.graph.vertices (present_of later) ask (window_of g.horizon ask start) claims →
         YieldsJob g later id ask none (Found start claims) r → AcceptedOrFull g later id ask start r
     takes_up start claims none r low h = (
       job_of g id ask start claims,
@@ -108,43 +109,43 @@ module _ (g : Setting) (first : ParentsFirst g.graph.vertices) (s : State) (entr
 
     -- where nothing fitted, nothing fits with more jobs
     none_fits : NoCancel entries → later.moment ≡ s.moment →
-        (SomeFit g.graph.vertices s.jobs ask (window_of g.horizon ask s.moment) → ⊥) →
-        SomeFit g.graph.vertices later.jobs ask (window_of g.horizon ask later.moment) → ⊥
+        (SomeFit g.graph.vertices (present_of s) ask (window_of g.horizon ask s.moment) → ⊥) →
+        SomeFit g.graph.vertices (present_of later) ask (window_of g.horizon ask later.moment) → ⊥
     none_fits kept same none f =
         none (fit_back g.graph.vertices s.jobs (accepted entries) ask (window_of g.horizon ask s.moment)
-        (subst (λ (js : List Job). SomeFit g.graph.vertices js ask (window_of g.horizon ask s.moment)) (grown kept)
-        (subst (λ (t : ℕ). SomeFit g.graph.vertices later.jobs ask (window_of g.horizon ask t)) same f)))
+        (subst (λ (js : List Job). SomeFit g.graph.vertices (up_with js) ask (window_of g.horizon ask s.moment)) (grown kept)
+        (subst (λ (t : ℕ). SomeFit g.graph.vertices (present_of later) ask (window_of g.horizon ask t)) same f)))
 
-    start_before : NoCancel entries → (t : ℕ) → IsStart g.graph.vertices later.jobs g.horizon ask t →
-        IsStart g.graph.vertices s.jobs g.horizon ask t
+    start_before : NoCancel entries → (t : ℕ) → IsStart g.graph.vertices (present_of later) g.horizon ask t →
+        IsStart g.graph.vertices (present_of s) g.horizon ask t
     start_before kept t i =
         start_back g.graph.vertices s.jobs (accepted entries) ask g.horizon t
-        (subst (λ (js : List Job). IsStart g.graph.vertices js g.horizon ask t) (grown kept) i)
+        (subst (λ (js : List Job). IsStart g.graph.vertices (up_with js) g.horizon ask t) (grown kept) i)
 
     earliest_then : NoCancel entries → (t : ℕ) (claims : List Claim) → later.moment ≤ t →
-        IsEarliest g.graph.vertices s.jobs g.horizon ask s.moment t →
-        IsLowestFirst g.graph.vertices later.jobs ask (window_of g.horizon ask t) claims →
-        IsEarliest g.graph.vertices later.jobs g.horizon ask later.moment t
+        IsEarliest g.graph.vertices (present_of s) g.horizon ask s.moment t →
+        IsLowestFirst g.graph.vertices (present_of later) ask (window_of g.horizon ask t) claims →
+        IsEarliest g.graph.vertices (present_of later) g.horizon ask later.moment t
     earliest_then kept t claims at early low =
-        subst (λ (js : List Job). IsEarliest g.graph.vertices js g.horizon ask later.moment t) (sym (grown kept))
+        subst (λ (js : List Job). IsEarliest g.graph.vertices (up_with js) g.horizon ask later.moment t) (sym (grown kept))
         (still_earliest g.graph.vertices s.jobs (accepted entries) ask first g.horizon s.moment later.moment t claims
         moment_on at early
-        (subst (λ (js : List Job). IsLowestFirst g.graph.vertices js ask (window_of g.horizon ask t) claims)
+        (subst (λ (js : List Job). IsLowestFirst g.graph.vertices (up_with js) ask (window_of g.horizon ask t) claims)
         (grown kept) low))
 
     -- some claims are the lowest-first ones, so some fit
     fits_then : (start : ℕ) (claims : List Claim) →
-        IsLowestFirst g.graph.vertices later.jobs ask (window_of g.horizon ask start) claims →
-        SomeFit g.graph.vertices later.jobs ask (window_of g.horizon ask start)
+        IsLowestFirst g.graph.vertices (present_of later) ask (window_of g.horizon ask start) claims →
+        SomeFit g.graph.vertices (present_of later) ask (window_of g.horizon ask start)
     fits_then start claims low =
-        (claims, lowest_fits g.graph.vertices later.jobs ask (window_of g.horizon ask start) claims low)
+        (claims, lowest_fits g.graph.vertices (present_of later) ask (window_of g.horizon ask start) claims low)
 
     -- the rest of the table once the id is known to be new
     abbrev AllocateRest : Reply → Type 0
     AllocateRest =
         Unless (IsSatisfiable g.graph.vertices ask) reply.Unsatisfiable
         (Unless (CountsWithin g.horizon ask later.moment) reply.TooLong
-        (Unless (SomeFit g.graph.vertices later.jobs ask (window_of g.horizon ask later.moment)) reply.Busy
+        (Unless (SomeFit g.graph.vertices (present_of later) ask (window_of g.horizon ask later.moment)) reply.Busy
         (AcceptedOrFull g later id ask later.moment)))
 
     allocate_rest : (v : Verdict) (r : Reply) → (Contains later.used id → ⊥) → Finds g s (command.Allocate id ask) v →
@@ -173,7 +174,7 @@ module _ (g : Setting) (first : ParentsFirst g.graph.vertices) (s : State) (entr
           inr (
             subst (CountsWithin g.horizon ask) (sym same) counts,
             inr (
-              subst (λ (t : ℕ). SomeFit g.graph.vertices later.jobs ask (window_of g.horizon ask t)) (sym same)
+              subst (λ (t : ℕ). SomeFit g.graph.vertices (present_of later) ask (window_of g.horizon ask t)) (sym same)
                   (fits_then s.moment claims now),
               subst (λ (t : ℕ). AcceptedOrFull g later id ask t r) (sym same) up,
             ),
@@ -190,8 +191,8 @@ module _ (g : Setting) (first : ParentsFirst g.graph.vertices) (s : State) (entr
     ReserveRest =
         Unless (IsSatisfiable g.graph.vertices ask) reply.Unsatisfiable
         (Unless (CountsWithin g.horizon ask later.moment) reply.TooLong
-        (Unless ((t : ℕ) × (later.moment ≤ t) × IsStart g.graph.vertices later.jobs g.horizon ask t) reply.NoStart
-        (λ r. (t : ℕ) × IsEarliest g.graph.vertices later.jobs g.horizon ask later.moment t
+        (Unless ((t : ℕ) × (later.moment ≤ t) × IsStart g.graph.vertices (present_of later) g.horizon ask t) reply.NoStart
+        (λ r. (t : ℕ) × IsEarliest g.graph.vertices (present_of later) g.horizon ask later.moment t
         × AcceptedOrFull g later id ask t r)))
 
     reserve_rest : (v : Verdict) (r : Reply) → (Contains later.used id → ⊥) → Finds g s (command.Reserve id ask) v →

@@ -15,6 +15,7 @@ use Rattle.flux_defs.specs.Closed.{Scene, no_bars, is_withheld, has_withheld, is
 use Rattle.flux_defs.specs.Free.{taken_at}
 use Rattle.flux_defs.specs.Available.{is_available_at, IsAvailable}
 use Rattle.flux_defs.specs.Overtaken.{conflicts}
+use Rattle.flux_defs.specs.Present.{up_with}
 use Rattle.commit_laws.proofs.MoreJobs.{with_bars, or_along, had_along, Eases, eased, lives_with}
 use Rattle.commit_laws.proofs.MoreJobs.{live_append, taken_append, none_taken}
 use Rattle.list_laws.proofs.Lists.{any_along}
@@ -37,7 +38,7 @@ barred_open false true false h k = k
 -- what is available to an ask that bars nothing, and was available to this one before, is available to this one
 module _ (vertices : List Vertex) (before jobs : List Job) (barred : List ℕ) where
   abbrev free_now : Scene
-  free_now = no_bars vertices jobs
+  free_now = no_bars vertices (up_with jobs)
 
   abbrev was : Scene
   was = with_bars vertices before barred
@@ -113,10 +114,10 @@ takes_no v (Take u q) n = elim (eqb_tells u v) [
 
 module _ (vertices : List Vertex) (w : Window) (jobs extra : List Job) (m : ℕ) (lo : w.from ≤ m) (hi : m < w.to) where
   abbrev before : Scene
-  before = no_bars vertices jobs
+  before = no_bars vertices (up_with jobs)
 
   abbrev now : Scene
-  now = no_bars vertices (jobs ++ extra)
+  now = no_bars vertices (up_with (jobs ++ extra))
 
   closed_no_more : (claim : Claim) →
       ((x : Claim) → IsTrue (holds_over vertices (vertex_of claim) x) → IsTrue (conflicts vertices claim x)) →
@@ -163,14 +164,14 @@ module _ (vertices : List Vertex) (w : Window) (jobs extra : List Job) (m : ℕ)
 
 -- with more jobs, of which none is in the way, an available claim stays available
 pub unblocked : (vertices : List Vertex) (w : Window) (jobs extra : List Job) (claim : Claim) →
-    NoneInTheWay vertices w claim extra → IsAvailable (no_bars vertices jobs) w claim →
-    IsAvailable (no_bars vertices (jobs ++ extra)) w claim
+    NoneInTheWay vertices w claim extra → IsAvailable (no_bars vertices (up_with jobs)) w claim →
+    IsAvailable (no_bars vertices (up_with (jobs ++ extra))) w claim
 unblocked vertices w jobs extra claim n a m lo hi =
     unblocked_at vertices w jobs extra m lo hi claim n (a m lo hi)
 
 -- what is available to an ask is available to one that bars nothing
 pub unbarred : (vertices : List Vertex) (jobs : List Job) (barred : List ℕ) (w : Window) (c : Claim) →
-    IsAvailable (with_bars vertices jobs barred) w c → IsAvailable (no_bars vertices jobs) w c
+    IsAvailable (with_bars vertices jobs barred) w c → IsAvailable (no_bars vertices (up_with jobs)) w c
 unbarred vertices jobs barred w c a m lo hi =
     eased vertices jobs jobs barred [] m c (eases (vertex_of c)) (a m lo hi)
   where

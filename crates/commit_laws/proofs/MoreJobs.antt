@@ -17,6 +17,7 @@ use Rattle.flux_defs.specs.Jobs.{vertex_of, is_live, some_live_claim, holds_over
 use Rattle.flux_defs.specs.Closed.{Scene, is_withheld, has_withheld, is_closed, is_touched}
 use Rattle.flux_defs.specs.Free.{taken_at}
 use Rattle.flux_defs.specs.Available.{is_available_at, IsAvailable}
+use Rattle.flux_defs.specs.Present.{up_with}
 use Rattle.graph_laws.proofs.Containment.{ParentsFirst, not_to, up, up-None, steps_of, below_trans}
 use Rattle.graph_laws.proofs.Containment.{above_is_chain}
 use Rattle.graph_laws.proofs.Preorder.{has_parent}
@@ -25,7 +26,7 @@ use Rattle.list_laws.proofs.Tests.{not_along}
 
 -- what the ask meets with these jobs
 abbrev pub with_bars : List Vertex → List Job → List ℕ → Scene
-with_bars vertices jobs barred = record { vertices = vertices; jobs = jobs; barred = barred }
+with_bars vertices jobs barred = record { vertices = vertices; present = up_with jobs; barred = barred }
 
 pub or_along : (a b c d : Bool) → (IsTrue a → IsTrue c) → (IsTrue b → IsTrue d) → IsTrue (a || b) → IsTrue (c || d)
 or_along a b c d f g h = elim (or_cases a b h) [ inl x ↦ or_left c d (f x) | inr y ↦ or_right c d (g y) ]

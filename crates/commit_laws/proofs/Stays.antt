@@ -5,7 +5,7 @@ use Rattle.flux_defs.specs.declared.vertices.Vertex.{Vertex}
 use Rattle.flux_defs.specs.declared.claims.Claim.{Claim}
 use Rattle.flux_defs.specs.declared.claims.Claim.TheVariants.{Take, Hold, Pass}
 use Rattle.flux_defs.specs.declared.requests.Need.{Need, Vert', Pool, Spread', Row_of-Need, end_of-Need, more_of-Need}
-use Rattle.flux_defs.specs.Graph.{Scope, Everywhere, Beneath, IsIn, is_at_or_below}
+use Rattle.flux_defs.specs.Graph.{Scope, Beneath, IsIn, is_at_or_below}
 use Rattle.flux_defs.specs.Needs.{amount_of}
 use Rattle.flux_defs.specs.Jobs.{vertex_of}
 use Rattle.flux_defs.specs.Fits.{Pick, Pieces, Piece, FitsRow}

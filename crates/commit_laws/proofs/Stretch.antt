@@ -16,9 +16,10 @@ use Rattle.flux_defs.specs.declared.journal.Reply.TheVariants as reply
 use Rattle.flux_defs.specs.declared.journal.Entry.{Entry}
 use Rattle.flux_defs.specs.Closed.{no_bars}
 use Rattle.flux_defs.specs.Available.{IsAvailable}
-use Rattle.flux_defs.specs.Scheduler.{Setting, State, first_state}
+use Rattle.flux_defs.specs.Scheduler.{Setting, State, first_state, present_of}
 use Rattle.flux_defs.specs.Histories.{state_after, state_at, IsLegal, IsLegalFrom}
 use Rattle.flux_defs.specs.Overtaken.{conflicts, Frees, Blocks, IsFirstFrom, NoneFrom}
+use Rattle.flux_defs.specs.Present.{up_with}
 use Rattle.list_laws.proofs.Lists.{all_append}
 use Rattle.commit_laws.specs.CommitLaws.{state_now}
 use Rattle.commit_laws.proofs.Firsts.{first_or_none}
@@ -131,8 +132,8 @@ module _ (history : List Entry) (place : ℕ) where
   module _ (vertices : List Vertex) (w : Window) (claim : Claim) where
     -- a claim that no entry of the stretch stands in the way of stays available
     pub still_there : NoneFrom (Frees history) place → NoneFrom (Blocks vertices w claim history) place →
-        IsAvailable (no_bars vertices start.jobs) w claim →
-        IsAvailable (no_bars vertices (state_now history).jobs) w claim
+        IsAvailable (no_bars vertices (present_of start)) w claim →
+        IsAvailable (no_bars vertices (present_of (state_now history))) w claim
     still_there frees blocks a =
         let none = none_accepted vertices w claim stretch
         (all_none (λ e. StandsIn vertices w claim e.reply) stretch
@@ -140,7 +141,7 @@ module _ (history : List Entry) (place : ℕ) where
         (e, job, entry_there k e i, accepts, h.0, h.1, h.2))) in
         let e : (state_now history).jobs ≡ start.jobs ++ accepted stretch =
         ap (λ (x : State). x.jobs) whole ∙ jobs_grow start stretch (no_cancel frees) in
-        subst (λ (js : List Job). IsAvailable (no_bars vertices js) w claim) (sym e)
+        subst (λ (js : List Job). IsAvailable (no_bars vertices (up_with js)) w claim) (sym e)
         (unblocked vertices w start.jobs (accepted stretch) claim none a)
 
     decide_entry : (at : ℕ) (found : Option Entry) → slice_get history at ≡ found →
@@ -154,8 +155,8 @@ module _ (history : List Entry) (place : ℕ) where
     ]
 
     -- and one that isn't available any more has a first entry in its way
-    pub first_block : NoneFrom (Frees history) place → IsAvailable (no_bars vertices start.jobs) w claim →
-        (IsAvailable (no_bars vertices (state_now history).jobs) w claim → ⊥) →
+    pub first_block : NoneFrom (Frees history) place → IsAvailable (no_bars vertices (present_of start)) w claim →
+        (IsAvailable (no_bars vertices (present_of (state_now history))) w claim → ⊥) →
         (at : ℕ) × IsFirstFrom (Blocks vertices w claim history) place at
     first_block frees was gone =
         elim (first_or_none (Blocks vertices w claim history) place (λ i. decide_entry i (slice_get history i) refl)

@@ -8,7 +8,7 @@ use Rattle.flux_defs.specs.declared.journal.Entry.{Entry}
 use Rattle.flux_defs.specs.ValidGraph.{IsValidGraph}
 use Rattle.flux_defs.specs.Closed.{no_bars}
 use Rattle.flux_defs.specs.Available.{IsAvailable}
-use Rattle.flux_defs.specs.Scheduler.{Setting, State, Replies}
+use Rattle.flux_defs.specs.Scheduler.{Setting, State, Replies, present_of}
 use Rattle.flux_defs.specs.Histories.{state_at, IsLegal}
 use Rattle.flux_defs.specs.Verdicts.{Finds, Yields}
 use Rattle.flux_defs.specs.Overtaken.{Candidate, Cause, Frees, Blocks, IsFirstFrom, NoneFrom, IsOvertaken}
@@ -36,8 +36,8 @@ CommitIsFresh = (g : Setting) (names : List (List ℕ)) → IsValidGraph g.graph
 -- entry from there on stands in its way, and there is a first.
 abbrev pub TakenIsBlocked : Type 0
 TakenIsBlocked = (vertices : List Vertex) (history : List Entry) (place : ℕ) (w : Window) (claim : Claim) →
-    NoneFrom (Frees history) place → IsAvailable (no_bars vertices (state_at history place).jobs) w claim →
-    (IsAvailable (no_bars vertices (state_now history).jobs) w claim → ⊥) →
+    NoneFrom (Frees history) place → IsAvailable (no_bars vertices (present_of (state_at history place))) w claim →
+    (IsAvailable (no_bars vertices (present_of (state_now history))) w claim → ⊥) →
     (at : ℕ) × IsFirstFrom (Blocks vertices w claim history) place at
 
 -- A candidate is overtaken by one cause at most.

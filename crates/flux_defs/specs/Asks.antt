@@ -1,11 +1,11 @@
 -- Asks over time: windows, what fits an ask, its earliest start, and whether it is satisfiable.
-use Rattle.std.specs.Prelude.{ℕ, ◌+◌, ◌<◌, ◌≤◌, ◌==◌, if◌then◌else◌, List, []}
+use Rattle.std.specs.Prelude.{ℕ, ◌+◌, ◌<◌, ◌≤◌, ◌==◌, if◌then◌else◌, List}
 use Rattle.flux_defs.specs.declared.vertices.Vertex.{Vertex}
 use Rattle.flux_defs.specs.declared.claims.Claim.{Claim}
-use Rattle.flux_defs.specs.declared.claims.Job.{Job}
 use Rattle.flux_defs.specs.declared.claims.Window.{Window}
 use Rattle.flux_defs.specs.declared.requests.Ask.{Ask}
 use Rattle.flux_defs.specs.Graph.{Everywhere}
+use Rattle.flux_defs.specs.Present.{Present, nothing}
 use Rattle.flux_defs.specs.Closed.{Scene}
 use Rattle.flux_defs.specs.Available.{IsAvailable}
 use Rattle.flux_defs.specs.Fits.{Fits}
@@ -20,8 +20,8 @@ abbrev pub CountsWithin : ℕ → Ask → ℕ → Type 0
 CountsWithin horizon ask t = (t < horizon) × (t + ask.duration ≤ horizon)
 
 -- what the ask meets
-abbrev pub scene_of : List Vertex → List Job → Ask → Scene
-scene_of vertices jobs ask = record { vertices = vertices; jobs = jobs; barred = ask.barred }
+abbrev pub scene_of : List Vertex → Present → Ask → Scene
+scene_of vertices present ask = record { vertices = vertices; present = present; barred = ask.barred }
 
 -- The claims fit the ask, and are its lowest-first claims, where `ok` says which claims are available.
 -- (An ask that lists several counts would range over them in these two, and nowhere else.)
@@ -32,25 +32,25 @@ abbrev pub IsLowestOfAsk : List Vertex → (Claim → Type 0) → Ask → List C
 IsLowestOfAsk vertices ok ask claims = Lowest vertices ok 1 Everywhere ask.needs claims
 
 -- some claims fit the ask over the window
-abbrev pub SomeFit : List Vertex → List Job → Ask → Window → Type 0
-SomeFit vertices jobs ask w =
-    (claims : List Claim) × FitsAsk vertices (IsAvailable (scene_of vertices jobs ask) w) ask claims
+abbrev pub SomeFit : List Vertex → Present → Ask → Window → Type 0
+SomeFit vertices present ask w =
+    (claims : List Claim) × FitsAsk vertices (IsAvailable (scene_of vertices present ask) w) ask claims
 
 -- the claims are the ask's lowest-first claims over the window
-abbrev pub IsLowestFirst : List Vertex → List Job → Ask → Window → List Claim → Type 0
-IsLowestFirst vertices jobs ask w claims =
-    IsLowestOfAsk vertices (IsAvailable (scene_of vertices jobs ask) w) ask claims
+abbrev pub IsLowestFirst : List Vertex → Present → Ask → Window → List Claim → Type 0
+IsLowestFirst vertices present ask w claims =
+    IsLowestOfAsk vertices (IsAvailable (scene_of vertices present ask) w) ask claims
 
 -- the ask may start at t: its window there counts, and some claims fit it
-abbrev pub IsStart : List Vertex → List Job → ℕ → Ask → ℕ → Type 0
-IsStart vertices jobs horizon ask t = CountsWithin horizon ask t × SomeFit vertices jobs ask (window_of horizon ask t)
+abbrev pub IsStart : List Vertex → Present → ℕ → Ask → ℕ → Type 0
+IsStart vertices present horizon ask t = CountsWithin horizon ask t × SomeFit vertices present ask (window_of horizon ask t)
 
 -- t is the earliest start from `moment` on
-pub record IsEarliest (vertices : List Vertex) (jobs : List Job) (horizon : ℕ) (ask : Ask) (moment t : ℕ) : Type 0 where
+pub record IsEarliest (vertices : List Vertex) (present : Present) (horizon : ℕ) (ask : Ask) (moment t : ℕ) : Type 0 where
   pub later : moment ≤ t
-  pub starts : IsStart vertices jobs horizon ask t
-  pub least : (u : ℕ) → moment ≤ u → IsStart vertices jobs horizon ask u → t ≤ u
+  pub starts : IsStart vertices present horizon ask t
+  pub least : (u : ℕ) → moment ≤ u → IsStart vertices present horizon ask u → t ≤ u
 
--- some claims fit the graph without jobs; the ask's bars count, its duration doesn't
+-- some claims fit the graph without jobs and with every vertex up; the ask's bars count, its duration doesn't
 abbrev pub IsSatisfiable : List Vertex → Ask → Type 0
-IsSatisfiable vertices ask = SomeFit vertices [] ask (record { from = 0; to = 1 })
+IsSatisfiable vertices ask = SomeFit vertices nothing ask (record { from = 0; to = 1 })

@@ -11,10 +11,11 @@ use Rattle.flux_defs.specs.declared.journal.Command.TheVariants as command
 use Rattle.flux_defs.specs.declared.journal.Reply.TheVariants as reply
 use Rattle.flux_defs.specs.declared.journal.Entry.{Entry}
 use Rattle.flux_defs.specs.Jobs.{vertex_of, holds_over, is_on_or_below}
+use Rattle.flux_defs.specs.Present.{Present}
 use Rattle.flux_defs.specs.Closed.{no_bars}
 use Rattle.flux_defs.specs.Available.{IsAvailable}
 use Rattle.flux_defs.specs.Asks.{window_of}
-use Rattle.flux_defs.specs.Scheduler.{Setting}
+use Rattle.flux_defs.specs.Scheduler.{Setting, present_of}
 use Rattle.flux_defs.specs.Histories.{state_at}
 use Rattle.flux_defs.specs.declared.verdicts.Verdict.{Verdict}
 use Rattle.flux_defs.specs.declared.verdicts.Verdict.TheVariants.{Found, NoFit}
@@ -83,17 +84,17 @@ abbrev pub NoneFrom : (ℕ → Type 0) → ℕ → Type 0
 NoneFrom P place = (i : ℕ) → place ≤ i → P i → ⊥
 
 -- the claim with this index isn't available over the window to an ask that bars nothing, and each before it is
-pub record IsFirstTaken (vertices : List Vertex) (jobs : List Job) (w : Window)
+pub record IsFirstTaken (vertices : List Vertex) (present : Present) (w : Window)
     (claims : List Claim) (index : ℕ) (claim : Claim) : Type 0 where
   pub there : slice_get claims index ≡ Some claim
-  pub taken : IsAvailable (no_bars vertices jobs) w claim → ⊥
-  pub before : All (IsAvailable (no_bars vertices jobs) w) (take index claims)
+  pub taken : IsAvailable (no_bars vertices present) w claim → ⊥
+  pub before : All (IsAvailable (no_bars vertices present) w) (take index claims)
 
 -- the claims that were found over the window aren't all available any more: the first that isn't, and the first entry
 -- that stands in its way
 abbrev pub IsTakenBy : Setting → List Entry → ℕ → Window → List Claim → ℕ → ℕ → Type 0
 IsTakenBy g history place w claims at index =
-    (claim : Claim) × IsFirstTaken g.graph.vertices (state_at history (length history)).jobs w claims index claim
+    (claim : Claim) × IsFirstTaken g.graph.vertices (present_of (state_at history (length history))) w claims index claim
     × IsFirstFrom (Blocks g.graph.vertices w claim history) place at
 
 -- what was taken of a candidate: its ask and its verdict say which claims are needed, and when

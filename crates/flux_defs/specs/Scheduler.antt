@@ -13,6 +13,7 @@ use Rattle.flux_defs.specs.declared.journal.Reply.{Reply}
 use Rattle.flux_defs.specs.declared.journal.Reply.TheVariants as reply
 use Rattle.flux_defs.specs.Graph.{ResourceGraph}
 use Rattle.flux_defs.specs.Needs.{IsProperAsk}
+use Rattle.flux_defs.specs.Present.{Present, up_with}
 use Rattle.flux_defs.specs.Asks.{window_of, CountsWithin, SomeFit, IsLowestFirst, IsStart, IsEarliest, IsSatisfiable}
 
 -- What never changes: the graph, the pairs HIGH:LOW of the filter rules, the horizon in seconds, and how many claims
@@ -30,6 +31,10 @@ pub record State : Type 0 where
   pub jobs : List Job
   pub used : List ℕ
   pub claim_count : ℕ
+
+-- what stands in a state
+abbrev pub present_of : State → Present
+present_of s = up_with s.jobs
 
 -- moment 0, no jobs, no ids, no claims
 abbrev pub first_state : State
@@ -55,7 +60,7 @@ pub record IsAcceptedAs (g : Setting) (s : State) (id start : ℕ) (ask : Ask) (
   pub id-is : job.id ≡ id
   pub start-is : job.start ≡ start
   pub end-is : job.end ≡ (window_of g.horizon ask start).to
-  pub lowest : IsLowestFirst g.graph.vertices s.jobs ask (window_of g.horizon ask start) job.claims
+  pub lowest : IsLowestFirst g.graph.vertices (present_of s) ask (window_of g.horizon ask start) job.claims
 
 -- a job that starts now is allocated, and one that starts later is reserved
 abbrev pub accepted_reply : ℕ → Job → Reply
@@ -95,12 +100,12 @@ JobReplies g s id ask = AnswersJob g s id ask reply.Exists reply.Unsatisfiable r
 abbrev pub Replies : Setting → State → Command → Reply → Type 0
 Replies g s (command.Allocate id ask) =
     JobReplies g s id ask
-    (Unless (SomeFit g.graph.vertices s.jobs ask (window_of g.horizon ask s.moment)) reply.Busy
+    (Unless (SomeFit g.graph.vertices (present_of s) ask (window_of g.horizon ask s.moment)) reply.Busy
     (AcceptedOrFull g s id ask s.moment))
 Replies g s (command.Reserve id ask) =
     JobReplies g s id ask
-    (Unless ((t : ℕ) × (s.moment ≤ t) × IsStart g.graph.vertices s.jobs g.horizon ask t) reply.NoStart
-    (λ r. (t : ℕ) × IsEarliest g.graph.vertices s.jobs g.horizon ask s.moment t × AcceptedOrFull g s id ask t r))
+    (Unless ((t : ℕ) × (s.moment ≤ t) × IsStart g.graph.vertices (present_of s) g.horizon ask t) reply.NoStart
+    (λ r. (t : ℕ) × IsEarliest g.graph.vertices (present_of s) g.horizon ask s.moment t × AcceptedOrFull g s id ask t r))
 Replies g s (command.Satisfy ask) =
     Unless (IsSatisfiable g.graph.vertices ask) reply.Unsatisfiable (λ r. r ≡ reply.Satisfiable)
 Replies g s (command.Cancel id) = Unless (IsSome (job_with id s.jobs)) reply.Absent (λ r. r ≡ reply.Cancelled)

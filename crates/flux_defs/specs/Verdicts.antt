@@ -11,7 +11,7 @@ use Rattle.flux_defs.specs.declared.journal.Reply.TheVariants as reply
 use Rattle.flux_defs.specs.declared.verdicts.Verdict.{Verdict}
 use Rattle.flux_defs.specs.declared.verdicts.Verdict.TheVariants.{Found, NoFit, Unsat, Sat, Long, Known}
 use Rattle.flux_defs.specs.Asks.{window_of, SomeFit, IsLowestFirst, IsStart, IsEarliest, IsSatisfiable}
-use Rattle.flux_defs.specs.Scheduler.{Setting, State, Where, Unless, AnswersJob, accepted_reply}
+use Rattle.flux_defs.specs.Scheduler.{Setting, State, present_of, Where, Unless, AnswersJob, accepted_reply}
 
 -- a command that is searched for: an allocate, a reserve or a satisfy
 abbrev pub IsSearchable : Command → Type 0
@@ -24,18 +24,18 @@ IsSearchable c = ⊥
 abbrev pub FoundAt : Setting → State → Ask → ℕ → Verdict → Type 0
 FoundAt g s ask start v =
     (claims : List Claim)
-    × IsLowestFirst g.graph.vertices s.jobs ask (window_of g.horizon ask start) claims × (v ≡ Found start claims)
+    × IsLowestFirst g.graph.vertices (present_of s) ask (window_of g.horizon ask start) claims × (v ≡ Found start claims)
 
 -- what is found of an ask at the present moment alone
 abbrev pub FindsNow : Setting → State → Ask → Verdict → Type 0
 FindsNow g s ask =
-    Unless (SomeFit g.graph.vertices s.jobs ask (window_of g.horizon ask s.moment)) NoFit (FoundAt g s ask s.moment)
+    Unless (SomeFit g.graph.vertices (present_of s) ask (window_of g.horizon ask s.moment)) NoFit (FoundAt g s ask s.moment)
 
 -- what is found of an ask at its earliest start
 abbrev pub FindsEarliest : Setting → State → Ask → Verdict → Type 0
 FindsEarliest g s ask =
-    Unless ((t : ℕ) × (s.moment ≤ t) × IsStart g.graph.vertices s.jobs g.horizon ask t) NoFit
-    (λ v. (t : ℕ) × IsEarliest g.graph.vertices s.jobs g.horizon ask s.moment t × FoundAt g s ask t v)
+    Unless ((t : ℕ) × (s.moment ≤ t) × IsStart g.graph.vertices (present_of s) g.horizon ask t) NoFit
+    (λ v. (t : ℕ) × IsEarliest g.graph.vertices (present_of s) g.horizon ask s.moment t × FoundAt g s ask t v)
 
 -- what is found of an ask for a job of this id, by what is found at the starts that it may have
 abbrev pub FindsJob : Setting → State → ℕ → Ask → (Verdict → Type 0) → Verdict → Type 0

@@ -1,17 +1,17 @@
 -- A job on a node, and an ask that bars one.
-use Rattle.std.proofs.Common.{◌≡◌, ℕ, ◌<◌, ◌≤◌, Bool, true, false, not, ◌&&◌, ◌||◌, List, [], ◌∷◌, refl, sym, arith}
+use Rattle.std.proofs.Common.{◌≡◌, ℕ, ◌<◌, ◌≤◌, Bool, true, false, not, ◌&&◌, ◌||◌, [], ◌∷◌, refl, sym, arith}
 use Rattle.std.proofs.Common.{IsTrue, true≢false, lit<, lit≤}
 use Rattle.std.proofs.lemmas.Bool.Decides.{nat_tests}
 use mathlib.Core.Path.{transport, transport⁻¹}
 use Rattle.flux_defs.specs.declared.claims.Claim.{Claim}
 use Rattle.flux_defs.specs.declared.claims.Claim.TheVariants.{Hold}
-use Rattle.flux_defs.specs.declared.claims.Job.{Job}
 use Rattle.flux_defs.specs.declared.claims.Window.{Window}
 use Rattle.flux_defs.specs.Graph.{Everywhere, Beneath, is_at_or_below}
 use Rattle.flux_defs.specs.Jobs.{is_live}
 use Rattle.flux_defs.specs.Available.{IsAvailable}
 use Rattle.flux_defs.specs.Fits.{Fits}
 use Rattle.flux_defs.specs.Lowest.{CanServe}
+use Rattle.flux_defs.specs.Present.{Present}
 use Rattle.flux_laws.proofs.Filling.{run}
 use Rattle.flux_laws.proofs.Rows.{piece_Vert}
 use Rattle.flux_examples.specs.Examples.{two_nodes, cores, first_core, whole_node, beside_first_core, without_node0}
@@ -39,11 +39,12 @@ held_after true closes touches e = absurd (true≢false e)
 held_after false closes touches e = refl
 
 -- touched by a bar
-not_over_bar : (closed other bar : Bool) → bar ≡ true → IsTrue (not closed && not (other || (bar || false))) → ⊥
-not_over_bar true other bar e h = true≢false (sym h)
-not_over_bar false true bar e h = true≢false (sym h)
-not_over_bar false false true e h = true≢false (sym h)
-not_over_bar false false false e h = true≢false (sym e)
+not_over_bar : (closed other bar down : Bool) → bar ≡ true →
+    IsTrue (not closed && not (other || ((bar || false) || down))) → ⊥
+not_over_bar true other bar down e h = true≢false (sym h)
+not_over_bar false true bar down e h = true≢false (sym h)
+not_over_bar false false true down e h = true≢false (sym h)
+not_over_bar false false false down e h = true≢false (sym e)
 
 module _ (w : Window) where
   abbrev ok : Claim → Type 0
@@ -103,6 +104,7 @@ module _ (w : Window) where
           (refl, lit< tt, refl, (refl, held_late 1, (Hold 2 ∷ Hold 3 ∷ Hold 4 ∷ Hold 5 ∷ [], four_cores))),
     )
 
-pub not_over_node0 : (jobs : List Job) (w : Window) → w.from < w.to → IsAvailable (without_node0 jobs) w (Hold 0) → ⊥
-not_over_node0 jobs w opens h =
-    not_over_bar _ _ (is_at_or_below two_nodes 1 0) nodes_at.1 (h w.from (omega arith) opens)
+pub not_over_node0 : (present : Present) (w : Window) → w.from < w.to →
+    IsAvailable (without_node0 present) w (Hold 0) → ⊥
+not_over_node0 present w opens h =
+    not_over_bar _ _ (is_at_or_below two_nodes 1 0) _ nodes_at.1 (h w.from (omega arith) opens)

@@ -11,6 +11,7 @@ use Rattle.flux_defs.specs.Closed.{Scene}
 use Rattle.flux_defs.specs.Available.{IsAvailable}
 use Rattle.flux_defs.specs.Lowest.{CanServe}
 use Rattle.flux_defs.specs.Asks.{SomeFit, IsLowestFirst}
+use Rattle.flux_defs.specs.Present.{up_with, nothing, Present}
 
 abbrev pub cluster : Vertex
 cluster = record { kind = 0; size = 1; parent = None; id = Some 0; rank = None }
@@ -37,11 +38,11 @@ abbrev pub slots : ℕ → Ask
 slots k = record { needs = Spread k (cores 3 ∷ []) ∷ []; duration = 60; barred = [] }
 
 abbrev pub TwoSlotsAreLowest : Type 0
-TwoSlotsAreLowest = (w : Window) → IsLowestFirst two_nodes [] (slots 2) w
+TwoSlotsAreLowest = (w : Window) → IsLowestFirst two_nodes nothing (slots 2) w
     (Pass 1 ∷ Hold 2 ∷ Hold 3 ∷ Hold 4 ∷ Pass 6 ∷ Hold 7 ∷ Hold 8 ∷ Hold 9 ∷ [])
 
 abbrev pub ThreeSlotsNeverFit : Type 0
-ThreeSlotsNeverFit = (w : Window) → SomeFit two_nodes [] (slots 3) w → ⊥
+ThreeSlotsNeverFit = (w : Window) → SomeFit two_nodes nothing (slots 3) w → ⊥
 
 -- a job that holds core 0 of node 0 for a hundred seconds
 abbrev pub first_core : Job
@@ -52,7 +53,7 @@ abbrev pub whole_node : Need
 whole_node = Vert 1 1 true (cores 4 ∷ [])
 
 abbrev pub beside_first_core : Scene
-beside_first_core = record { vertices = two_nodes; jobs = first_core ∷ []; barred = [] }
+beside_first_core = record { vertices = two_nodes; present = up_with (first_core ∷ []); barred = [] }
 
 abbrev pub WholeNodeWaits : Type 0
 WholeNodeWaits = (w : Window) →
@@ -63,8 +64,9 @@ WholeNodeFitsLater =
     (w : Window) → 100 ≤ w.from → CanServe two_nodes (IsAvailable beside_first_core w) Everywhere whole_node 1 1
 
 -- an ask that bars node 0
-abbrev pub without_node0 : List Job → Scene
-without_node0 jobs = record { vertices = two_nodes; jobs = jobs; barred = 1 ∷ [] }
+abbrev pub without_node0 : Present → Scene
+without_node0 present = record { vertices = two_nodes; present = present; barred = 1 ∷ [] }
 
 abbrev pub BarredBelowIsNotHeld : Type 0
-BarredBelowIsNotHeld = (jobs : List Job) (w : Window) → w.from < w.to → IsAvailable (without_node0 jobs) w (Hold 0) → ⊥
+BarredBelowIsNotHeld = (present : Present) (w : Window) → w.from < w.to →
+    IsAvailable (without_node0 present) w (Hold 0) → ⊥

@@ -11,10 +11,11 @@ use Rattle.flux_defs.specs.declared.journal.Command.TheVariants as command
 use Rattle.flux_defs.specs.declared.journal.Reply.{Reply}
 use Rattle.flux_defs.specs.declared.journal.Reply.TheVariants as reply
 use Rattle.flux_defs.specs.Graph.{Everywhere}
+use Rattle.flux_defs.specs.Present.{Present}
 use Rattle.flux_defs.specs.Available.{IsAvailable}
 use Rattle.flux_defs.specs.Asks.{window_of, scene_of, FitsAsk, IsLowestFirst, IsEarliest}
 use Rattle.flux_defs.specs.Scheduler.{Setting, State, Where, Unless, IsAcceptedAs, AcceptedOrFull, Replies}
-use Rattle.flux_defs.specs.Scheduler.{accepted_reply, job_with, info_at}
+use Rattle.flux_defs.specs.Scheduler.{present_of, accepted_reply, job_with, info_at}
 use Rattle.flux_laws.proofs.Lists.{lowest_list_once, lowest_list_fits}
 use Rattle.flux_laws.proofs.Takes.{takes_less}
 
@@ -46,20 +47,20 @@ pub one : {X : Type 0} (x : X) → IsOnce (λ y. y ≡ x)
 one x = record { once = λ a b p q. p ∙ sym q }
 
 -- lowest-first claims of an ask are determined, and fit it
-pub lowest_once : (vertices : List Vertex) (jobs : List Job) (ask : Ask) (w : Window) (a b : List Claim) →
-    IsLowestFirst vertices jobs ask w a → IsLowestFirst vertices jobs ask w b → a ≡ b
-lowest_once vertices jobs ask w a b x y =
-    let scene = scene_of vertices jobs ask in
+pub lowest_once : (vertices : List Vertex) (present : Present) (ask : Ask) (w : Window) (a b : List Claim) →
+    IsLowestFirst vertices present ask w a → IsLowestFirst vertices present ask w b → a ≡ b
+lowest_once vertices present ask w a b x y =
+    let scene = scene_of vertices present ask in
     lowest_list_once vertices (IsAvailable scene w) (takes_less scene w) 1 Everywhere ask.needs a b x y
 
-pub lowest_fits : (vertices : List Vertex) (jobs : List Job) (ask : Ask) (w : Window) (claims : List Claim) →
-    IsLowestFirst vertices jobs ask w claims → FitsAsk vertices (IsAvailable (scene_of vertices jobs ask) w) ask claims
-lowest_fits vertices jobs ask w claims low =
-    lowest_list_fits vertices (IsAvailable (scene_of vertices jobs ask) w) 1 Everywhere ask.needs claims low
+pub lowest_fits : (vertices : List Vertex) (present : Present) (ask : Ask) (w : Window) (claims : List Claim) →
+    IsLowestFirst vertices present ask w claims → FitsAsk vertices (IsAvailable (scene_of vertices present ask) w) ask claims
+lowest_fits vertices present ask w claims low =
+    lowest_list_fits vertices (IsAvailable (scene_of vertices present ask) w) 1 Everywhere ask.needs claims low
 
-pub earliest_once : (vertices : List Vertex) (jobs : List Job) (horizon : ℕ) (ask : Ask) (m a b : ℕ) →
-    IsEarliest vertices jobs horizon ask m a → IsEarliest vertices jobs horizon ask m b → a ≡ b
-earliest_once vertices jobs horizon ask m a b x y = let p : a ≤ b = x.least b y.later y.starts in
+pub earliest_once : (vertices : List Vertex) (present : Present) (horizon : ℕ) (ask : Ask) (m a b : ℕ) →
+    IsEarliest vertices present horizon ask m a → IsEarliest vertices present horizon ask m b → a ≡ b
+earliest_once vertices present horizon ask m a b x y = let p : a ≤ b = x.least b y.later y.starts in
     let q : b ≤ a = y.least a x.later x.starts in omega arith
 
 module _ (g : Setting) (s : State) where
@@ -73,7 +74,7 @@ module _ (g : Setting) (s : State) where
   job_once id start ask a b x y =
       same_job a.id a.start a.end a.claims b.id b.start b.end b.claims
       (x.id-is ∙ sym y.id-is) (x.start-is ∙ sym y.start-is) (x.end-is ∙ sym y.end-is)
-      (lowest_once g.graph.vertices s.jobs ask (window_of g.horizon ask start) a.claims b.claims x.lowest y.lowest)
+      (lowest_once g.graph.vertices (present_of s) ask (window_of g.horizon ask start) a.claims b.claims x.lowest y.lowest)
 
   accepted_once : (id : ℕ) (ask : Ask) (start : ℕ) (r t : Reply) →
       AcceptedOrFull g s id ask start r → AcceptedOrFull g s id ask start t → r ≡ t
@@ -85,11 +86,11 @@ module _ (g : Setting) (s : State) where
       (one (accepted_reply s.moment a))).once r t h (subst Next (sym same) k)
 
   reserved_once : (id : ℕ) (ask : Ask) (r t : Reply) →
-      ((n : ℕ) × IsEarliest g.graph.vertices s.jobs g.horizon ask s.moment n × AcceptedOrFull g s id ask n r) →
-      ((n : ℕ) × IsEarliest g.graph.vertices s.jobs g.horizon ask s.moment n × AcceptedOrFull g s id ask n t) → r ≡ t
+      ((n : ℕ) × IsEarliest g.graph.vertices (present_of s) g.horizon ask s.moment n × AcceptedOrFull g s id ask n r) →
+      ((n : ℕ) × IsEarliest g.graph.vertices (present_of s) g.horizon ask s.moment n × AcceptedOrFull g s id ask n t) → r ≡ t
   reserved_once id ask r t p q =
       accepted_once id ask p.0 r t p.2 (subst (λ (n : ℕ). AcceptedOrFull g s id ask n t)
-      (earliest_once g.graph.vertices s.jobs g.horizon ask s.moment q.0 p.0 q.1 p.1) q.2)
+      (earliest_once g.graph.vertices (present_of s) g.horizon ask s.moment q.0 p.0 q.1 p.1) q.2)
 
   info_once : (found : Option Job) (r t : Reply) →
       MatchOption found (r ≡ reply.Absent) (λ job. r ≡ info_at s.moment job) →

@@ -2,7 +2,6 @@
 use Rattle.std.specs.Prelude.{◌≡◌, ◌≢◌, ℕ, ◌+◌, List, Some, slice_get, Contains, IsTrue, ◌↔◌}
 use Rattle.flux_defs.specs.declared.vertices.Vertex.{Vertex}
 use Rattle.flux_defs.specs.declared.claims.Claim.{Claim}
-use Rattle.flux_defs.specs.declared.claims.Job.{Job}
 use Rattle.flux_defs.specs.declared.claims.Window.{Window}
 use Rattle.flux_defs.specs.declared.requests.Ask.{Ask}
 use Rattle.flux_defs.specs.declared.requests.Need.{Need}
@@ -11,6 +10,7 @@ use Rattle.flux_defs.specs.declared.journal.Reply.{Reply}
 use Rattle.flux_defs.specs.Graph.{ResourceGraph, Scope, is_at_or_below}
 use Rattle.flux_defs.specs.ValidGraph.{IsValidGraph}
 use Rattle.flux_defs.specs.Jobs.{vertex_of}
+use Rattle.flux_defs.specs.Present.{Present}
 use Rattle.flux_defs.specs.Closed.{Scene}
 use Rattle.flux_defs.specs.Available.{IsAvailable}
 use Rattle.flux_defs.specs.Needs.{scaled, IsValidNeed, AreValidNeeds}
@@ -19,10 +19,10 @@ use Rattle.flux_defs.specs.Asks.{scene_of, FitsAsk, IsLowestFirst}
 use Rattle.flux_defs.specs.Scheduler.{Setting, State, Replies}
 use Rattle.flux_defs.specs.Sound.{AreAllSeparate}
 
--- An ask over given jobs and a window has at most one list of lowest-first claims.
+-- An ask over what stands and a window has at most one list of lowest-first claims.
 abbrev pub LowestIsDetermined : Type 0
-LowestIsDetermined = (vertices : List Vertex) (jobs : List Job) (ask : Ask) (w : Window) (a b : List Claim) →
-    IsLowestFirst vertices jobs ask w a → IsLowestFirst vertices jobs ask w b → a ≡ b
+LowestIsDetermined = (vertices : List Vertex) (present : Present) (ask : Ask) (w : Window) (a b : List Claim) →
+    IsLowestFirst vertices present ask w a → IsLowestFirst vertices present ask w b → a ≡ b
 
 -- A command has at most one reply in a state. (That it has one needs the facts that it asks about to be decided, as a
 -- search does; this law needs nothing to be decidable, since two replies of different branches contradict each other.)
@@ -31,8 +31,8 @@ ReplyIsDetermined = (g : Setting) (s : State) (c : Command) (r t : Reply) → Re
 
 -- Lowest-first claims fit.
 abbrev pub LowestFits : Type 0
-LowestFits = (vertices : List Vertex) (jobs : List Job) (ask : Ask) (w : Window) (claims : List Claim) →
-    IsLowestFirst vertices jobs ask w claims → FitsAsk vertices (IsAvailable (scene_of vertices jobs ask) w) ask claims
+LowestFits = (vertices : List Vertex) (present : Present) (ask : Ask) (w : Window) (claims : List Claim) →
+    IsLowestFirst vertices present ask w claims → FitsAsk vertices (IsAvailable (scene_of vertices present ask) w) ask claims
 
 -- A fit with the multiplier k is a fit of the needs scaled by k.
 abbrev pub MultiplyingIsScaling : Type 0
@@ -73,5 +73,5 @@ PiecesAreAside = (g : ResourceGraph) (names : List (List ℕ)) →
 abbrev pub FitsAreSeparate : Type 0
 FitsAreSeparate = (g : ResourceGraph) (names : List (List ℕ)) →
     IsValidGraph g names → (ask : Ask) → AreValidNeeds g.vertices ask.needs →
-    (jobs : List Job) (w : Window) (claims : List Claim) →
-    FitsAsk g.vertices (IsAvailable (scene_of g.vertices jobs ask) w) ask claims → AreAllSeparate g.vertices claims
+    (present : Present) (w : Window) (claims : List Claim) →
+    FitsAsk g.vertices (IsAvailable (scene_of g.vertices present ask) w) ask claims → AreAllSeparate g.vertices claims

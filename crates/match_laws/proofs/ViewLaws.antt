@@ -5,13 +5,12 @@ use Rattle.std.specs.Prelude.{if◌then◌else◌, ◌||◌}
 use Rattle.std.specs.List.{list_any}
 use Rattle.std.proofs.lemmas.Bool.{and_parts, and_from, or_left, or_right}
 use Rattle.std.proofs.lemmas.Bool.Decides.{nat_tests}
-use Rattle.std.proofs.Math.Bool.{or-false}
 use Rattle.flux_defs.specs.declared.vertices.Vertex.{Vertex}
 use Rattle.flux_defs.specs.declared.claims.Claim.TheVariants.{Take, Hold, Pass}
-use Rattle.flux_defs.specs.declared.claims.Job.{Job}
 use Rattle.flux_defs.specs.declared.claims.Window.{Window}
 use Rattle.flux_defs.specs.Graph.{is_at_or_below, is_pool, size_of}
 use Rattle.flux_defs.specs.Jobs.{some_live_claim, holds_over, is_on_or_below, EachMoment, SomeMoment}
+use Rattle.flux_defs.specs.Present.{Present}
 use Rattle.flux_defs.specs.Closed.{Scene, no_bars, is_closed, is_touched, IsClosedIn, IsTouchedIn, IsClosedOver}
 use Rattle.flux_defs.specs.Closed.{IsTouchedOver}
 use Rattle.flux_defs.specs.Free.{taken_at, free_at, IsFreeIn, IsFreeOver}
@@ -88,94 +87,82 @@ module _ (scene : Scene) (w : Window) (v : ℕ) where
       at_least : {x : ℕ} → IsTrue (nat_le q x) → x ≡ n → q ≤ n
       at_least h e = grind (arith, nat_tests)
 
-or_swap : (a b : Bool) → b ≡ false → IsTrue (a || b) → IsTrue (a || false)
-or_swap true b f h = refl
-or_swap false b f h = absurd (true≢false (sym h ∙ f))
-
--- an ask's bars close and touch vertices beside the jobs
-module _ (vertices : List Vertex) (jobs : List Job) (barred : List ℕ) (w : Window) (v : ℕ) (opens : w.from < w.to) where
+-- an ask's bars close and touch vertices beside what stands
+module _ (vertices : List Vertex) (present : Present) (barred : List ℕ) (w : Window) (v : ℕ) (opens : w.from < w.to) where
   abbrev pub scene : Scene
-  scene = record { vertices = vertices; jobs = jobs; barred = barred }
+  scene = record { vertices = vertices; present = present; barred = barred }
+
+  abbrev held : ℕ → Bool
+  held m = some_live_claim present.jobs m (holds_over vertices v)
+
+  abbrev claimed : ℕ → Bool
+  claimed m = some_live_claim present.jobs m (is_on_or_below vertices v)
+
+  abbrev is_barred : Bool
+  is_barred = list_any (is_at_or_below vertices v) barred
+
+  abbrev has_barred : Bool
+  has_barred = list_any (λ u. is_at_or_below vertices u v) barred
+
+  abbrev is_down : Bool
+  is_down = list_any (is_at_or_below vertices v) present.down
+
+  abbrev has_down : Bool
+  has_down = list_any (λ u. is_at_or_below vertices u v) present.down
 
   -- a barred vertex is closed, and one at or above a barred one touched
-  pub closed_barred : (b : Bool) →
-      b ≡ true → b ≡ list_any (is_at_or_below vertices v) barred → (IsTrue b ↔ IsClosedIn scene w v)
-  closed_barred b t e = (
-    λ _. (
-      w.from,
-      omega arith,
-      opens,
-      or_right (some_live_claim jobs w.from (holds_over vertices v)) _ (sym e ∙ t),
-    ),
-    λ _. t,
-  )
+  pub closed_barred : (b : Bool) → b ≡ true → b ≡ is_barred → (IsTrue b ↔ IsClosedIn scene w v)
+  closed_barred b t e =
+      (λ _. (w.from, omega arith, opens, or_right (held w.from) _ (or_left _ is_down (sym e ∙ t))), λ _. t)
 
-  pub touched_barred : (b : Bool) →
-      b ≡ true → b ≡ list_any (λ u. is_at_or_below vertices u v) barred → (IsTrue b ↔ IsTouchedIn scene w v)
-  touched_barred b t e = (
-    λ _. (
-      w.from,
-      omega arith,
-      opens,
-      or_right (some_live_claim jobs w.from (is_on_or_below vertices v)) _ (sym e ∙ t),
-    ),
-    λ _. t,
-  )
+  pub touched_barred : (b : Bool) → b ≡ true → b ≡ has_barred → (IsTrue b ↔ IsTouchedIn scene w v)
+  touched_barred b t e =
+      (λ _. (w.from, omega arith, opens, or_right (claimed w.from) _ (or_left _ has_down (sym e ∙ t))), λ _. t)
 
-  -- of any other vertex the jobs decide
-  pub closed_unbarred : (a b : Bool) → b ≡ false → b ≡ list_any (is_at_or_below vertices v) barred →
-      (IsTrue a ↔ IsClosedOver vertices jobs w v) → (IsTrue a ↔ IsClosedIn scene w v)
+  -- of any other vertex what stands decides
+  same_closed : (m : ℕ) → is_barred ≡ false → is_closed scene m v ≡ is_closed (no_bars vertices present) m v
+  same_closed m e = ap (λ b. held m || (b || is_down)) e
+
+  same_touched : (m : ℕ) → has_barred ≡ false → is_touched scene m v ≡ is_touched (no_bars vertices present) m v
+  same_touched m e = ap (λ b. claimed m || (b || has_down)) e
+
+  pub closed_unbarred : (a b : Bool) → b ≡ false → b ≡ is_barred →
+      (IsTrue a ↔ IsClosedOver vertices present w v) → (IsTrue a ↔ IsClosedIn scene w v)
   closed_unbarred a b f e h = (
-    λ t. let s = h.0 t in
-        (s.0, s.1, s.2, or_left _ _ (sym (or-false (some_live_claim jobs s.0 (holds_over vertices v))) ∙ s.3)),
-    λ s. h.1 (
-      s.0,
-      s.1,
-      s.2,
-      or_swap (some_live_claim jobs s.0 (holds_over vertices v))
-          (list_any (is_at_or_below vertices v) barred) (sym e ∙ f) s.3,
-    ),
+    λ t. let s = h.0 t in (s.0, s.1, s.2, same_closed s.0 (sym e ∙ f) ∙ s.3),
+    λ s. h.1 (s.0, s.1, s.2, sym (same_closed s.0 (sym e ∙ f)) ∙ s.3),
   )
 
-  pub touched_unbarred : (a b : Bool) → b ≡ false → b ≡ list_any (λ u. is_at_or_below vertices u v) barred →
-      (IsTrue a ↔ IsTouchedOver vertices jobs w v) → (IsTrue a ↔ IsTouchedIn scene w v)
+  pub touched_unbarred : (a b : Bool) → b ≡ false → b ≡ has_barred →
+      (IsTrue a ↔ IsTouchedOver vertices present w v) → (IsTrue a ↔ IsTouchedIn scene w v)
   touched_unbarred a b f e h = (
-    λ t. let s = h.0 t in
-        (s.0, s.1, s.2, or_left _ _ (sym (or-false (some_live_claim jobs s.0 (is_on_or_below vertices v))) ∙ s.3)),
-    λ s. h.1 (
-      s.0,
-      s.1,
-      s.2,
-      or_swap (some_live_claim jobs s.0 (is_on_or_below vertices v))
-          (list_any (λ u. is_at_or_below vertices u v) barred) (sym e ∙ f) s.3,
-    ),
+    λ t. let s = h.0 t in (s.0, s.1, s.2, same_touched s.0 (sym e ∙ f) ∙ s.3),
+    λ s. h.1 (s.0, s.1, s.2, sym (same_touched s.0 (sym e ∙ f)) ∙ s.3),
   )
 
   -- what is free of a vertex that isn't closed
   abbrev free_open : ℕ → ℕ
-  free_open m = if is_pool vertices v then (size_of vertices v - taken_at jobs m v) else 1
+  free_open m = if is_pool vertices v then (size_of vertices v - taken_at present.jobs m v) else 1
 
-  closed_bar : (m : ℕ) → list_any (is_at_or_below vertices v) barred ≡ true → free_at scene m v ≡ 0
-  closed_bar m e =
-      go (some_live_claim jobs m (holds_over vertices v)) (list_any (is_at_or_below vertices v) barred) (free_open m) e
+  closed_bar : (m : ℕ) → is_barred ≡ true → free_at scene m v ≡ 0
+  closed_bar m e = go (held m) is_barred (free_open m) e
     where
-      go : (a b : Bool) (n : ℕ) → b ≡ true → (let free : ℕ = (if a || b then 0 else n) in free ≡ 0)
+      go : (a b : Bool) (n : ℕ) → b ≡ true → (let free : ℕ = (if a || (b || is_down) then 0 else n) in free ≡ 0)
       go true b n e = refl
       go false true n e = refl
       go false false n e = absurd (true≢false (sym e))
 
-  same_free : (m : ℕ) →
-      list_any (is_at_or_below vertices v) barred ≡ false → free_at scene m v ≡ free_at (no_bars vertices jobs) m v
-  same_free m e = ap (λ b. if some_live_claim jobs m (holds_over vertices v) || b then 0 else free_open m) e
+  same_free : (m : ℕ) → is_barred ≡ false → free_at scene m v ≡ free_at (no_bars vertices present) m v
+  same_free m e = ap (λ b. if held m || (b || is_down) then 0 else free_open m) e
 
   -- nothing is free of a barred vertex
-  pub free_barred : (b : Bool) → b ≡ true → b ≡ list_any (is_at_or_below vertices v) barred → IsFreeIn scene w v 0
+  pub free_barred : (b : Bool) → b ≡ true → b ≡ is_barred → IsFreeIn scene w v 0
   free_barred b t e =
       record { each = λ m lo hi. omega arith; reached = (w.from, omega arith, opens, closed_bar w.from (sym e ∙ t)) }
 
   -- and of any other as much as without bars
   pub free_unbarred : (b : Bool) (n : ℕ) → b ≡ false →
-      b ≡ list_any (is_at_or_below vertices v) barred → IsFreeOver vertices jobs w v n → IsFreeIn scene w v n
+      b ≡ is_barred → IsFreeOver vertices present w v n → IsFreeIn scene w v n
   free_unbarred b n t e f = record {
     each = λ m lo hi. subst (λ x. n ≤ x) (sym (same_free m (sym e ∙ t))) (f.each m lo hi);
     reached = (let r = f.reached in (r.0, r.1, r.2, same_free r.0 (sym e ∙ t) ∙ r.3));

@@ -1,7 +1,7 @@
 //! Whether a kept total is below a demand.
-ghost use Rattle.std.specs.Prelude.{◌+◌, ◌*◌, ◌<◌, ◌≤◌, length, List, MatchOption, IfSome};
-ghost use Rattle.flux_defs.specs.declared.claims.Job.{Job};
-ghost use Rattle.flux_defs.specs.Later.{IsSoUntil};
+ghost use Rattle.std.specs.Prelude.{◌+◌, ◌*◌, ◌<◌, ◌≤◌, length, MatchOption, IfSome};
+ghost use Rattle.flux_defs.specs.Present.{InEach};
+ghost use Rattle.flux_defs.specs.Views.{MayBeAsked, TellsUntil};
 ghost use Rattle.prune_filters.specs.Shorts.{IsShortOf, IsShortInAt};
 
 use flux_defs::{FreeView, List, Steps, Window};
@@ -31,10 +31,9 @@ pub fn short_until<F: FreeView, L: Ledger>(
     window: Window,
     steps: &mut Steps<L>,
 ) -> Option<u64>
-    requires vertex { vertex < length (F.graph view.now) }
-    requires opens { window.from < window.to }
-    ensures answer { (jobs : List Job) → F.stands_for view.now jobs →
-        IsSoUntil (λ w. IsShortOf (F.graph view.now) jobs w (F.keeps view.now) demands.now vertex) window result }
+    requires asked { MayBeAsked (F.graph view.now) vertex window }
+    ensures answer { TellsUntil (F.stands_for view.now)
+        (λ present w. IsShortOf (F.graph view.now) present w (F.keeps view.now) demands.now vertex) window result }
     ensures within { IfSome result (λ m. window.from ≤ m) }
     ensures work { steps.new ≤ steps.old + length demands.now * F.cost view.now }
 {
@@ -55,12 +54,10 @@ pub fn first_short<F: FreeView, L: Ledger>(
     window: Window,
     steps: &mut Steps<L>,
 ) -> Option<Shortage>
-    requires vertex { vertex < length (F.graph view.now) }
-    requires opens { window.from < window.to }
-    ensures answer { (jobs : List Job) → F.stands_for view.now jobs →
-        MatchOption result
-        (IsShortOf (F.graph view.now) jobs window (F.keeps view.now) demands.now vertex → ⊥)
-        (IsShortInAt (F.graph view.now) jobs (F.keeps view.now) demands.now vertex) }
+    requires asked { MayBeAsked (F.graph view.now) vertex window }
+    ensures answer { InEach (F.stands_for view.now) (λ present. MatchOption result
+        (IsShortOf (F.graph view.now) present window (F.keeps view.now) demands.now vertex → ⊥)
+        (IsShortInAt (F.graph view.now) present (F.keeps view.now) demands.now vertex)) }
     ensures within { IfSome result (λ s. (window.from ≤ s.moment) × (s.moment < window.to)) }
     ensures kept { IfSome result (λ s. F.keeps view.now vertex s.demand.kind) }
     ensures work { steps.new ≤ steps.old + length demands.now * F.cost view.now }

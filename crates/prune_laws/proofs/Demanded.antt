@@ -10,7 +10,6 @@ use Rattle.std.proofs.lemmas.Bool.Decides.{eqb_tells, nat_tests}
 use Rattle.flux_defs.specs.declared.vertices.Vertex.{Vertex}
 use Rattle.flux_defs.specs.declared.claims.Claim.{Claim}
 use Rattle.flux_defs.specs.declared.claims.Claim.TheVariants.{Hold}
-use Rattle.flux_defs.specs.declared.claims.Job.{Job}
 use Rattle.flux_defs.specs.declared.claims.Window.{Window}
 use Rattle.flux_defs.specs.declared.requests.Need.{Need, Vert', Pool, Spread', Row_of-Need, end_of-Need, more_of-Need}
 use Rattle.flux_defs.specs.declared.requests.Need.{items-the_row-Need, items_hidden-the_row-Need-0}
@@ -25,6 +24,7 @@ use Rattle.flux_defs.specs.Available.{IsAvailable}
 use Rattle.flux_defs.specs.Needs.{amount_of, IsOfNeed, HasNoSpread, HaveNoSpreadRow, IsValidNeed, AreValidNeeds}
 use Rattle.flux_defs.specs.Needs.{AreValidRow}
 use Rattle.flux_defs.specs.Fits.{Pick, served, AreDistinct, Pieces, Piece, Fits, FitsRow}
+use Rattle.flux_defs.specs.Present.{Present, all_up}
 use Rattle.graph_laws.proofs.Containment.{below_trans, below_le, below_parent, below_self, below_from, below_to}
 use Rattle.graph_laws.proofs.Containment.{in_graph, not_to}
 use Rattle.graph_laws.proofs.Preorder.{parents_first}
@@ -166,13 +166,13 @@ module _ (g : ResourceGraph) (names : List (List ℕ)) (valid : IsValidGraph g n
       let same : k.0 ≡ kind = sym one ∙ eqb-true r.1.kind kind b.0 in
       subst (λ (j : ℕ). HasKind vs j v) same k.1
 
-  module _ (jobs : List Job) (barred : List ℕ) (w : Window) (kind m : ℕ) (lo : w.from ≤ m) (hi : m < w.to) where
+  module _ (present : Present) (barred : List ℕ) (w : Window) (kind m : ℕ) (lo : w.from ≤ m) (hi : m < w.to) where
     abbrev ok : Claim → Type 0
-    ok = IsAvailable (scene g jobs barred) w
+    ok = IsAvailable (scene g present barred) w
 
     -- what is free of a vertex to an ask without bars
     abbrev weight : ℕ → ℕ
-    weight u = free_at (no_bars vs jobs) m u
+    weight u = free_at (no_bars vs (all_up present)) m u
 
     abbrev sum : (ℕ → Bool) → ℕ
     sum set = set_sum kind weight vs set
@@ -181,9 +181,9 @@ module _ (g : ResourceGraph) (names : List (List ℕ)) (valid : IsValidGraph g n
     abbrev under : ℕ → ℕ → Bool
     under v u = is_at_or_below vs u v
 
-    open_free : (v : ℕ) → is_pool vs v ≡ false → IsTrue (not (is_closed (scene g jobs barred) m v)) → weight v ≡ 1
-    open_free v plain h = go (some_live_claim jobs m (holds_over vs v)) (is_withheld (scene g jobs barred) v)
-        (is_pool vs v) (size_of vs v - taken_at jobs m v) h plain
+    open_free : (v : ℕ) → is_pool vs v ≡ false → IsTrue (not (is_closed (scene g present barred) m v)) → weight v ≡ 1
+    open_free v plain h = go (some_live_claim present.jobs m (holds_over vs v)) (is_withheld (scene g present barred) v)
+        (is_pool vs v) (size_of vs v - taken_at present.jobs m v) h plain
       where
         go : (a b p : Bool) (n : ℕ) → IsTrue (not (a || b)) → p ≡ false →
             (let free : ℕ = (if a || false then 0 else if p then n else 1) in free ≡ 1)
@@ -191,9 +191,9 @@ module _ (g : ResourceGraph) (names : List (List ℕ)) (valid : IsValidGraph g n
         go false b true n h e = absurd (true≢false e)
         go false b false n h e = refl
 
-    take_free : (v q : ℕ) → IsTrue (nat_le q (free_at (scene g jobs barred) m v)) → q ≤ weight v
-    take_free v q h = go (some_live_claim jobs m (holds_over vs v)) (is_withheld (scene g jobs barred) v)
-        (if is_pool vs v then (size_of vs v - taken_at jobs m v) else 1) h
+    take_free : (v q : ℕ) → IsTrue (nat_le q (free_at (scene g present barred) m v)) → q ≤ weight v
+    take_free v q h = go (some_live_claim present.jobs m (holds_over vs v)) (is_withheld (scene g present barred) v)
+        (if is_pool vs v then (size_of vs v - taken_at present.jobs m v) else 1) h
       where
         le : (n : ℕ) → IsTrue (nat_le q n) → q ≤ n
         le n h = grind (arith, nat_tests)
@@ -311,14 +311,14 @@ module _ (g : ResourceGraph) (names : List (List ℕ)) (valid : IsValidGraph g n
 
     -- one vertex, with what its inner needs have below it
     vertex_total : (v own inner : ℕ) → v < length vs → HasKind vs own v → is_pool_kind vs own ≡ false →
-        IsTrue (not (is_closed (scene g jobs barred) m v)) → inner ≤ sum (λ u. is_below vs u v) →
+        IsTrue (not (is_closed (scene g present barred) m v)) → inner ≤ sum (λ u. is_below vs u v) →
         one_if (own == kind) + inner ≤ sum (under v)
     vertex_total v own inner lt is plain free below =
         let part = own_part v own is (open_free v (pool_of own v is ∙ plain) free) in
         let both = vertex_and_below v lt in
         omega (arith, part, both)
 
-    node_part : (v : ℕ) → IsNode vs v → IsTrue (not (is_closed (scene g jobs barred) m v)) → (b : Bool) →
+    node_part : (v : ℕ) → IsNode vs v → IsTrue (not (is_closed (scene g present barred) m v)) → (b : Bool) →
         is_node_kind vs kind ≡ b →
         one_if b ≤ sum (λ u. nat_eq u v)
     node_part v node clear true t =
@@ -328,7 +328,7 @@ module _ (g : ResourceGraph) (names : List (List ℕ)) (valid : IsValidGraph g n
     node_part v node clear false t = omega arith
 
     pool_total : (v own q : ℕ) → v < length vs → HasKind vs own v →
-        IsTrue (nat_le q (free_at (scene g jobs barred) m v)) →
+        IsTrue (nat_le q (free_at (scene g present barred) m v)) →
         q * one_if (own == kind) ≤ sum (under v)
     pool_total v own q lt is free = elim (eqb_tells own kind) [
       | inl same ↦ (
@@ -340,7 +340,7 @@ module _ (g : ResourceGraph) (names : List (List ℕ)) (valid : IsValidGraph g n
       | inr differ ↦ (let e : one_if (own == kind) ≡ 0 = ap one_if differ.0 in rw e (omega arith))
     ]
 
-    held_open : (v : ℕ) → ok (Hold v) → IsTrue (not (is_closed (scene g jobs barred) m v))
+    held_open : (v : ℕ) → ok (Hold v) → IsTrue (not (is_closed (scene g present barred) m v))
     held_open v h = (and_parts _ _ (h m lo hi)).0
 
     mutual
@@ -391,19 +391,19 @@ module _ (g : ResourceGraph) (names : List (List ℕ)) (valid : IsValidGraph g n
 
 -- where there is too little for one of a need, no vertex there serves it
 pub too_little_none : TooLittleServesNone
-too_little_none g names valid jobs barred w need fine v short scope u q under some can =
+too_little_none g names valid present barred w need fine v short scope u q under some can =
     let kind = short.0 in
     let m = short.1.0 in
     let lo = short.1.1 in
     let hi = short.1.2 in
-    let few : total_at g.vertices jobs kind m v < capped (demand g.vertices kind 1 need) = short.1.3 in
-    let there = piece_total g names valid jobs barred w kind m lo hi scope need fine u q can.0 some can.1 in
+    let few : total_at g.vertices present kind m v < capped (demand g.vertices kind 1 need) = short.1.3 in
+    let there = piece_total g names valid present barred w kind m lo hi scope need fine u q can.0 some can.1 in
     let one = demand_more g.vertices kind 1 q need some in
-    let part : total_at g.vertices jobs kind m u ≤ total_at g.vertices jobs kind m v =
-    part_sum kind (λ x. free_at (no_bars g.vertices jobs) m x) g.vertices (λ x. is_at_or_below g.vertices x u)
+    let part : total_at g.vertices present kind m u ≤ total_at g.vertices present kind m v =
+    part_sum kind (λ x. free_at (no_bars g.vertices (all_up present)) m x) g.vertices (λ x. is_at_or_below g.vertices x u)
     (λ x. is_at_or_below g.vertices x v)
     (λ x lt h. below_trans g.vertices (parents_first g valid.preorder) x u v lt h under) in
-    let all : demand g.vertices kind q need ≤ total_at g.vertices jobs kind m u = there in
+    let all : demand g.vertices kind q need ≤ total_at g.vertices present kind m u = there in
     omega (arith, part, all, one, few)
 
 -- each vertex is the root or below it
@@ -419,30 +419,30 @@ root_over g names valid (suc most) (suc v) le lt =
     (root_over g names valid most next.0 (omega (arith, few)) (omega (arith, few)))
 
 -- where needs fit, the root has as much of each kind as they demand in full, at each moment
-pub fit_total : (g : ResourceGraph) (names : List (List ℕ)) → IsValidGraph g names → (jobs : List Job)
+pub fit_total : (g : ResourceGraph) (names : List (List ℕ)) → IsValidGraph g names → (present : Present)
     (barred : List ℕ) (w : Window) (needs : List Need) → AreValidNeeds g.vertices needs → (kind m : ℕ) →
     w.from ≤ m → m < w.to → (claims : List Claim) →
-    Fits g.vertices (IsAvailable (scene g jobs barred) w) 1 Everywhere needs claims →
-    needs_demand g.vertices kind needs ≤ total_at g.vertices jobs kind m 0
-fit_total g names valid jobs barred w needs fine kind m lo hi claims fits =
+    Fits g.vertices (IsAvailable (scene g present barred) w) 1 Everywhere needs claims →
+    needs_demand g.vertices kind needs ≤ total_at g.vertices present kind m 0
+fit_total g names valid present barred w needs fine kind m lo hi claims fits =
     let vs = g.vertices in
-    let ok : Claim → Type 0 = IsAvailable (scene g jobs barred) w in
+    let ok : Claim → Type 0 = IsAvailable (scene g present barred) w in
     let rows = subst (λ (P : List Claim → Type 0). P claims) (sym (fits_list vs ok needs 1 Everywhere)) fits in
-    let cover = row_cover g names valid jobs barred w kind m lo hi 1 (omega arith) Everywhere
+    let cover = row_cover g names valid present barred w kind m lo hi 1 (omega arith) Everywhere
     (hidden-the_row-Need-0 needs) (valid_to_row vs needs fine) claims rows in
     let some = cover.1 in
     let once = once_demand vs kind (hidden-the_row-Need-0 needs) in
     let list = list_row vs kind needs in
-    let part : _ ≤ total_at vs jobs kind m 0 =
-    part_sum kind (λ x. free_at (no_bars vs jobs) m x) vs cover.0 (λ x. is_at_or_below vs x 0)
+    let part : _ ≤ total_at vs present kind m 0 =
+    part_sum kind (λ x. free_at (no_bars vs (all_up present)) m x) vs cover.0 (λ x. is_at_or_below vs x 0)
     (λ u lt t. root_over g names valid u u (omega arith) lt) in
     omega (arith, some, once, list, part)
 
 -- where the root has too little for needs in full, none fit
 pub too_little_fit : TooLittleFitsNone
-too_little_fit g names valid jobs barred w needs fine kind short claims fits =
+too_little_fit g names valid present barred w needs fine kind short claims fits =
     let vs = g.vertices in
     let m = short.0 in
-    let few : total_at vs jobs kind m 0 < capped (needs_demand vs kind needs) = short.3 in
-    let all = fit_total g names valid jobs barred w needs fine kind m short.1 short.2 claims fits in
+    let few : total_at vs present kind m 0 < capped (needs_demand vs kind needs) = short.3 in
+    let all = fit_total g names valid present barred w needs fine kind m short.1 short.2 claims fits in
     omega (arith, all, few)

@@ -15,9 +15,10 @@ use Rattle.flux_defs.specs.Needs.{AreValidNeeds}
 use Rattle.flux_defs.specs.Available.{IsAvailable}
 use Rattle.flux_defs.specs.Asks.{window_of, scene_of, IsLowestFirst}
 use Rattle.flux_defs.specs.Scheduler.{Setting, State, first_state, IsProper, IsAcceptedAs, AcceptedOrFull, Replies}
-use Rattle.flux_defs.specs.Scheduler.{accepted_reply, job_with, info_at, after}
+use Rattle.flux_defs.specs.Scheduler.{accepted_reply, job_with, info_at, after, present_of}
 use Rattle.flux_defs.specs.Histories.{state_after, IsLegalFrom, IsLegal, HasProperCommands}
 use Rattle.flux_defs.specs.Sound.{IsSound, IsSoundThroughout}
+use Rattle.flux_defs.specs.Present.{up_with}
 use Rattle.flux_laws.proofs.Aside.{separate_fits}
 use Rattle.flux_laws.proofs.Determined.{lowest_fits}
 use Rattle.sound_laws.proofs.Had.{fits_had}
@@ -26,12 +27,12 @@ use Rattle.sound_laws.proofs.Sounds.{sound_add, sound_filter, sound_none}
 -- a job with the lowest-first claims of valid needs over its own time
 pub accepted_keeps : (g : ResourceGraph) (names : List (List ℕ)) →
     IsValidGraph g names → (jobs : List Job) (ask : Ask) → AreValidNeeds g.vertices ask.needs →
-    (job : Job) → IsLowestFirst g.vertices jobs ask (record { from = job.start; to = job.end }) job.claims →
+    (job : Job) → IsLowestFirst g.vertices (up_with jobs) ask (record { from = job.start; to = job.end }) job.claims →
     IsSound g.vertices jobs → IsSound g.vertices (jobs ++ job ∷ [])
 accepted_keeps g names valid jobs ask needs job low sound =
     let span : Window = record { from = job.start; to = job.end } in
-    let ok = IsAvailable (scene_of g.vertices jobs ask) span in
-    let fit = lowest_fits g.vertices jobs ask span job.claims low in
+    let ok = IsAvailable (scene_of g.vertices (up_with jobs) ask) span in
+    let fit = lowest_fits g.vertices (up_with jobs) ask span job.claims low in
     sound_add g.vertices jobs ask.barred job sound
     (fits_had g.vertices ok 1 Everywhere ask.needs needs job.claims fit)
     (separate_fits g names valid ok 1 Everywhere ask.needs needs job.claims fit)
@@ -55,7 +56,7 @@ module _ (g : Setting) (names : List (List ℕ)) (valid : IsValidGraph g.graph n
   accepts s c id start ask job r needs accepted is sound =
       let spans = same_window start
       (window_of g.horizon ask start).to job.start job.end (sym accepted.start-is) (sym accepted.end-is) in
-      let low = subst (λ (w : Window). IsLowestFirst g.graph.vertices s.jobs ask w job.claims) spans accepted.lowest in
+      let low = subst (λ (w : Window). IsLowestFirst g.graph.vertices (present_of s) ask w job.claims) spans accepted.lowest in
       subst (λ (y : Reply). Sound (after s c y))
       (sym is) (either (job.start == s.moment) (accepted_keeps g.graph names valid s.jobs ask needs job low sound))
     where

@@ -1,6 +1,6 @@
 -- Members of lists, and tests that some of them pass.
-use Rattle.std.proofs.Common.{◌≡◌, ℕ, zero, suc, ◌<◌, Bool, true, false, List, [], ◌∷◌, ◌++◌, length, get_or, filter}
-use Rattle.std.proofs.Common.{cond, ◌∙◌, ap, arith, IsTrue, Contains}
+use Rattle.std.proofs.Common.{◌≡◌, ℕ, zero, suc, ◌<◌, Bool, List, [], ◌∷◌, length, get_or}
+use Rattle.std.proofs.Common.{◌∙◌, ap, arith, IsTrue, Contains}
 use Rattle.std.specs.List.{AllByRecursion, list_any}
 use Rattle.std.proofs.lemmas.Bool.{or_left, or_right}
 use Rattle.std.proofs.lemmas.List.Elements.{recursion_from_All, All-contains_itself}

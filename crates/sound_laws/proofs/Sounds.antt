@@ -17,6 +17,7 @@ use Rattle.flux_defs.specs.Closed.{Scene, is_closed, is_touched, is_withheld, ha
 use Rattle.flux_defs.specs.Free.{taken_at}
 use Rattle.flux_defs.specs.Available.{IsAvailable}
 use Rattle.flux_defs.specs.Sound.{AreSeparate, AreAllSeparate, KeepApart, AllKeepApart, IsSound}
+use Rattle.flux_defs.specs.Present.{up_with, nothing}
 use Rattle.graph_laws.proofs.Containment.{not_to}
 use Rattle.sound_laws.proofs.Members.{each_member, any_member}
 use Rattle.list_laws.proofs.Lists.{all_append, all_filter, all_contained}
@@ -79,7 +80,7 @@ takes_live m v job = if is_live m job then sum_by (take_of v) job.claims else 0
 
 module _ (vertices : List Vertex) (jobs : List Job) (barred : List ℕ) (job : Job) where
   abbrev scene : Scene
-  scene = record { vertices = vertices; jobs = jobs; barred = barred }
+  scene = record { vertices = vertices; present = up_with jobs; barred = barred }
 
   abbrev span : Window
   span = record { from = job.start; to = job.end }

@@ -11,12 +11,13 @@ use Rattle.flux_defs.specs.Asks.{IsLowestFirst}
 use Rattle.flux_defs.specs.Scheduler.{Setting, without_job}
 use Rattle.flux_defs.specs.Histories.{IsLegal, HasProperCommands}
 use Rattle.flux_defs.specs.Sound.{IsSound, IsSoundThroughout}
+use Rattle.flux_defs.specs.Present.{up_with}
 
 -- A job with the lowest-first claims of valid needs over its own time joins sound jobs soundly.
 abbrev pub AcceptingKeepsSound : Type 0
 AcceptingKeepsSound = (g : ResourceGraph) (names : List (List ℕ)) →
     IsValidGraph g names → (jobs : List Job) (ask : Ask) → AreValidNeeds g.vertices ask.needs →
-    (job : Job) → IsLowestFirst g.vertices jobs ask (record { from = job.start; to = job.end }) job.claims →
+    (job : Job) → IsLowestFirst g.vertices (up_with jobs) ask (record { from = job.start; to = job.end }) job.claims →
     IsSound g.vertices jobs → IsSound g.vertices (jobs ++ job ∷ [])
 
 -- Sound jobs are sound without the one that is cancelled.

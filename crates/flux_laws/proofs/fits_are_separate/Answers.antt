@@ -5,5 +5,5 @@ use Rattle.flux_laws.proofs.Aside.{separate_fits}
 use Rattle.flux_laws.proofs.fits_are_separate.Goals as goal
 
 pub returns : goal.returns
-returns c = λ g names valid ask vs jobs w.
-    separate_fits g names valid (IsAvailable (scene_of g.vertices jobs ask) w) 1 Everywhere ask.needs vs
+returns c = λ g names valid ask vs present w.
+    separate_fits g names valid (IsAvailable (scene_of g.vertices present ask) w) 1 Everywhere ask.needs vs

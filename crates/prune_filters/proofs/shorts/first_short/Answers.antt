@@ -8,10 +8,10 @@ pub returns-in-Some : goal.returns-in-Some
 returns-in-Some g c =
     let v = c.args.view.now in
     record {
-      answer = λ jobs stands. rw (← c.items-demand-items.ensures) (found
-          (λ d. IsBelowAt (g.F.FreeView.graph v) jobs (g.F.FreeView.keeps v) c.args.vertex d.kind d.amount
+      answer = λ present stands. rw (← c.items-demand-items.ensures) (found
+          (λ d. IsBelowAt (g.F.FreeView.graph v) present (g.F.FreeView.keeps v) c.args.vertex d.kind d.amount
           c.in-Some.moment) c.items-demand-items.result.now c.loop-demand.demand-index _ c.loop-demand-test.true
-          (c.in-Some.ensures.kept, c.in-Some.ensures.answer jobs stands));
+          (c.in-Some.ensures.kept, c.in-Some.ensures.answer present stands));
       within = c.in-Some.ensures.within;
       kept = c.in-Some.ensures.kept;
       work = (
@@ -24,11 +24,11 @@ pub loop-demand-preserved : goal.loop-demand-preserved
 loop-demand-preserved g c =
     let v = c.args.view.now in
     record {
-      none = λ jobs stands. none_next
-          (λ d. IsBelow (g.F.FreeView.graph v) jobs c.args.window (g.F.FreeView.keeps v) c.args.vertex d.kind d.amount)
+      none = λ present stands. none_next
+          (λ d. IsBelow (g.F.FreeView.graph v) present c.args.window (g.F.FreeView.keeps v) c.args.vertex d.kind d.amount)
           c.items-demand-items.result.now c.loop-demand.demand-index _
-          (λ below. c.in_default.ensures.answer jobs stands below.0 below.1) c.loop-demand-test.true
-          (c.loop-demand.invariant.none jobs stands);
+          (λ below. c.in_default.ensures.answer present stands below.0 below.1) c.loop-demand-test.true
+          (c.loop-demand.invariant.none present stands);
       spent = omega (arith, c.loop-demand.invariant.spent, c.total_below.ensures.work);
     }
 
@@ -36,10 +36,10 @@ pub returns : goal.returns
 returns g c =
     let v = c.args.view.now in
     record {
-      answer = λ jobs stands. rw (← c.items-demand-items.ensures) (none_at_all
-          (λ d. IsBelow (g.F.FreeView.graph v) jobs c.args.window (g.F.FreeView.keeps v) c.args.vertex d.kind d.amount)
+      answer = λ present stands. rw (← c.items-demand-items.ensures) (none_at_all
+          (λ d. IsBelow (g.F.FreeView.graph v) present c.args.window (g.F.FreeView.keeps v) c.args.vertex d.kind d.amount)
           c.items-demand-items.result.now c.loop-demand.demand-index c.loop-demand-test.false
-          (c.loop-demand.invariant.none jobs stands));
+          (c.loop-demand.invariant.none present stands));
       within = tt;
       kept = tt;
       work = (

@@ -9,12 +9,12 @@ pub returns-in-Some : goal.returns-in-Some
 returns-in-Some g c =
     let v = c.args.view.now in
     record {
-      answer = λ jobs stands w reach.
+      answer = λ present stands w reach.
           let P : Demand → Type 0 =
-          (λ d. IsBelow (g.F.FreeView.graph v) jobs w (g.F.FreeView.keeps v) c.args.vertex d.kind d.amount) in
+          (λ d. IsBelow (g.F.FreeView.graph v) present w (g.F.FreeView.keeps v) c.args.vertex d.kind d.amount) in
           rw (← c.items-demand-items.ensures) (any_of P c.items-demand-items.result.now _
           (found P c.items-demand-items.result.now c.loop-demand.demand-index _ c.loop-demand-test.true
-          (c.in-Some.ensures.kept, c.in-Some.ensures.answer jobs stands w reach)));
+          (c.in-Some.ensures.kept, c.in-Some.ensures.answer present stands w reach)));
       within = c.in-Some.ensures.within;
       work = (
           let each = mul-le-mul_right (g.F.FreeView.cost v) c.loop-demand-test.true in
@@ -26,11 +26,11 @@ pub loop-demand-preserved : goal.loop-demand-preserved
 loop-demand-preserved g c =
     let v = c.args.view.now in
     record {
-      none = λ jobs stands. none_next
-          (λ d. IsBelow (g.F.FreeView.graph v) jobs c.args.window (g.F.FreeView.keeps v) c.args.vertex d.kind d.amount)
+      none = λ present stands. none_next
+          (λ d. IsBelow (g.F.FreeView.graph v) present c.args.window (g.F.FreeView.keeps v) c.args.vertex d.kind d.amount)
           c.items-demand-items.result.now c.loop-demand.demand-index _
-          (λ below. c.in_default.ensures.answer jobs stands below.0 below.1) c.loop-demand-test.true
-          (c.loop-demand.invariant.none jobs stands);
+          (λ below. c.in_default.ensures.answer present stands below.0 below.1) c.loop-demand-test.true
+          (c.loop-demand.invariant.none present stands);
       spent = omega (arith, c.loop-demand.invariant.spent, c.total_until.ensures.work);
     }
 
@@ -38,10 +38,10 @@ pub returns : goal.returns
 returns g c =
     let v = c.args.view.now in
     record {
-      answer = λ jobs stands. rw (← c.items-demand-items.ensures) (none_at_all
-          (λ d. IsBelow (g.F.FreeView.graph v) jobs c.args.window (g.F.FreeView.keeps v) c.args.vertex d.kind d.amount)
+      answer = λ present stands. rw (← c.items-demand-items.ensures) (none_at_all
+          (λ d. IsBelow (g.F.FreeView.graph v) present c.args.window (g.F.FreeView.keeps v) c.args.vertex d.kind d.amount)
           c.items-demand-items.result.now c.loop-demand.demand-index c.loop-demand-test.false
-          (c.loop-demand.invariant.none jobs stands));
+          (c.loop-demand.invariant.none present stands));
       within = tt;
       work = (
           let all = mul-le-mul_right (g.F.FreeView.cost v) c.loop-demand.auto.demand-index-end in

@@ -1,5 +1,5 @@
-use Rattle.std.proofs.Common.{◌≡◌, ◌+◌, ◌*◌, ◌<◌, ◌≤◌, List, ℕ, slice_index_or}
-use Rattle.flux_defs.specs.declared.claims.Job.{Job}
+use Rattle.std.proofs.Common.{◌≡◌, ◌+◌, ◌*◌, ◌<◌, ◌≤◌, ℕ, slice_index_or}
+use Rattle.flux_defs.specs.Present.{Present}
 use Rattle.prune_filters.specs.declared.shorts.Demand.{Demand}
 use Rattle.prune_filters.specs.Shorts.{IsBelow}
 use Rattle.prune_filters.proofs.shorts.short_until.Given as goal
@@ -7,8 +7,8 @@ use Rattle.prune_filters.proofs.shorts.short_until.Given as goal
 -- the vertex is short of none of the demands so far
 abbrev pub invariant-loop-demand : goal.invariant-loop-demand
 invariant-loop-demand g l = record {
-  none : (jobs : List Job) → g.F.FreeView.stands_for l.view jobs → (k : ℕ) (d : Demand) → k < l.demand-index →
+  none : (present : Present) → g.F.FreeView.stands_for l.view present → (k : ℕ) (d : Demand) → k < l.demand-index →
       slice_index_or l.demand-items k d ≡ d →
-      IsBelow (g.F.FreeView.graph l.view) jobs l.window (g.F.FreeView.keeps l.view) l.vertex d.kind d.amount → ⊥;
+      IsBelow (g.F.FreeView.graph l.view) present l.window (g.F.FreeView.keeps l.view) l.vertex d.kind d.amount → ⊥;
   spent : l.steps ≤ l.initial.steps + l.demand-index * g.F.FreeView.cost l.view;
 }

@@ -1,0 +1,24 @@
+-- What stands at a moment: all that a search sees of the site beside its vertices.
+use Rattle.std.specs.Prelude.{ℕ, List, []}
+use Rattle.flux_defs.specs.declared.claims.Job.{Job}
+
+-- the jobs that were accepted and not cancelled, and the vertices that are down
+pub record Present : Type 0 where
+  pub jobs : List Job
+  pub down : List ℕ
+
+-- these jobs, and every vertex up
+abbrev pub up_with : List Job → Present
+up_with jobs = record { jobs = jobs; down = [] }
+
+-- the same jobs, and every vertex up
+abbrev pub all_up : Present → Present
+all_up present = up_with present.jobs
+
+-- no jobs, and every vertex up
+abbrev pub nothing : Present
+nothing = up_with []
+
+-- it is so of all that may stand
+abbrev pub InEach : (Present → Type 0) → (Present → Type 0) → Type 0
+InEach stands P = (present : Present) → stands present → P present
