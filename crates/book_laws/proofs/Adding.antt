@@ -1,7 +1,7 @@
 -- A job whose claims are separate and available, and whose takes are from pools, oversubscribes no vertex; and no fewer
 -- jobs do.
-use Rattle.std.proofs.Common.{◌≡◌, ◌≢◌, ℕ, ◌+◌, ◌-◌, ◌<◌, ◌≤◌, ◌==◌, nat_le, nat_lt, Bool, true, false, not}
-use Rattle.std.proofs.Common.{◌&&◌, ◌||◌, cond, List, [], ◌∷◌, ◌++◌, length, ◌⊎◌, inl, inr, refl}
+use Rattle.std.proofs.Common.{◌≡◌, ℕ, ◌+◌, ◌-◌, ◌<◌, ◌≤◌, nat_le, nat_lt, Bool, true, false, not}
+use Rattle.std.proofs.Common.{◌||◌, cond, List, [], ◌∷◌, ◌++◌, length, inl, inr, refl}
 use Rattle.std.proofs.Common.{sym, ◌∙◌, ap, subst, arith, IsTrue, true≢false}
 use Rattle.std.specs.List.{AllByRecursion, list_any, sum_by}
 use Rattle.std.specs.Option.{option_map_or}
@@ -21,6 +21,7 @@ use Rattle.flux_defs.specs.Closed.{no_bars, is_closed, is_touched, is_withheld, 
 use Rattle.flux_defs.specs.Free.{taken_at}
 use Rattle.flux_defs.specs.Available.{IsAvailable}
 use Rattle.flux_defs.specs.Sound.{AreSeparate, AreAllSeparate}
+use Rattle.flux_defs.specs.Present.{up_with}
 use Rattle.list_laws.proofs.Lists.{all_append}
 use Rattle.graph_laws.proofs.Containment.{above_is_chain, not_to}
 use Rattle.graph_laws.proofs.Preorder.{parents_first}
@@ -103,11 +104,12 @@ module _ (g : ResourceGraph) (o : StandsInPreorder g) where
     span = record { from = job.start; to = job.end }
 
     abbrev MayHave : Claim → Type 0
-    MayHave c = IsAvailable (no_bars g.vertices jobs) span c × TakesFromPool g.vertices c
+    MayHave c = IsAvailable (no_bars g.vertices (up_with jobs)) span c × TakesFromPool g.vertices c
 
     -- where a hold of the job covers a vertex, the other jobs use nothing of it
     free_under : (m u h : ℕ) → u < length g.vertices → IsTrue (is_at_or_below g.vertices u h) →
-        is_closed (no_bars g.vertices jobs) m h ≡ false → is_touched (no_bars g.vertices jobs) m h ≡ false →
+        is_closed (no_bars g.vertices (up_with jobs)) m h ≡ false → is_touched (no_bars g.vertices (up_with jobs)) m h
+        ≡ false →
         live_sum (use_of g.vertices u) jobs m ≡ 0
     free_under m u h lt under closed touched =
         live_unless (λ c. holds_over g.vertices h c || is_on_or_below g.vertices h c)
@@ -116,8 +118,8 @@ module _ (g : ResourceGraph) (o : StandsInPreorder g) where
         (λ some. elim (live_either (λ c. holds_over g.vertices h c || is_on_or_below g.vertices h c)
         (holds_over g.vertices h) (is_on_or_below g.vertices h)
         (λ c both. or_cases (holds_over g.vertices h c) (is_on_or_below g.vertices h c) both) jobs m some) [
-          | inl held ↦ true≢false (sym (or_left _ (is_withheld (no_bars g.vertices jobs) h) held) ∙ closed)
-          | inr on ↦ true≢false (sym (or_left _ (has_withheld (no_bars g.vertices jobs) h) on) ∙ touched)
+          | inl held ↦ true≢false (sym (or_left _ (is_withheld (no_bars g.vertices (up_with jobs)) h) held) ∙ closed)
+          | inr on ↦ true≢false (sym (or_left _ (has_withheld (no_bars g.vertices (up_with jobs)) h) on) ∙ touched)
         ]))
         ∙ live_none jobs m
       where
@@ -145,13 +147,13 @@ module _ (g : ResourceGraph) (o : StandsInPreorder g) where
     covered_free m u lt lo hi (Take p q) had covers = absurd (true≢false (sym covers))
     covered_free m u lt lo hi (Pass p) had covers = absurd (true≢false (sym covers))
     covered_free m u lt lo hi (Hold h) had covers =
-        let both = and_parts (not (is_closed (no_bars g.vertices jobs) m h))
-        (not (is_touched (no_bars g.vertices jobs) m h)) (had.0 m lo hi) in
+        let both = and_parts (not (is_closed (no_bars g.vertices (up_with jobs)) m h))
+        (not (is_touched (no_bars g.vertices (up_with jobs)) m h)) (had.0 m lo hi) in
         free_under m u h lt covers
-        (false_from_ne_true (is_closed (no_bars g.vertices jobs) m h)
-        (not_to (is_closed (no_bars g.vertices jobs) m h) both.0))
-        (false_from_ne_true (is_touched (no_bars g.vertices jobs) m h)
-        (not_to (is_touched (no_bars g.vertices jobs) m h) both.1))
+        (false_from_ne_true (is_closed (no_bars g.vertices (up_with jobs)) m h)
+        (not_to (is_closed (no_bars g.vertices (up_with jobs)) m h) both.0))
+        (false_from_ne_true (is_touched (no_bars g.vertices (up_with jobs)) m h)
+        (not_to (is_touched (no_bars g.vertices (up_with jobs)) m h) both.1))
 
     some_covers : (m u : ℕ) → u < length g.vertices → job.start ≤ m → m < job.end → (cs : List Claim) → AllByRecursion
         MayHave cs → IsTrue (list_any (holds_over g.vertices u) cs) → live_sum (use_of g.vertices u) jobs m ≡ 0
@@ -166,9 +168,9 @@ module _ (g : ResourceGraph) (o : StandsInPreorder g) where
     take_fits : (m u q : ℕ) → job.start ≤ m →
         m < job.end → MayHave (Take u q) → live_sum (use_of g.vertices u) jobs m + q ≤ size_of g.vertices u
     take_fits m u q lo hi had =
-        by_close (is_closed (no_bars g.vertices jobs) m u) refl (is_pool g.vertices u) had.1 (had.0 m lo hi)
+        by_close (is_closed (no_bars g.vertices (up_with jobs)) m u) refl (is_pool g.vertices u) had.1 (had.0 m lo hi)
       where
-        by_close : (b : Bool) → is_closed (no_bars g.vertices jobs) m u ≡ b → (pool : Bool) → pool ≡ true →
+        by_close : (b : Bool) → is_closed (no_bars g.vertices (up_with jobs)) m u ≡ b → (pool : Bool) → pool ≡ true →
             IsTrue (nat_le q (cond b 0 (cond pool (size_of g.vertices u - taken_at jobs m u) 1))) →
             live_sum (use_of g.vertices u) jobs m + q ≤ size_of g.vertices u
         by_close true e pool is h = let le = fair.within m u in

@@ -15,6 +15,7 @@ use Rattle.flux_defs.specs.Jobs.{vertex_of, some_live_claim, holds_over, is_on_o
 use Rattle.flux_defs.specs.Closed.{no_bars, is_closed, is_touched}
 use Rattle.flux_defs.specs.Free.{free_at, taken_at}
 use Rattle.flux_defs.specs.Available.{is_available_at, IsAvailable}
+use Rattle.flux_defs.specs.Present.{up_with}
 use Rattle.list_laws.proofs.Tests.{same_tests}
 use Rattle.graph_laws.proofs.Containment.{ParentsFirst}
 use Rattle.book_laws.specs.Amounts.{live_sum, is_hold, hold_of, holds_along, claim_within}
@@ -77,7 +78,8 @@ module _ (vertices : List Vertex) (first : ParentsFirst vertices) where
         ]
 
     pub closed_too : (v m : ℕ) →
-        v < length vertices → IsTrue (is_closed (no_bars vertices a) m v) → IsTrue (is_closed (no_bars vertices b) m v)
+        v < length vertices → IsTrue (is_closed (no_bars vertices (up_with a)) m v) →
+        IsTrue (is_closed (no_bars vertices (up_with b)) m v)
     closed_too v m lt h =
         let vs = chain vertices (length vertices) (Some v) in
         let held = live_along (holds_over vertices v)
@@ -86,38 +88,42 @@ module _ (vertices : List Vertex) (first : ParentsFirst vertices) where
         (λ c t. sym (hold_over vertices v c) ∙ t) b m (along vs m (chain_within (length vertices) v lt) held)
 
     pub touched_too : (v m : ℕ) → v < length vertices →
-        IsTrue (is_touched (no_bars vertices a) m v) → IsTrue (is_touched (no_bars vertices b) m v)
+        IsTrue (is_touched (no_bars vertices (up_with a)) m v) → IsTrue (is_touched (no_bars vertices (up_with b)) m v)
     touched_too v m lt h =
         or_left _ false (some_too (is_on_or_below vertices v) a b m (alike.claims v m lt) (sym (or-false _) ∙ h))
 
   module _ (a b : List Job) (alike : AmountAlike vertices a b) where
     closed_same : (v m : ℕ) →
-        v < length vertices → is_closed (no_bars vertices a) m v ≡ is_closed (no_bars vertices b) m v
+        v < length vertices → is_closed (no_bars vertices (up_with a)) m v ≡ is_closed (no_bars vertices (up_with b)) m
+        v
     closed_same v m lt =
         same_tests _ _ (closed_too a b alike v m lt) (closed_too b a (alike_swap vertices a b alike) v m lt)
 
     touched_same : (v m : ℕ) →
-        v < length vertices → is_touched (no_bars vertices a) m v ≡ is_touched (no_bars vertices b) m v
+        v < length vertices → is_touched (no_bars vertices (up_with a)) m v ≡ is_touched (no_bars vertices (up_with b))
+        m v
     touched_same v m lt =
         same_tests _ _ (touched_too a b alike v m lt) (touched_too b a (alike_swap vertices a b alike) v m lt)
 
-    free_same : (v m : ℕ) → v < length vertices → free_at (no_bars vertices a) m v ≡ free_at (no_bars vertices b) m v
+    free_same : (v m : ℕ) → v < length vertices → free_at (no_bars vertices (up_with a)) m v ≡ free_at
+        (no_bars vertices (up_with b)) m v
     free_same v m lt =
         ap (λ (x : Bool). cond x 0 (cond (is_pool vertices v) (size_of vertices v - taken_at a m v) 1))
         (closed_same v m lt)
-        ∙ ap (λ (n : ℕ). cond (is_closed (no_bars vertices b) m v) 0
+        ∙ ap (λ (n : ℕ). cond (is_closed (no_bars vertices (up_with b)) m v) 0
         (cond (is_pool vertices v) (size_of vertices v - n) 1)) (alike.takes v m lt)
 
     available_at : (m : ℕ) (c : Claim) → vertex_of c < length vertices →
-        is_available_at (no_bars vertices a) m c ≡ is_available_at (no_bars vertices b) m c
+        is_available_at (no_bars vertices (up_with a)) m c ≡ is_available_at (no_bars vertices (up_with b)) m c
     available_at m (Take v q) lt = ap (nat_le q) (free_same v m lt)
     available_at m (Hold v) lt =
-        ap (λ x. not x && not (is_touched (no_bars vertices a) m v)) (closed_same v m lt)
-        ∙ ap (λ x. not (is_closed (no_bars vertices b) m v) && not x) (touched_same v m lt)
+        ap (λ x. not x && not (is_touched (no_bars vertices (up_with a)) m v)) (closed_same v m lt)
+        ∙ ap (λ x. not (is_closed (no_bars vertices (up_with b)) m v) && not x) (touched_same v m lt)
     available_at m (Pass v) lt = ap not (closed_same v m lt)
 
     pub available_alike : (w : Window) (cs : List Claim) → AllByRecursion (λ c. vertex_of c < length vertices) cs →
-        AllByRecursion (IsAvailable (no_bars vertices a) w) cs → AllByRecursion (IsAvailable (no_bars vertices b) w) cs
+        AllByRecursion (IsAvailable (no_bars vertices (up_with a)) w) cs →
+        AllByRecursion (IsAvailable (no_bars vertices (up_with b)) w) cs
     available_alike w [] inside h = tt
     available_alike w (c ∷ cs) inside h =
         ((λ m lo hi. sym (available_at m c inside.0) ∙ h.0 m lo hi), available_alike w cs inside.1 h.1)

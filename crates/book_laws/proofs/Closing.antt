@@ -1,6 +1,6 @@
 -- A vertex is closed where it or a vertex above it is held: along the chain of its parents.
-use Rattle.std.proofs.Common.{◌≡◌, ℕ, ◌+◌, ◌-◌, ◌<◌, ◌≤◌, ◌==◌, Bool, true, false, ◌||◌, ◌&&◌, List}
-use Rattle.std.proofs.Common.{[], ◌∷◌, length, Some, IsTrue, refl, sym, ◌∙◌, ap, arith, ◌⊎◌, ◌↔◌, inl}
+use Rattle.std.proofs.Common.{◌≡◌, ℕ, Bool, true, false, ◌&&◌, List}
+use Rattle.std.proofs.Common.{[], ◌∷◌, length, Some, IsTrue, refl, sym, ◌∙◌, ◌⊎◌, ◌↔◌, inl}
 use Rattle.std.proofs.Common.{inr, true≢false}
 use Rattle.std.specs.List.{list_any}
 use Rattle.std.proofs.lemmas.Bool.{or_cases, or_left, or_right}
@@ -12,6 +12,7 @@ use Rattle.flux_defs.specs.declared.claims.Window.{Window}
 use Rattle.flux_defs.specs.Graph.{chain}
 use Rattle.flux_defs.specs.Jobs.{is_live, some_live_claim, SomeMoment, holds_over}
 use Rattle.flux_defs.specs.Closed.{no_bars, is_closed}
+use Rattle.flux_defs.specs.Present.{up_with}
 use Rattle.graph_laws.proofs.Containment.{at_or_below-opens}
 use Rattle.book_laws.specs.Amounts.{is_hold, holds_along}
 use Rattle.flux_laws.proofs.Live.{live_along, live_either}
@@ -78,7 +79,7 @@ hold_over vertices v (Pass u) = none (chain vertices (length vertices) (Some v))
 -- closed over a window: some vertex of the chain is held
 pub held_closed : (vertices : List Vertex) (jobs : List Job) (w : Window) (v : ℕ) →
     (SomeMoment w (λ m. IsTrue (some_live_claim jobs m (holds_along (chain vertices (length vertices) (Some v)))))
-    ↔ SomeMoment w (λ m. IsTrue (is_closed (no_bars vertices jobs) m v)))
+    ↔ SomeMoment w (λ m. IsTrue (is_closed (no_bars vertices (up_with jobs)) m v)))
 held_closed vertices jobs w v = (
   λ (m, lo, hi, h). (
     m,

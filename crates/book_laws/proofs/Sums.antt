@@ -1,14 +1,13 @@
 -- Sums over the claims of live jobs.
 use Rattle.std.proofs.Common.{◌≡◌, ℕ, zero, ◌+◌, ◌≤◌, Bool, true, false, ◌&&◌, ◌||◌, cond, List, [], ◌∷◌}
-use Rattle.std.proofs.Common.{◌++◌, ◌⊎◌, inl, inr, refl, sym, ◌∙◌, ap, arith, IsTrue, true≢false}
+use Rattle.std.proofs.Common.{◌++◌, refl, sym, ◌∙◌, ap, arith, IsTrue, true≢false}
 use Rattle.std.specs.List.{list_any, sum_by}
-use Rattle.std.proofs.lemmas.Bool.{and_parts, and_from, or_cases, or_left, or_right, or_parts}
+use Rattle.std.proofs.lemmas.Bool.{or_parts}
 use Rattle.std.proofs.lemmas.List.Sums.{sum_by-cons, sum_by-append, sum_by_push, sum_by-le-sum_by}
 use Rattle.flux_defs.specs.declared.claims.Claim.{Claim}
 use Rattle.flux_defs.specs.declared.claims.Job.{Job}
 use Rattle.flux_defs.specs.Jobs.{is_live, some_live_claim}
 use Rattle.book_laws.specs.Amounts.{live_sum}
-use Rattle.list_laws.proofs.Lists.{any_either}
 
 pub cond_none : (b : Bool) → cond b zero zero ≡ zero
 cond_none true = refl

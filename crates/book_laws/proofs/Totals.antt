@@ -16,6 +16,7 @@ use Rattle.flux_defs.specs.ValidGraph.{StandsInPreorder}
 use Rattle.flux_defs.specs.Jobs.{some_live_claim, holds_over}
 use Rattle.flux_defs.specs.Closed.{no_bars, is_closed}
 use Rattle.flux_defs.specs.Free.{free_at, taken_at, total_at}
+use Rattle.flux_defs.specs.Present.{up_with}
 use Rattle.graph_laws.proofs.Containment.{below_trans, above_is_chain}
 use Rattle.graph_laws.proofs.Preorder.{parents_first}
 use Rattle.book_laws.specs.Amounts.{live_sum, kind_sum, capacity, part_within, use_of}
@@ -200,20 +201,21 @@ module _ (g : ResourceGraph) (o : StandsInPreorder g) (kind v : ℕ) where
         (enumerate_from 0 g.vertices) jobs m
 
     -- free and used add up to the capacity
-    sums_up : total_at g.vertices jobs kind m v + kind_sum g.vertices kind v
+    sums_up : total_at g.vertices (up_with jobs) kind m v + kind_sum g.vertices kind v
         (λ u. live_sum (use_of g.vertices u) jobs m) ≡ capacity g.vertices kind v
     sums_up =
-        sym (sum_add (λ (p : ℕ × Vertex). cond (counts p.0 p.1) (free_at (no_bars g.vertices jobs) m p.0) 0)
+        sym (sum_add (λ (p : ℕ × Vertex). cond (counts p.0 p.1) (free_at (no_bars g.vertices (up_with jobs)) m p.0) 0)
         (λ (p : ℕ × Vertex). cond (counts p.0 p.1) (live_sum (use_of g.vertices p.0) jobs m) 0)
         (enumerate_from 0 g.vertices))
-        ∙ all_same g.vertices (λ u x. cond (counts u x) (free_at (no_bars g.vertices jobs) m u) 0 + cond
+        ∙ all_same g.vertices (λ u x. cond (counts u x) (free_at (no_bars g.vertices (up_with jobs)) m u) 0 + cond
         (counts u x) (live_sum (use_of g.vertices u) jobs m) 0) (λ u x. cond (counts u x) (size_of g.vertices u) 0)
         (λ u x e. cond_add (counts u x) _ _
         ∙ ap (λ n. cond (counts u x) n 0) (adds_up g.vertices u jobs m x e within pools))
 
     -- where neither v nor a vertex above it is held
-    pub total_open : is_closed (no_bars g.vertices jobs) m v ≡ false →
-        total_at g.vertices jobs kind m v + live_sum (part_within g.vertices kind v) jobs m ≡ capacity g.vertices kind v
+    pub total_open : is_closed (no_bars g.vertices (up_with jobs)) m v ≡ false →
+        total_at g.vertices (up_with jobs) kind m v + live_sum (part_within g.vertices kind v) jobs m ≡ capacity
+        g.vertices kind v
     total_open open_ =
         let none : some_live_claim jobs m (holds_over g.vertices v) ≡ false =
         sym (closed_is g.vertices jobs m v) ∙ open_ in
@@ -236,11 +238,12 @@ module _ (g : ResourceGraph) (o : StandsInPreorder g) (kind v : ℕ) where
 
   -- where v or a vertex above it is held nothing is free
   pub total_closed : (jobs : List Job) (m : ℕ) →
-      is_closed (no_bars g.vertices jobs) m v ≡ true → total_at g.vertices jobs kind m v ≡ 0
+      is_closed (no_bars g.vertices (up_with jobs)) m v ≡ true → total_at g.vertices (up_with jobs) kind m v ≡ 0
   total_closed jobs m closed =
-      all_same g.vertices (λ u x. cond (counts u x) (free_at (no_bars g.vertices jobs) m u) 0) (λ u x. 0)
+      all_same g.vertices (λ u x. cond (counts u x) (free_at (no_bars g.vertices (up_with jobs)) m u) 0) (λ u x. 0)
       (λ u x e. by_tests (x.kind == kind) (is_at_or_below g.vertices u v)
-      (free_at (no_bars g.vertices jobs) m u) (λ below. none_free u (slice_get_within g.vertices u x e) below))
+      (free_at (no_bars g.vertices (up_with jobs)) m u)
+      (λ below. none_free u (slice_get_within g.vertices u x e) below))
       ∙ sum_none (enumerate_from 0 g.vertices)
     where
       held_too : (u : ℕ) → u < length g.vertices → IsTrue (is_at_or_below g.vertices u v) →
@@ -250,7 +253,8 @@ module _ (g : ResourceGraph) (o : StandsInPreorder g) (kind v : ℕ) where
       held_too u lt below (Pass p) h = h
 
       none_free : (u : ℕ) →
-          u < length g.vertices → IsTrue (is_at_or_below g.vertices u v) → free_at (no_bars g.vertices jobs) m u ≡ 0
+          u < length g.vertices → IsTrue (is_at_or_below g.vertices u v) → free_at (no_bars g.vertices (up_with jobs))
+          m u ≡ 0
       none_free u lt below =
           let held = live_along (holds_over g.vertices v)
           (holds_over g.vertices u) (held_too u lt below) jobs m (sym (closed_is g.vertices jobs m v) ∙ closed) in

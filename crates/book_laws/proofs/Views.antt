@@ -1,5 +1,5 @@
 -- What the least of a vertex's planners over a window says of the vertex.
-use Rattle.std.proofs.Common.{◌≡◌, ℕ, ◌+◌, ◌-◌, ◌<◌, ◌≤◌, true, false, cond, List, [], ◌∷◌, ◌++◌}
+use Rattle.std.proofs.Common.{◌≡◌, ℕ, ◌-◌, ◌<◌, ◌≤◌, true, false, cond, List, [], ◌∷◌, ◌++◌}
 use Rattle.std.proofs.Common.{◌↔◌, inl, inr, sym, ◌∙◌, ap}
 use Rattle.std.proofs.Common.{arith, IsTrue}
 use Rattle.std.specs.List.{sum_by}
@@ -15,6 +15,7 @@ use Rattle.flux_defs.specs.ValidGraph.{StandsInPreorder}
 use Rattle.flux_defs.specs.Jobs.{is_live, some_live_claim, SomeMoment, is_on_or_below, take_of}
 use Rattle.flux_defs.specs.Closed.{no_bars, is_closed, is_touched}
 use Rattle.flux_defs.specs.Free.{free_at, taken_at, total_at, IsLeastIn, IsFreeOver, IsTotalOver}
+use Rattle.flux_defs.specs.Present.{up_with}
 use Rattle.planner_points.specs.Spans.{used_at, HasRoom, IsLeastFree}
 use Rattle.book_laws.specs.Amounts.{live_sum, is_hold, hold_of, claim_within, capacity, part_within}
 use Rattle.book_laws.specs.Grouped.{time_of, grouped}
@@ -25,11 +26,11 @@ use Rattle.book_laws.proofs.GroupedLaws.{used_grouped, least_same, least_tells}
 
 -- nothing is closed at any moment of the window
 abbrev pub NeverClosed : List Vertex → List Job → Window → ℕ → Type 0
-NeverClosed vertices jobs w v = SomeMoment w (λ m. IsTrue (is_closed (no_bars vertices jobs) m v)) → ⊥
+NeverClosed vertices jobs w v = SomeMoment w (λ m. IsTrue (is_closed (no_bars vertices (up_with jobs)) m v)) → ⊥
 
 open_at : (vertices : List Vertex) (jobs : List Job) (w : Window) (v m : ℕ) →
-    NeverClosed vertices jobs w v → w.from ≤ m → m < w.to → is_closed (no_bars vertices jobs) m v ≡ false
-open_at vertices jobs w v m never lo hi = elim (cases_Bool (is_closed (no_bars vertices jobs) m v)) [
+    NeverClosed vertices jobs w v → w.from ≤ m → m < w.to → is_closed (no_bars vertices (up_with jobs)) m v ≡ false
+open_at vertices jobs w v m never lo hi = elim (cases_Bool (is_closed (no_bars vertices (up_with jobs)) m v)) [
   | inl yes_ ↦ absurd (never (m, lo, hi, yes_))
   | inr none ↦ none
 ]
@@ -54,7 +55,7 @@ held_tells jobs w v total n some least =
 -- and touched where its planner of claims has
 pub touched_tells : (vertices : List Vertex) (jobs : List Job) (w : Window) (v total n : ℕ) →
     0 < total → IsLeastFree total (grouped (claim_within vertices v) jobs) w n →
-    (n < total ↔ SomeMoment w (λ m. IsTrue (is_touched (no_bars vertices jobs) m v)))
+    (n < total ↔ SomeMoment w (λ m. IsTrue (is_touched (no_bars vertices (up_with jobs)) m v)))
 touched_tells vertices jobs w v total n some least =
     let t = least_tells
     (is_on_or_below vertices v) jobs w total n some (least_left (claim_within vertices v) jobs w total n least) in (
@@ -65,38 +66,41 @@ touched_tells vertices jobs w v total n some least =
 
 module _ (vertices : List Vertex) (jobs : List Job) (w : Window) (v : ℕ) where
   -- what is free of a vertex
-  pub free_closed : SomeMoment w (λ m. IsTrue (is_closed (no_bars vertices jobs) m v)) → IsFreeOver vertices jobs w v 0
+  pub free_closed : SomeMoment w (λ m. IsTrue (is_closed (no_bars vertices (up_with jobs)) m v)) →
+      IsFreeOver vertices (up_with jobs) w v 0
   free_closed (m, lo, hi, h) = record {
     each = λ k from to. omega arith;
     reached = (m, lo, hi, ap (λ b. cond b 0 (cond (is_pool vertices v) (size_of vertices v - taken_at jobs m v) 1)) h);
   }
 
   open_free : NeverClosed vertices jobs w v → (m : ℕ) → w.from ≤ m → m < w.to →
-      free_at (no_bars vertices jobs) m v ≡ cond (is_pool vertices v) (size_of vertices v - taken_at jobs m v) 1
+      free_at (no_bars vertices (up_with jobs)) m v ≡ cond (is_pool vertices v)
+      (size_of vertices v - taken_at jobs m v) 1
   open_free never m lo hi = ap (λ b. cond b 0 (cond (is_pool vertices v) (size_of vertices v - taken_at jobs m v) 1))
       (open_at vertices jobs w v m never lo hi)
 
   pub free_pool : (n : ℕ) → NeverClosed vertices jobs w v → is_pool vertices v ≡ true →
-      IsLeastFree (size_of vertices v) (grouped (take_of v) jobs) w n → IsFreeOver vertices jobs w v n
+      IsLeastFree (size_of vertices v) (grouped (take_of v) jobs) w n → IsFreeOver vertices (up_with jobs) w v n
   free_pool n never pool least =
-      least_same w (λ m. size_of vertices v - live_sum (take_of v) jobs m) (λ m. free_at (no_bars vertices jobs) m v) n
+      least_same w (λ m. size_of vertices v - live_sum (take_of v) jobs m)
+      (λ m. free_at (no_bars vertices (up_with jobs)) m v) n
       (λ m lo hi. sym (open_free never m lo hi ∙ ap (λ b. cond b (size_of vertices v - taken_at jobs m v) 1) pool))
       (least_left (take_of v) jobs w (size_of vertices v) n least)
 
   pub free_plain : NeverClosed vertices jobs w v →
-      is_pool vertices v ≡ false → w.from < w.to → IsFreeOver vertices jobs w v 1
+      is_pool vertices v ≡ false → w.from < w.to → IsFreeOver vertices (up_with jobs) w v 1
   free_plain never plain opens = record {
     each = λ m lo hi. (let e = one m lo hi in omega arith);
     reached = (w.from, omega arith, opens, one w.from (omega arith) opens);
   }
     where
-      one : (m : ℕ) → w.from ≤ m → m < w.to → free_at (no_bars vertices jobs) m v ≡ 1
+      one : (m : ℕ) → w.from ≤ m → m < w.to → free_at (no_bars vertices (up_with jobs)) m v ≡ 1
       one m lo hi = open_free never m lo hi ∙ ap (λ b. cond b (size_of vertices v - taken_at jobs m v) 1) plain
 
 -- the total of a kind
 module _ (g : ResourceGraph) (o : StandsInPreorder g) (jobs : List Job) (w : Window) (kind v : ℕ) where
-  pub none_in_total : SomeMoment w (λ m. IsTrue (is_closed (no_bars g.vertices jobs) m v)) →
-      IsTotalOver g.vertices jobs w kind v 0
+  pub none_in_total : SomeMoment w (λ m. IsTrue (is_closed (no_bars g.vertices (up_with jobs)) m v)) →
+      IsTotalOver g.vertices (up_with jobs) w kind v 0
   none_in_total (m, lo, hi, h) = record {
     each = λ k from to. omega arith;
     reached = (m, lo, hi, total_closed g o kind v jobs m h);
@@ -104,10 +108,10 @@ module _ (g : ResourceGraph) (o : StandsInPreorder g) (jobs : List Job) (w : Win
 
   pub left_in_total : (n : ℕ) → AreFair g.vertices jobs → NeverClosed g.vertices jobs w v →
       IsLeastFree (capacity g.vertices kind v) (grouped (part_within g.vertices kind v) jobs) w n →
-      IsTotalOver g.vertices jobs w kind v n
+      IsTotalOver g.vertices (up_with jobs) w kind v n
   left_in_total n fair never least =
       least_same w (λ m. capacity g.vertices kind v - live_sum (part_within g.vertices kind v) jobs m)
-      (λ m. total_at g.vertices jobs kind m v) n
+      (λ m. total_at g.vertices (up_with jobs) kind m v) n
       (λ m lo hi. (let e = total_open g o kind v jobs m fair.within fair.pools
       (open_at g.vertices jobs w v m never lo hi) in omega arith))
       (least_left (part_within g.vertices kind v) jobs w (capacity g.vertices kind v) n least)

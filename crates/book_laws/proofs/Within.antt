@@ -1,6 +1,6 @@
 -- Where no vertex is oversubscribed, what is free of each vertex and what live jobs use of it add up to its units, and
 -- so do the totals of a kind.
-use Rattle.std.proofs.Common.{◌≡◌, ◌≢◌, ℕ, zero, suc, ◌+◌, ◌-◌, ◌≤◌, ◌==◌, Bool, true, false, not, ◌&&◌, ◌||◌}
+use Rattle.std.proofs.Common.{◌≡◌, ℕ, zero, suc, ◌+◌, ◌-◌, ◌≤◌, ◌==◌, Bool, true, false, not, ◌&&◌, ◌||◌}
 use Rattle.std.proofs.Common.{cond, List, [], ◌∷◌, Some, slice_get, inl, inr, refl, sym, ◌∙◌}
 use Rattle.std.proofs.Common.{ap, arith, IsTrue, true≢false}
 use Rattle.std.specs.List.{AllByRecursion, sum_by}
@@ -17,6 +17,7 @@ use Rattle.flux_defs.specs.Graph.{is_pool, is_pool_kind, size_of}
 use Rattle.flux_defs.specs.Jobs.{is_live, some_live_claim, holds_over, take_of}
 use Rattle.flux_defs.specs.Closed.{no_bars, is_closed}
 use Rattle.flux_defs.specs.Free.{free_at, taken_at}
+use Rattle.flux_defs.specs.Present.{up_with}
 use Rattle.book_laws.specs.Amounts.{live_sum, use_of}
 use Rattle.book_laws.specs.Amounts.{AreWithinSizes, TakesFromPool}
 use Rattle.book_laws.proofs.Sums.{cond_none, job_sum, live_cons, live_unless}
@@ -24,7 +25,7 @@ use Rattle.book_laws.proofs.Sums.{live_where}
 
 -- a live job's hold closes a vertex, and nothing else does where nothing is barred
 pub closed_is : (vertices : List Vertex) (jobs : List Job) (m v : ℕ) →
-    is_closed (no_bars vertices jobs) m v ≡ some_live_claim jobs m (holds_over vertices v)
+    is_closed (no_bars vertices (up_with jobs)) m v ≡ some_live_claim jobs m (holds_over vertices v)
 closed_is vertices jobs m v = or-false (some_live_claim jobs m (holds_over vertices v))
 
 -- one vertex
@@ -98,8 +99,9 @@ module _ (vertices : List Vertex) (v : ℕ) where
   -- what is free and what is used add up to the vertex's units
   pub adds_up : (jobs : List Job) (m : ℕ) (x : Vertex) → slice_get vertices v ≡ Some x → AreWithinSizes vertices jobs →
       AllByRecursion (λ job. AllByRecursion (TakesFromPool vertices) job.claims) jobs →
-      free_at (no_bars vertices jobs) m v + live_sum (use_of vertices v) jobs m ≡ size_of vertices v
-  adds_up jobs m x here within pools = by_close (is_closed (no_bars vertices jobs) m v) (closed_is vertices jobs m v)
+      free_at (no_bars vertices (up_with jobs)) m v + live_sum (use_of vertices v) jobs m ≡ size_of vertices v
+  adds_up jobs m x here within pools = by_close (is_closed (no_bars vertices (up_with jobs)) m v)
+      (closed_is vertices jobs m v)
     where
       within_here : live_sum (use_of vertices v) jobs m ≤ size_of vertices v
       within_here = within m v

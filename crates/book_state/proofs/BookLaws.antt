@@ -17,6 +17,7 @@ use Rattle.flux_defs.specs.ValidGraph.{StandsInPreorder}
 use Rattle.flux_defs.specs.Jobs.{vertex_of}
 use Rattle.flux_defs.specs.Closed.{no_bars}
 use Rattle.flux_defs.specs.Available.{IsAvailable}
+use Rattle.flux_defs.specs.Present.{up_with}
 use Rattle.list_laws.proofs.Lists.{get_some}
 use Rattle.graph_laws.proofs.Containment.{ParentsFirst}
 use Rattle.graph_laws.proofs.Preorder.{parents_first}
@@ -88,8 +89,8 @@ alike book first a b x y =
 pub stood : (book : Kept) → ((g : ResourceGraph) × (g.vertices ≡ vertices_of book) × StandsInPreorder g) →
     (a b : List Job) → StandsFor book a → StandsFor book b → (w : Window) (cs : List Claim) →
     AllByRecursion (λ c. vertex_of c < length (vertices_of book)) cs →
-    AllByRecursion (IsAvailable (no_bars (vertices_of book) a) w) cs →
-    AllByRecursion (IsAvailable (no_bars (vertices_of book) b) w) cs
+    AllByRecursion (IsAvailable (no_bars (vertices_of book) (up_with a)) w) cs →
+    AllByRecursion (IsAvailable (no_bars (vertices_of book) (up_with b)) w) cs
 stood book (g, same, o) a b x y w cs inside available =
     let first = subst ParentsFirst same (parents_first g o) in
     available_alike (vertices_of book) first a b (alike book first a b x y) w cs inside available

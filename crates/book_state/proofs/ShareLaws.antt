@@ -9,6 +9,7 @@ use Rattle.flux_defs.specs.Jobs.{vertex_of}
 use Rattle.flux_defs.specs.Closed.{no_bars}
 use Rattle.flux_defs.specs.Available.{IsAvailable}
 use Rattle.flux_defs.specs.Sound.{AreAllSeparate}
+use Rattle.flux_defs.specs.Present.{up_with}
 use Rattle.resource_graph.specs.NamedGraph.{NamedGraph}
 use Rattle.prune_filters.specs.declared.rules.Rule.{Rule}
 use Rattle.job_table.specs.declared.tables.Row.{Row}
@@ -65,7 +66,8 @@ module _ (book other : Kept) (one : HaveOneSetting book other) (rows : rows_of o
         (sym one.graph) may.from_pools;
     separate = subst (λ (h : NamedGraph). AreAllSeparate h.resources.vertices job.claims) (sym one.graph) may.separate;
     available = λ jobs x. subst (λ (h : NamedGraph). AllByRecursion
-        (IsAvailable (no_bars h.resources.vertices jobs) (record { from = job.start; to = job.end })) job.claims)
+        (IsAvailable (no_bars h.resources.vertices (up_with jobs)) (record { from = job.start; to = job.end }))
+        job.claims)
         (sym one.graph) (may.available jobs (stands_back jobs x));
     fresh = subst (λ (t : FinMap nat_cmp Row). get t job.id ≡ None) (sym rows) may.fresh;
   }

@@ -28,6 +28,8 @@ use Rattle.book_state.specs.Books.{graph_of, vertices_of, rules_of, accounts_of,
 use Rattle.book_state.specs.Books.{StandsFor, IsBook, MayAdd, cost_of, change_cost_of}
 use Rattle.flux_defs.specs.Closed.{no_bars}
 use Rattle.flux_defs.specs.Available.{IsAvailable}
+use Rattle.flux_defs.specs.Present.{Present, up_with, IsUpWith}
+use Rattle.flux_defs.proofs.Presents.{as_up}
 use Rattle.list_laws.proofs.Values.{value_of}
 use Rattle.book_laws.specs.Amounts.{TakesFromPool}
 use Rattle.book_laws.specs.TotalLaws.{AreFair}
@@ -51,6 +53,14 @@ module _ (g : NamedGraph) (a : Accounts Plan) (book : Kept) (eg : g ≡ graph_of
       AreAccounts (λ (p : Plan). p.total) Plans.StandsFor g.resources.vertices jobs a → Q g.resources.vertices jobs) →
       (jobs : List Job) → StandsFor book jobs → Q (vertices_of book) jobs
   answer_at Q f jobs x = subst (λ (h : NamedGraph). Q h.resources.vertices jobs) eg (f jobs (accounts_at jobs x))
+
+  -- the same of all that may stand: the jobs, and every vertex up
+  pub present_at : (Q : List Vertex → Present → Type 0) → ((jobs : List Job) →
+      AreAccounts (λ (p : Plan). p.total) Plans.StandsFor g.resources.vertices jobs a →
+      Q g.resources.vertices (up_with jobs)) →
+      (present : Present) → IsUpWith (StandsFor book) present → Q (vertices_of book) present
+  present_at Q f present is = as_up (Q (vertices_of book)) present is.1
+      (answer_at (λ vs jobs. Q vs (up_with jobs)) f present.jobs is.0)
 
   -- what follows from any jobs for which the book stands
   pub any_at : IsBook book → (Q : Type 0) → ((jobs : List Job) →
@@ -87,12 +97,12 @@ module _ (g : NamedGraph) (a : Accounts Plan) (book : Kept) (eg : g ≡ graph_of
 
   pub ample_later_at : IsBook book → (kind amount after : ℕ) (found : Option ℕ) →
       ((jobs : List Job) → AreAccounts (λ (p : Plan). p.total) Plans.StandsFor g.resources.vertices jobs a →
-      IsNextAmpleOrNone g.resources.vertices jobs kind amount after found) →
+      IsNextAmpleOrNone g.resources.vertices (up_with jobs) kind amount after found) →
       IfSome found (λ t. after < t)
   ample_later_at is kind amount after found answer = later found (answer is.0 (accounts_at is.0 is.1))
     where
       later : (o : Option ℕ) →
-          IsNextAmpleOrNone g.resources.vertices is.0 kind amount after o → IfSome o (λ t. after < t)
+          IsNextAmpleOrNone g.resources.vertices (up_with is.0) kind amount after o → IfSome o (λ t. after < t)
       later None h = tt
       later (Some t) h = h.later
 
@@ -126,14 +136,25 @@ kind_kept a book ea jobs is v kind keeps =
     subst (λ (b : Accounts Plan). HasTotals b kind) (sym ea)
     (is.kinds kind low lower (rule.0, rule.1, rule.2, rule.3, rule.4.0))
 
+-- a moment is told at which a total is too little, and none where it is at no moment, if it is kept
+abbrev pub LittleTold : List Vertex → Window → ℕ → ℕ → ℕ → Type 0 → Option ℕ → Present → Type 0
+LittleTold vertices w v kind amount Keeps found present =
+    MatchOption found (Keeps → IsTooLittle vertices present w v kind amount → ⊥)
+    (IsTooLittleAt vertices present v kind amount)
+
+-- it is told until when a total is too little, and none where it is at no moment, if it is kept
+abbrev pub LittleKept : List Vertex → Window → ℕ → ℕ → ℕ → Type 0 → Option ℕ → Present → Type 0
+LittleKept vertices w v kind amount Keeps found present =
+    MatchOption found (Keeps → IsTooLittle vertices present w v kind amount → ⊥)
+    (λ m. (other : Window) → ReachesOver w m other → IsTooLittle vertices present other v kind amount)
+
 -- what the accounts tell of a total that is too little
 module _ (w : Window) (vertices : List Vertex) (jobs : List Job) (v kind amount : ℕ) where
   abbrev pub LittleOrNone : Option ℕ → Type 0
-  LittleOrNone found = IsMomentOrNone w (IsTooLittleAt vertices jobs v kind amount) found
+  LittleOrNone found = IsMomentOrNone w (IsTooLittleAt vertices (up_with jobs) v kind amount) found
 
   pub little_told : (Keeps : Type 0) → (found : Option ℕ) → LittleOrNone found →
-      MatchOption found (Keeps → IsTooLittle vertices jobs w v kind amount → ⊥)
-      (IsTooLittleAt vertices jobs v kind amount)
+      LittleTold vertices w v kind amount Keeps found (up_with jobs)
   little_told Keeps None none = λ keeps. none
   little_told Keeps (Some m) some = some.2
 
@@ -187,5 +208,5 @@ fair_with g book eg whole job may jobs x =
     let own = subst IsWhole eg whole in
     subst (λ (h : NamedGraph). AreFair h.resources.vertices (jobs ++ job ∷ [])) (sym eg)
     (fair_added (graph_of book).resources own.valid.preorder jobs job x.accounts_are.fair
-    (both_of (IsAvailable (no_bars (vertices_of book) jobs) (record { from = job.start; to = job.end }))
+    (both_of (IsAvailable (no_bars (vertices_of book) (up_with jobs)) (record { from = job.start; to = job.end }))
     (TakesFromPool (vertices_of book)) job.claims (may.available jobs x) may.from_pools) may.separate)

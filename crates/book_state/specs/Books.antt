@@ -12,6 +12,7 @@ use Rattle.flux_defs.specs.Jobs.{vertex_of}
 use Rattle.flux_defs.specs.Closed.{no_bars}
 use Rattle.flux_defs.specs.Available.{IsAvailable}
 use Rattle.flux_defs.specs.Sound.{AreAllSeparate}
+use Rattle.flux_defs.specs.Present.{up_with}
 use Rattle.resource_graph.specs.NamedGraph.{NamedGraph}
 use Rattle.prune_filters.specs.declared.rules.Rule.{Rule}
 use Rattle.job_table.specs.declared.tables.Row.{Row}
@@ -99,7 +100,7 @@ pub record MayAdd (book : Kept) (job : Job) : Type 0 where
   pub separate : AreAllSeparate (vertices_of book) job.claims
   pub available : (jobs : List Job) → StandsFor book jobs →
       AllByRecursion
-      (IsAvailable (no_bars (vertices_of book) jobs) (record { from = job.start; to = job.end })) job.claims
+      (IsAvailable (no_bars (vertices_of book) (up_with jobs)) (record { from = job.start; to = job.end })) job.claims
   pub fresh : get (rows_of book) job.id ≡ None
 
 -- how many steps an answer about the book takes at most: n is the number of its jobs' claims, g that of the ids that

@@ -1,4 +1,4 @@
-//! The book as what a search sees.
+//! The book as what a search sees: its jobs, and every vertex up.
 
 use crate::held::BookState;
 use flux_defs::{FreeView, Steps, Window};
@@ -13,11 +13,12 @@ impl FreeView for BookState {
     ghost use Rattle.std.specs.Arc.{arc_value};
     ghost use Rattle.std.specs.FinMap as map;
     ghost use Rattle.flux_defs.specs.Digits.{dig};
+    ghost use Rattle.flux_defs.specs.Present.{IsUpWith};
     ghost use Rattle.book_state.specs.Books.{vertices_of, StandsFor, IsTotalKept, cost_of};
 
     ghost graph = { vertices_of };
 
-    ghost stands_for = { StandsFor };
+    ghost stands_for = { λ book. IsUpWith (StandsFor book) };
 
     ghost keeps = { IsTotalKept };
 

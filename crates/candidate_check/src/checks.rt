@@ -1,9 +1,10 @@
 //! Claims, one by one.
 ghost use Rattle.std.specs.Prelude.{◌≡◌, ℕ, ◌+◌, ◌*◌, ◌<◌, ◌≤◌, ◌↔◌, IsTrue, length, List, All, MatchOption};
-ghost use Rattle.flux_defs.specs.declared.claims.Job.{Job};
 ghost use Rattle.flux_defs.specs.Jobs.{vertex_of};
 ghost use Rattle.flux_defs.specs.Closed.{no_bars};
 ghost use Rattle.flux_defs.specs.Available.{IsAvailable};
+ghost use Rattle.flux_defs.specs.Present.{InEach};
+ghost use Rattle.flux_defs.specs.Views.{MayBeAsked};
 ghost use Rattle.candidate_check.specs.Taken.{IsFirstGone};
 
 use flux_defs::{Claim, FreeView, List, Steps, Window};
@@ -16,10 +17,9 @@ pub fn is_available<F: FreeView, L: Ledger>(
     window: Window,
     steps: &mut Steps<L>,
 ) -> bool
-    requires vertex { vertex_of claim < length (F.graph view.now) }
-    requires window { window.from < window.to }
-    ensures answer { (jobs : List Job) → F.stands_for view.now jobs →
-        (IsTrue result ↔ IsAvailable (no_bars (F.graph view.now) jobs) window claim) }
+    requires asked { MayBeAsked (F.graph view.now) (vertex_of claim) window }
+    ensures answer { InEach (F.stands_for view.now)
+        (λ present. IsTrue result ↔ IsAvailable (no_bars (F.graph view.now) present) window claim) }
     ensures some_work { steps.old < steps.new }
     ensures work { steps.new ≤ steps.old + 2 * F.cost view.now }
 {
@@ -45,9 +45,9 @@ pub fn still_free<F: FreeView, L: Ledger>(
 ) -> Option<usize>
     requires vertices { All (λ c. vertex_of c < length (F.graph view.now)) claims.now }
     requires window { window.from < window.to }
-    ensures answer { (jobs : List Job) → F.stands_for view.now jobs →
-        MatchOption result (All (IsAvailable (no_bars (F.graph view.now) jobs) window) claims.now)
-        (IsFirstGone (F.graph view.now) jobs window claims.now) }
+    ensures answer { InEach (F.stands_for view.now)
+        (λ present. MatchOption result (All (IsAvailable (no_bars (F.graph view.now) present) window) claims.now)
+        (IsFirstGone (F.graph view.now) present window claims.now)) }
     ensures work { steps.new ≤ steps.old + 2 * F.cost view.now * length claims.now }
 {
     for (index, claim) in claims.items().iter().enumerate() {

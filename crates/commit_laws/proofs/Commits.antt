@@ -43,7 +43,8 @@ available_stable scene w c n m lo hi = test_stable (is_available_at scene m c) (
 -- what was found at a start: a window that counts, and the lowest-first claims over it
 abbrev pub FoundThere : Setting → State → Ask → ℕ → List Claim → Type 0
 FoundThere g s ask start claims =
-    CountsWithin g.horizon ask start × IsLowestFirst g.graph.vertices (present_of s) ask (window_of g.horizon ask start) claims
+    CountsWithin g.horizon ask start × IsLowestFirst g.graph.vertices (present_of s) ask
+    (window_of g.horizon ask start) claims
 
 module _ (g : Setting) (s : State) (ask : Ask) (start : ℕ) (claims : List Claim) where
   there : (t : ℕ) (cs : List Claim) → Found start claims ≡ Found t cs → FoundThere g s ask t cs →
@@ -268,11 +269,13 @@ module _ (g : Setting) (history : List Entry) where
   untaken c t never (Taken at index) (can, f) = never at index f.2
 
   not_taken : (place : ℕ) (w : Window) (claims : List Claim) →
-      AllByRecursion (IsAvailable (no_bars g.graph.vertices (present_of (state_now history))) w) claims → (at index : ℕ) →
+      AllByRecursion (IsAvailable (no_bars g.graph.vertices (present_of (state_now history))) w) claims →
+      (at index : ℕ) →
       IsTakenBy g history place w claims at index → ⊥
   not_taken place w claims free at index (claim, taken, first) =
       taken.taken
-      (all_at (IsAvailable (no_bars g.graph.vertices (present_of (state_now history))) w) claims index claim free taken.there)
+      (all_at (IsAvailable (no_bars g.graph.vertices (present_of (state_now history))) w) claims index claim free
+      taken.there)
 
   module _ (place : ℕ) where
     abbrev of : Command → Verdict → Candidate

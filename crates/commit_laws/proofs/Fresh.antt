@@ -69,7 +69,8 @@ module _ (g : Setting) (first : ParentsFirst g.graph.vertices) (s : State) (entr
 
   -- then they are the lowest-first ones in the later state
   lowest_then : NoCancel entries → (ask : Ask) (start : ℕ) (claims : List Claim) →
-      IsLowestFirst g.graph.vertices (present_of s) ask (window_of g.horizon ask start) claims → AreFree ask start claims →
+      IsLowestFirst g.graph.vertices (present_of s) ask (window_of g.horizon ask start) claims →
+      AreFree ask start claims →
       IsLowestFirst g.graph.vertices (present_of later) ask (window_of g.horizon ask start) claims
   lowest_then none ask start claims low free =
       let w = window_of g.horizon ask start in
@@ -113,7 +114,8 @@ module _ (g : Setting) (first : ParentsFirst g.graph.vertices) (s : State) (entr
         SomeFit g.graph.vertices (present_of later) ask (window_of g.horizon ask later.moment) → ⊥
     none_fits kept same none f =
         none (fit_back g.graph.vertices s.jobs (accepted entries) ask (window_of g.horizon ask s.moment)
-        (subst (λ (js : List Job). SomeFit g.graph.vertices (up_with js) ask (window_of g.horizon ask s.moment)) (grown kept)
+        (subst (λ (js : List Job). SomeFit g.graph.vertices (up_with js) ask (window_of g.horizon ask s.moment))
+        (grown kept)
         (subst (λ (t : ℕ). SomeFit g.graph.vertices (present_of later) ask (window_of g.horizon ask t)) same f)))
 
     start_before : NoCancel entries → (t : ℕ) → IsStart g.graph.vertices (present_of later) g.horizon ask t →
@@ -127,7 +129,8 @@ module _ (g : Setting) (first : ParentsFirst g.graph.vertices) (s : State) (entr
         IsLowestFirst g.graph.vertices (present_of later) ask (window_of g.horizon ask t) claims →
         IsEarliest g.graph.vertices (present_of later) g.horizon ask later.moment t
     earliest_then kept t claims at early low =
-        subst (λ (js : List Job). IsEarliest g.graph.vertices (up_with js) g.horizon ask later.moment t) (sym (grown kept))
+        subst (λ (js : List Job). IsEarliest g.graph.vertices (up_with js) g.horizon ask later.moment t)
+        (sym (grown kept))
         (still_earliest g.graph.vertices s.jobs (accepted entries) ask first g.horizon s.moment later.moment t claims
         moment_on at early
         (subst (λ (js : List Job). IsLowestFirst g.graph.vertices (up_with js) ask (window_of g.horizon ask t) claims)
@@ -191,7 +194,8 @@ module _ (g : Setting) (first : ParentsFirst g.graph.vertices) (s : State) (entr
     ReserveRest =
         Unless (IsSatisfiable g.graph.vertices ask) reply.Unsatisfiable
         (Unless (CountsWithin g.horizon ask later.moment) reply.TooLong
-        (Unless ((t : ℕ) × (later.moment ≤ t) × IsStart g.graph.vertices (present_of later) g.horizon ask t) reply.NoStart
+        (Unless ((t : ℕ) × (later.moment ≤ t) × IsStart g.graph.vertices (present_of later) g.horizon ask t)
+        reply.NoStart
         (λ r. (t : ℕ) × IsEarliest g.graph.vertices (present_of later) g.horizon ask later.moment t
         × AcceptedOrFull g later id ask t r)))
 

@@ -24,7 +24,8 @@ module _ (vertices : List Vertex) (jobs extra : List Job) (ask : Ask) where
   fit_back w f = (
     f.0,
     fits_more vertices (IsAvailable (scene_of vertices (up_with (jobs ++ extra)) ask) w)
-        (IsAvailable (scene_of vertices (up_with jobs) ask) w) (available_back vertices jobs extra ask.barred w) 1 Everywhere
+        (IsAvailable (scene_of vertices (up_with jobs) ask) w) (available_back vertices jobs extra ask.barred w) 1
+        Everywhere
         ask.needs f.0 f.1,
   )
 
@@ -39,7 +40,8 @@ module _ (vertices : List Vertex) (jobs extra : List Job) (ask : Ask) where
         IsLowestFirst vertices (up_with (jobs ++ extra)) ask w claims
     still_lowest w claims low free =
         lowest_stays vertices first (IsAvailable (scene_of vertices (up_with jobs) ask) w)
-        (IsAvailable (scene_of vertices (up_with (jobs ++ extra)) ask) w) (IsAvailable (no_bars vertices (up_with (jobs ++ extra))) w)
+        (IsAvailable (scene_of vertices (up_with (jobs ++ extra)) ask) w)
+        (IsAvailable (no_bars vertices (up_with (jobs ++ extra))) w)
         (available_back vertices jobs extra ask.barred w)
         (λ c a b. available_barred vertices jobs (jobs ++ extra) ask.barred w c a b)
         (λ v lt held c in_graph under a.

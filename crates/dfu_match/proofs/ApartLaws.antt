@@ -3,11 +3,11 @@ use Rattle.std.proofs.Common.{◌≡◌, ℕ, ◌+◌, ◌-◌, ◌*◌, ◌<◌
 use Rattle.std.proofs.Math.Nat.{mul-le-mul_right}
 use Rattle.std.specs.Prelude.{Contains}
 use Rattle.flux_defs.specs.declared.vertices.Vertex.{Vertex}
-use Rattle.flux_defs.specs.declared.claims.Job.{Job}
 use Rattle.flux_defs.specs.declared.claims.Window.{Window}
 use Rattle.flux_defs.specs.declared.requests.Need.{Need}
 use Rattle.flux_defs.specs.Graph.{ResourceGraph}
 use Rattle.flux_defs.specs.ValidGraph.{IsValidGraph}
+use Rattle.flux_defs.specs.Present.{Present}
 use Rattle.resource_graph.specs.Tables.{IsPast}
 use Rattle.dfu_match.specs.Tables.{all_of}
 use Rattle.dfu_match.specs.Pairs.{Pair, HasEachOpen, IsClearWithin, IsClearScope, IsClearBefore, IsPlaceOf}
@@ -94,26 +94,26 @@ module _ (each : List Pair → Type 0) where
       )
 
 -- A walk over the vertices of a need has come to `at`: none before it is short above what follows.
-pub record Visited (vertices : List Vertex) (jobs : List Job) (w : Window) (keeps : ℕ → ℕ → Type 0) (all : List Need)
+pub record Visited (vertices : List Vertex) (present : Present) (w : Window) (keeps : ℕ → ℕ → Type 0) (all : List Need)
     (need : Need) (place own inner old new from at to : ℕ) : Type 0 where
-  pub clear : IsClearBefore vertices jobs w keeps need at to
+  pub clear : IsClearBefore vertices present w keeps need at to
   pub low : from ≤ at
   pub high : at ≤ to
-  pub taken : TakesApart (HasEachOpen vertices jobs w keeps all) own inner old new place
+  pub taken : TakesApart (HasEachOpen vertices present w keeps all) own inner old new place
       (place + length (all_of need)) from at
 
-module _ (g : ResourceGraph) (names : List (List ℕ)) (valid : IsValidGraph g names) (jobs : List Job) (w : Window)
+module _ (g : ResourceGraph) (names : List (List ℕ)) (valid : IsValidGraph g names) (present : Present) (w : Window)
     (keeps : ℕ → ℕ → Type 0) (all : List Need) (need : Need) (place own inner : ℕ) where
   abbrev opened : List Pair → Type 0
-  opened = HasEachOpen g.vertices jobs w keeps all
+  opened = HasEachOpen g.vertices present w keeps all
 
   abbrev visited : ℕ → ℕ → ℕ → ℕ → ℕ → Type 0
-  visited = Visited g.vertices jobs w keeps all need place own inner
+  visited = Visited g.vertices present w keeps all need place own inner
 
   pub visited_start : (scope : Option ℕ) (old from to : ℕ) → IsSpanOf g.vertices scope from to →
-      to ≤ length g.vertices → IsClearScope g.vertices jobs w keeps scope need → visited old old from from to
+      to ≤ length g.vertices → IsClearScope g.vertices present w keeps scope need → visited old old from from to
   visited_start scope old from to span most clear =
-      let begun = walked_start g names valid jobs w keeps all need place own scope old from to span most clear in
+      let begun = walked_start g names valid present w keeps all need place own scope old from to span most clear in
       record {
         clear = begun.clear;
         low = omega arith;
@@ -129,7 +129,7 @@ module _ (g : ResourceGraph) (names : List (List ℕ)) (valid : IsValidGraph g n
 
   pub visited_next : (scope : Option ℕ) (walk look old mid found new from at to v past : ℕ) →
       IsSpanOf g.vertices scope from to → to ≤ length g.vertices → IsPlaceOf all place need → walk + look ≤ own →
-      visited old mid from at to → at ≤ v → v < to → IsClearWithin g.vertices jobs w keeps need v →
+      visited old mid from at to → at ≤ v → v < to → IsClearWithin g.vertices present w keeps need v →
       IsPast g.vertices v past → TakesEach opened walk mid found place (place + 1) at (v + 1) →
       TakesEach opened inner (found + look) new (place + 1) (place + length (all_of need)) (v + 1) past →
       visited old new from past to
@@ -137,7 +137,7 @@ module _ (g : ResourceGraph) (names : List (List ℕ)) (valid : IsValidGraph g n
       let later = after.later in
       let low = before.low in
       record {
-        clear = clear_next g names valid jobs w keeps need at to v past most before.clear lo hi clear.0 after;
+        clear = clear_next g names valid present w keeps need at to v past most before.clear lo hi clear.0 after;
         low = omega (arith, low, later, lo);
         high = past_within g names valid scope from to v past span (omega (arith, low, lo)) hi after;
         taken = apart_visit opened own inner walk look old mid found new place (place + length (all_of need)) from at v

@@ -4,7 +4,6 @@ use Rattle.std.proofs.Common.{Contains, slice_get, refl, sym, ◌∙◌, ap, sub
 use Rattle.std.specs.Prelude.{IfSome, IfNone, MatchOption}
 use Rattle.flux_defs.specs.declared.vertices.Vertex.{Vertex}
 use Rattle.flux_defs.specs.declared.claims.Claim.{Claim}
-use Rattle.flux_defs.specs.declared.claims.Job.{Job}
 use Rattle.flux_defs.specs.declared.claims.Window.{Window}
 use Rattle.flux_defs.specs.declared.requests.Need.{Need, Vert}
 use Rattle.flux_defs.specs.Graph.{ResourceGraph, Scope, Beneath, IsIn, parent_of, is_at_or_below}
@@ -12,6 +11,7 @@ use Rattle.flux_defs.specs.ValidGraph.{IsValidGraph}
 use Rattle.flux_defs.specs.Later.{ReachesOver}
 use Rattle.flux_defs.specs.Lowest.{CanServe}
 use Rattle.flux_defs.specs.Needs.{IsOfNeed}
+use Rattle.flux_defs.specs.Present.{Present, InEach}
 use Rattle.flux_laws.proofs.Filling.{lower}
 use Rattle.flux_laws.proofs.FitLaws.{TakesLess, serves_less}
 use Rattle.graph_laws.proofs.Containment.{at_or_below-opens, on_chain, below_parent, below_trans, below_le}
@@ -28,14 +28,14 @@ use Rattle.dfu_match.specs.Rows.{AreLefts, IsRowOf, Knows, whole_of}
 use Rattle.dfu_match.specs.Searches.{open_to}
 use Rattle.dfu_match.proofs.OpenLaws.{clear_child, clear_upto}
 
-module _ (vertices : List Vertex) (jobs : List Job) (w : Window) (keeps : ℕ → ℕ → Type 0) (need : Need)
+module _ (vertices : List Vertex) (present : Present) (w : Window) (keeps : ℕ → ℕ → Type 0) (need : Need)
     (v low : ℕ) where
   abbrev clear_to : ℕ → Type 0
-  clear_to = IsClearBetween vertices jobs w keeps need v low
+  clear_to = IsClearBetween vertices present w keeps need v low
 
   -- where no vertex that is this one or above it is short, this one isn't
   pub own_told : (found : Option ℕ) → v < length vertices → low ≤ v →
-      MatchOption found (clear_to (v + 1)) clear_to → IfNone found (IsShortFor vertices jobs w keeps need v → ⊥)
+      MatchOption found (clear_to (v + 1)) clear_to → IfNone found (IsShortFor vertices present w keeps need v → ⊥)
   own_told None lt lo clear =
       clear v lo (omega arith) (at_or_below-opens vertices v v
       ∙ on_chain vertices 0 (length vertices) v (Some v) (omega (arith, lt)) refl)
@@ -55,25 +55,25 @@ module _ (g : ResourceGraph) (names : List (List ℕ)) (valid : IsValidGraph g n
       )
 
   -- and what is clear up to the parent is clear above the vertex
-  module _ (jobs : List Job) (w : Window) (keeps : ℕ → ℕ → Type 0) (need : Need) where
+  module _ (present : Present) (w : Window) (keeps : ℕ → ℕ → Type 0) (need : Need) where
     abbrev clear_of : ℕ → ℕ → Type 0
-    clear_of u = IsClearBetween g.vertices jobs w keeps need u low
+    clear_of u = IsClearBetween g.vertices present w keeps need u low
 
     pub clear_by_parent : (p : ℕ) → parent_of g.vertices v ≡ Some p → (found : Option ℕ) →
         IfSome found (λ top. (low ≤ top) × IsTrue (is_at_or_below g.vertices p top)) →
         MatchOption found (clear_of p (p + 1)) (clear_of p) → MatchOption found (clear_of v v) (clear_of v)
-    clear_by_parent p is None above clear = clear_upto g names valid jobs w keeps need v p low lt is clear
+    clear_by_parent p is None above clear = clear_upto g names valid present w keeps need v p low lt is clear
     clear_by_parent p is (Some top) above clear =
         let first = parents_first g valid.preorder in
         let less = first v p is in
         let le = below_le g.vertices first p top above.1 in
-        clear_child g names valid jobs w keeps need v p low top lt is (omega (arith, less, le)) clear
+        clear_child g names valid present w keeps need v p low top lt is (omega (arith, less, le)) clear
 
 -- what is open over a window that begins no later and ends no sooner is open over this one
-pub open_within : (vertices : List Vertex) (jobs : List Job) (barred : List ℕ) (w other : Window) →
-    ReachesOver w w.from other → (claim : Claim) → open_to vertices jobs barred other claim →
-    open_to vertices jobs barred w claim
-open_within vertices jobs barred w other reach claim each m lo hi =
+pub open_within : (vertices : List Vertex) (present : Present) (barred : List ℕ) (w other : Window) →
+    ReachesOver w w.from other → (claim : Claim) → open_to vertices present barred other claim →
+    open_to vertices present barred w claim
+open_within vertices present barred w other reach claim each m lo hi =
     let from = reach.0 in
     let to = reach.1 in
     each m (omega (arith, from, lo)) (omega (arith, to, hi))
@@ -109,21 +109,21 @@ module _ (vertices : List Vertex) (ok : Claim → Type 0) where
       (omega (arith, more)) can)
 
 -- the row of a vertex that serves no more than so much over this window
-pub row_over : (vertices : List Vertex) (stands : List Job → Type 0) (barred : List ℕ) (w : Window) (need : Need)
+pub row_over : (vertices : List Vertex) (stands : Present → Type 0) (barred : List ℕ) (w : Window) (need : Need)
     (v most moment : ℕ) → IsOfNeed vertices need v → (most < whole_of need → moment ≡ w.from) →
-    (most < whole_of need → (jobs : List Job) → stands jobs →
-    ServesAtMost vertices (open_to vertices jobs barred w) need v most) →
+    (most < whole_of need → InEach stands (λ present. ServesAtMost vertices (open_to vertices present barred w) need v
+    most)) →
     IsRowOf vertices stands barred w need (record { vertex = v; most = most; moment = moment })
 row_over vertices stands barred w need v most moment of_need begins bounds = record {
   of_need = of_need;
-  bounds = λ lt jobs holds other reach.
-      at_most_less vertices (open_to vertices jobs barred w) (open_to vertices jobs barred other)
-      (open_within vertices jobs barred w other (subst (λ (m : ℕ). ReachesOver w m other) (begins lt) reach))
-      need v most (bounds lt jobs holds);
+  bounds = λ lt present holds other reach.
+      at_most_less vertices (open_to vertices present barred w) (open_to vertices present barred other)
+      (open_within vertices present barred w other (subst (λ (m : ℕ). ReachesOver w m other) (begins lt) reach))
+      need v most (bounds lt present holds);
 }
 
 -- what is known stays so where only what rows leave is told anew, which is so
-pub knows_left : (vertices : List Vertex) (stands : List Job → Type 0) (barred : List ℕ) (needs : List Need)
+pub knows_left : (vertices : List Vertex) (stands : Present → Type 0) (barred : List ℕ) (needs : List Need)
     (w : Window) (old new : Known) (own : ℕ) (need : Need) → slice_get needs own ≡ Some need → old.own ≡ own →
     new.own ≡ old.own → new.rows.items ≡ old.rows.items → new.end ≡ old.end →
     AreLefts need new.rows.items new.blocks.items → Knows vertices stands barred needs w old →

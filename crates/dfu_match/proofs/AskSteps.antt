@@ -7,12 +7,12 @@ use Rattle.std.proofs.lemmas.Option.{slice_get_within}
 use Rattle.std.specs.Prelude.{Contains}
 use Rattle.std.proofs.Math.Nat.{mul-le-mul_right}
 use Rattle.flux_defs.specs.declared.vertices.Vertex.{Vertex}
-use Rattle.flux_defs.specs.declared.claims.Job.{Job}
 use Rattle.flux_defs.specs.declared.claims.Window.{Window}
 use Rattle.flux_defs.specs.declared.requests.Need.{Need, Vert', Pool, Spread'}
 use Rattle.flux_defs.specs.Graph.{ResourceGraph, is_at_or_below}
 use Rattle.flux_defs.specs.Needs.{IsOfNeed, IsSpread, IsValidNeed}
 use Rattle.flux_defs.specs.ValidGraph.{IsValidGraph}
+use Rattle.flux_defs.specs.Present.{Present}
 use Rattle.graph_laws.proofs.Containment.{below_le, below_self}
 use Rattle.graph_laws.proofs.Preorder.{parents_first}
 use Rattle.prune_filters.specs.Shorts.{IsShortFor}
@@ -49,50 +49,52 @@ need_inside vertices (Spread' count m needs) v is =
     slice_get_within vertices v x at
 
 -- what lies in a short subtree serves nothing
-pub short_dead : (g : ResourceGraph) (names : List (List ℕ)) → IsValidGraph g names → (jobs : List Job)
+pub short_dead : (g : ResourceGraph) (names : List (List ℕ)) → IsValidGraph g names → (present : Present)
     (barred : List ℕ) (w : Window) (keeps : ℕ → ℕ → Type 0) (need : Need) → IsValidNeed g.vertices need →
-    (top past : ℕ) → IsPast g.vertices top past → IsShortFor g.vertices jobs w keeps need top →
-    ServesNone g.vertices (open_to g.vertices jobs barred w) need top past
-short_dead g names valid jobs barred w keeps need fine top past is short scope v q lo hi some can =
-    too_little_none g names valid jobs barred w need fine top (short.0, short.1.1) scope v q (is.covered v lo hi) some
+    (top past : ℕ) → IsPast g.vertices top past → IsShortFor g.vertices present w keeps need top →
+    ServesNone g.vertices (open_to g.vertices present barred w) need top past
+short_dead g names valid present barred w keeps need fine top past is short scope v q lo hi some can =
+    too_little_none g names valid present barred w need fine top (short.0, short.1.1) scope v q (is.covered v lo hi)
+    some
     can
 
 -- nothing more is asked
-pub asked_still : (vertices : List Vertex) (jobs : List Job) (w : Window) (keeps : ℕ → ℕ → Type 0) (all : List Need)
-    (need : Need) (place look old low : ℕ) → IsClearBefore vertices jobs w keeps need low (length vertices) →
-    low ≤ length vertices → IsAsked vertices jobs w keeps all need place look old old low low
-asked_still vertices jobs w keeps all need place look old low clear within = record {
+pub asked_still : (vertices : List Vertex) (present : Present) (w : Window) (keeps : ℕ → ℕ → Type 0) (all : List Need)
+    (need : Need) (place look old low : ℕ) → IsClearBefore vertices present w keeps need low (length vertices) →
+    low ≤ length vertices → IsAsked vertices present w keeps all need place look old old low low
+asked_still vertices present w keeps all need place look old low clear within = record {
   clear = clear;
   later = omega arith;
   within = within;
   own = 0;
   inner = 0;
   spent = omega arith;
-  owns = takes_none (HasEachOpen vertices jobs w keeps all) look 0 place (place + 1) low low;
-  inners = takes_none (HasEachOpen vertices jobs w keeps all) look 0 (place + 1) (place + length (all_of need)) low low;
+  owns = takes_none (HasEachOpen vertices present w keeps all) look 0 place (place + 1) low low;
+  inners = takes_none (HasEachOpen vertices present w keeps all) look 0 (place + 1) (place + length (all_of need)) low
+      low;
   none = λ is. refl;
 }
 
-module _ (g : ResourceGraph) (names : List (List ℕ)) (valid : IsValidGraph g names) (jobs : List Job) (w : Window)
+module _ (g : ResourceGraph) (names : List (List ℕ)) (valid : IsValidGraph g names) (present : Present) (w : Window)
     (keeps : ℕ → ℕ → Type 0) (all : List Need) (need : Need) (place cost : ℕ) where
   abbrev opened : List Pair → Type 0
-  opened = HasEachOpen g.vertices jobs w keeps all
+  opened = HasEachOpen g.vertices present w keeps all
 
   abbrev look : ℕ
   look = (length all + 2) * cost
 
   abbrev asked : ℕ → ℕ → ℕ → ℕ → Type 0
-  asked = IsAsked g.vertices jobs w keeps all need place look
+  asked = IsAsked g.vertices present w keeps all need place look
 
   abbrev before : ℕ → ℕ → Type 0
-  before = IsClearBefore g.vertices jobs w keeps need
+  before = IsClearBefore g.vertices present w keeps need
 
   abbrev between : ℕ → ℕ → ℕ → Type 0
-  between = IsClearBetween g.vertices jobs w keeps need
+  between = IsClearBetween g.vertices present w keeps need
 
   -- nothing is asked at first
   pub asked_start : (old : ℕ) → asked old old 0 0
-  asked_start old = asked_still g.vertices jobs w keeps all need place look old 0
+  asked_start old = asked_still g.vertices present w keeps all need place look old 0
       (λ v lo hi u ulo uhi above. absurd (omega (arith, ulo, uhi))) (omega arith)
 
   -- one after another
@@ -151,7 +153,8 @@ module _ (g : ResourceGraph) (names : List (List ℕ)) (valid : IsValidGraph g n
         let inside = is.whole v lt above in
         let enough = few in
         record {
-          clear = clear_past g names valid jobs w keeps need low (length g.vertices) v top past (omega arith) clear high
+          clear = clear_past g names valid present w keeps need low (length g.vertices) v top past (omega arith) clear
+              high
               lt lt above over is;
           later = omega (arith, high, later);
           within = is.within;
@@ -170,10 +173,11 @@ module _ (g : ResourceGraph) (names : List (List ℕ)) (valid : IsValidGraph g n
       abbrev there : (pairs : List Pair) → opened pairs →
           Contains pairs (record { place = place; vertex = v })
       there pairs has = has place v need (place_there all place need at) lt
-          (open_here g names valid jobs w keeps need v low (clear v lo lt) over)
+          (open_here g names valid present w keeps need v low (clear v lo lt) over)
 
       abbrev after : before past (length g.vertices)
-      after = clear_past g names valid jobs w keeps need low (length g.vertices) v v past (omega arith) clear lo lt lt
+      after = clear_past g names valid present w keeps need low (length g.vertices) v v past (omega arith) clear lo lt
+          lt
           (below_self g.vertices (parents_first g valid.preorder) v lt) over is
 
       -- no vertex above is, and the vertex and what is within it are asked
@@ -233,9 +237,10 @@ module _ (g : ResourceGraph) (names : List (List ℕ)) (valid : IsValidGraph g n
           }
 
       -- the vertex is clear, and within it where it isn't short itself
-      pub asked_clear : (AsksWithin need → IsShortFor g.vertices jobs w keeps need v → ⊥) →
-          IsClearWithin g.vertices jobs w keeps need v
-      asked_clear own = clear_within g names valid jobs w keeps need low (length g.vertices) v lt clear lo lt over own
+      pub asked_clear : (AsksWithin need → IsShortFor g.vertices present w keeps need v → ⊥) →
+          IsClearWithin g.vertices present w keeps need v
+      asked_clear own = clear_within g names valid present w keeps need low (length g.vertices) v lt clear lo lt over
+          own
 
 module _ (each : List Pair → Type 0) (look to : ℕ) (items : List Need) (i : ℕ) (need : Need) (lt : i < length items)
     (at : need ≡ get_or items i need) (needs : List Need) (same : items ≡ needs) (start old new : ℕ)

@@ -8,12 +8,12 @@ use Rattle.std.specs.List.{AllByRecursion}
 use Rattle.flux_defs.specs.declared.vertices.Vertex.{Vertex}
 use Rattle.flux_defs.specs.declared.claims.Claim.{Claim}
 use Rattle.flux_defs.specs.declared.claims.Claim.TheVariants.{Take, Hold, Pass}
-use Rattle.flux_defs.specs.declared.claims.Job.{Job}
 use Rattle.flux_defs.specs.declared.claims.Window.{Window}
 use Rattle.flux_defs.specs.declared.requests.Need.{Need, Vert, Vert', Pool, Spread, Spread'}
 use Rattle.flux_defs.specs.Graph.{Scope, Beneath, IsIn, HasKind, IsNode}
 use Rattle.flux_defs.specs.Needs.{amount_of, HasNoSpread, IsValidNeed, AreValidNeeds}
 use Rattle.flux_defs.specs.Lowest.{CanServe}
+use Rattle.flux_defs.specs.Present.{bare, Present}
 use Rattle.flux_laws.proofs.FitLaws.{TakesLess}
 use Rattle.flux_laws.proofs.Rows.{valid_to_list, no_spread_to_list}
 use Rattle.match_laws.specs.Offers.{IsGreatest, SomeGroup, SomeFits, VertexClaims}
@@ -252,17 +252,17 @@ module _ (vertices : List Vertex) (ok : Claim → Type 0) where
             full (omega arith) (subst (SomeFits vertices ok scope items) e f);
       })
 
-module _ (vertices : List Vertex) (jobs : List Job) (barred : List ℕ) (w : Window) (none : jobs ≡ [])
+module _ (vertices : List Vertex) (present : Present) (barred : List ℕ) (w : Window) (none : present ≡ bare)
     (unbarred : barred ≡ []) where
   -- where no job and no bar is, each vertex may be claimed
-  open_all : (hold : Bool) (v : ℕ) → open_to vertices jobs barred w (claim_on hold v)
+  open_all : (hold : Bool) (v : ℕ) → open_to vertices present barred w (claim_on hold v)
   open_all true v = rw (none, unbarred) (λ m lo hi. refl)
   open_all false v = rw (none, unbarred) (λ m lo hi. refl)
 
   -- so each of a need within which nothing is asked serves 1
   pub one_each : (kind count : ℕ) (hold : Bool) (needs : List Need) → needs ≡ [] →
-      ServesOneEach vertices (open_to vertices jobs barred w) (Vert kind count hold needs)
+      ServesOneEach vertices (open_to vertices present barred w) (Vert kind count hold needs)
   one_each kind count hold needs nothing scope v most is within some =
-      let ok : Claim → Type 0 = open_to vertices jobs barred w in
+      let ok : Claim → Type 0 = open_to vertices present barred w in
       vertex_open vertices ok scope kind count hold needs v most 1 some within is (open_all hold v)
       (nothing_asked vertices ok (Beneath v) needs nothing)

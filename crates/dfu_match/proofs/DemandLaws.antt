@@ -6,7 +6,6 @@ use Rattle.std.proofs.lemmas.Bool.{cases_lt, or_cases, or_left, or_right, eqb-tr
 use Rattle.std.specs.Prelude.{Any, Contains, map}
 use Rattle.prune_filters.specs.declared.shorts.Demand.{Demand}
 use Rattle.prune_filters.specs.Shorts.{AreDemandsOf, IsBelow, IsShortOf, IsShortFor}
-use Rattle.flux_defs.specs.declared.claims.Job.{Job}
 use Rattle.flux_defs.specs.declared.claims.Window.{Window}
 use Rattle.std.proofs.lemmas.List.{get_or-map, length-map, take_more}
 use Rattle.flux_defs.specs.declared.vertices.Vertex.{Vertex}
@@ -15,6 +14,7 @@ use Rattle.flux_defs.specs.declared.requests.Need.{more_of-Need, items-the_row-N
 use Rattle.flux_defs.specs.declared.requests.Need.TheBlock.{hidden-the_row-Need-0}
 use Rattle.flux_defs.specs.Free.{total_at, IsTooLittle}
 use Rattle.flux_defs.specs.Needs.{amount_of}
+use Rattle.flux_defs.specs.Present.{Present}
 use Rattle.prune_filters.specs.Demands.{one_if, is_node_kind, demand, row_demand, needs_demand, capped}
 use Rattle.std.specs.List.{AllZip, list_any}
 use Rattle.prune_laws.proofs.Demanded.{list_row}
@@ -240,22 +240,22 @@ some_item (d ∷ ds) kind h = elim (or_cases (d.kind == kind) (list_any (λ e. e
       (suc r.0, r.1, (let lt : r.0 < length ds = r.2 in omega arith), r.3, r.4))
 ]
 
-module _ (vertices : List Vertex) (jobs : List Job) (w : Window) (keeps : ℕ → ℕ → Type 0) (v : ℕ) (amount : ℕ → ℕ)
+module _ (vertices : List Vertex) (present : Present) (w : Window) (keeps : ℕ → ℕ → Type 0) (v : ℕ) (amount : ℕ → ℕ)
     (demands : List Demand) where
   -- short of the demands is short of some kind, and so back
   pub below_to : ((d : Demand) → Contains demands d → d.amount ≡ capped (amount d.kind)) →
-      IsShortOf vertices jobs w keeps demands v →
-      (kind : ℕ) × IsBelow vertices jobs w keeps v kind (capped (amount kind))
+      IsShortOf vertices present w keeps demands v →
+      (kind : ℕ) × IsBelow vertices present w keeps v kind (capped (amount kind))
   below_to each any =
       let d = any.1 in
-      (d.kind, (any.4.0, subst (IsTooLittle vertices jobs w v d.kind) (each d (any.0, any.2, any.3)) any.4.1))
+      (d.kind, (any.4.0, subst (IsTooLittle vertices present w v d.kind) (each d (any.0, any.2, any.3)) any.4.1))
 
   pub below_from : ((d : Demand) → Contains demands d → d.amount ≡ capped (amount d.kind)) →
       ((kind : ℕ) → 1 ≤ amount kind → IsTrue (list_any (λ d. d.kind == kind) demands)) →
-      (kind : ℕ) → IsBelow vertices jobs w keeps v kind (capped (amount kind)) →
-      IsShortOf vertices jobs w keeps demands v
+      (kind : ℕ) → IsBelow vertices present w keeps v kind (capped (amount kind)) →
+      IsShortOf vertices present w keeps demands v
   below_from each all k is =
-      let few : total_at vertices jobs k is.1.0 v < capped (amount k) = is.1.3 in
+      let few : total_at vertices present k is.1.0 v < capped (amount k) = is.1.3 in
       let any = some_item demands k (all k (omega arith)) in
       let d = any.1 in
       let kind : d.kind ≡ k = any.4 in (
@@ -265,19 +265,20 @@ module _ (vertices : List Vertex) (jobs : List Job) (w : Window) (keeps : ℕ �
         any.3,
         (
           subst (keeps v) (sym kind) is.0,
-          subst (IsTooLittle vertices jobs w v d.kind) (sym (each d (any.0, any.2, any.3)))
-              (subst (λ (k : ℕ). IsTooLittle vertices jobs w v k (capped (amount k))) (sym kind) is.1),
+          subst (IsTooLittle vertices present w v d.kind) (sym (each d (any.0, any.2, any.3)))
+              (subst (λ (k : ℕ). IsTooLittle vertices present w v k (capped (amount k))) (sym kind) is.1),
         ),
       )
 
-module _ (vertices : List Vertex) (jobs : List Job) (w : Window) (keeps : ℕ → ℕ → Type 0) (need : Need)
+module _ (vertices : List Vertex) (present : Present) (w : Window) (keeps : ℕ → ℕ → Type 0) (need : Need)
     (demands : List Demand) (are : AreDemandsOf vertices need demands) (v : ℕ) where
   -- short of the demands of a need is short for it, and so back
-  pub short_to : IsShortOf vertices jobs w keeps demands v → IsShortFor vertices jobs w keeps need v
-  short_to = below_to vertices jobs w keeps v (λ kind. demand vertices kind 1 need) demands are.each
+  pub short_to : IsShortOf vertices present w keeps demands v → IsShortFor vertices present w keeps need v
+  short_to = below_to vertices present w keeps v (λ kind. demand vertices kind 1 need) demands are.each
 
-  pub short_from : IsShortFor vertices jobs w keeps need v → IsShortOf vertices jobs w keeps demands v
-  short_from is = below_from vertices jobs w keeps v (λ kind. demand vertices kind 1 need) demands are.each are.all is.0
+  pub short_from : IsShortFor vertices present w keeps need v → IsShortOf vertices present w keeps demands v
+  short_from is = below_from vertices present w keeps v (λ kind. demand vertices kind 1 need) demands are.each are.all
+      is.0
       is.1
 
 -- counted in numbers of 64 bits

@@ -5,7 +5,6 @@ use Rattle.std.proofs.lemmas.Bool.{cases_lt}
 use Rattle.std.proofs.Math.Nat.{mul-le-mul_right}
 use Rattle.std.specs.List.{AllByRecursion}
 use Rattle.flux_defs.specs.declared.vertices.Vertex.{Vertex}
-use Rattle.flux_defs.specs.declared.claims.Job.{Job}
 use Rattle.flux_defs.specs.declared.claims.Claim.{Claim}
 use Rattle.flux_defs.specs.declared.claims.Window.{Window}
 use Rattle.flux_defs.specs.declared.requests.Need.{Need, Vert, Vert', Pool, Spread, Spread'}
@@ -13,6 +12,7 @@ use Rattle.flux_defs.specs.Free.{total_at}
 use Rattle.flux_defs.specs.Graph.{ResourceGraph, HasKind, parent_of, is_at_or_below}
 use Rattle.flux_defs.specs.ValidGraph.{IsValidGraph}
 use Rattle.flux_defs.specs.Needs.{amount_of, AreValidNeeds}
+use Rattle.flux_defs.specs.Present.{Present}
 use Rattle.graph_laws.proofs.Containment.{below_self, below_parent, below_trans, below_le, below_from, below_to}
 use Rattle.graph_laws.proofs.Containment.{parent_below}
 use Rattle.graph_laws.proofs.Preorder.{parents_first, between_below}
@@ -76,18 +76,18 @@ module _ (g : ResourceGraph) (names : List (List ℕ)) (valid : IsValidGraph g n
     (let x = past_one v b d s.1 t.1 in let y = past_one v d b t.1 s.1 in omega (arith, x, y)),
   )
 
-  module _ (jobs : List Job) (w : Window) (keeps : ℕ → ℕ → Type 0) (need : Need) where
+  module _ (present : Present) (w : Window) (keeps : ℕ → ℕ → Type 0) (need : Need) where
     abbrev short : ℕ → Type 0
-    short = IsShortFor g.vertices jobs w keeps need
+    short = IsShortFor g.vertices present w keeps need
 
     abbrev between : ℕ → ℕ → ℕ → Type 0
-    between = IsClearBetween g.vertices jobs w keeps need
+    between = IsClearBetween g.vertices present w keeps need
 
     abbrev before : ℕ → ℕ → Type 0
-    before = IsClearBefore g.vertices jobs w keeps need
+    before = IsClearBefore g.vertices present w keeps need
 
     -- a vertex is open where those above it are clear, the ones before `low` and the others
-    pub open_here : (v low : ℕ) → between v 0 low → between v low v → IsOpenFor g.vertices jobs w keeps need v
+    pub open_here : (v low : ℕ) → between v 0 low → between v low v → IsOpenFor g.vertices present w keeps need v
     open_here v low before' after u below is =
         let first = parents_first g valid.preorder in
         let b = below_to g.vertices first v u below in
@@ -139,7 +139,7 @@ module _ (g : ResourceGraph) (names : List (List ℕ)) (valid : IsValidGraph g n
 
     -- where a walk begins
     pub clear_start : (scope : Option ℕ) (from to : ℕ) → IsSpanOf g.vertices scope from to → to ≤ length g.vertices →
-        IsClearScope g.vertices jobs w keeps scope need → before from to
+        IsClearScope g.vertices present w keeps scope need → before from to
     clear_start None from to span most clear v lo hi u l h above is = let e = span.0 in omega (arith, e, h)
     clear_start (Some s) from to span most clear v lo hi u l h above is =
         let e = span.0 in
@@ -147,7 +147,7 @@ module _ (g : ResourceGraph) (names : List (List ℕ)) (valid : IsValidGraph g n
 
     -- the vertex that a walk finds is clear
     pub clear_found : (from to v : ℕ) → before from to → from ≤ v → v < to → between v from (v + 1) →
-        IsClear g.vertices jobs w keeps need v
+        IsClear g.vertices present w keeps need v
     clear_found from to v clear lo hi own u above is =
         let first = parents_first g valid.preorder in
         let le = below_le g.vertices first v u above in
@@ -179,7 +179,7 @@ module _ (g : ResourceGraph) (names : List (List ℕ)) (valid : IsValidGraph g n
 
     -- past a vertex that is open
     pub clear_next : (from to v past : ℕ) → to ≤ length g.vertices → before from to → from ≤ v → v < to →
-        IsOpenFor g.vertices jobs w keeps need v → IsPast g.vertices v past → before past to
+        IsOpenFor g.vertices present w keeps need v → IsPast g.vertices v past → before past to
     clear_next from to v past most clear lo hi own is =
         let first = parents_first g valid.preorder in
         clear_past from to v v past most clear lo hi (omega arith) (below_self g.vertices first v (omega arith))
@@ -187,7 +187,7 @@ module _ (g : ResourceGraph) (names : List (List ℕ)) (valid : IsValidGraph g n
 
     -- a vertex that a walk finds, of which those above it were asked, and itself where something is asked within it
     pub clear_within : (from to v : ℕ) → v < length g.vertices → before from to → from ≤ v → v < to → between v from v →
-        (AsksWithin need → short v → ⊥) → IsClearWithin g.vertices jobs w keeps need v
+        (AsksWithin need → short v → ⊥) → IsClearWithin g.vertices present w keeps need v
     clear_within from to v lt clear lo hi over own = (
       open_here v from (clear v lo hi) over,
       λ asks. clear_found from to v clear lo hi (clear_own v from over (own asks)),
@@ -195,11 +195,11 @@ module _ (g : ResourceGraph) (names : List (List ℕ)) (valid : IsValidGraph g n
 
     -- a vertex that is short for no need is so for none that demands less
     clear_less : (less : Need) (v : ℕ) → ((kind : ℕ) → demand g.vertices kind 1 less ≤ demand g.vertices kind 1 need) →
-        IsClear g.vertices jobs w keeps need v → IsClear g.vertices jobs w keeps less v
+        IsClear g.vertices present w keeps need v → IsClear g.vertices present w keeps less v
     clear_less less v le clear u above is =
         let few = le is.0 in
         let m = is.1.1.0 in
-        let under : total_at g.vertices jobs is.0 m u < capped (demand g.vertices is.0 1 less) = is.1.1.3 in
+        let under : total_at g.vertices present is.0 m u < capped (demand g.vertices is.0 1 less) = is.1.1.3 in
         clear u above (is.0, (is.1.0, (m, is.1.1.1, is.1.1.2, omega (arith, few, under))))
 
 module _ (vertices : List Vertex) where
@@ -224,28 +224,28 @@ module _ (vertices : List Vertex) where
     each_less most rest valid.2 (λ kind. let all = le kind in omega (arith, all)),
   )
 
-module _ (g : ResourceGraph) (names : List (List ℕ)) (valid : IsValidGraph g names) (jobs : List Job) (w : Window)
+module _ (g : ResourceGraph) (names : List (List ℕ)) (valid : IsValidGraph g names) (present : Present) (w : Window)
     (keeps : ℕ → ℕ → Type 0) where
   clear_inside : (need : Need) (needs : List Need) (v : ℕ) → AreValidNeeds g.vertices needs →
       ((kind : ℕ) → needs_demand g.vertices kind needs ≤ demand g.vertices kind 1 need) →
-      IsClear g.vertices jobs w keeps need v → AllByRecursion (λ n. IsClear g.vertices jobs w keeps n v) needs
+      IsClear g.vertices present w keeps need v → AllByRecursion (λ n. IsClear g.vertices present w keeps n v) needs
   clear_inside need needs v fine le clear =
       all_along (λ n. (kind : ℕ) → demand g.vertices kind 1 n ≤ demand g.vertices kind 1 need)
-      (λ n. IsClear g.vertices jobs w keeps n v)
-      (λ n less. clear_less g names valid jobs w keeps need n v less clear) needs
+      (λ n. IsClear g.vertices present w keeps n v)
+      (λ n less. clear_less g names valid present w keeps need n v less clear) needs
       (each_less g.vertices (λ kind. demand g.vertices kind 1 need) needs fine le)
 
   -- what isn't short for a need isn't so for those within it
   pub clear_Vert : (kind count : ℕ) (hold : Bool) (needs : List Need) (v : ℕ) → AreValidNeeds g.vertices needs →
-      IsClear g.vertices jobs w keeps (Vert kind count hold needs) v →
-      AllByRecursion (λ n. IsClear g.vertices jobs w keeps n v) needs
+      IsClear g.vertices present w keeps (Vert kind count hold needs) v →
+      AllByRecursion (λ n. IsClear g.vertices present w keeps n v) needs
   clear_Vert kind count hold needs v fine =
       clear_inside (Vert kind count hold needs) needs v fine
       (λ k. let e = demand_Vert g.vertices k 1 kind count hold needs in omega (arith, e))
 
   pub clear_Spread : (count : ℕ) (needs : List Need) (v : ℕ) → AreValidNeeds g.vertices needs →
-      IsClear g.vertices jobs w keeps (Spread count needs) v →
-      AllByRecursion (λ n. IsClear g.vertices jobs w keeps n v) needs
+      IsClear g.vertices present w keeps (Spread count needs) v →
+      AllByRecursion (λ n. IsClear g.vertices present w keeps n v) needs
   clear_Spread count needs v fine =
       clear_inside (Spread count needs) needs v fine
       (λ k. let e = demand_Spread g.vertices k 1 count needs in omega (arith, e))

@@ -3,7 +3,6 @@ use Rattle.std.proofs.Common.{◌≡◌, ◌≢◌, ℕ, ◌+◌, ◌<◌, ◌�
 use Rattle.std.proofs.Common.{slice_get, subst, arith}
 use Rattle.std.specs.Prelude.{IfSome, MatchOption}
 use Rattle.flux_defs.specs.declared.vertices.Vertex.{Vertex}
-use Rattle.flux_defs.specs.declared.claims.Job.{Job}
 use Rattle.flux_defs.specs.declared.claims.Window.{Window}
 use Rattle.flux_defs.specs.declared.requests.Need.{Need}
 use Rattle.prune_filters.specs.declared.shorts.Demand.{Demand}
@@ -20,18 +19,19 @@ use Rattle.flux_defs.specs.Free.{total_at, IsTooLittle}
 use Rattle.flux_defs.specs.Graph.{ResourceGraph}
 use Rattle.flux_defs.specs.Needs.{IsValidNeed}
 use Rattle.flux_defs.specs.ValidGraph.{IsValidGraph}
+use Rattle.flux_defs.specs.Present.{Present}
 use Rattle.prune_filters.specs.Demands.{capped, demand}
 use Rattle.prune_laws.proofs.Demanded.{demand_more, piece_total}
 
-module _ (vertices : List Vertex) (jobs : List Job) (w : Window) (kept : ℕ → ℕ → Type 0) (need : Need)
+module _ (vertices : List Vertex) (present : Present) (w : Window) (kept : ℕ → ℕ → Type 0) (need : Need)
     (demands : List Demand) (are : AreDemandsOf vertices need demands) (v : ℕ) (table : List Wanted)
     (some : table ≢ []) where
   -- until when it is so of the demands of a need, it is so of the need
-  pub told_until : (found : Option ℕ) → IsSoUntil (λ w. IsShortOf vertices jobs w kept demands v) w found →
-      IsSoUntil (λ w. IsShortFor vertices jobs w (asked_totals table kept) need v) w found
-  told_until None none = λ is. none (short_from vertices jobs w kept need demands are v (is.0, (is.1.0.1, is.1.1)))
+  pub told_until : (found : Option ℕ) → IsSoUntil (λ w. IsShortOf vertices present w kept demands v) w found →
+      IsSoUntil (λ w. IsShortFor vertices present w (asked_totals table kept) need v) w found
+  told_until None none = λ is. none (short_from vertices present w kept need demands are v (is.0, (is.1.0.1, is.1.1)))
   told_until (Some m) told = λ other reach.
-      let is = short_to vertices jobs other kept need demands are v (told other reach) in
+      let is = short_to vertices present other kept need demands are v (told other reach) in
       (is.0, ((some, is.1.0), is.1.1))
 
 -- what the table tells of a need at its place
@@ -42,17 +42,17 @@ entry_tells vertices all table index need wanted tells stands entry =
     tells index need wanted (need_there all table index need wanted stands entry) entry
 
 -- where a total is below what so many demand at a moment of the window, no more than one fewer can be served
-pub few_copies : (g : ResourceGraph) (names : List (List ℕ)) → IsValidGraph g names → (jobs : List Job)
+pub few_copies : (g : ResourceGraph) (names : List (List ℕ)) → IsValidGraph g names → (present : Present)
     (barred : List ℕ) (w : Window) (need : Need) → IsValidNeed g.vertices need → (kind v n more : ℕ) → more ≤ n + 1 →
-    IsTooLittle g.vertices jobs w v kind (capped (demand g.vertices kind more need)) →
-    ServesAtMost g.vertices (open_to g.vertices jobs barred w) need v n
-few_copies g names valid jobs barred w need fine kind v n more le (m, lo, hi, few) scope q lt can =
+    IsTooLittle g.vertices present w v kind (capped (demand g.vertices kind more need)) →
+    ServesAtMost g.vertices (open_to g.vertices present barred w) need v n
+few_copies g names valid present barred w need fine kind v n more le (m, lo, hi, few) scope q lt can =
     let there =
-    piece_total g names valid jobs barred w kind m lo hi scope need fine v q can.0 (omega (arith, lt)) can.1 in
-    let all : demand g.vertices kind q need ≤ total_at g.vertices jobs kind m v = there in
+    piece_total g names valid present barred w kind m lo hi scope need fine v q can.0 (omega (arith, lt)) can.1 in
+    let all : demand g.vertices kind q need ≤ total_at g.vertices present kind m v = there in
     let less : demand g.vertices kind more need ≤ demand g.vertices kind q need =
     demand_more g.vertices kind more q need (omega (arith, le, lt)) in
-    let under : total_at g.vertices jobs kind m v < capped (demand g.vertices kind more need) = few in
+    let under : total_at g.vertices present kind m v < capped (demand g.vertices kind more need) = few in
     omega (arith, all, less, under)
 
 -- what reaches over from an earlier moment on reaches over from a later one on

@@ -9,13 +9,13 @@ use Rattle.std.proofs.lemmas.Option.{slice_get_within, get_or_from_slice_get}
 use Rattle.std.proofs.Math.Seq.{drop-nil}
 use Rattle.flux_defs.specs.declared.vertices.Vertex.{Vertex}
 use Rattle.flux_defs.specs.declared.claims.Claim.{Claim}
-use Rattle.flux_defs.specs.declared.claims.Job.{Job}
 use Rattle.flux_defs.specs.declared.claims.Window.{Window}
 use Rattle.flux_defs.specs.declared.requests.Need.{Need, Vert', Pool, Spread'}
 use Rattle.flux_defs.specs.Graph.{ResourceGraph, Scope, Everywhere}
 use Rattle.flux_defs.specs.Later.{ReachesOver}
 use Rattle.flux_defs.specs.Lowest.{CanServe}
 use Rattle.flux_defs.specs.Needs.{amount_of, IsOfNeed, IsValidNeed}
+use Rattle.flux_defs.specs.Present.{Present, InEach}
 use Rattle.flux_laws.proofs.Filling.{CanFill}
 use Rattle.flux_laws.proofs.FitLaws.{serves_less}
 use Rattle.flux_laws.proofs.Takes.{takes_less}
@@ -135,7 +135,7 @@ same_need : (needs : List Need) (own : ℕ) (a b : Need) → slice_get needs own
     a ≡ b
 same_need needs own a b e f = let both : Some a ≡ Some b = sym e ∙ f in cc
 
-module _ (vertices : List Vertex) (stands : List Job → Type 0) (barred : List ℕ) (needs : List Need) where
+module _ (vertices : List Vertex) (stands : Present → Type 0) (barred : List ℕ) (needs : List Need) where
   -- no rows, up to the first vertex
   pub knows_nothing : (w : Window) (known : Known) → known.rows.items ≡ [] → known.end ≡ 0 →
       Knows vertices stands barred needs w known
@@ -150,8 +150,8 @@ module _ (vertices : List Vertex) (stands : List Job → Type 0) (barred : List 
       IsRowOf vertices stands barred w need row → IsRowOf vertices stands barred later need row
   row_later w later need row le is = record {
     of_need = is.of_need;
-    bounds = λ lt jobs here other reach.
-        is.bounds lt jobs here other (reach.0, (let b = reach.1 in omega (arith, b, le)), reach.2);
+    bounds = λ lt present here other reach.
+        is.bounds lt present here other (reach.0, (let b = reach.1 in omega (arith, b, le)), reach.2);
   }
 
   -- and so all that is known
@@ -271,33 +271,34 @@ whole_some vertices (Pool kind quantity) v = v.0
 whole_some vertices (Spread' count m needs) v = v.0
 
 -- a row of nothing tells that the vertex serves nothing over the window itself
-row_none : (g : ResourceGraph) (stands : List Job → Type 0) (barred : List ℕ) (w : Window) (need : Need)
+row_none : (g : ResourceGraph) (stands : Present → Type 0) (barred : List ℕ) (w : Window) (need : Need)
     (row : Row) → IsValidNeed g.vertices need → IsRowOf g.vertices stands barred w need row → row.most ≡ 0 →
-    w.from ≤ row.moment → w.from < w.to → (jobs : List Job) → stands jobs → (scope : Scope) (q : ℕ) → 1 ≤ q →
-    CanServe g.vertices (open_to g.vertices jobs barred w) scope need row.vertex q → ⊥
-row_none g stands barred w need row valid is none le opens jobs here scope q some can =
+    w.from ≤ row.moment → w.from < w.to → InEach stands (λ present. (scope : Scope) (q : ℕ) → 1 ≤ q →
+    CanServe g.vertices (open_to g.vertices present barred w) scope need row.vertex q → ⊥)
+row_none g stands barred w need row valid is none le opens present here scope q some can =
     let whole = whole_some g.vertices need valid in
-    is.bounds (omega (arith, none, whole)) jobs here w (reach_all w row.moment le opens) scope q
+    is.bounds (omega (arith, none, whole)) present here w (reach_all w row.moment le opens) scope q
     (omega (arith, none, some)) can
 
 -- and so does one of those that are known
-pub none_at : (g : ResourceGraph) (stands : List Job → Type 0) (barred : List ℕ) (needs : List Need) (w : Window)
+pub none_at : (g : ResourceGraph) (stands : Present → Type 0) (barred : List ℕ) (needs : List Need) (w : Window)
     (known : Known) (own : ℕ) (need : Need) → IsValidNeed g.vertices need → slice_get needs own ≡ Some need →
-    known.own ≡ own → Knows g.vertices stands barred needs w known → w.from < w.to → (jobs : List Job) → stands jobs →
-    (scope : Scope) (v q : ℕ) → 1 ≤ q → CanServe g.vertices (open_to g.vertices jobs barred w) scope need v q →
-    (i : ℕ) (row : Row) → slice_get known.rows.items i ≡ Some row → row.vertex ≡ v → IsNone w.from row → ⊥
-none_at g stands barred needs w known own need valid of_own same knows opens jobs here scope v q some can i row at is
+    known.own ≡ own → Knows g.vertices stands barred needs w known → w.from < w.to →
+    InEach stands (λ present. (scope : Scope) (v q : ℕ) → 1 ≤ q →
+    CanServe g.vertices (open_to g.vertices present barred w) scope need v q →
+    (i : ℕ) (row : Row) → slice_get known.rows.items i ≡ Some row → row.vertex ≡ v → IsNone w.from row → ⊥)
+none_at g stands barred needs w known own need valid of_own same knows opens present here scope v q some can i row at is
     none =
     row_none g stands barred w need row valid
     (row_known g.vertices stands barred needs w known own need row of_own same (row_there known.rows.items i row at)
     knows)
-    none.0 none.1 opens jobs here scope q some
-    (subst (λ (u : ℕ). CanServe g.vertices (open_to g.vertices jobs barred w) scope need u q) (sym is) can)
+    none.0 none.1 opens present here scope q some
+    (subst (λ (u : ℕ). CanServe g.vertices (open_to g.vertices present barred w) scope need u q) (sym is) can)
 
-module _ (g : ResourceGraph) (stands : List Job → Type 0) (barred : List ℕ) (w other : Window) (need : Need)
-    (until : ℕ) (reach : ReachesOver w until other) (jobs : List Job) (here : stands jobs) where
+module _ (g : ResourceGraph) (stands : Present → Type 0) (barred : List ℕ) (w other : Window) (need : Need)
+    (until : ℕ) (reach : ReachesOver w until other) (present : Present) (here : stands present) where
   abbrev ok : Claim → Type 0
-  ok = open_to g.vertices jobs barred other
+  ok = open_to g.vertices present barred other
 
   abbrev can : ℕ → ℕ → Type 0
   can = CanServe g.vertices ok Everywhere need
@@ -321,7 +322,8 @@ module _ (g : ResourceGraph) (stands : List Job → Type 0) (barred : List ℕ) 
     | inl within ↦
         let same : bound_at need until row ≡ row.most = rw within.0 refl in
         elim (cases_lt row.most (whole_of need)) [
-          | inl less ↦ is.bounds less jobs here other (reach_later w other until row.moment within.1 reach) Everywhere q
+          | inl less ↦ is.bounds less present here other (reach_later w other until row.moment within.1 reach)
+              Everywhere q
               (omega (arith, same, lt)) c
           | inr all ↦
               none_past_whole need (bound_at need until row) row.vertex q (omega (arith, same, all)) few lt c
@@ -353,26 +355,28 @@ module _ (g : ResourceGraph) (stands : List Job → Type 0) (barred : List ℕ) 
       (lacks_over can total low row.vertex lacking (none_serves low row.vertex stand.0) lacks))
 
 -- rows of all vertices of a need which leave less than its amount tell that it has no group
-pub rows_refute : (g : ResourceGraph) (stands : List Job → Type 0) (barred : List ℕ) (w other : Window) (need : Need)
+pub rows_refute : (g : ResourceGraph) (stands : Present → Type 0) (barred : List ℕ) (w other : Window) (need : Need)
     (rows : List Row) (until : ℕ) → IsValidNeed g.vertices need →
     StandFrom g.vertices need 0 rows (length g.vertices) →
     ((row : Row) → Contains rows row → IsRowOf g.vertices stands barred w need row) → ReachesOver w until other →
-    served_most need until rows < amount_of need → (jobs : List Job) → stands jobs →
-    SomeGroup g.vertices (open_to g.vertices jobs barred other) Everywhere need (1 * amount_of need) → ⊥
-rows_refute g stands barred w other need rows until valid stand each reach few jobs here group =
+    served_most need until rows < amount_of need →
+    InEach stands (λ present. SomeGroup g.vertices (open_to g.vertices present barred other) Everywhere need
+    (1 * amount_of need) → ⊥)
+rows_refute g stands barred w other need rows until valid stand each reach few present here group =
     let total : 1 * amount_of need ≡ amount_of need = omega arith in
-    down_rows g stands barred w other need until reach jobs here rows 0 (amount_of need) stand each (omega arith) few
-    (λ f. subst (CanFill (can g stands barred w other need until reach jobs here) 0) total f)
-    (group_to g.vertices (open_to g.vertices jobs barred other) Everywhere need (1 * amount_of need) group)
+    down_rows g stands barred w other need until reach present here rows 0 (amount_of need) stand each (omega arith) few
+    (λ f. subst (CanFill (can g stands barred w other need until reach present here) 0) total f)
+    (group_to g.vertices (open_to g.vertices present barred other) Everywhere need (1 * amount_of need) group)
 
 -- the row of a vertex of the need among vertices that serve nothing until a moment
-pub none_row : (vertices : List Vertex) (stands : List Job → Type 0) (barred : List ℕ) (w : Window) (need : Need)
+pub none_row : (vertices : List Vertex) (stands : Present → Type 0) (barred : List ℕ) (w : Window) (need : Need)
     (v moment top past : ℕ) → IsOfNeed vertices need v → top ≤ v → v < past →
-    ((jobs : List Job) → stands jobs → (other : Window) → ReachesOver w moment other →
-    ServesNone vertices (open_to vertices jobs barred other) need top past) →
+    (InEach stands (λ present. (other : Window) → ReachesOver w moment other →
+    ServesNone vertices (open_to vertices present barred other) need top past)) →
     IsRowOf vertices stands barred w need (record { vertex = v; most = 0; moment = moment })
 none_row vertices stands barred w need v moment top past is lo hi none = record {
   of_need = is;
-  bounds = λ some jobs here other reach scope q lt can. none jobs here other reach scope v q lo hi (omega (arith, lt))
+  bounds = λ some present here other reach scope q lt can. none present here other reach scope v q lo hi
+      (omega (arith, lt))
       can;
 }

@@ -6,12 +6,12 @@ use Rattle.std.specs.Prelude.{Contains, IfSome, IfNone, MatchOption}
 use Rattle.std.specs.List.{AllByRecursion}
 use Rattle.std.proofs.Math.Nat.{mul-le-mul_right, mul-le-mul_left}
 use Rattle.flux_defs.specs.declared.vertices.Vertex.{Vertex}
-use Rattle.flux_defs.specs.declared.claims.Job.{Job}
 use Rattle.flux_defs.specs.declared.claims.Window.{Window}
 use Rattle.flux_defs.specs.declared.requests.Need.{Need, Vert, Spread}
 use Rattle.flux_defs.specs.Graph.{ResourceGraph}
 use Rattle.flux_defs.specs.ValidGraph.{IsValidGraph}
 use Rattle.flux_defs.specs.Needs.{HasNoSpread, IsValidNeed}
+use Rattle.flux_defs.specs.Present.{Present}
 use Rattle.graph_laws.proofs.Containment.{below_le, below_to}
 use Rattle.graph_laws.proofs.Preorder.{parents_first}
 use Rattle.std.proofs.lemmas.Bool.{cases_lt}
@@ -152,24 +152,24 @@ module _ (each : List Pair → Type 0) where
       (each_at IsOpen items i need rest split open') (looks_at times items i need rest split look)))
 
 -- the vertex, asked_totals after those above it
-pub own_clear : (vertices : List Vertex) (jobs : List Job) (w : Window) (keeps : ℕ → ℕ → Type 0) (need : Need)
-    (v low : ℕ) (o : Option ℕ) → IfSome o (λ top. top ≡ v) → IsClearBetween vertices jobs w keeps need v low v →
-    IfNone o (IsShortFor vertices jobs w keeps need v → ⊥) →
-    MatchOption o (IsClearBetween vertices jobs w keeps need v low (v + 1))
-    (IsClearBetween vertices jobs w keeps need v low)
-own_clear vertices jobs w keeps need v low None same above own = λ u lo hi at is. elim (cases_lt u v) [
+pub own_clear : (vertices : List Vertex) (present : Present) (w : Window) (keeps : ℕ → ℕ → Type 0) (need : Need)
+    (v low : ℕ) (o : Option ℕ) → IfSome o (λ top. top ≡ v) → IsClearBetween vertices present w keeps need v low v →
+    IfNone o (IsShortFor vertices present w keeps need v → ⊥) →
+    MatchOption o (IsClearBetween vertices present w keeps need v low (v + 1))
+    (IsClearBetween vertices present w keeps need v low)
+own_clear vertices present w keeps need v low None same above own = λ u lo hi at is. elim (cases_lt u v) [
   | inl less ↦ above u lo less at is
-  | inr more ↦ (let e : u ≡ v = omega arith in own (subst (IsShortFor vertices jobs w keeps need) e is))
+  | inr more ↦ (let e : u ≡ v = omega arith in own (subst (IsShortFor vertices present w keeps need) e is))
 ]
-own_clear vertices jobs w keeps need v low (Some top) same above own =
-    subst (IsClearBetween vertices jobs w keeps need v low) (sym same) above
+own_clear vertices present w keeps need v low (Some top) same above own =
+    subst (IsClearBetween vertices present w keeps need v low) (sym same) above
 
-module _ (vertices : List Vertex) (jobs : List Job) (w : Window) (keeps : ℕ → ℕ → Type 0) (all : List Need) where
+module _ (vertices : List Vertex) (present : Present) (w : Window) (keeps : ℕ → ℕ → Type 0) (all : List Need) where
   abbrev pairs_of : List Pair → Type 0
-  pairs_of = HasEachOpen vertices jobs w keeps all
+  pairs_of = HasEachOpen vertices present w keeps all
 
   pub own_takes : (need : Need) (steps old new place v low : ℕ) → new ≤ old + steps → low ≤ v →
-      IsPlaceOf all place need → v < length vertices → IsOpenFor vertices jobs w keeps need v →
+      IsPlaceOf all place need → v < length vertices → IsOpenFor vertices present w keeps need v →
       TakesEach pairs_of steps old new place (place + 1) low (v + 1)
   own_takes need steps old new place v low le lo at lt opens =
       takes_within pairs_of steps steps old new place (place + 1) v (v + 1) place (place + 1) low (v + 1) (omega arith)
@@ -178,28 +178,28 @@ module _ (vertices : List Vertex) (jobs : List Job) (w : Window) (keeps : ℕ �
       (place_there all place need at) lt opens))
 
 -- where the needs within a need stand, and that no vertex from v up is short for them
-module _ (g : ResourceGraph) (names : List (List ℕ)) (valid : IsValidGraph g names) (jobs : List Job) (w : Window)
+module _ (g : ResourceGraph) (names : List (List ℕ)) (valid : IsValidGraph g names) (present : Present) (w : Window)
     (keeps : ℕ → ℕ → Type 0) (all : List Need) (place : ℕ) where
   pub in_vertex : (kind count : ℕ) (hold : Bool) (needs : List Need) (v : ℕ) →
       IsValidNeed g.vertices (Vert kind count hold needs) → IsPlaceOf all place (Vert kind count hold needs) →
-      IsClearWithin g.vertices jobs w keeps (Vert kind count hold needs) v →
-      IsPlaceOfAll all (place + 1) needs × AllByRecursion (λ n. IsClear g.vertices jobs w keeps n v) needs
+      IsClearWithin g.vertices present w keeps (Vert kind count hold needs) v →
+      IsPlaceOfAll all (place + 1) needs × AllByRecursion (λ n. IsClear g.vertices present w keeps n v) needs
   in_vertex kind count hold needs v fine here clear =
       (place_Vert all place kind count hold needs here, within needs fine clear)
     where
       within : (ns : List Need) → IsValidNeed g.vertices (Vert kind count hold ns) →
-          IsClearWithin g.vertices jobs w keeps (Vert kind count hold ns) v →
-          AllByRecursion (λ n. IsClear g.vertices jobs w keeps n v) ns
+          IsClearWithin g.vertices present w keeps (Vert kind count hold ns) v →
+          AllByRecursion (λ n. IsClear g.vertices present w keeps n v) ns
       within [] fine clear = tt
-      within (n ∷ ns) fine clear = clear_Vert g names valid jobs w keeps kind count hold (n ∷ ns) v
+      within (n ∷ ns) fine clear = clear_Vert g names valid present w keeps kind count hold (n ∷ ns) v
           (valid_inside g.vertices kind count hold (n ∷ ns) fine)
           (clear.1 (asks_Vert kind count hold (n ∷ ns) (omega arith)))
 
   -- and no spread stands within a copy
   pub in_copy : (count : ℕ) (needs : List Need) (v : ℕ) →
       IsValidNeed g.vertices (Spread count needs) → IsPlaceOf all place (Spread count needs) →
-      IsClearWithin g.vertices jobs w keeps (Spread count needs) v →
-      IsPlaceOfAll all (place + 1) needs × AllByRecursion (λ n. IsClear g.vertices jobs w keeps n v) needs
+      IsClearWithin g.vertices present w keeps (Spread count needs) v →
+      IsPlaceOfAll all (place + 1) needs × AllByRecursion (λ n. IsClear g.vertices present w keeps n v) needs
       × AllByRecursion HasNoSpread needs
   in_copy count needs v fine here clear = (
     place_Spread all place count needs here,
@@ -208,34 +208,34 @@ module _ (g : ResourceGraph) (names : List (List ℕ)) (valid : IsValidGraph g n
   )
     where
       within : (ns : List Need) → IsValidNeed g.vertices (Spread count ns) →
-          IsClearWithin g.vertices jobs w keeps (Spread count ns) v →
-          AllByRecursion (λ n. IsClear g.vertices jobs w keeps n v) ns
+          IsClearWithin g.vertices present w keeps (Spread count ns) v →
+          AllByRecursion (λ n. IsClear g.vertices present w keeps n v) ns
       within [] fine clear = tt
-      within (n ∷ ns) fine clear = clear_Spread g names valid jobs w keeps count (n ∷ ns) v
+      within (n ∷ ns) fine clear = clear_Spread g names valid present w keeps count (n ∷ ns) v
           (valid_copy g.vertices count (n ∷ ns) fine) (clear.1 (asks_Spread count (n ∷ ns) (omega arith)))
 
 -- A walk over the vertices of a need has come to `at`: none before it is short above what follows, and so many steps
 -- were taken for each open pair.
-pub record Walked (vertices : List Vertex) (jobs : List Job) (w : Window) (keeps : ℕ → ℕ → Type 0) (all : List Need)
+pub record Walked (vertices : List Vertex) (present : Present) (w : Window) (keeps : ℕ → ℕ → Type 0) (all : List Need)
     (need : Need) (place steps old new from at to : ℕ) : Type 0 where
-  pub clear : IsClearBefore vertices jobs w keeps need at to
+  pub clear : IsClearBefore vertices present w keeps need at to
   pub low : from ≤ at
   pub high : at ≤ to
-  pub taken : TakesEach (HasEachOpen vertices jobs w keeps all) steps old new place
+  pub taken : TakesEach (HasEachOpen vertices present w keeps all) steps old new place
       (place + length (all_of need)) from at
 
-module _ (g : ResourceGraph) (names : List (List ℕ)) (valid : IsValidGraph g names) (jobs : List Job) (w : Window)
+module _ (g : ResourceGraph) (names : List (List ℕ)) (valid : IsValidGraph g names) (present : Present) (w : Window)
     (keeps : ℕ → ℕ → Type 0) (all : List Need) (need : Need) (place steps : ℕ) where
   abbrev opened : List Pair → Type 0
-  opened = HasEachOpen g.vertices jobs w keeps all
+  opened = HasEachOpen g.vertices present w keeps all
 
   abbrev walked : ℕ → ℕ → ℕ → ℕ → ℕ → Type 0
-  walked = Walked g.vertices jobs w keeps all need place steps
+  walked = Walked g.vertices present w keeps all need place steps
 
   pub walked_start : (scope : Option ℕ) (old from to : ℕ) → IsSpanOf g.vertices scope from to →
-      to ≤ length g.vertices → IsClearScope g.vertices jobs w keeps scope need → walked old old from from to
+      to ≤ length g.vertices → IsClearScope g.vertices present w keeps scope need → walked old old from from to
   walked_start scope old from to span most clear = record {
-    clear = clear_start g names valid jobs w keeps need scope from to span most clear;
+    clear = clear_start g names valid present w keeps need scope from to span most clear;
     low = omega arith;
     high = begins scope span;
     taken = takes_none opened steps old place (place + length (all_of need)) from from;
@@ -247,7 +247,7 @@ module _ (g : ResourceGraph) (names : List (List ℕ)) (valid : IsValidGraph g n
 
   pub walked_next : (scope : Option ℕ) (walk look old mid found new from at to v past : ℕ) →
       IsSpanOf g.vertices scope from to → to ≤ length g.vertices → IsPlaceOf all place need → walk + look ≤ steps →
-      walked old mid from at to → at ≤ v → v < to → IsClearWithin g.vertices jobs w keeps need v →
+      walked old mid from at to → at ≤ v → v < to → IsClearWithin g.vertices present w keeps need v →
       IsPast g.vertices v past → TakesEach opened walk mid found place (place + 1) at (v + 1) →
       TakesEach opened steps (found + look) new (place + 1) (place + length (all_of need)) (v + 1) past →
       walked old new from past to
@@ -256,7 +256,7 @@ module _ (g : ResourceGraph) (names : List (List ℕ)) (valid : IsValidGraph g n
       let low = before.low in
       let some = all_some need in
       record {
-        clear = clear_next g names valid jobs w keeps need at to v past most before.clear lo hi clear.0 after;
+        clear = clear_next g names valid present w keeps need at to v past most before.clear lo hi clear.0 after;
         low = omega (arith, low, later);
         high = past_within g names valid scope from to v past span (omega (arith, low)) hi after;
         taken = takes_upto opened steps old mid new place (place + length (all_of need)) from at past low
@@ -285,20 +285,20 @@ module _ (g : ResourceGraph) (names : List (List ℕ)) (valid : IsValidGraph g n
       before.taken
 
 -- nothing stands above all
-pub clear_everywhere : (vertices : List Vertex) (jobs : List Job) (w : Window) (keeps : ℕ → ℕ → Type 0)
-    (needs : List Need) → AllByRecursion (IsClearScope vertices jobs w keeps None) needs
-clear_everywhere vertices jobs w keeps [] = tt
-clear_everywhere vertices jobs w keeps (need ∷ rest) = (tt, clear_everywhere vertices jobs w keeps rest)
+pub clear_everywhere : (vertices : List Vertex) (present : Present) (w : Window) (keeps : ℕ → ℕ → Type 0)
+    (needs : List Need) → AllByRecursion (IsClearScope vertices present w keeps None) needs
+clear_everywhere vertices present w keeps [] = tt
+clear_everywhere vertices present w keeps (need ∷ rest) = (tt, clear_everywhere vertices present w keeps rest)
 
 pub first_place : (needs : List Need) → IsPlaceOfAll (needs_all needs) 0 needs
 first_place needs = ([], sym (append-nil (needs_all needs)))
 
 -- where each need has its entry, the totals that a search asks for are those that are kept
-pub each_open : (vertices : List Vertex) (jobs : List Job) (w : Window) (keeps : ℕ → ℕ → Type 0) (all : List Need)
+pub each_open : (vertices : List Vertex) (present : Present) (w : Window) (keeps : ℕ → ℕ → Type 0) (all : List Need)
     (table : List Wanted) (pairs : List Pair) → length table ≡ length all →
-    HasEachOpen vertices jobs w keeps all pairs → HasEachOpen vertices jobs w (asked_totals table keeps) all pairs
-each_open vertices jobs w keeps [] table pairs same has place v need at lt opens = absurd (cc)
-each_open vertices jobs w keeps (n ∷ ns) table pairs same has place v need at lt opens =
+    HasEachOpen vertices present w keeps all pairs → HasEachOpen vertices present w (asked_totals table keeps) all pairs
+each_open vertices present w keeps [] table pairs same has place v need at lt opens = absurd (cc)
+each_open vertices present w keeps (n ∷ ns) table pairs same has place v need at lt opens =
     let some : table ≢ [] = λ none. (let e = ap length none in omega (arith, e, same)) in
     has place v need at lt (λ u below is. opens u below (is.0, ((some, is.1.0), is.1.1)))
 
@@ -352,19 +352,19 @@ every_there (suc m) n place v lt hi = elim (cases_lt place m) [
       (there_at m n v (every_pair m n) hi))
 ]
 
-pub every_open : (vertices : List Vertex) (jobs : List Job) (w : Window) (keeps : ℕ → ℕ → Type 0) (all : List Need) →
-    HasEachOpen vertices jobs w keeps all (every_pair (length all) (length vertices))
-every_open vertices jobs w keeps all place v need at lt opens =
+pub every_open : (vertices : List Vertex) (present : Present) (w : Window) (keeps : ℕ → ℕ → Type 0) (all : List Need) →
+    HasEachOpen vertices present w keeps all (every_pair (length all) (length vertices))
+every_open vertices present w keeps all place v need at lt opens =
     every_there (length all) (length vertices) place v (slice_get_within all place need at) lt
 
 -- the root is open for each need
-roots_open : (g : ResourceGraph) (names : List (List ℕ)) → IsValidGraph g names → (jobs : List Job) (w : Window)
+roots_open : (g : ResourceGraph) (names : List (List ℕ)) → IsValidGraph g names → (present : Present) (w : Window)
     (keeps : ℕ → ℕ → Type 0) (all : List Need) (pairs : List Pair) →
-    HasEachOpen g.vertices jobs w keeps all pairs → (k : ℕ) → k ≤ length all → k ≤ count_among 0 k 0 1 pairs
-roots_open g names valid jobs w keeps all pairs has zero le = omega arith
-roots_open g names valid jobs w keeps all pairs has (suc k) le =
+    HasEachOpen g.vertices present w keeps all pairs → (k : ℕ) → k ≤ length all → k ≤ count_among 0 k 0 1 pairs
+roots_open g names valid present w keeps all pairs has zero le = omega arith
+roots_open g names valid present w keeps all pairs has (suc k) le =
     let first = parents_first g valid.preorder in
-    let before = roots_open g names valid jobs w keeps all pairs has k (omega arith) in
+    let before = roots_open g names valid present w keeps all pairs has k (omega arith) in
     let need = get_some all k (omega arith) in
     let here = count_here k 0 pairs (has k 0 need.0 need.1 valid.preorder.some (λ u below is.
     let b = below_to g.vertices first 0 u below in
@@ -376,11 +376,11 @@ roots_open g names valid jobs w keeps all pairs has (suc k) le =
     omega (arith, before, here, both, one)
 
 -- so there are no fewer open pairs than needs
-pub needs_open : (g : ResourceGraph) (names : List (List ℕ)) → IsValidGraph g names → (jobs : List Job) (w : Window)
+pub needs_open : (g : ResourceGraph) (names : List (List ℕ)) → IsValidGraph g names → (present : Present) (w : Window)
     (keeps : ℕ → ℕ → Type 0) (all : List Need) (pairs : List Pair) →
-    HasEachOpen g.vertices jobs w keeps all pairs → length all ≤ length pairs
-needs_open g names valid jobs w keeps all pairs has =
-    let some = roots_open g names valid jobs w keeps all pairs has (length all) (omega arith) in
+    HasEachOpen g.vertices present w keeps all pairs → length all ≤ length pairs
+needs_open g names valid present w keeps all pairs has =
+    let some = roots_open g names valid present w keeps all pairs has (length all) (omega arith) in
     let most = count_most 0 (length all) 0 1 pairs in
     omega (arith, some, most)
 

@@ -3,11 +3,11 @@ use Rattle.std.specs.Prelude.{◌≡◌, ◌≢◌, ℕ, ◌+◌, ◌*◌, ◌<�
 use Rattle.std.specs.Prelude.{drop, length, Option, Some, MatchOption, slice_get, Contains, IsTrue, if◌then◌else◌}
 use Rattle.std.specs.List.{AllByRecursion}
 use Rattle.flux_defs.specs.declared.vertices.Vertex.{Vertex}
-use Rattle.flux_defs.specs.declared.claims.Job.{Job}
 use Rattle.flux_defs.specs.declared.claims.Window.{Window}
 use Rattle.flux_defs.specs.declared.requests.Need.{Need}
 use Rattle.flux_defs.specs.Graph.{is_at_or_below, is_below}
 use Rattle.flux_defs.specs.Needs.{HasNoSpread}
+use Rattle.flux_defs.specs.Present.{Present}
 use Rattle.prune_filters.specs.Demands.{needs_demand, capped}
 use Rattle.prune_filters.specs.Shorts.{IsShortFor, IsBelow}
 use Rattle.resource_graph.specs.Tables.{IsPast}
@@ -32,10 +32,10 @@ abbrev pub AsksWithin : Need → Type 0
 AsksWithin need = 2 ≤ length (all_of need)
 
 -- over the vertices, the jobs, a window, and the totals that are kept (of a kind, the second number, at a vertex)
-module _ (vertices : List Vertex) (jobs : List Job) (w : Window) (keeps : ℕ → ℕ → Type 0) where
+module _ (vertices : List Vertex) (present : Present) (w : Window) (keeps : ℕ → ℕ → Type 0) where
   -- no vertex above v is short for the need
   abbrev pub IsOpenFor : Need → ℕ → Type 0
-  IsOpenFor need v = (u : ℕ) → IsTrue (is_below vertices v u) → IsShortFor vertices jobs w keeps need u → ⊥
+  IsOpenFor need v = (u : ℕ) → IsTrue (is_below vertices v u) → IsShortFor vertices present w keeps need u → ⊥
 
   -- the list has each pair of a need and a vertex that is open for it
   abbrev pub HasEachOpen : List Need → List Pair → Type 0
@@ -45,7 +45,7 @@ module _ (vertices : List Vertex) (jobs : List Job) (w : Window) (keeps : ℕ �
 
   -- a total that is kept at the root is below what the needs demand in full, each its amount
   abbrev pub IsRootShort : List Need → Type 0
-  IsRootShort needs = (kind : ℕ) × IsBelow vertices jobs w keeps 0 kind (capped (needs_demand vertices kind needs))
+  IsRootShort needs = (kind : ℕ) × IsBelow vertices present w keeps 0 kind (capped (needs_demand vertices kind needs))
 
   -- So many looks at the vertices are enough for a match of the needs: one a need, inner ones too, where the root is
   -- short for all of them; and always so many for each open pair of a need and a vertex.
@@ -58,7 +58,7 @@ module _ (vertices : List Vertex) (jobs : List Job) (w : Window) (keeps : ℕ �
   -- neither v nor a vertex above it is short for the need
   abbrev pub IsClear : Need → ℕ → Type 0
   IsClear need v =
-      (u : ℕ) → IsTrue (is_at_or_below vertices v u) → IsShortFor vertices jobs w keeps need u → ⊥
+      (u : ℕ) → IsTrue (is_at_or_below vertices v u) → IsShortFor vertices present w keeps need u → ⊥
 
   -- no vertex above v is short for the need, nor v itself where something is asked within it
   abbrev pub IsClearWithin : Need → ℕ → Type 0
@@ -72,7 +72,7 @@ module _ (vertices : List Vertex) (jobs : List Job) (w : Window) (keeps : ℕ �
   abbrev pub IsClearBetween : Need → ℕ → ℕ → ℕ → Type 0
   IsClearBetween need v low to =
       (u : ℕ) → low ≤ u → u < to → IsTrue (is_at_or_below vertices v u) →
-      IsShortFor vertices jobs w keeps need u → ⊥
+      IsShortFor vertices present w keeps need u → ⊥
 
   -- none before `from` that is above one of the vertices from `from` on and before `to`
   abbrev pub IsClearBefore : Need → ℕ → ℕ → Type 0

@@ -2,12 +2,12 @@
 use Rattle.std.specs.Prelude.{ℕ, ◌<◌, ◌≤◌, List, Option, IfSome}
 use Rattle.flux_defs.specs.declared.vertices.Vertex.{Vertex}
 use Rattle.flux_defs.specs.declared.claims.Claim.{Claim}
-use Rattle.flux_defs.specs.declared.claims.Job.{Job}
 use Rattle.flux_defs.specs.declared.claims.Window.{Window}
 use Rattle.flux_defs.specs.declared.requests.Need.{Need}
 use Rattle.flux_defs.specs.Graph.{Scope}
 use Rattle.flux_defs.specs.Later.{ReachesOver}
 use Rattle.flux_defs.specs.Lowest.{CanServe}
+use Rattle.flux_defs.specs.Present.{Present, InEach}
 use Rattle.dfu_match.specs.Searches.{open_to}
 
 -- a moment falls, and not below the window's start where it was not
@@ -20,10 +20,10 @@ ServesAtMost vertices ok need v n = (scope : Scope) (q : ℕ) → n < q → CanS
 
 -- so much of the need the vertex serves at most over each window that reaches over w from a moment on, whatever jobs
 -- the view stands for
-abbrev pub AreMostServed : List Vertex → (List Job → Type 0) → List ℕ → Window → ℕ → Need → ℕ → Option ℕ → Type 0
+abbrev pub AreMostServed : List Vertex → (Present → Type 0) → List ℕ → Window → ℕ → Need → ℕ → Option ℕ → Type 0
 AreMostServed vertices stands barred w until need v most =
-    (jobs : List Job) → stands jobs → (other : Window) → ReachesOver w until other →
-    IfSome most (ServesAtMost vertices (open_to vertices jobs barred other) need v)
+    InEach stands (λ present. (other : Window) → ReachesOver w until other →
+    IfSome most (ServesAtMost vertices (open_to vertices present barred other) need v))
 
 -- nothing of this kind is so over a window that reaches over w from a moment on, which isn't before its start; where
 -- it is the start itself, nothing is said

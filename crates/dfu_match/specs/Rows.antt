@@ -2,11 +2,11 @@
 use Rattle.std.specs.Prelude.{◌≡◌, ◌≢◌, ℕ, ◌+◌, ◌-◌, ◌*◌, ◌^◌, ◌<◌, ◌≤◌, ◌⊎◌, nat_le, if◌then◌else◌, List, [], ◌∷◌}
 use Rattle.std.specs.Prelude.{◌++◌, Some, MatchOption, slice_get, slice_set, sum_by, take, drop, length, Contains}
 use Rattle.flux_defs.specs.declared.vertices.Vertex.{Vertex}
-use Rattle.flux_defs.specs.declared.claims.Job.{Job}
 use Rattle.flux_defs.specs.declared.claims.Window.{Window}
 use Rattle.flux_defs.specs.declared.requests.Need.{Need, Vert', Pool, Spread'}
 use Rattle.flux_defs.specs.Later.{ReachesOver}
 use Rattle.flux_defs.specs.Needs.{IsOfNeed}
+use Rattle.flux_defs.specs.Present.{Present, InEach}
 use Rattle.dfu_match.specs.declared.knowing.Row.{Row}
 use Rattle.dfu_match.specs.declared.knowing.Known.{Known}
 use Rattle.dfu_match.specs.declared.leaving.Left.{Left}
@@ -31,12 +31,12 @@ StandFrom vertices need low (row ∷ rows) to =
 
 -- The row is of a vertex of the need. Unless it says all that is ever asked of one vertex, this one serves no more than
 -- so much over each window that reaches over w from the row's moment on, whatever jobs the view stands for.
-pub record IsRowOf (vertices : List Vertex) (stands : List Job → Type 0) (barred : List ℕ) (w : Window) (need : Need)
+pub record IsRowOf (vertices : List Vertex) (stands : Present → Type 0) (barred : List ℕ) (w : Window) (need : Need)
     (row : Row) : Type 0 where
   pub of_need : IsOfNeed vertices need row.vertex
-  pub bounds : row.most < whole_of need → (jobs : List Job) → stands jobs → (other : Window) →
+  pub bounds : row.most < whole_of need → InEach stands (λ present. (other : Window) →
       ReachesOver w row.moment other →
-      ServesAtMost vertices (open_to vertices jobs barred other) need row.vertex row.most
+      ServesAtMost vertices (open_to vertices present barred other) need row.vertex row.most)
 
 -- how much of the need a row leaves its vertex to serve at most over windows that begin at this second
 abbrev pub bound_at : Need → ℕ → Row → ℕ
@@ -73,7 +73,7 @@ IsReachBefore known i position =
     MatchOption (slice_get known.rows.items i) (position ≡ known.end) (λ row. position ≡ row.vertex)
 
 -- what is known is so: the rows are of one own need of the ask, and of its vertices before `end`
-pub record Knows (vertices : List Vertex) (stands : List Job → Type 0) (barred : List ℕ) (needs : List Need)
+pub record Knows (vertices : List Vertex) (stands : Present → Type 0) (barred : List ℕ) (needs : List Need)
     (w : Window) (known : Known) : Type 0 where
   pub rows : (need : Need) → slice_get needs known.own ≡ Some need → (row : Row) → Contains known.rows.items row →
       IsRowOf vertices stands barred w need row

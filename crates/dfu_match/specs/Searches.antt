@@ -5,13 +5,13 @@ use Rattle.std.specs.List.{AllByRecursion}
 use Rattle.flux_defs.specs.declared.vertices.Vertex.{Vertex}
 use Rattle.flux_defs.specs.declared.claims.Claim.{Claim}
 use Rattle.flux_defs.specs.declared.claims.Claim.TheVariants.{Hold, Pass}
-use Rattle.flux_defs.specs.declared.claims.Job.{Job}
 use Rattle.flux_defs.specs.declared.claims.Window.{Window}
 use Rattle.flux_defs.specs.declared.requests.Need.{Need, Vert', Pool, Spread'}
 use Rattle.flux_defs.specs.Graph.{Scope, Everywhere, Beneath, IsIn, HasKind}
 use Rattle.flux_defs.specs.Closed.{Scene, IsClosedIn}
 use Rattle.flux_defs.specs.Available.{IsAvailable}
 use Rattle.flux_defs.specs.Needs.{IsOfNeed, HasNoSpread}
+use Rattle.flux_defs.specs.Present.{Present, InEach}
 
 -- where is looked: below this vertex, or everywhere
 abbrev pub scope_of : Option ℕ → Scope
@@ -23,17 +23,17 @@ abbrev pub IsScope : List Vertex → Option ℕ → Type 0
 IsScope vertices scope = MatchOption scope (Unit {0}) (λ u. u < length vertices)
 
 -- what an ask with these bars meets
-abbrev pub meets : List Vertex → List Job → List ℕ → Scene
-meets vertices jobs barred = record { vertices = vertices; jobs = jobs; barred = barred }
+abbrev pub meets : List Vertex → Present → List ℕ → Scene
+meets vertices present barred = record { vertices = vertices; present = present; barred = barred }
 
 -- the claims that are available over the window to an ask with these bars
-abbrev pub open_to : List Vertex → List Job → List ℕ → Window → Claim → Type 0
-open_to vertices jobs barred w = IsAvailable (meets vertices jobs barred) w
+abbrev pub open_to : List Vertex → Present → List ℕ → Window → Claim → Type 0
+open_to vertices present barred w = IsAvailable (meets vertices present barred) w
 
 -- the vertex, where there is one, isn't closed over the window, whatever jobs the view stands for
-abbrev pub IsOpenScope : List Vertex → (List Job → Type 0) → List ℕ → Window → Option ℕ → Type 0
+abbrev pub IsOpenScope : List Vertex → (Present → Type 0) → List ℕ → Window → Option ℕ → Type 0
 IsOpenScope vertices stands barred w scope = MatchOption scope (Unit {0})
-    (λ u. (jobs : List Job) → stands jobs → IsClosedIn (meets vertices jobs barred) w u → ⊥)
+    (λ u. InEach stands (λ present. IsClosedIn (meets vertices present barred) w u → ⊥))
 
 -- what a need of vertices claims of one of them: all of it, or its pass
 abbrev pub claim_on : Bool → ℕ → Claim

@@ -3,13 +3,13 @@ ghost use Rattle.std.specs.Prelude.{◌≡◌, ℕ, ◌+◌, ◌*◌, ◌<◌, �
 ghost use Rattle.std.specs.Prelude.{None, Some, MatchOption, slice_get};
 ghost use Rattle.std.specs.List.{AllByRecursion};
 ghost use Rattle.flux_defs.specs.declared.vertices.Vertex.{Vertex};
-ghost use Rattle.flux_defs.specs.declared.claims.Job.{Job};
 ghost use Rattle.flux_defs.specs.declared.claims.Claim.{Claim};
 ghost use Rattle.flux_defs.specs.declared.claims.Window.{Window};
 ghost use Rattle.flux_defs.specs.declared.requests.Need.{Need};
 ghost use Rattle.flux_defs.specs.Graph.{Everywhere, is_at_or_below};
 ghost use Rattle.flux_defs.specs.Later.{ReachesOver};
 ghost use Rattle.flux_defs.specs.Needs.{amount_of, HasNoSpread, IsOfNeed, IsSpread, IsValidNeed, AreValidNeeds};
+ghost use Rattle.flux_defs.specs.Present.{InEach};
 ghost use Rattle.prune_filters.specs.Shorts.{IsShortFor};
 ghost use Rattle.resource_graph.specs.Tables.{IsPast};
 ghost use Rattle.dfu_match.specs.Searches.{open_to};
@@ -22,6 +22,7 @@ ghost use Rattle.dfu_match.specs.Asked.{AreDead, IsAsked};
 ghost use Rattle.match_laws.specs.Offers.{SomeFits};
 ghost use Rattle.dfu_match.specs.Reaches.{FallsWithin, ServesAtMost};
 ghost use Rattle.dfu_match.specs.Rows.{served_most, IsRowOf, IsSetAt, Knows};
+ghost use Rattle.resource_graph.specs.NamedGraph.{vertices_of};
 
 use crate::bounding::most_copies;
 use crate::counting::{copies, serves};
@@ -47,25 +48,25 @@ fn top_above<F: FreeView, L: Ledger>(
     steps: &mut Steps<L>,
 ) -> Option<u32>
     requires stands { StandsAt (needs_all s.now.needs.now) s.now.wanted.now index need.now }
-    requires vertex { vertex < length s.now.graph.now.resources.vertices }
+    requires vertex { vertex < length (vertices_of s.now.graph.now) }
     requires low { low ≤ vertex }
-    ensures above { IsTopFrom s.now.graph.now.resources.vertices low vertex result }
-    ensures short { TellsShort s.now.graph.now.resources.vertices (F.stands_for s.now.view.now)
+    ensures above { IsTopFrom (vertices_of s.now.graph.now) low vertex result }
+    ensures short { TellsShort (vertices_of s.now.graph.now) (F.stands_for s.now.view.now)
         (asked_totals s.now.wanted.now (F.keeps s.now.view.now)) s.now.window until.new need.now result }
-    ensures clear { TellsClear s.now.graph.now.resources.vertices (F.stands_for s.now.view.now)
+    ensures clear { TellsClear (vertices_of s.now.graph.now) (F.stands_for s.now.view.now)
         (asked_totals s.now.wanted.now (F.keeps s.now.view.now)) s.now.window need.now low vertex vertex result }
-    ensures own { (jobs : List Job) → F.stands_for s.now.view.now jobs → (IsSpread need.now → ⊥) →
-        AsksWithin need.now → IfNone result (IsShortFor s.now.graph.now.resources.vertices jobs s.now.window
-        (asked_totals s.now.wanted.now (F.keeps s.now.view.now)) need.now vertex → ⊥) }
+    ensures own { InEach (F.stands_for s.now.view.now) (λ present. (IsSpread need.now → ⊥) →
+        AsksWithin need.now → IfNone result (IsShortFor (vertices_of s.now.graph.now) present s.now.window
+        (asked_totals s.now.wanted.now (F.keeps s.now.view.now)) need.now vertex → ⊥)) }
     ensures falls { FallsWithin s.now.window until.old until.new }
-    ensures work { (jobs : List Job) → F.stands_for s.now.view.now jobs → (place : ℕ) →
-        (let vs : List Vertex = s.now.graph.now.resources.vertices in
+    ensures work { InEach (F.stands_for s.now.view.now) (λ present. (place : ℕ) →
+        (let vs : List Vertex = vertices_of s.now.graph.now in
         let keeps : ℕ → ℕ → Type 0 = asked_totals s.now.wanted.now (F.keeps s.now.view.now) in
         let all : List Need = needs_all s.now.needs.now in
-        let taken : ℕ → Type 0 = TakesEach (HasEachOpen vs jobs s.now.window keeps all)
+        let taken : ℕ → Type 0 = TakesEach (HasEachOpen vs present s.now.window keeps all)
         (length (all_of need.now) * F.cost s.now.view.now) steps.old steps.new place (place + 1) low in
-        IsPlaceOf all place need.now → IsClearBetween vs jobs s.now.window keeps need.now vertex 0 low →
-        taken (vertex + 1) × (IsSpread need.now → taken vertex)) }
+        IsPlaceOf all place need.now → IsClearBetween vs present s.now.window keeps need.now vertex 0 low →
+        taken (vertex + 1) × (IsSpread need.now → taken vertex))) }
 {
     if is_spread(need) {
         return top_over(s, need, index, low, vertex, until, steps);
@@ -82,24 +83,24 @@ fn ask<F: FreeView, L: Ledger>(
     steps: &mut Steps<L>,
 ) -> Row
     requires stands { StandsAt (needs_all s.now.needs.now) s.now.wanted.now index need.now }
-    requires vertex { vertex < length s.now.graph.now.resources.vertices }
-    requires of_need { IsOfNeed s.now.graph.now.resources.vertices need.now vertex }
-    requires valid { IsValidNeed s.now.graph.now.resources.vertices need.now }
-    ensures row { IsRowOf s.now.graph.now.resources.vertices (F.stands_for s.now.view.now) s.now.barred.now
+    requires vertex { vertex < length (vertices_of s.now.graph.now) }
+    requires of_need { IsOfNeed (vertices_of s.now.graph.now) need.now vertex }
+    requires valid { IsValidNeed (vertices_of s.now.graph.now) need.now }
+    ensures row { IsRowOf (vertices_of s.now.graph.now) (F.stands_for s.now.view.now) s.now.barred.now
         s.now.window need.now result }
     ensures same { result.vertex ≡ vertex }
     ensures copies { IsSpread need.now →
         steps.new ≤ steps.old + (length (all_of need.now) + 1) * F.cost s.now.view.now }
-    ensures work { (jobs : List Job) → F.stands_for s.now.view.now jobs → (place past : ℕ) →
-        (let vs : List Vertex = s.now.graph.now.resources.vertices in
+    ensures work { InEach (F.stands_for s.now.view.now) (λ present. (place past : ℕ) →
+        (let vs : List Vertex = vertices_of s.now.graph.now in
         let keeps : ℕ → ℕ → Type 0 = asked_totals s.now.wanted.now (F.keeps s.now.view.now) in
         let all : List Need = needs_all s.now.needs.now in
         (IsSpread need.now → ⊥) →
-        IsPlaceOf all place need.now → IsClearWithin vs jobs s.now.window keeps need.now vertex →
+        IsPlaceOf all place need.now → IsClearWithin vs present s.now.window keeps need.now vertex →
         IsPast vs vertex past →
-        TakesEach (HasEachOpen vs jobs s.now.window keeps all) ((length all + 2) * F.cost s.now.view.now)
+        TakesEach (HasEachOpen vs present s.now.window keeps all) ((length all + 2) * F.cost s.now.view.now)
         (steps.old + 2 * F.cost s.now.view.now) steps.new (place + 1) (place + length (all_of need.now))
-        (vertex + 1) past) }
+        (vertex + 1) past)) }
 {
     s.graph.is_valid();
     let whole = whole_of(need);
@@ -183,28 +184,28 @@ fn ask_row<F: FreeView, L: Ledger>(
     steps: &mut Steps<L>,
 ) -> u32
     requires stands { StandsAt (needs_all s.now.needs.now) s.now.wanted.now index need.now }
-    requires of_need { IsOfNeed s.now.graph.now.resources.vertices need.now vertex }
+    requires of_need { IsOfNeed (vertices_of s.now.graph.now) need.now vertex }
     requires low { low ≤ vertex }
-    requires valid { IsValidNeed s.now.graph.now.resources.vertices need.now }
+    requires valid { IsValidNeed (vertices_of s.now.graph.now) need.now }
     requires of_own { slice_get s.now.needs.now own ≡ Some need.now }
-    requires dead { AreDead s.now.graph.now.resources.vertices (F.stands_for s.now.view.now) s.now.barred.now
+    requires dead { AreDead (vertices_of s.now.graph.now) (F.stands_for s.now.view.now) s.now.barred.now
         s.now.window need.now dead.old }
-    requires known { Knows s.now.graph.now.resources.vertices (F.stands_for s.now.view.now) s.now.barred.now
+    requires known { Knows (vertices_of s.now.graph.now) (F.stands_for s.now.view.now) s.now.barred.now
         s.now.needs.now s.now.window known.old }
-    ensures dead { AreDead s.now.graph.now.resources.vertices (F.stands_for s.now.view.now) s.now.barred.now
+    ensures dead { AreDead (vertices_of s.now.graph.now) (F.stands_for s.now.view.now) s.now.barred.now
         s.now.window need.now dead.new }
-    ensures known { Knows s.now.graph.now.resources.vertices (F.stands_for s.now.view.now) s.now.barred.now
+    ensures known { Knows (vertices_of s.now.graph.now) (F.stands_for s.now.view.now) s.now.barred.now
         s.now.needs.now s.now.window known.new }
     ensures own { known.new.own ≡ known.old.own }
     ensures end { known.new.end ≡ known.old.end }
     ensures place { IsSetAt at known.old.rows.items known.new.rows.items }
-    ensures work { (jobs : List Job) → F.stands_for s.now.view.now jobs → (place : ℕ) →
-        (let vs : List Vertex = s.now.graph.now.resources.vertices in
+    ensures work { InEach (F.stands_for s.now.view.now) (λ present. (place : ℕ) →
+        (let vs : List Vertex = vertices_of s.now.graph.now in
         let keeps : ℕ → ℕ → Type 0 = asked_totals s.now.wanted.now (F.keeps s.now.view.now) in
         let all : List Need = needs_all s.now.needs.now in
-        IsPlaceOf all place need.now → IsClearBefore vs jobs s.now.window keeps need.now low (length vs) →
-        IsAsked vs jobs s.now.window keeps all need.now place ((length all + 2) * F.cost s.now.view.now) steps.old
-        steps.new low result) }
+        IsPlaceOf all place need.now → IsClearBefore vs present s.now.window keeps need.now low (length vs) →
+        IsAsked vs present s.now.window keeps all need.now place ((length all + 2) * F.cost s.now.view.now) steps.old
+        steps.new low result)) }
 {
     s.graph.is_valid();
     let mut moment = u64::MAX;
@@ -243,28 +244,28 @@ fn renew<F: FreeView, L: Ledger>(
     steps: &mut Steps<L>,
 ) -> u32
     requires stands { StandsAt (needs_all s.now.needs.now) s.now.wanted.now index need.now }
-    requires of_need { IsOfNeed s.now.graph.now.resources.vertices need.now vertex }
-    requires valid { IsValidNeed s.now.graph.now.resources.vertices need.now }
+    requires of_need { IsOfNeed (vertices_of s.now.graph.now) need.now vertex }
+    requires valid { IsValidNeed (vertices_of s.now.graph.now) need.now }
     requires of_own { slice_get s.now.needs.now own ≡ Some need.now }
-    requires dead { AreDead s.now.graph.now.resources.vertices (F.stands_for s.now.view.now) s.now.barred.now
+    requires dead { AreDead (vertices_of s.now.graph.now) (F.stands_for s.now.view.now) s.now.barred.now
         s.now.window need.now dead.old }
-    requires known { Knows s.now.graph.now.resources.vertices (F.stands_for s.now.view.now) s.now.barred.now
+    requires known { Knows (vertices_of s.now.graph.now) (F.stands_for s.now.view.now) s.now.barred.now
         s.now.needs.now s.now.window known.old }
-    ensures dead { AreDead s.now.graph.now.resources.vertices (F.stands_for s.now.view.now) s.now.barred.now
+    ensures dead { AreDead (vertices_of s.now.graph.now) (F.stands_for s.now.view.now) s.now.barred.now
         s.now.window need.now dead.new }
-    ensures known { Knows s.now.graph.now.resources.vertices (F.stands_for s.now.view.now) s.now.barred.now
+    ensures known { Knows (vertices_of s.now.graph.now) (F.stands_for s.now.view.now) s.now.barred.now
         s.now.needs.now s.now.window known.new }
     ensures own { known.new.own ≡ known.old.own }
     ensures end { known.new.end ≡ known.old.end }
     ensures place { IsSetAt at known.old.rows.items known.new.rows.items }
-    ensures work { (jobs : List Job) → F.stands_for s.now.view.now jobs → (place : ℕ) →
-        (let vs : List Vertex = s.now.graph.now.resources.vertices in
+    ensures work { InEach (F.stands_for s.now.view.now) (λ present. (place : ℕ) →
+        (let vs : List Vertex = vertices_of s.now.graph.now in
         let keeps : ℕ → ℕ → Type 0 = asked_totals s.now.wanted.now (F.keeps s.now.view.now) in
         let all : List Need = needs_all s.now.needs.now in
-        IsPlaceOf all place need.now → IsClearBefore vs jobs s.now.window keeps need.now low (length vs) →
+        IsPlaceOf all place need.now → IsClearBefore vs present s.now.window keeps need.now low (length vs) →
         low ≤ length vs →
-        IsAsked vs jobs s.now.window keeps all need.now place ((length all + 2) * F.cost s.now.view.now) steps.old
-        steps.new low result) }
+        IsAsked vs present s.now.window keeps all need.now place ((length all + 2) * F.cost s.now.view.now) steps.old
+        steps.new low result)) }
 {
     if low <= vertex {
         return ask_row(s, need, index, own, at, low, vertex, dead, known, steps);
@@ -291,25 +292,25 @@ fn ask_rows<F: FreeView, L: Ledger>(
     steps: &mut Steps<L>,
 ) -> Option<u64>
     requires stands { StandsAt (needs_all s.now.needs.now) s.now.wanted.now index need.now }
-    requires valid { IsValidNeed s.now.graph.now.resources.vertices need.now }
+    requires valid { IsValidNeed (vertices_of s.now.graph.now) need.now }
     requires of_own { slice_get s.now.needs.now own ≡ Some need.now }
     requires is_own { known.old.own ≡ own }
-    requires known { Knows s.now.graph.now.resources.vertices (F.stands_for s.now.view.now) s.now.barred.now
+    requires known { Knows (vertices_of s.now.graph.now) (F.stands_for s.now.view.now) s.now.barred.now
         s.now.needs.now s.now.window known.old }
     ensures less { IfSome result (λ until. (s.now.window.from ≤ until)
         × (served_most need.now until known.new.rows.items < amount_of need.now)) }
     ensures own { known.new.own ≡ known.old.own }
     ensures end { known.new.end ≡ known.old.end }
-    ensures known { Knows s.now.graph.now.resources.vertices (F.stands_for s.now.view.now) s.now.barred.now
+    ensures known { Knows (vertices_of s.now.graph.now) (F.stands_for s.now.view.now) s.now.barred.now
         s.now.needs.now s.now.window known.new }
-    ensures work { (jobs : List Job) → F.stands_for s.now.view.now jobs → (place : ℕ) →
-        (let vs : List Vertex = s.now.graph.now.resources.vertices in
+    ensures work { InEach (F.stands_for s.now.view.now) (λ present. (place : ℕ) →
+        (let vs : List Vertex = vertices_of s.now.graph.now in
         let keeps : ℕ → ℕ → Type 0 = asked_totals s.now.wanted.now (F.keeps s.now.view.now) in
         let all : List Need = needs_all s.now.needs.now in
-        let taken : ℕ → Type 0 = (λ after. TakesEach (HasEachOpen vs jobs s.now.window keeps all)
+        let taken : ℕ → Type 0 = (λ after. TakesEach (HasEachOpen vs present s.now.window keeps all)
         ((length all + 2) * F.cost s.now.view.now) steps.old steps.new place after 0 (length vs)) in
         IsPlaceOf all place need.now →
-        taken (place + length (all_of need.now)) × (IsSpread need.now → taken (place + 1))) }
+        taken (place + length (all_of need.now)) × (IsSpread need.now → taken (place + 1)))) }
 {
     s.graph.is_valid();
     let from = s.window.from;
@@ -345,21 +346,21 @@ fn ask_known<F: FreeView, L: Ledger>(
     known: &mut Known,
     steps: &mut Steps<L>,
 ) -> Option<u64>
-    requires valid { AreValidNeeds s.now.graph.now.resources.vertices s.now.needs.now }
-    requires known { Knows s.now.graph.now.resources.vertices (F.stands_for s.now.view.now) s.now.barred.now
+    requires valid { AreValidNeeds (vertices_of s.now.graph.now) s.now.needs.now }
+    requires known { Knows (vertices_of s.now.graph.now) (F.stands_for s.now.view.now) s.now.barred.now
         s.now.needs.now s.now.window known.old }
-    requires all { known.old.end ≡ length s.now.graph.now.resources.vertices }
+    requires all { known.old.end ≡ length (vertices_of s.now.graph.now) }
     ensures later { IfSome result (λ until. s.now.window.from ≤ until) }
-    ensures none { (jobs : List Job) → F.stands_for s.now.view.now jobs → (w : Window) →
-        IfSome result (λ until. ReachesOver s.now.window until w → SomeFits s.now.graph.now.resources.vertices
-        (open_to s.now.graph.now.resources.vertices jobs s.now.barred.now w) Everywhere s.now.needs.now 1 → ⊥) }
-    ensures known { Knows s.now.graph.now.resources.vertices (F.stands_for s.now.view.now) s.now.barred.now
+    ensures none { InEach (F.stands_for s.now.view.now) (λ present. (w : Window) →
+        IfSome result (λ until. ReachesOver s.now.window until w → SomeFits (vertices_of s.now.graph.now)
+        (open_to (vertices_of s.now.graph.now) present s.now.barred.now w) Everywhere s.now.needs.now 1 → ⊥)) }
+    ensures known { Knows (vertices_of s.now.graph.now) (F.stands_for s.now.view.now) s.now.barred.now
         s.now.needs.now s.now.window known.new }
-    ensures work { (jobs : List Job) → F.stands_for s.now.view.now jobs →
-        (let vs : List Vertex = s.now.graph.now.resources.vertices in
+    ensures work { InEach (F.stands_for s.now.view.now)
+        (λ present. let vs : List Vertex = vertices_of s.now.graph.now in
         let keeps : ℕ → ℕ → Type 0 = asked_totals s.now.wanted.now (F.keeps s.now.view.now) in
         let all : List Need = needs_all s.now.needs.now in
-        let taken : ℕ → Type 0 = (λ after. TakesEach (HasEachOpen vs jobs s.now.window keeps all)
+        let taken : ℕ → Type 0 = (λ after. TakesEach (HasEachOpen vs present s.now.window keeps all)
         ((length all + 2) * F.cost s.now.view.now) steps.old steps.new 0 after 0 (length vs)) in
         taken (length all) × ((need : Need) → s.now.needs.now ≡ need ∷ [] → IsSpread need → taken 1)) }
 {
@@ -383,20 +384,20 @@ pub(crate) fn refuted_first<F: FreeView, L: Ledger>(
     known: &mut Known,
     steps: &mut Steps<L>,
 ) -> Option<u64>
-    requires valid { AreValidNeeds s.now.graph.now.resources.vertices s.now.needs.now }
-    requires known { Knows s.now.graph.now.resources.vertices (F.stands_for s.now.view.now) s.now.barred.now
+    requires valid { AreValidNeeds (vertices_of s.now.graph.now) s.now.needs.now }
+    requires known { Knows (vertices_of s.now.graph.now) (F.stands_for s.now.view.now) s.now.barred.now
         s.now.needs.now s.now.window known.old }
-    ensures known { Knows s.now.graph.now.resources.vertices (F.stands_for s.now.view.now) s.now.barred.now
+    ensures known { Knows (vertices_of s.now.graph.now) (F.stands_for s.now.view.now) s.now.barred.now
         s.now.needs.now s.now.window known.new }
     ensures later { IfSome result (λ until. s.now.window.from ≤ until) }
-    ensures none { (jobs : List Job) → F.stands_for s.now.view.now jobs → (w : Window) →
-        IfSome result (λ until. ReachesOver s.now.window until w → SomeFits s.now.graph.now.resources.vertices
-        (open_to s.now.graph.now.resources.vertices jobs s.now.barred.now w) Everywhere s.now.needs.now 1 → ⊥) }
-    ensures work { (jobs : List Job) → F.stands_for s.now.view.now jobs →
-        (let vs : List Vertex = s.now.graph.now.resources.vertices in
+    ensures none { InEach (F.stands_for s.now.view.now) (λ present. (w : Window) →
+        IfSome result (λ until. ReachesOver s.now.window until w → SomeFits (vertices_of s.now.graph.now)
+        (open_to (vertices_of s.now.graph.now) present s.now.barred.now w) Everywhere s.now.needs.now 1 → ⊥)) }
+    ensures work { InEach (F.stands_for s.now.view.now)
+        (λ present. let vs : List Vertex = vertices_of s.now.graph.now in
         let keeps : ℕ → ℕ → Type 0 = asked_totals s.now.wanted.now (F.keeps s.now.view.now) in
         let all : List Need = needs_all s.now.needs.now in
-        let taken : ℕ → Type 0 = (λ after. TakesEach (HasEachOpen vs jobs s.now.window keeps all)
+        let taken : ℕ → Type 0 = (λ after. TakesEach (HasEachOpen vs present s.now.window keeps all)
         ((length all + 2) * F.cost s.now.view.now) steps.old steps.new 0 after 0 (length vs)) in
         (steps.new ≤ steps.old) ⊎ ((AllByRecursion HasNoSpread s.now.needs.now × taken (length all))
         ⊎ ((need : Need) × (s.now.needs.now ≡ need ∷ []) × IsSpread need × taken 1))) }

@@ -4,6 +4,7 @@ ghost use Rattle.std.specs.List.{list_any};
 ghost use Rattle.std.specs.List.Sorted.{IsStrictlyIncreasing};
 ghost use Rattle.flux_defs.specs.Graph.{IsNode, is_at_or_below};
 ghost use Rattle.dfu_match.specs.Bars.{IsLeastOrNone, BarsAll};
+ghost use Rattle.resource_graph.specs.NamedGraph.{vertices_of};
 
 use resource_graph::Graph;
 use text_forms::index_of;
@@ -22,7 +23,7 @@ pub(crate) fn least_from(list: &[u32], from: u32) -> Option<u32>
 
 /// Whether every node is barred: it looks no further than to the first that isn't.
 pub(crate) fn bars_all(graph: &Graph, barred: &[u32]) -> bool
-    ensures { IsTrue result → BarsAll graph.now.resources.vertices barred.now }
+    ensures { IsTrue result → BarsAll (vertices_of graph.now) barred.now }
 {
     let mut next = 0;
     for vertex in 0..graph.len() {
@@ -37,9 +38,9 @@ pub(crate) fn bars_all(graph: &Graph, barred: &[u32]) -> bool
 /// How many of the barred nodes are passed after this vertex, of which so many were before it; none where it is a node
 /// that isn't the next one barred.
 fn after_bar(graph: &Graph, barred: &[u32], next: usize, vertex: u32) -> Option<usize>
-    requires { vertex < length graph.now.resources.vertices }
-    ensures { IfSome result (λ _. IsNode graph.now.resources.vertices vertex →
-        IsTrue (list_any (is_at_or_below graph.now.resources.vertices vertex) barred.now)) }
+    requires { vertex < length (vertices_of graph.now) }
+    ensures { IfSome result (λ _. IsNode (vertices_of graph.now) vertex →
+        IsTrue (list_any (is_at_or_below (vertices_of graph.now) vertex) barred.now)) }
 {
     graph.is_valid();
     if graph.rank_at(vertex).is_none() {

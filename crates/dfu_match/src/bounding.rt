@@ -3,6 +3,7 @@ ghost use Rattle.std.specs.Prelude.{◌+◌, ◌*◌, ◌<◌, ◌≤◌, length
 ghost use Rattle.flux_defs.specs.Needs.{IsValidNeed};
 ghost use Rattle.dfu_match.specs.Tables.{all_of, needs_all, StandsAt};
 ghost use Rattle.dfu_match.specs.Reaches.{AreMostServed, FallsWithin};
+ghost use Rattle.resource_graph.specs.NamedGraph.{vertices_of};
 
 use crate::demanding::{Kinds, demand_of};
 use crate::search::Search;
@@ -29,9 +30,9 @@ pub(crate) fn most_copies<F: FreeView, L: Ledger>(
     steps: &mut Steps<L>,
 ) -> Option<u64>
     requires stands { StandsAt (needs_all s.now.needs.now) s.now.wanted.now index need.now }
-    requires vertex { vertex < length s.now.graph.now.resources.vertices }
-    requires valid { IsValidNeed s.now.graph.now.resources.vertices need.now }
-    ensures most { AreMostServed s.now.graph.now.resources.vertices (F.stands_for s.now.view.now) s.now.barred.now
+    requires vertex { vertex < length (vertices_of s.now.graph.now) }
+    requires valid { IsValidNeed (vertices_of s.now.graph.now) need.now }
+    ensures most { AreMostServed (vertices_of s.now.graph.now) (F.stands_for s.now.view.now) s.now.barred.now
         s.now.window until.new need.now vertex result }
     ensures falls { FallsWithin s.now.window until.old until.new }
     ensures work { steps.new ≤ steps.old + (length (all_of need.now) + 1) * F.cost s.now.view.now }
@@ -67,7 +68,7 @@ fn least_room<F: FreeView, L: Ledger>(
     vertex: u32,
     steps: &mut Steps<L>,
 ) -> Option<Room>
-    requires vertex { vertex < length s.now.graph.now.resources.vertices }
+    requires vertex { vertex < length (vertices_of s.now.graph.now) }
     requires few { length demands.now ≤ length (all_of need.now) }
     ensures work { steps.new ≤ steps.old + length (all_of need.now) * F.cost s.now.view.now }
 {
@@ -88,7 +89,7 @@ fn room_for<F: FreeView, L: Ledger>(
     vertex: u32,
     steps: &mut Steps<L>,
 ) -> Option<Room>
-    requires vertex { vertex < length s.now.graph.now.resources.vertices }
+    requires vertex { vertex < length (vertices_of s.now.graph.now) }
     ensures work { steps.new ≤ steps.old + F.cost s.now.view.now }
 {
     if each == 0 {

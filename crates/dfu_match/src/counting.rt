@@ -2,7 +2,6 @@
 ghost use Rattle.std.specs.Prelude.{◌≡◌, ℕ, ◌+◌, ◌*◌, ◌<◌, ◌≤◌, length, List};
 ghost use Rattle.flux_defs.specs.declared.vertices.Vertex.{Vertex};
 ghost use Rattle.flux_defs.specs.declared.claims.Claim.{Claim};
-ghost use Rattle.flux_defs.specs.declared.claims.Job.{Job};
 ghost use Rattle.flux_defs.specs.Graph.{Scope, IsIn};
 ghost use Rattle.flux_defs.specs.Needs.{IsOfNeed, IsValidNeed, AreValidNeeds};
 ghost use Rattle.flux_defs.specs.Lowest.{CanServe};
@@ -13,8 +12,10 @@ ghost use Rattle.dfu_match.specs.Pairs.{HasEachOpen, IsClear, IsClearWithin, IsC
 ghost use Rattle.dfu_match.specs.Pairs.{IsPlaceOf, IsPlaceOfAll, IsSpanOf};
 ghost use Rattle.dfu_match.specs.Pairs.{TakesEach, asked_totals};
 ghost use Rattle.flux_defs.specs.declared.requests.Need.{Need};
+ghost use Rattle.flux_defs.specs.Present.{InEach};
 ghost use Rattle.resource_graph.specs.Tables.{IsPast};
 ghost use Rattle.std.specs.List.{AllByRecursion};
+ghost use Rattle.resource_graph.specs.NamedGraph.{vertices_of};
 
 use crate::scopes::{kind_of, span_of};
 use crate::search::{Search, admits, free};
@@ -34,24 +35,24 @@ fn reach<F: FreeView, L: Ledger>(
     steps: &mut Steps<L>,
 ) -> u128
     requires stands { StandsAt (needs_all s.now.needs.now) s.now.wanted.now index need.now }
-    requires scope { IsScope s.now.graph.now.resources.vertices scope }
-    requires open { IsOpenScope s.now.graph.now.resources.vertices (F.stands_for s.now.view.now) s.now.barred.now
+    requires scope { IsScope (vertices_of s.now.graph.now) scope }
+    requires open { IsOpenScope (vertices_of s.now.graph.now) (F.stands_for s.now.view.now) s.now.barred.now
         s.now.window scope }
-    requires valid { IsValidNeed s.now.graph.now.resources.vertices need.now }
+    requires valid { IsValidNeed (vertices_of s.now.graph.now) need.now }
     requires may { MayAsk most need.now }
     ensures within { result ≤ most }
-    ensures greatest { (jobs : List Job) → F.stands_for s.now.view.now jobs →
-        (let vs : List Vertex = s.now.graph.now.resources.vertices in
-        let ok : Claim → Type 0 = open_to vs jobs s.now.barred.now s.now.window in
+    ensures greatest { InEach (F.stands_for s.now.view.now)
+        (λ present. let vs : List Vertex = vertices_of s.now.graph.now in
+        let ok : Claim → Type 0 = open_to vs present s.now.barred.now s.now.window in
         IsGreatest (SomeGroup vs ok (scope_of scope) need.now) most result) }
-    ensures work { (jobs : List Job) → F.stands_for s.now.view.now jobs → (place from to : ℕ) →
-        (let vs : List Vertex = s.now.graph.now.resources.vertices in
+    ensures work { InEach (F.stands_for s.now.view.now) (λ present. (place from to : ℕ) →
+        (let vs : List Vertex = vertices_of s.now.graph.now in
         let keeps : ℕ → ℕ → Type 0 = asked_totals s.now.wanted.now (F.keeps s.now.view.now) in
         let all : List Need = needs_all s.now.needs.now in
-        IsPlaceOf all place need.now → IsClearScope vs jobs s.now.window keeps scope need.now →
+        IsPlaceOf all place need.now → IsClearScope vs present s.now.window keeps scope need.now →
         IsSpanOf vs scope from to →
-        TakesEach (HasEachOpen vs jobs s.now.window keeps all) ((length all + 2) * F.cost s.now.view.now)
-        steps.old steps.new place (place + length (all_of need.now)) from to) }
+        TakesEach (HasEachOpen vs present s.now.window keeps all) ((length all + 2) * F.cost s.now.view.now)
+        steps.old steps.new place (place + length (all_of need.now)) from to)) }
 {
     s.graph.is_valid();
     let Some(kind) = kind_of(s.graph, need) else {
@@ -88,28 +89,28 @@ pub(crate) fn serves<F: FreeView, L: Ledger>(
     steps: &mut Steps<L>,
 ) -> u64
     requires stands { StandsAt (needs_all s.now.needs.now) s.now.wanted.now index need.now }
-    requires vertex { vertex < length s.now.graph.now.resources.vertices }
-    requires open { IsOpenScope s.now.graph.now.resources.vertices (F.stands_for s.now.view.now) s.now.barred.now
+    requires vertex { vertex < length (vertices_of s.now.graph.now) }
+    requires open { IsOpenScope (vertices_of s.now.graph.now) (F.stands_for s.now.view.now) s.now.barred.now
         s.now.window entered }
-    requires of_need { IsOfNeed s.now.graph.now.resources.vertices need.now vertex }
-    requires valid { IsValidNeed s.now.graph.now.resources.vertices need.now }
+    requires of_need { IsOfNeed (vertices_of s.now.graph.now) need.now vertex }
+    requires valid { IsValidNeed (vertices_of s.now.graph.now) need.now }
     requires may { MayAsk most need.now }
     requires some { 1 ≤ most }
     ensures within { result ≤ most }
-    ensures greatest { (jobs : List Job) → F.stands_for s.now.view.now jobs →
-        (let vs : List Vertex = s.now.graph.now.resources.vertices in
-        let ok : Claim → Type 0 = open_to vs jobs s.now.barred.now s.now.window in
+    ensures greatest { InEach (F.stands_for s.now.view.now)
+        (λ present. let vs : List Vertex = vertices_of s.now.graph.now in
+        let ok : Claim → Type 0 = open_to vs present s.now.barred.now s.now.window in
         (scope : Scope) → IsIn vs scope vertex →
         IsGreatest (CanServe vs ok scope need.now vertex) most result) }
-    ensures work { (jobs : List Job) → F.stands_for s.now.view.now jobs → (place past : ℕ) →
-        (let vs : List Vertex = s.now.graph.now.resources.vertices in
+    ensures work { InEach (F.stands_for s.now.view.now) (λ present. (place past : ℕ) →
+        (let vs : List Vertex = vertices_of s.now.graph.now in
         let keeps : ℕ → ℕ → Type 0 = asked_totals s.now.wanted.now (F.keeps s.now.view.now) in
         let all : List Need = needs_all s.now.needs.now in
-        IsPlaceOf all place need.now → IsClearWithin vs jobs s.now.window keeps need.now vertex →
+        IsPlaceOf all place need.now → IsClearWithin vs present s.now.window keeps need.now vertex →
         IsPast vs vertex past →
-        TakesEach (HasEachOpen vs jobs s.now.window keeps all) ((length all + 2) * F.cost s.now.view.now)
+        TakesEach (HasEachOpen vs present s.now.window keeps all) ((length all + 2) * F.cost s.now.view.now)
         (steps.old + 2 * F.cost s.now.view.now) steps.new (place + 1) (place + length (all_of need.now))
-        (vertex + 1) past) }
+        (vertex + 1) past)) }
 {
     s.graph.is_valid();
     match need {
@@ -158,24 +159,24 @@ pub(crate) fn copies<F: FreeView, L: Ledger>(
     steps: &mut Steps<L>,
 ) -> u64
     requires stand { StandAt (needs_all s.now.needs.now) s.now.wanted.now index needs.now }
-    requires scope { IsScope s.now.graph.now.resources.vertices scope }
-    requires open { IsOpenScope s.now.graph.now.resources.vertices (F.stands_for s.now.view.now) s.now.barred.now
+    requires scope { IsScope (vertices_of s.now.graph.now) scope }
+    requires open { IsOpenScope (vertices_of s.now.graph.now) (F.stands_for s.now.view.now) s.now.barred.now
         s.now.window scope }
-    requires valid { AreValidNeeds s.now.graph.now.resources.vertices needs.now }
+    requires valid { AreValidNeeds (vertices_of s.now.graph.now) needs.now }
     requires may { MayScale most needs.now }
     ensures within { result ≤ most }
-    ensures greatest { (jobs : List Job) → F.stands_for s.now.view.now jobs →
-        (let vs : List Vertex = s.now.graph.now.resources.vertices in
-        let ok : Claim → Type 0 = open_to vs jobs s.now.barred.now s.now.window in
+    ensures greatest { InEach (F.stands_for s.now.view.now)
+        (λ present. let vs : List Vertex = vertices_of s.now.graph.now in
+        let ok : Claim → Type 0 = open_to vs present s.now.barred.now s.now.window in
         IsGreatest (SomeFits vs ok (scope_of scope) needs.now) most result) }
-    ensures work { (jobs : List Job) → F.stands_for s.now.view.now jobs → (place from to : ℕ) →
-        (let vs : List Vertex = s.now.graph.now.resources.vertices in
+    ensures work { InEach (F.stands_for s.now.view.now) (λ present. (place from to : ℕ) →
+        (let vs : List Vertex = vertices_of s.now.graph.now in
         let keeps : ℕ → ℕ → Type 0 = asked_totals s.now.wanted.now (F.keeps s.now.view.now) in
         let all : List Need = needs_all s.now.needs.now in
         IsPlaceOfAll all place needs.now →
-        AllByRecursion (IsClearScope vs jobs s.now.window keeps scope) needs.now → IsSpanOf vs scope from to →
-        TakesEach (HasEachOpen vs jobs s.now.window keeps all) ((length all + 2) * F.cost s.now.view.now)
-        steps.old steps.new place (place + length (needs_all needs.now)) from to) }
+        AllByRecursion (IsClearScope vs present s.now.window keeps scope) needs.now → IsSpanOf vs scope from to →
+        TakesEach (HasEachOpen vs present s.now.window keeps all) ((length all + 2) * F.cost s.now.view.now)
+        steps.old steps.new place (place + length (needs_all needs.now)) from to)) }
 {
     let mut best = most;
     let mut at = index;

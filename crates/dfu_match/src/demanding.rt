@@ -4,6 +4,7 @@ ghost use Rattle.flux_defs.specs.declared.vertices.Vertex.{Vertex};
 ghost use Rattle.prune_filters.specs.Demands.{one_if, is_node_kind, demand, needs_demand, capped};
 ghost use Rattle.prune_filters.specs.Shorts.{AreDemandsOf};
 ghost use Rattle.dfu_match.specs.Tables.{IsNodesKind, all_of, needs_all, AreDemandsOfAll};
+ghost use Rattle.resource_graph.specs.NamedGraph.{vertices_of};
 
 use flux_defs::{List, Need};
 use prune_filters::Demand;
@@ -15,13 +16,13 @@ use std::alloc::{AllocError, Global};
 pub(crate) struct Kinds<'a> {
     pub(crate) graph: &'a Graph,
     pub(crate) nodes: Option<u32>,
-    ghost told: { IsNodesKind graph.now.resources.vertices nodes },
+    ghost told: { IsNodesKind (vertices_of graph.now) nodes },
 }
 
 /// How much of the kind so many of the need demand, at most the greatest number.
 #[cycle(demanding)]
 pub(crate) fn demand_of(kinds: &Kinds, kind: u32, times: u64, need: &Need) -> u64
-    ensures { result ≡ capped (demand kinds.now.graph.now.resources.vertices kind times need.now) }
+    ensures { result ≡ capped (demand (vertices_of kinds.now.graph.now) kind times need.now) }
 {
     match need {
         Need::Vert {
@@ -42,7 +43,7 @@ pub(crate) fn demand_of(kinds: &Kinds, kind: u32, times: u64, need: &Need) -> u6
 /// The same of each need of a list, its amount.
 #[cycle(demanding)]
 fn demand_of_all(kinds: &Kinds, kind: u32, needs: &List<Need>) -> u64
-    ensures { result ≡ capped (needs_demand kinds.now.graph.now.resources.vertices kind needs.now) }
+    ensures { result ≡ capped (needs_demand (vertices_of kinds.now.graph.now) kind needs.now) }
 {
     let mut total: u64 = 0;
     for need in needs.items() {
@@ -60,7 +61,7 @@ fn one_if(holds: bool) -> u64
 
 /// Whether nodes are of this kind.
 fn is_nodes(kinds: &Kinds, kind: u32) -> bool
-    ensures { result ≡ is_node_kind kinds.now.graph.now.resources.vertices kind }
+    ensures { result ≡ is_node_kind (vertices_of kinds.now.graph.now) kind }
 {
     kinds.nodes == Some(kind)
 }
@@ -69,7 +70,7 @@ fn is_nodes(kinds: &Kinds, kind: u32) -> bool
 #[cycle(gathering)]
 fn gather(kinds: &Kinds, need: &Need, found: &mut Vec<u32>) -> Result<(), AllocError>
     ensures all { OnOk result ((kind : ℕ) → Contains found.old.items kind
-        ⊎ (1 ≤ demand kinds.now.graph.now.resources.vertices kind 1 need.now) →
+        ⊎ (1 ≤ demand (vertices_of kinds.now.graph.now) kind 1 need.now) →
         Contains found.new.items kind) }
     ensures few { OnOk result (length found.new.items ≤ length found.old.items + length (all_of need.now)) }
 {
@@ -95,7 +96,7 @@ fn gather(kinds: &Kinds, need: &Need, found: &mut Vec<u32>) -> Result<(), AllocE
 #[cycle(gathering)]
 fn gather_all(kinds: &Kinds, needs: &List<Need>, found: &mut Vec<u32>) -> Result<(), AllocError>
     ensures all { OnOk result ((kind : ℕ) → Contains found.old.items kind
-        ⊎ (1 ≤ needs_demand kinds.now.graph.now.resources.vertices kind needs.now) →
+        ⊎ (1 ≤ needs_demand (vertices_of kinds.now.graph.now) kind needs.now) →
         Contains found.new.items kind) }
     ensures few { OnOk result (length found.new.items ≤ length found.old.items + length (needs_all needs.now)) }
 {
@@ -120,7 +121,7 @@ fn note(found: &mut Vec<u32>, kind: u32) -> Result<(), AllocError>
 
 /// Adds the kind of nodes, if there is one, unless it is there.
 fn note_nodes(kinds: &Kinds, found: &mut Vec<u32>) -> Result<(), AllocError>
-    ensures there { OnOk result ((k : ℕ) → IsTrue (is_node_kind kinds.now.graph.now.resources.vertices k) →
+    ensures there { OnOk result ((k : ℕ) → IsTrue (is_node_kind (vertices_of kinds.now.graph.now) k) →
         Contains found.new.items k) }
     ensures kept { OnOk result ((k : ℕ) → Contains found.old.items k → Contains found.new.items k) }
     ensures few { OnOk result (length found.new.items ≤ length found.old.items + 1) }
@@ -137,7 +138,7 @@ pub(crate) fn demands_of(
     kinds: &Kinds,
     need: &Need,
 ) -> Result<List<Demand>, AllocError>
-    ensures demands { IfOk result (AreDemandsOf kinds.now.graph.now.resources.vertices need.now) }
+    ensures demands { IfOk result (AreDemandsOf (vertices_of kinds.now.graph.now) need.now) }
     ensures few { IfOk result (λ demands. length demands ≤ length (all_of need.now)) }
 {
     let mut found = Vec::new(alloc);
@@ -158,7 +159,7 @@ pub(crate) fn demands_in_full(
     kinds: &Kinds,
     needs: &List<Need>,
 ) -> Result<List<Demand>, AllocError>
-    ensures demands { IfOk result (AreDemandsOfAll kinds.now.graph.now.resources.vertices needs.now) }
+    ensures demands { IfOk result (AreDemandsOfAll (vertices_of kinds.now.graph.now) needs.now) }
     ensures few { IfOk result (λ demands. length demands ≤ length (needs_all needs.now)) }
 {
     let mut found = Vec::new(alloc);

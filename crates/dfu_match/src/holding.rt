@@ -2,12 +2,12 @@
 //! at each vertex once, and cut back to whole copies.
 ghost use Rattle.std.specs.Prelude.{◌≡◌, ℕ, ◌+◌, ◌*◌, ◌<◌, ◌≤◌, ◌^◌, [], ◌∷◌, length, List, IfOk, MatchOption, Some};
 ghost use Rattle.flux_defs.specs.declared.vertices.Vertex.{Vertex};
-ghost use Rattle.flux_defs.specs.declared.claims.Job.{Job};
 ghost use Rattle.flux_defs.specs.declared.claims.Claim.{Claim};
 ghost use Rattle.flux_defs.specs.declared.requests.Need.{Need, Spread};
 ghost use Rattle.flux_defs.specs.Graph.{Scope, IsIn, IsNode};
 ghost use Rattle.flux_defs.specs.Needs.{IsOfNeed, IsValidNeed};
 ghost use Rattle.flux_defs.specs.Lowest.{CanServe, LowestPiece};
+ghost use Rattle.flux_defs.specs.Present.{InEach};
 ghost use Rattle.match_laws.specs.Offers.{IsGreatest, Extends, Offers, SomeGroup, LowestGroup};
 ghost use Rattle.resource_graph.specs.Tables.{IsPast};
 ghost use Rattle.dfu_match.specs.Searches.{open_to, scope_of, IsOpenScope, IsScope};
@@ -15,6 +15,7 @@ ghost use Rattle.dfu_match.specs.Tables.{all_of, needs_all, StandsAt};
 ghost use Rattle.dfu_match.specs.Walks.{IsPlainHold};
 ghost use Rattle.dfu_match.specs.Pairs.{HasEachOpen, IsClear, IsClearScope, IsPlaceOf, IsSpanOf};
 ghost use Rattle.dfu_match.specs.Pairs.{TakesEach, asked_totals};
+ghost use Rattle.resource_graph.specs.NamedGraph.{vertices_of};
 
 use crate::counting::whole_times;
 use crate::scopes::{kind_of, span_of};
@@ -57,15 +58,15 @@ fn hold<F: FreeView, L: Ledger>(
     out: &mut Vec<Claim>,
     steps: &mut Steps<L>,
 ) -> Result<u64, AllocError>
-    requires vertex { vertex < length s.now.graph.now.resources.vertices }
-    requires open { IsOpenScope s.now.graph.now.resources.vertices (F.stands_for s.now.view.now) s.now.barred.now
+    requires vertex { vertex < length (vertices_of s.now.graph.now) }
+    requires open { IsOpenScope (vertices_of s.now.graph.now) (F.stands_for s.now.view.now) s.now.barred.now
         s.now.window entered }
     ensures few { IfOk result (λ held. held ≤ 1) }
     ensures each { IfOk result (λ held. length out.new.items ≡ length out.old.items + held) }
     ensures offers { IfOk result (λ held. Extends out.old.items out.new.items
-        (λ claims. (jobs : List Job) → F.stands_for s.now.view.now jobs →
-        (let vs : List Vertex = s.now.graph.now.resources.vertices in
-        let ok : Claim → Type 0 = open_to vs jobs s.now.barred.now s.now.window in
+        (λ claims. InEach (F.stands_for s.now.view.now)
+        (λ present. let vs : List Vertex = vertices_of s.now.graph.now in
+        let ok : Claim → Type 0 = open_to vs present s.now.barred.now s.now.window in
         (need : Need) (scope : Scope) (most : ℕ) → IsPlainHold need → IsOfNeed vs need vertex → IsIn vs scope vertex →
         1 ≤ most → Offers (CanServe vs ok scope need vertex) (LowestPiece vs ok need vertex) most held claims))) }
     ensures work { steps.new ≤ steps.old + 2 * F.cost s.now.view.now }
@@ -88,27 +89,27 @@ fn write_held<F: FreeView, L: Ledger>(
     steps: &mut Steps<L>,
 ) -> Result<u128, AllocError>
     requires stands { StandsAt (needs_all s.now.needs.now) s.now.wanted.now index need.now }
-    requires scope { IsScope s.now.graph.now.resources.vertices scope }
-    requires open { IsOpenScope s.now.graph.now.resources.vertices (F.stands_for s.now.view.now) s.now.barred.now
+    requires scope { IsScope (vertices_of s.now.graph.now) scope }
+    requires open { IsOpenScope (vertices_of s.now.graph.now) (F.stands_for s.now.view.now) s.now.barred.now
         s.now.window scope }
-    requires valid { IsValidNeed s.now.graph.now.resources.vertices need.now }
+    requires valid { IsValidNeed (vertices_of s.now.graph.now) need.now }
     requires held { IsPlainHold need.now }
     ensures within { IfOk result (λ reached. reached ≤ most) }
     ensures each { IfOk result (λ reached. length out.new.items ≡ length out.old.items + reached) }
     ensures written { IfOk result (λ reached. Extends out.old.items out.new.items
-        (λ claims. (jobs : List Job) → F.stands_for s.now.view.now jobs →
-        (let vs : List Vertex = s.now.graph.now.resources.vertices in
-        let ok : Claim → Type 0 = open_to vs jobs s.now.barred.now s.now.window in
+        (λ claims. InEach (F.stands_for s.now.view.now)
+        (λ present. let vs : List Vertex = vertices_of s.now.graph.now in
+        let ok : Claim → Type 0 = open_to vs present s.now.barred.now s.now.window in
         IsGreatest (SomeGroup vs ok (scope_of scope) need.now) most reached
         × LowestGroup vs ok (scope_of scope) need.now reached claims))) }
-    ensures work { (jobs : List Job) → F.stands_for s.now.view.now jobs → (place from to : ℕ) →
-        (let vs : List Vertex = s.now.graph.now.resources.vertices in
+    ensures work { InEach (F.stands_for s.now.view.now) (λ present. (place from to : ℕ) →
+        (let vs : List Vertex = vertices_of s.now.graph.now in
         let keeps : ℕ → ℕ → Type 0 = asked_totals s.now.wanted.now (F.keeps s.now.view.now) in
         let all : List Need = needs_all s.now.needs.now in
-        IsPlaceOf all place need.now → IsClearScope vs jobs s.now.window keeps scope need.now →
+        IsPlaceOf all place need.now → IsClearScope vs present s.now.window keeps scope need.now →
         IsSpanOf vs scope from to →
-        TakesEach (HasEachOpen vs jobs s.now.window keeps all) ((length all + 2) * F.cost s.now.view.now)
-        steps.old steps.new place (place + length (all_of need.now)) from to) }
+        TakesEach (HasEachOpen vs present s.now.window keeps all) ((length all + 2) * F.cost s.now.view.now)
+        steps.old steps.new place (place + length (all_of need.now)) from to)) }
 {
     s.graph.is_valid();
     let Some(kind) = kind_of(s.graph, need) else {
@@ -144,27 +145,27 @@ pub(crate) fn offer_held<F: FreeView, L: Ledger>(
     steps: &mut Steps<L>,
 ) -> Result<u64, AllocError>
     requires stands { StandsAt (needs_all s.now.needs.now) s.now.wanted.now index need.now }
-    requires node { IsNode s.now.graph.now.resources.vertices node }
-    requires vertex { node < length s.now.graph.now.resources.vertices }
-    requires open { IsOpenScope s.now.graph.now.resources.vertices (F.stands_for s.now.view.now) s.now.barred.now
+    requires node { IsNode (vertices_of s.now.graph.now) node }
+    requires vertex { node < length (vertices_of s.now.graph.now) }
+    requires open { IsOpenScope (vertices_of s.now.graph.now) (F.stands_for s.now.view.now) s.now.barred.now
         s.now.window entered }
-    requires valid { IsValidNeed s.now.graph.now.resources.vertices need.now }
+    requires valid { IsValidNeed (vertices_of s.now.graph.now) need.now }
     requires held { IsPlainHold need.now }
     ensures within { IfOk result (λ copies. copies ≤ most) }
     ensures offers { IfOk result (λ copies. Extends out.old.items out.new.items
-        (λ claims. (jobs : List Job) → F.stands_for s.now.view.now jobs →
-        (let vs : List Vertex = s.now.graph.now.resources.vertices in
-        let ok : Claim → Type 0 = open_to vs jobs s.now.barred.now s.now.window in
+        (λ claims. InEach (F.stands_for s.now.view.now)
+        (λ present. let vs : List Vertex = vertices_of s.now.graph.now in
+        let ok : Claim → Type 0 = open_to vs present s.now.barred.now s.now.window in
         (scope : Scope) (count : ℕ) → IsIn vs scope node →
         Offers (CanServe vs ok scope (Spread count (need.now ∷ [])) node)
         (LowestPiece vs ok (Spread count (need.now ∷ [])) node) most copies claims))) }
-    ensures work { (jobs : List Job) → F.stands_for s.now.view.now jobs → (place past : ℕ) →
-        (let vs : List Vertex = s.now.graph.now.resources.vertices in
+    ensures work { InEach (F.stands_for s.now.view.now) (λ present. (place past : ℕ) →
+        (let vs : List Vertex = vertices_of s.now.graph.now in
         let keeps : ℕ → ℕ → Type 0 = asked_totals s.now.wanted.now (F.keeps s.now.view.now) in
         let all : List Need = needs_all s.now.needs.now in
-        IsPlaceOf all place need.now → IsClear vs jobs s.now.window keeps need.now node → IsPast vs node past →
-        TakesEach (HasEachOpen vs jobs s.now.window keeps all) ((length all + 2) * F.cost s.now.view.now)
-        (steps.old + 2 * F.cost s.now.view.now) steps.new place (place + length (all_of need.now)) (node + 1) past) }
+        IsPlaceOf all place need.now → IsClear vs present s.now.window keeps need.now node → IsPast vs node past →
+        TakesEach (HasEachOpen vs present s.now.window keeps all) ((length all + 2) * F.cost s.now.view.now)
+        (steps.old + 2 * F.cost s.now.view.now) steps.new place (place + length (all_of need.now)) (node + 1) past)) }
 {
     s.graph.is_valid();
     if !admits(s, false, node, entered, steps) {

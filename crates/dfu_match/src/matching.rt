@@ -1,15 +1,16 @@
 //! The match of an ask, and whether it has one.
 ghost use Rattle.std.specs.Prelude.{◌≡◌, ℕ, ◌+◌, ◌*◌, ◌<◌, ◌≤◌, ◌↔◌, IsTrue, List, length, IfOk, MatchOption};
-ghost use Rattle.flux_defs.specs.declared.claims.Job.{Job};
 ghost use Rattle.flux_defs.specs.Needs.{IsProperAsk};
 ghost use Rattle.flux_defs.specs.Asks.{SomeFit, IsLowestFirst};
 ghost use Rattle.flux_defs.specs.declared.requests.Need.{Need};
+ghost use Rattle.flux_defs.specs.Present.{InEach};
 ghost use Rattle.std.proofs.Props.{props};
 ghost use Rattle.dfu_match.specs.Bars.{BarsAll};
 ghost use Rattle.dfu_match.specs.Tables.{needs_all, AreWantedBy, AreDemandsOfAll};
 ghost use Rattle.dfu_match.specs.Pairs.{Pair, HasEachOpen, IsRootShort, IsEnoughFor};
 ghost use Rattle.dfu_match.specs.Matches.{IsMatched, IsKeptShort};
 ghost use Rattle.dfu_match.specs.Rows.{Knows};
+ghost use Rattle.resource_graph.specs.NamedGraph.{vertices_of};
 
 use crate::asking::refuted_first;
 use crate::bars::bars_all;
@@ -35,14 +36,13 @@ pub fn some_fit<F: FreeView, L: Ledger>(
     window: Window,
     steps: &mut Steps<L>,
 ) -> bool
-    requires over { F.graph view.now ≡ graph.now.resources.vertices }
-    requires proper { IsProperAsk graph.now.resources.vertices ask.now }
+    requires over { F.graph view.now ≡ vertices_of graph.now }
+    requires proper { IsProperAsk (vertices_of graph.now) ask.now }
     requires opens { window.from < window.to }
-    ensures answer { (jobs : List Job) → F.stands_for view.now jobs →
-        (IsTrue result ↔ SomeFit graph.now.resources.vertices jobs ask.now window) }
-    ensures work { (jobs : List Job) → F.stands_for view.now jobs →
-        (let m : ℕ = length (needs_all ask.now.needs) in
-        steps.new ≤ steps.old + (m + 2) * (m * length graph.now.resources.vertices) * F.cost view.now) }
+    ensures answer { InEach (F.stands_for view.now) (λ present. IsTrue result ↔ SomeFit (vertices_of graph.now) present
+        ask.now window) }
+    ensures work { InEach (F.stands_for view.now) (λ present. let m : ℕ = length (needs_all ask.now.needs) in
+        steps.new ≤ steps.old + (m + 2) * (m * length (vertices_of graph.now)) * F.cost view.now) }
 {
     let shut = bars_all(graph, ask.barred.items());
     let search = Search {
@@ -68,11 +68,11 @@ pub struct Matcher<'a> {
     wanted: List<Wanted>,
     /// Whether the ask bars each node.
     shut: bool,
-    ghost demands: { AreDemandsOfAll graph.now.resources.vertices ask.now.needs whole } by { Prim.hlevel props },
+    ghost demands: { AreDemandsOfAll (vertices_of graph.now) ask.now.needs whole } by { Prim.hlevel props },
     ghost few: { length whole ≤ length (needs_all ask.now.needs) },
-    ghost tells: { AreWantedBy graph.now.resources.vertices (needs_all ask.now.needs) wanted } by { Prim.hlevel props },
+    ghost tells: { AreWantedBy (vertices_of graph.now) (needs_all ask.now.needs) wanted } by { Prim.hlevel props },
     ghost all: { length wanted ≡ length (needs_all ask.now.needs) },
-    ghost shuts: { IsTrue shut → BarsAll graph.now.resources.vertices ask.now.barred },
+    ghost shuts: { IsTrue shut → BarsAll (vertices_of graph.now) ask.now.barred },
 }
 
 /// What a match over a window comes to.
@@ -121,19 +121,20 @@ impl<'a> Matcher<'a> {
         known: &mut Known,
         steps: &mut Steps<L>,
     ) -> Result<Matched, AllocError>
-        requires over { F.graph view.now ≡ self.now.graph.now.resources.vertices }
-        requires proper { IsProperAsk self.now.graph.now.resources.vertices self.now.ask.now }
+        requires over { F.graph view.now ≡ vertices_of self.now.graph.now }
+        requires proper { IsProperAsk (vertices_of self.now.graph.now) self.now.ask.now }
         requires opens { window.from < window.to }
-        requires known { Knows self.now.graph.now.resources.vertices (F.stands_for view.now) self.now.ask.now.barred
+        requires known { Knows (vertices_of self.now.graph.now) (F.stands_for view.now) self.now.ask.now.barred
             self.now.ask.now.needs window known.old }
-        ensures matched { IfOk result (λ matched. (jobs : List Job) → F.stands_for view.now jobs →
-            IsMatched self.now.graph.now.resources.vertices jobs (F.keeps view.now) self.now.ask.now window matched) }
+        ensures matched { IfOk result (λ matched. InEach (F.stands_for view.now)
+            (λ present. IsMatched (vertices_of self.now.graph.now) present (F.keeps view.now) self.now.ask.now window
+            matched)) }
         ensures kept { IfOk result (IsKeptShort (F.keeps view.now) window.from) }
-        ensures known { Knows self.now.graph.now.resources.vertices (F.stands_for view.now) self.now.ask.now.barred
+        ensures known { Knows (vertices_of self.now.graph.now) (F.stands_for view.now) self.now.ask.now.barred
             self.now.ask.now.needs window known.new }
-        ensures work { (jobs : List Job) → F.stands_for view.now jobs → (looks : ℕ) →
-            IsEnoughFor self.now.graph.now.resources.vertices jobs window (F.keeps view.now) self.now.ask.now.needs
-            looks → steps.new ≤ steps.old + looks * F.cost view.now }
+        ensures work { InEach (F.stands_for view.now) (λ present. (looks : ℕ) →
+            IsEnoughFor (vertices_of self.now.graph.now) present window (F.keeps view.now) self.now.ask.now.needs
+            looks → steps.new ≤ steps.old + looks * F.cost view.now) }
     {
         self.graph.is_valid();
         match first_short(view, 0, &self.whole, window, steps) {
@@ -151,23 +152,25 @@ impl<'a> Matcher<'a> {
         known: &mut Known,
         steps: &mut Steps<L>,
     ) -> Result<Matched, AllocError>
-        requires over { F.graph view.now ≡ self.now.graph.now.resources.vertices }
-        requires proper { IsProperAsk self.now.graph.now.resources.vertices self.now.ask.now }
+        requires over { F.graph view.now ≡ vertices_of self.now.graph.now }
+        requires proper { IsProperAsk (vertices_of self.now.graph.now) self.now.ask.now }
         requires opens { window.from < window.to }
-        requires enough { (jobs : List Job) → F.stands_for view.now jobs →
-            IsRootShort self.now.graph.now.resources.vertices jobs window (F.keeps view.now) self.now.ask.now.needs
-            → ⊥ }
-        requires known { Knows self.now.graph.now.resources.vertices (F.stands_for view.now) self.now.ask.now.barred
+        requires enough { InEach (F.stands_for view.now)
+            (λ present. IsRootShort (vertices_of self.now.graph.now) present window (F.keeps view.now)
+            self.now.ask.now.needs
+            → ⊥) }
+        requires known { Knows (vertices_of self.now.graph.now) (F.stands_for view.now) self.now.ask.now.barred
             self.now.ask.now.needs window known.old }
-        ensures matched { IfOk result (λ matched. (jobs : List Job) → F.stands_for view.now jobs →
-            IsMatched self.now.graph.now.resources.vertices jobs (F.keeps view.now) self.now.ask.now window matched) }
+        ensures matched { IfOk result (λ matched. InEach (F.stands_for view.now)
+            (λ present. IsMatched (vertices_of self.now.graph.now) present (F.keeps view.now) self.now.ask.now window
+            matched)) }
         ensures kept { IfOk result (IsKeptShort (F.keeps view.now) window.from) }
-        ensures known { Knows self.now.graph.now.resources.vertices (F.stands_for view.now) self.now.ask.now.barred
+        ensures known { Knows (vertices_of self.now.graph.now) (F.stands_for view.now) self.now.ask.now.barred
             self.now.ask.now.needs window known.new }
-        ensures work { (jobs : List Job) → F.stands_for view.now jobs → (pairs : List Pair) →
+        ensures work { InEach (F.stands_for view.now) (λ present. (pairs : List Pair) →
             (let all : List Need = needs_all self.now.ask.now.needs in
-            HasEachOpen self.now.graph.now.resources.vertices jobs window (F.keeps view.now) all pairs →
-            steps.new ≤ steps.old + 2 * (length all + 2) * length pairs * F.cost view.now) }
+            HasEachOpen (vertices_of self.now.graph.now) present window (F.keeps view.now) all pairs →
+            steps.new ≤ steps.old + 2 * (length all + 2) * length pairs * F.cost view.now)) }
     {
         let search = Search {
             graph: self.graph,
@@ -213,16 +216,15 @@ pub fn match_at<F: FreeView, L: Ledger>(
     window: Window,
     steps: &mut Steps<L>,
 ) -> Result<Option<List<Claim>>, AllocError>
-    requires over { F.graph view.now ≡ graph.now.resources.vertices }
-    requires proper { IsProperAsk graph.now.resources.vertices ask.now }
+    requires over { F.graph view.now ≡ vertices_of graph.now }
+    requires proper { IsProperAsk (vertices_of graph.now) ask.now }
     requires opens { window.from < window.to }
-    ensures found { IfOk result (λ found. (jobs : List Job) → F.stands_for view.now jobs →
-        MatchOption found
-        (SomeFit graph.now.resources.vertices jobs ask.now window → ⊥)
-        (IsLowestFirst graph.now.resources.vertices jobs ask.now window)) }
-    ensures work { (jobs : List Job) → F.stands_for view.now jobs → (looks : ℕ) →
-        IsEnoughFor graph.now.resources.vertices jobs window (F.keeps view.now) ask.now.needs looks →
-        steps.new ≤ steps.old + looks * F.cost view.now }
+    ensures found { IfOk result (λ found. InEach (F.stands_for view.now) (λ present. MatchOption found
+        (SomeFit (vertices_of graph.now) present ask.now window → ⊥)
+        (IsLowestFirst (vertices_of graph.now) present ask.now window))) }
+    ensures work { InEach (F.stands_for view.now) (λ present. (looks : ℕ) →
+        IsEnoughFor (vertices_of graph.now) present window (F.keeps view.now) ask.now.needs looks →
+        steps.new ≤ steps.old + looks * F.cost view.now) }
 {
     let matcher = Matcher::of(alloc, graph, ask)?;
     let mut known = Known::never(alloc);

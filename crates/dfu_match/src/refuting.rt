@@ -2,15 +2,16 @@
 ghost use Rattle.std.specs.Prelude.{◌≡◌, ℕ, ◌+◌, ◌*◌, ◌<◌, ◌≤◌, ◌∷◌, ◌⊎◌, [], length, List, IfSome, Some};
 ghost use Rattle.std.specs.Prelude.{None, slice_get};
 ghost use Rattle.flux_defs.specs.declared.vertices.Vertex.{Vertex};
-ghost use Rattle.flux_defs.specs.declared.claims.Job.{Job};
 ghost use Rattle.flux_defs.specs.declared.claims.Window.{Window};
 ghost use Rattle.flux_defs.specs.declared.requests.Need.{Need};
 ghost use Rattle.flux_defs.specs.Graph.{Everywhere};
 ghost use Rattle.flux_defs.specs.Later.{ReachesOver};
 ghost use Rattle.flux_defs.specs.Needs.{amount_of, AreValidNeeds};
+ghost use Rattle.flux_defs.specs.Present.{InEach};
 ghost use Rattle.match_laws.specs.Offers.{SomeFits};
 ghost use Rattle.dfu_match.specs.Searches.{open_to};
 ghost use Rattle.dfu_match.specs.Rows.{bound_at, served_most, whole_of, Knows};
+ghost use Rattle.resource_graph.specs.NamedGraph.{vertices_of};
 
 use crate::knowing::{Known, Row};
 use crate::search::Search;
@@ -54,13 +55,13 @@ fn refuted(need: &Need, rows: &[Row], from: u64) -> Option<u64>
 /// Until when what is known tells that no claims fit: over all windows that reach over what is left of this one from
 /// that moment on. None where it doesn't tell so of this window.
 pub(crate) fn refuted_known<F: FreeView>(s: &Search<F>, known: &Known) -> Option<u64>
-    requires valid { AreValidNeeds s.now.graph.now.resources.vertices s.now.needs.now }
-    requires known { Knows s.now.graph.now.resources.vertices (F.stands_for s.now.view.now) s.now.barred.now
+    requires valid { AreValidNeeds (vertices_of s.now.graph.now) s.now.needs.now }
+    requires known { Knows (vertices_of s.now.graph.now) (F.stands_for s.now.view.now) s.now.barred.now
         s.now.needs.now s.now.window known.now }
     ensures later { IfSome result (λ until. s.now.window.from ≤ until) }
-    ensures none { (jobs : List Job) → F.stands_for s.now.view.now jobs → (w : Window) →
-        IfSome result (λ until. ReachesOver s.now.window until w → SomeFits s.now.graph.now.resources.vertices
-        (open_to s.now.graph.now.resources.vertices jobs s.now.barred.now w) Everywhere s.now.needs.now 1 → ⊥) }
+    ensures none { InEach (F.stands_for s.now.view.now) (λ present. (w : Window) →
+        IfSome result (λ until. ReachesOver s.now.window until w → SomeFits (vertices_of s.now.graph.now)
+        (open_to (vertices_of s.now.graph.now) present s.now.barred.now w) Everywhere s.now.needs.now 1 → ⊥)) }
 {
     s.graph.is_valid();
     if !known.reaches(s.graph.len()) {

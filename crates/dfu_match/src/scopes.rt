@@ -2,6 +2,7 @@
 ghost use Rattle.std.specs.Prelude.{◌≡◌, ◌≤◌, length};
 ghost use Rattle.dfu_match.specs.Searches.{scope_of, IsScope, Covers, IsKindOfNeed};
 ghost use Rattle.dfu_match.specs.Pairs.{IsSpanOf};
+ghost use Rattle.resource_graph.specs.NamedGraph.{vertices_of};
 
 use flux_defs::Need;
 use resource_graph::Graph;
@@ -15,10 +16,10 @@ pub(crate) struct Span {
 
 /// The vertices below this one, which follow it, or all.
 pub(crate) fn span_of(graph: &Graph, scope: Option<u32>) -> Span
-    requires { IsScope graph.now.resources.vertices scope }
-    ensures covers { Covers graph.now.resources.vertices (scope_of scope) result.from result.to }
-    ensures within { result.to ≤ length graph.now.resources.vertices }
-    ensures span { IsSpanOf graph.now.resources.vertices scope result.from result.to }
+    requires { IsScope (vertices_of graph.now) scope }
+    ensures covers { Covers (vertices_of graph.now) (scope_of scope) result.from result.to }
+    ensures within { result.to ≤ length (vertices_of graph.now) }
+    ensures span { IsSpanOf (vertices_of graph.now) scope result.from result.to }
 {
     graph.is_valid();
     match scope {
@@ -35,7 +36,7 @@ pub(crate) fn span_of(graph: &Graph, scope: Option<u32>) -> Span
 
 /// The kind of the need's vertices, that of nodes for a spread; none where the graph has no nodes.
 pub(crate) fn kind_of(graph: &Graph, need: &Need) -> Option<u32>
-    ensures { IsKindOfNeed graph.now.resources.vertices need.now result }
+    ensures { IsKindOfNeed (vertices_of graph.now) need.now result }
 {
     graph.is_valid();
     match need.kind() {

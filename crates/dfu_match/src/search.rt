@@ -2,7 +2,6 @@
 ghost use Rattle.std.specs.Prelude.{◌≡◌, ◌≢◌, ◌+◌, ◌*◌, ◌^◌, ℕ, [], ◌<◌, ◌≤◌, ◌↔◌, IsTrue, false, length, List};
 ghost use Rattle.std.specs.Prelude.{Some};
 ghost use Rattle.std.specs.List.{list_any};
-ghost use Rattle.flux_defs.specs.declared.claims.Job.{Job};
 ghost use Rattle.flux_defs.specs.declared.claims.Claim.{Claim};
 ghost use Rattle.flux_defs.specs.declared.claims.Window.{Window};
 ghost use Rattle.std.specs.Option.{IsSomeAnd};
@@ -10,12 +9,14 @@ ghost use Rattle.flux_defs.specs.Graph.{is_at_or_below, parent_of};
 ghost use Rattle.flux_defs.specs.Closed.{IsClosedIn, IsTouchedIn};
 ghost use Rattle.flux_defs.specs.Free.{IsFreeIn};
 ghost use Rattle.flux_defs.specs.Later.{ReachesOver};
+ghost use Rattle.flux_defs.specs.Present.{InEach};
 ghost use Rattle.dfu_match.specs.Reaches.{FallsWithin};
 ghost use Rattle.dfu_match.specs.Searches.{meets, open_to, claim_on, IsOpenScope};
 ghost use Rattle.std.specs.List.Sorted.{IsStrictlyIncreasing};
 ghost use Rattle.dfu_match.specs.Bars.{AreNodesOf, BarsAll};
 ghost use Rattle.dfu_match.specs.Tables.{needs_all, AreWantedBy};
 ghost use Rattle.std.proofs.Props.{props};
+ghost use Rattle.resource_graph.specs.NamedGraph.{vertices_of};
 
 use crate::bars::least_from;
 use crate::wanting::Wanted;
@@ -34,20 +35,20 @@ pub(crate) struct Search<'a, F: FreeView> {
     pub(crate) barred: &'a List<u32>,
     pub(crate) shut: bool,
     pub(crate) window: Window,
-    ghost over: { F.graph view.now ≡ graph.now.resources.vertices },
-    ghost tells: { AreWantedBy graph.now.resources.vertices (needs_all needs.now) wanted.now } by { Prim.hlevel props },
+    ghost over: { F.graph view.now ≡ vertices_of graph.now },
+    ghost tells: { AreWantedBy (vertices_of graph.now) (needs_all needs.now) wanted.now } by { Prim.hlevel props },
     ghost fits: { length wanted.now < 2 ^ 64 },
     ghost whole: { wanted.now ≢ [] → length wanted.now ≡ length (needs_all needs.now) },
-    ghost shuts: { IsTrue shut → BarsAll graph.now.resources.vertices barred.now },
+    ghost shuts: { IsTrue shut → BarsAll (vertices_of graph.now) barred.now },
     ghost opens: { window.from < window.to },
     ghost rising: { IsStrictlyIncreasing barred.now },
-    ghost nodes: { AreNodesOf graph.now.resources.vertices barred.now },
+    ghost nodes: { AreNodesOf (vertices_of graph.now) barred.now },
 }
 
 /// Whether a barred node is the vertex or above it: the vertex's own node is barred.
 fn bars_over<F: FreeView>(s: &Search<F>, vertex: u32) -> bool
-    requires { vertex < length s.now.graph.now.resources.vertices }
-    ensures { result ≡ list_any (is_at_or_below s.now.graph.now.resources.vertices vertex) s.now.barred.now }
+    requires { vertex < length (vertices_of s.now.graph.now) }
+    ensures { result ≡ list_any (is_at_or_below (vertices_of s.now.graph.now) vertex) s.now.barred.now }
 {
     if s.barred.is_empty() {
         return false;
@@ -64,8 +65,8 @@ fn bars_over<F: FreeView>(s: &Search<F>, vertex: u32) -> bool
 
 /// Whether a barred node is the vertex or below it: the least one from the vertex on stands before what follows it.
 fn bars_below<F: FreeView>(s: &Search<F>, vertex: u32) -> bool
-    requires { vertex < length s.now.graph.now.resources.vertices }
-    ensures { result ≡ list_any (λ u. is_at_or_below s.now.graph.now.resources.vertices u vertex) s.now.barred.now }
+    requires { vertex < length (vertices_of s.now.graph.now) }
+    ensures { result ≡ list_any (λ u. is_at_or_below (vertices_of s.now.graph.now) u vertex) s.now.barred.now }
 {
     if s.barred.is_empty() {
         return false;
@@ -80,11 +81,11 @@ fn bars_below<F: FreeView>(s: &Search<F>, vertex: u32) -> bool
 /// Whether the vertex is closed at some moment of the window.
 #[inline(always)]
 fn closed<F: FreeView, L: Ledger>(s: &Search<F>, vertex: u32, steps: &mut Steps<L>) -> bool
-    requires { vertex < length s.now.graph.now.resources.vertices }
+    requires { vertex < length (vertices_of s.now.graph.now) }
     ensures work { steps.new ≤ steps.old + F.cost s.now.view.now }
-    ensures answer { (jobs : List Job) → F.stands_for s.now.view.now jobs →
-        (IsTrue result ↔ IsClosedIn (meets s.now.graph.now.resources.vertices jobs s.now.barred.now) s.now.window
-        vertex) }
+    ensures answer { InEach (F.stands_for s.now.view.now)
+        (λ present. IsTrue result ↔ IsClosedIn (meets (vertices_of s.now.graph.now) present s.now.barred.now)
+        s.now.window vertex) }
 {
     bars_over(s, vertex) || s.view.closed_over(vertex, s.window, steps)
 }
@@ -92,21 +93,21 @@ fn closed<F: FreeView, L: Ledger>(s: &Search<F>, vertex: u32, steps: &mut Steps<
 /// Whether the vertex is touched at some moment of the window.
 #[inline(always)]
 fn touched<F: FreeView, L: Ledger>(s: &Search<F>, vertex: u32, steps: &mut Steps<L>) -> bool
-    requires { vertex < length s.now.graph.now.resources.vertices }
+    requires { vertex < length (vertices_of s.now.graph.now) }
     ensures work { steps.new ≤ steps.old + F.cost s.now.view.now }
-    ensures answer { (jobs : List Job) → F.stands_for s.now.view.now jobs →
-        (IsTrue result ↔ IsTouchedIn (meets s.now.graph.now.resources.vertices jobs s.now.barred.now) s.now.window
-        vertex) }
+    ensures answer { InEach (F.stands_for s.now.view.now)
+        (λ present. IsTrue result ↔ IsTouchedIn (meets (vertices_of s.now.graph.now) present s.now.barred.now)
+        s.now.window vertex) }
 {
     bars_below(s, vertex) || s.view.touched_over(vertex, s.window, steps)
 }
 
 /// The least that is free of the vertex at a moment of the window.
 pub(crate) fn free<F: FreeView, L: Ledger>(s: &Search<F>, vertex: u32, steps: &mut Steps<L>) -> u64
-    requires { vertex < length s.now.graph.now.resources.vertices }
+    requires { vertex < length (vertices_of s.now.graph.now) }
     ensures work { steps.new ≤ steps.old + F.cost s.now.view.now }
-    ensures answer { (jobs : List Job) → F.stands_for s.now.view.now jobs →
-        IsFreeIn (meets s.now.graph.now.resources.vertices jobs s.now.barred.now) s.now.window vertex result }
+    ensures answer { InEach (F.stands_for s.now.view.now)
+        (λ present. IsFreeIn (meets (vertices_of s.now.graph.now) present s.now.barred.now) s.now.window vertex result) }
 {
     if bars_over(s, vertex) {
         return 0;
@@ -125,12 +126,12 @@ pub(crate) fn admits<F: FreeView, L: Ledger>(
     entered: Option<u32>,
     steps: &mut Steps<L>,
 ) -> bool
-    requires vertex { vertex < length s.now.graph.now.resources.vertices }
-    requires open { IsOpenScope s.now.graph.now.resources.vertices (F.stands_for s.now.view.now) s.now.barred.now
+    requires vertex { vertex < length (vertices_of s.now.graph.now) }
+    requires open { IsOpenScope (vertices_of s.now.graph.now) (F.stands_for s.now.view.now) s.now.barred.now
         s.now.window entered }
     ensures work { steps.new ≤ steps.old + 2 * F.cost s.now.view.now }
-    ensures answer { (jobs : List Job) → F.stands_for s.now.view.now jobs →
-        (IsTrue result ↔ open_to s.now.graph.now.resources.vertices jobs s.now.barred.now s.now.window
+    ensures answer { InEach (F.stands_for s.now.view.now)
+        (λ present. IsTrue result ↔ open_to (vertices_of s.now.graph.now) present s.now.barred.now s.now.window
         (claim_on hold vertex)) }
 {
     if !hold {
@@ -151,13 +152,13 @@ fn closed_above<F: FreeView, L: Ledger>(
     entered: Option<u32>,
     steps: &mut Steps<L>,
 ) -> bool
-    requires vertex { vertex < length s.now.graph.now.resources.vertices }
-    requires open { IsOpenScope s.now.graph.now.resources.vertices (F.stands_for s.now.view.now) s.now.barred.now
+    requires vertex { vertex < length (vertices_of s.now.graph.now) }
+    requires open { IsOpenScope (vertices_of s.now.graph.now) (F.stands_for s.now.view.now) s.now.barred.now
         s.now.window entered }
     ensures work { steps.new ≤ steps.old + F.cost s.now.view.now }
-    ensures answer { (jobs : List Job) → F.stands_for s.now.view.now jobs →
-        (IsTrue result ↔ IsSomeAnd (parent_of s.now.graph.now.resources.vertices vertex)
-        (IsClosedIn (meets s.now.graph.now.resources.vertices jobs s.now.barred.now) s.now.window)) }
+    ensures answer { InEach (F.stands_for s.now.view.now)
+        (λ present. IsTrue result ↔ IsSomeAnd (parent_of (vertices_of s.now.graph.now) vertex)
+        (IsClosedIn (meets (vertices_of s.now.graph.now) present s.now.barred.now) s.now.window)) }
 {
     s.graph.is_valid();
     match above(s.graph, vertex) {
@@ -185,7 +186,7 @@ fn is_one(one: Option<u32>, vertex: u32) -> bool
 /// The vertex above this one, if there is one.
 #[inline(always)]
 fn above(graph: &Graph, vertex: u32) -> Option<u32>
-    ensures { result ≡ parent_of graph.now.resources.vertices vertex }
+    ensures { result ≡ parent_of (vertices_of graph.now) vertex }
 {
     match graph.vertices().get(vertex as usize) {
         Some(found) => return found.parent,
@@ -201,12 +202,13 @@ fn closed_until<F: FreeView, L: Ledger>(
     until: &mut u64,
     steps: &mut Steps<L>,
 ) -> bool
-    requires { vertex < length s.now.graph.now.resources.vertices }
-    ensures closed { IsTrue result → (jobs : List Job) → F.stands_for s.now.view.now jobs → (w : Window) →
+    requires { vertex < length (vertices_of s.now.graph.now) }
+    ensures closed { IsTrue result → InEach (F.stands_for s.now.view.now) (λ present. (w : Window) →
         ReachesOver s.now.window until.new w →
-        IsClosedIn (meets s.now.graph.now.resources.vertices jobs s.now.barred.now) w vertex }
-    ensures open { result ≡ false → (jobs : List Job) → F.stands_for s.now.view.now jobs →
-        IsClosedIn (meets s.now.graph.now.resources.vertices jobs s.now.barred.now) s.now.window vertex → ⊥ }
+        IsClosedIn (meets (vertices_of s.now.graph.now) present s.now.barred.now) w vertex) }
+    ensures open { result ≡ false →
+        InEach (F.stands_for s.now.view.now)
+        (λ present. IsClosedIn (meets (vertices_of s.now.graph.now) present s.now.barred.now) s.now.window vertex → ⊥) }
     ensures falls { FallsWithin s.now.window until.old until.new }
     ensures work { steps.new ≤ steps.old + F.cost s.now.view.now }
 {
@@ -229,12 +231,13 @@ fn touched_until<F: FreeView, L: Ledger>(
     until: &mut u64,
     steps: &mut Steps<L>,
 ) -> bool
-    requires { vertex < length s.now.graph.now.resources.vertices }
-    ensures touched { IsTrue result → (jobs : List Job) → F.stands_for s.now.view.now jobs → (w : Window) →
+    requires { vertex < length (vertices_of s.now.graph.now) }
+    ensures touched { IsTrue result → InEach (F.stands_for s.now.view.now) (λ present. (w : Window) →
         ReachesOver s.now.window until.new w →
-        IsTouchedIn (meets s.now.graph.now.resources.vertices jobs s.now.barred.now) w vertex }
-    ensures untouched { result ≡ false → (jobs : List Job) → F.stands_for s.now.view.now jobs →
-        IsTouchedIn (meets s.now.graph.now.resources.vertices jobs s.now.barred.now) s.now.window vertex → ⊥ }
+        IsTouchedIn (meets (vertices_of s.now.graph.now) present s.now.barred.now) w vertex) }
+    ensures untouched { result ≡ false →
+        InEach (F.stands_for s.now.view.now)
+        (λ present. IsTouchedIn (meets (vertices_of s.now.graph.now) present s.now.barred.now) s.now.window vertex → ⊥) }
     ensures falls { FallsWithin s.now.window until.old until.new }
     ensures work { steps.new ≤ steps.old + F.cost s.now.view.now }
 {
@@ -259,11 +262,11 @@ pub(crate) fn refuses_until<F: FreeView, L: Ledger>(
     until: &mut u64,
     steps: &mut Steps<L>,
 ) -> bool
-    requires { vertex < length s.now.graph.now.resources.vertices }
-    ensures refuses { IsTrue result → (jobs : List Job) → F.stands_for s.now.view.now jobs → (w : Window) →
+    requires { vertex < length (vertices_of s.now.graph.now) }
+    ensures refuses { IsTrue result → InEach (F.stands_for s.now.view.now) (λ present. (w : Window) →
         ReachesOver s.now.window until.new w →
-        open_to s.now.graph.now.resources.vertices jobs s.now.barred.now w (claim_on hold vertex) → ⊥ }
-    ensures open { result ≡ false → IsOpenScope s.now.graph.now.resources.vertices (F.stands_for s.now.view.now)
+        open_to (vertices_of s.now.graph.now) present s.now.barred.now w (claim_on hold vertex) → ⊥) }
+    ensures open { result ≡ false → IsOpenScope (vertices_of s.now.graph.now) (F.stands_for s.now.view.now)
         s.now.barred.now s.now.window (Some vertex) }
     ensures falls { FallsWithin s.now.window until.old until.new }
     ensures work { steps.new ≤ steps.old + 2 * F.cost s.now.view.now }

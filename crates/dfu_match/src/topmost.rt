@@ -2,7 +2,6 @@
 ghost use Rattle.std.specs.Prelude.{◌≡◌, ℕ, ◌+◌, ◌*◌, ◌<◌, ◌≤◌, ◌∷◌, [], length, List, IfOk, IfSome, Some};
 ghost use Rattle.std.specs.Prelude.{MatchBool, MatchOption, None, slice_get};
 ghost use Rattle.flux_defs.specs.declared.vertices.Vertex.{Vertex};
-ghost use Rattle.flux_defs.specs.declared.claims.Job.{Job};
 ghost use Rattle.flux_defs.specs.declared.claims.Claim.{Claim};
 ghost use Rattle.flux_defs.specs.declared.claims.Window.{Window};
 ghost use Rattle.flux_defs.specs.declared.requests.Need.{Need};
@@ -10,6 +9,7 @@ ghost use Rattle.flux_defs.specs.Graph.{Everywhere, HasKind};
 ghost use Rattle.flux_defs.specs.Later.{ReachesOver};
 ghost use Rattle.flux_defs.specs.Needs.{amount_of, IsOfNeed, IsValidNeed, AreValidNeeds};
 ghost use Rattle.flux_defs.specs.Lowest.{Lowest};
+ghost use Rattle.flux_defs.specs.Present.{InEach};
 ghost use Rattle.match_laws.specs.Offers.{Extends, SomeGroup, SomeFits, LowestGroup};
 ghost use Rattle.dfu_match.specs.Searches.{open_to, IsKindOfNeed};
 ghost use Rattle.dfu_match.specs.Tables.{all_of, needs_all, StandsAt};
@@ -19,6 +19,7 @@ ghost use Rattle.dfu_match.specs.Pairs.{Pair, IsPlaceOfAll, IsSpanOf, AreLooks, 
 ghost use Rattle.dfu_match.specs.Pairs.{asked_totals};
 ghost use Rattle.dfu_match.specs.Rows.{IsRowOf, Knows, whole_of};
 ghost use Rattle.std.specs.List.{AllByRecursion};
+ghost use Rattle.resource_graph.specs.NamedGraph.{vertices_of};
 
 use crate::knowing::{Known, Row};
 use crate::scopes::{kind_of, span_of};
@@ -43,8 +44,8 @@ pub(crate) fn whole_of(need: &Need) -> u64
 /// The row of a vertex of which no more is known than that it seems to serve all that is asked of it, or that it may
 /// serve more than it did over this window.
 fn unknown<F: FreeView>(s: &Search<F>, need: &Need, vertex: u32, serves: bool) -> Row
-    requires of_need { IsOfNeed s.now.graph.now.resources.vertices need.now vertex }
-    ensures row { IsRowOf s.now.graph.now.resources.vertices (F.stands_for s.now.view.now) s.now.barred.now
+    requires of_need { IsOfNeed (vertices_of s.now.graph.now) need.now vertex }
+    ensures row { IsRowOf (vertices_of s.now.graph.now) (F.stands_for s.now.view.now) s.now.barred.now
         s.now.window need.now result }
     ensures same { result.vertex ≡ vertex }
 {
@@ -69,16 +70,16 @@ fn note_short<F: FreeView>(
     known: &mut Known,
     count: &mut usize,
 )
-    requires valid { IsValidNeed s.now.graph.now.resources.vertices need.now }
-    requires of_kind { IsKindOfNeed s.now.graph.now.resources.vertices need.now (Some kind) }
-    requires within { past ≤ length s.now.graph.now.resources.vertices }
+    requires valid { IsValidNeed (vertices_of s.now.graph.now) need.now }
+    requires of_kind { IsKindOfNeed (vertices_of s.now.graph.now) need.now (Some kind) }
+    requires within { past ≤ length (vertices_of s.now.graph.now) }
     requires of_own { slice_get s.now.needs.now own ≡ Some need.now }
-    requires none { (jobs : List Job) → F.stands_for s.now.view.now jobs → (w : Window) →
-        ReachesOver s.now.window moment w → ServesNone s.now.graph.now.resources.vertices
-        (open_to s.now.graph.now.resources.vertices jobs s.now.barred.now w) need.now from past }
-    requires known { Knows s.now.graph.now.resources.vertices (F.stands_for s.now.view.now) s.now.barred.now
+    requires none { InEach (F.stands_for s.now.view.now) (λ present. (w : Window) →
+        ReachesOver s.now.window moment w → ServesNone (vertices_of s.now.graph.now)
+        (open_to (vertices_of s.now.graph.now) present s.now.barred.now w) need.now from past) }
+    requires known { Knows (vertices_of s.now.graph.now) (F.stands_for s.now.view.now) s.now.barred.now
         s.now.needs.now s.now.window known.old }
-    ensures known { Knows s.now.graph.now.resources.vertices (F.stands_for s.now.view.now) s.now.barred.now
+    ensures known { Knows (vertices_of s.now.graph.now) (F.stands_for s.now.view.now) s.now.barred.now
         s.now.needs.now s.now.window known.new }
     ensures own { known.new.own ≡ known.old.own }
 {
@@ -119,34 +120,34 @@ fn next_open_known<F: FreeView, L: Ledger>(
     steps: &mut Steps<L>,
 ) -> Option<u32>
     requires stands { StandsAt (needs_all s.now.needs.now) s.now.wanted.now index need.now }
-    requires valid { IsValidNeed s.now.graph.now.resources.vertices need.now }
-    requires of_kind { IsKindOfNeed s.now.graph.now.resources.vertices need.now (Some kind) }
-    requires within { to ≤ length s.now.graph.now.resources.vertices }
+    requires valid { IsValidNeed (vertices_of s.now.graph.now) need.now }
+    requires of_kind { IsKindOfNeed (vertices_of s.now.graph.now) need.now (Some kind) }
+    requires within { to ≤ length (vertices_of s.now.graph.now) }
     requires of_own { slice_get s.now.needs.now own ≡ Some need.now }
-    requires known { Knows s.now.graph.now.resources.vertices (F.stands_for s.now.view.now) s.now.barred.now
+    requires known { Knows (vertices_of s.now.graph.now) (F.stands_for s.now.view.now) s.now.barred.now
         s.now.needs.now s.now.window known.old }
-    ensures of_kind { IfSome result (λ vertex. HasKind s.now.graph.now.resources.vertices kind vertex
+    ensures of_kind { IfSome result (λ vertex. HasKind (vertices_of s.now.graph.now) kind vertex
         × (from ≤ vertex) × (vertex < to)) }
-    ensures skipped { (jobs : List Job) → F.stands_for s.now.view.now jobs →
-        (let vs : List Vertex = s.now.graph.now.resources.vertices in
-        let ok : Claim → Type 0 = open_to vs jobs s.now.barred.now s.now.window in
+    ensures skipped { InEach (F.stands_for s.now.view.now)
+        (λ present. let vs : List Vertex = vertices_of s.now.graph.now in
+        let ok : Claim → Type 0 = open_to vs present s.now.barred.now s.now.window in
         MatchOption result (ServesNone vs ok need.now from to) (ServesNone vs ok need.now from)) }
-    ensures clear { (jobs : List Job) → F.stands_for s.now.view.now jobs →
-        (let vs : List Vertex = s.now.graph.now.resources.vertices in
+    ensures clear { InEach (F.stands_for s.now.view.now)
+        (λ present. let vs : List Vertex = vertices_of s.now.graph.now in
         let keeps : ℕ → ℕ → Type 0 = asked_totals s.now.wanted.now (F.keeps s.now.view.now) in
-        IsClearBefore vs jobs s.now.window keeps need.now from to →
-        IfSome result (IsClearWithin vs jobs s.now.window keeps need.now)) }
-    ensures known { Knows s.now.graph.now.resources.vertices (F.stands_for s.now.view.now) s.now.barred.now
+        IsClearBefore vs present s.now.window keeps need.now from to →
+        IfSome result (IsClearWithin vs present s.now.window keeps need.now)) }
+    ensures known { Knows (vertices_of s.now.graph.now) (F.stands_for s.now.view.now) s.now.barred.now
         s.now.needs.now s.now.window known.new }
     ensures own { known.new.own ≡ known.old.own }
-    ensures work { (jobs : List Job) → F.stands_for s.now.view.now jobs → (place : ℕ) →
-        (let vs : List Vertex = s.now.graph.now.resources.vertices in
+    ensures work { InEach (F.stands_for s.now.view.now) (λ present. (place : ℕ) →
+        (let vs : List Vertex = vertices_of s.now.graph.now in
         let keeps : ℕ → ℕ → Type 0 = asked_totals s.now.wanted.now (F.keeps s.now.view.now) in
         let all : List Need = needs_all s.now.needs.now in
-        let taken : ℕ → Type 0 = TakesEach (HasEachOpen vs jobs s.now.window keeps all)
+        let taken : ℕ → Type 0 = TakesEach (HasEachOpen vs present s.now.window keeps all)
         (length (all_of need.now) * F.cost s.now.view.now) steps.old steps.new place (place + 1) from in
-        IsPlaceOf all place need.now → IsClearBefore vs jobs s.now.window keeps need.now from to →
-        MatchOption result (taken to) (λ vertex. taken (vertex + 1))) }
+        IsPlaceOf all place need.now → IsClearBefore vs present s.now.window keeps need.now from to →
+        MatchOption result (taken to) (λ vertex. taken (vertex + 1)))) }
 {
     s.graph.is_valid();
     let mut at = from;
@@ -194,28 +195,28 @@ fn write_top_group<F: FreeView, L: Ledger>(
     steps: &mut Steps<L>,
 ) -> Result<bool, AllocError>
     requires stands { StandsAt (needs_all s.now.needs.now) s.now.wanted.now index need.now }
-    requires valid { IsValidNeed s.now.graph.now.resources.vertices need.now }
+    requires valid { IsValidNeed (vertices_of s.now.graph.now) need.now }
     requires of_own { slice_get s.now.needs.now own ≡ Some need.now }
-    requires known { Knows s.now.graph.now.resources.vertices (F.stands_for s.now.view.now) s.now.barred.now
+    requires known { Knows (vertices_of s.now.graph.now) (F.stands_for s.now.view.now) s.now.barred.now
         s.now.needs.now s.now.window known.old }
     ensures written { IfOk result (λ filled. Extends out.old.items out.new.items
-        (λ claims. (jobs : List Job) → F.stands_for s.now.view.now jobs →
-        (let vs : List Vertex = s.now.graph.now.resources.vertices in
-        let ok : Claim → Type 0 = open_to vs jobs s.now.barred.now s.now.window in
+        (λ claims. InEach (F.stands_for s.now.view.now)
+        (λ present. let vs : List Vertex = vertices_of s.now.graph.now in
+        let ok : Claim → Type 0 = open_to vs present s.now.barred.now s.now.window in
         MatchBool filled
         (LowestGroup vs ok Everywhere need.now (1 * amount_of need.now) claims)
         (SomeGroup vs ok Everywhere need.now (1 * amount_of need.now) → ⊥)))) }
-    ensures known { Knows s.now.graph.now.resources.vertices (F.stands_for s.now.view.now) s.now.barred.now
+    ensures known { Knows (vertices_of s.now.graph.now) (F.stands_for s.now.view.now) s.now.barred.now
         s.now.needs.now s.now.window known.new }
-    ensures work { (jobs : List Job) → F.stands_for s.now.view.now jobs → (place from to times : ℕ) →
-        (let vs : List Vertex = s.now.graph.now.resources.vertices in
+    ensures work { InEach (F.stands_for s.now.view.now) (λ present. (place from to times : ℕ) →
+        (let vs : List Vertex = vertices_of s.now.graph.now in
         let keeps : ℕ → ℕ → Type 0 = asked_totals s.now.wanted.now (F.keeps s.now.view.now) in
         let all : List Need = needs_all s.now.needs.now in
         let look : ℕ = (length all + 2) * F.cost s.now.view.now in
-        IsPlaceOf all place need.now → IsClearScope vs jobs s.now.window keeps None need.now →
+        IsPlaceOf all place need.now → IsClearScope vs present s.now.window keeps None need.now →
         IsSpanOf vs None from to → AreLooks times need.now →
-        TakesApart (HasEachOpen vs jobs s.now.window keeps all) look (times * look)
-        steps.old steps.new place (place + length (all_of need.now)) from to) }
+        TakesApart (HasEachOpen vs present s.now.window keeps all) look (times * look)
+        steps.old steps.new place (place + length (all_of need.now)) from to)) }
 {
     s.graph.is_valid();
     let Some(kind) = kind_of(s.graph, need) else {
@@ -252,30 +253,30 @@ pub(crate) fn write_top<F: FreeView, L: Ledger>(
     out: &mut Vec<Claim>,
     steps: &mut Steps<L>,
 ) -> Result<bool, AllocError>
-    requires valid { AreValidNeeds s.now.graph.now.resources.vertices s.now.needs.now }
-    requires known { Knows s.now.graph.now.resources.vertices (F.stands_for s.now.view.now) s.now.barred.now
+    requires valid { AreValidNeeds (vertices_of s.now.graph.now) s.now.needs.now }
+    requires known { Knows (vertices_of s.now.graph.now) (F.stands_for s.now.view.now) s.now.barred.now
         s.now.needs.now s.now.window known.old }
     ensures written { IfOk result (λ fit. Extends out.old.items out.new.items
-        (λ claims. (jobs : List Job) → F.stands_for s.now.view.now jobs →
-        (let vs : List Vertex = s.now.graph.now.resources.vertices in
-        let ok : Claim → Type 0 = open_to vs jobs s.now.barred.now s.now.window in
+        (λ claims. InEach (F.stands_for s.now.view.now)
+        (λ present. let vs : List Vertex = vertices_of s.now.graph.now in
+        let ok : Claim → Type 0 = open_to vs present s.now.barred.now s.now.window in
         MatchBool fit
         (Lowest vs ok 1 Everywhere s.now.needs.now claims)
         (SomeFits vs ok Everywhere s.now.needs.now 1 → ⊥)))) }
-    ensures known { Knows s.now.graph.now.resources.vertices (F.stands_for s.now.view.now) s.now.barred.now
+    ensures known { Knows (vertices_of s.now.graph.now) (F.stands_for s.now.view.now) s.now.barred.now
         s.now.needs.now s.now.window known.new }
-    ensures work { (jobs : List Job) → F.stands_for s.now.view.now jobs → (place from to times : ℕ) →
-        (let vs : List Vertex = s.now.graph.now.resources.vertices in
+    ensures work { InEach (F.stands_for s.now.view.now) (λ present. (place from to times : ℕ) →
+        (let vs : List Vertex = vertices_of s.now.graph.now in
         let keeps : ℕ → ℕ → Type 0 = asked_totals s.now.wanted.now (F.keeps s.now.view.now) in
         let all : List Need = needs_all s.now.needs.now in
         let look : ℕ = (length all + 2) * F.cost s.now.view.now in
-        let each : List Pair → Type 0 = HasEachOpen vs jobs s.now.window keeps all in
+        let each : List Pair → Type 0 = HasEachOpen vs present s.now.window keeps all in
         IsPlaceOfAll all place s.now.needs.now →
-        AllByRecursion (IsClearScope vs jobs s.now.window keeps None) s.now.needs.now → IsSpanOf vs None from to →
+        AllByRecursion (IsClearScope vs present s.now.window keeps None) s.now.needs.now → IsSpanOf vs None from to →
         AreLooksAll times s.now.needs.now →
         TakesEach each (times * look) steps.old steps.new place (place + length (needs_all s.now.needs.now)) from to
         × ((need : Need) → s.now.needs.now ≡ need ∷ [] →
-        TakesApart each look (times * look) steps.old steps.new place (place + length (all_of need)) from to)) }
+        TakesApart each look (times * look) steps.old steps.new place (place + length (all_of need)) from to))) }
 {
     let mut at = 0;
     let mut own: usize = 0;

@@ -2,7 +2,6 @@
 ghost use Rattle.std.specs.Prelude.{◌≡◌, ℕ, ◌+◌, ◌*◌, ◌⊎◌, ◌<◌, ◌≤◌, length, List, IfSome, IfNone, IsTrue};
 ghost use Rattle.std.specs.Prelude.{[], MatchOption};
 ghost use Rattle.flux_defs.specs.declared.vertices.Vertex.{Vertex};
-ghost use Rattle.flux_defs.specs.declared.claims.Job.{Job};
 ghost use Rattle.flux_defs.specs.declared.claims.Claim.{Claim};
 ghost use Rattle.flux_defs.specs.declared.requests.Need.{Need};
 ghost use Rattle.flux_defs.specs.Graph.{HasKind};
@@ -16,7 +15,9 @@ ghost use Rattle.dfu_match.specs.Pairs.{AsksWithin, HasEachOpen, IsClearWithin, 
 ghost use Rattle.dfu_match.specs.Pairs.{asked_totals, TakesEach};
 ghost use Rattle.dfu_match.specs.Tops.{IsTopFrom, TellsShort, TellsClear, TakesTops};
 ghost use Rattle.flux_defs.specs.Later.{IsSoUntil, ReachesOver};
+ghost use Rattle.flux_defs.specs.Present.{InEach};
 ghost use Rattle.dfu_match.specs.Reaches.{FallsWithin};
+ghost use Rattle.resource_graph.specs.NamedGraph.{vertices_of};
 
 use crate::search::Search;
 use flux_defs::{FreeView, Need, Steps};
@@ -34,10 +35,10 @@ fn short_at<F: FreeView, L: Ledger>(
     steps: &mut Steps<L>,
 ) -> Option<u64>
     requires stands { StandsAt (needs_all s.now.needs.now) s.now.wanted.now index need.now }
-    requires vertex { vertex < length s.now.graph.now.resources.vertices }
-    ensures short { (jobs : List Job) → F.stands_for s.now.view.now jobs →
-        IsSoUntil (λ w. IsShortFor s.now.graph.now.resources.vertices jobs w
-        (asked_totals s.now.wanted.now (F.keeps s.now.view.now)) need.now vertex) s.now.window result }
+    requires vertex { vertex < length (vertices_of s.now.graph.now) }
+    ensures short { InEach (F.stands_for s.now.view.now)
+        (λ present. IsSoUntil (λ w. IsShortFor (vertices_of s.now.graph.now) present w
+        (asked_totals s.now.wanted.now (F.keeps s.now.view.now)) need.now vertex) s.now.window result) }
     ensures within { IfSome result (λ m. s.now.window.from ≤ m) }
     ensures work { steps.new ≤ steps.old + length (all_of need.now) * F.cost s.now.view.now }
 {
@@ -50,8 +51,8 @@ fn short_at<F: FreeView, L: Ledger>(
 /// The vertex's parent, where it has one from `low` on.
 #[inline(always)]
 pub(crate) fn parent_from(graph: &Graph, vertex: u32, low: u32) -> Option<u32>
-    requires vertex { vertex < length graph.now.resources.vertices }
-    ensures { IsParentFrom graph.now.resources.vertices vertex low result }
+    requires vertex { vertex < length (vertices_of graph.now) }
+    ensures { IsParentFrom (vertices_of graph.now) vertex low result }
 {
     let parent = graph.vertices().items()[vertex as usize].parent?;
     if parent < low {
@@ -71,13 +72,13 @@ fn own_short<F: FreeView, L: Ledger>(
     steps: &mut Steps<L>,
 ) -> Option<u32>
     requires stands { StandsAt (needs_all s.now.needs.now) s.now.wanted.now index need.now }
-    requires vertex { vertex < length s.now.graph.now.resources.vertices }
+    requires vertex { vertex < length (vertices_of s.now.graph.now) }
     ensures same { IfSome result (λ top. top ≡ vertex) }
-    ensures short { TellsShort s.now.graph.now.resources.vertices (F.stands_for s.now.view.now)
+    ensures short { TellsShort (vertices_of s.now.graph.now) (F.stands_for s.now.view.now)
         (asked_totals s.now.wanted.now (F.keeps s.now.view.now)) s.now.window until.new need.now result }
-    ensures enough { (jobs : List Job) → F.stands_for s.now.view.now jobs →
-        IfNone result (IsShortFor s.now.graph.now.resources.vertices jobs s.now.window
-        (asked_totals s.now.wanted.now (F.keeps s.now.view.now)) need.now vertex → ⊥) }
+    ensures enough { InEach (F.stands_for s.now.view.now)
+        (λ present. IfNone result (IsShortFor (vertices_of s.now.graph.now) present s.now.window
+        (asked_totals s.now.wanted.now (F.keeps s.now.view.now)) need.now vertex → ⊥)) }
     ensures falls { FallsWithin s.now.window until.old until.new }
     ensures work { steps.new ≤ steps.old + length (all_of need.now) * F.cost s.now.view.now }
 {
@@ -103,15 +104,15 @@ pub(crate) fn top_short<F: FreeView, L: Ledger>(
     steps: &mut Steps<L>,
 ) -> Option<u32>
     requires stands { StandsAt (needs_all s.now.needs.now) s.now.wanted.now index need.now }
-    requires vertex { vertex < length s.now.graph.now.resources.vertices }
+    requires vertex { vertex < length (vertices_of s.now.graph.now) }
     requires low { low ≤ vertex }
-    ensures above { IsTopFrom s.now.graph.now.resources.vertices low vertex result }
-    ensures short { TellsShort s.now.graph.now.resources.vertices (F.stands_for s.now.view.now)
+    ensures above { IsTopFrom (vertices_of s.now.graph.now) low vertex result }
+    ensures short { TellsShort (vertices_of s.now.graph.now) (F.stands_for s.now.view.now)
         (asked_totals s.now.wanted.now (F.keeps s.now.view.now)) s.now.window until.new need.now result }
-    ensures clear { TellsClear s.now.graph.now.resources.vertices (F.stands_for s.now.view.now)
+    ensures clear { TellsClear (vertices_of s.now.graph.now) (F.stands_for s.now.view.now)
         (asked_totals s.now.wanted.now (F.keeps s.now.view.now)) s.now.window need.now low vertex (vertex + 1) result }
     ensures falls { FallsWithin s.now.window until.old until.new }
-    ensures work { TakesTops s.now.graph.now.resources.vertices (F.stands_for s.now.view.now)
+    ensures work { TakesTops (vertices_of s.now.graph.now) (F.stands_for s.now.view.now)
         (asked_totals s.now.wanted.now (F.keeps s.now.view.now)) s.now.window (needs_all s.now.needs.now) need.now
         low vertex (vertex + 1) (length (all_of need.now) * F.cost s.now.view.now) steps.old steps.new }
 {
@@ -140,15 +141,15 @@ pub(crate) fn top_over<F: FreeView, L: Ledger>(
     steps: &mut Steps<L>,
 ) -> Option<u32>
     requires stands { StandsAt (needs_all s.now.needs.now) s.now.wanted.now index need.now }
-    requires vertex { vertex < length s.now.graph.now.resources.vertices }
+    requires vertex { vertex < length (vertices_of s.now.graph.now) }
     requires low { low ≤ vertex }
-    ensures above { IsTopFrom s.now.graph.now.resources.vertices low vertex result }
-    ensures short { TellsShort s.now.graph.now.resources.vertices (F.stands_for s.now.view.now)
+    ensures above { IsTopFrom (vertices_of s.now.graph.now) low vertex result }
+    ensures short { TellsShort (vertices_of s.now.graph.now) (F.stands_for s.now.view.now)
         (asked_totals s.now.wanted.now (F.keeps s.now.view.now)) s.now.window until.new need.now result }
-    ensures clear { TellsClear s.now.graph.now.resources.vertices (F.stands_for s.now.view.now)
+    ensures clear { TellsClear (vertices_of s.now.graph.now) (F.stands_for s.now.view.now)
         (asked_totals s.now.wanted.now (F.keeps s.now.view.now)) s.now.window need.now low vertex vertex result }
     ensures falls { FallsWithin s.now.window until.old until.new }
-    ensures work { TakesTops s.now.graph.now.resources.vertices (F.stands_for s.now.view.now)
+    ensures work { TakesTops (vertices_of s.now.graph.now) (F.stands_for s.now.view.now)
         (asked_totals s.now.wanted.now (F.keeps s.now.view.now)) s.now.window (needs_all s.now.needs.now) need.now
         low vertex vertex (length (all_of need.now) * F.cost s.now.view.now) steps.old steps.new }
 {
@@ -185,18 +186,18 @@ pub(crate) fn top_within<F: FreeView, L: Ledger>(
     steps: &mut Steps<L>,
 ) -> Option<u32>
     requires stands { StandsAt (needs_all s.now.needs.now) s.now.wanted.now index need.now }
-    requires vertex { vertex < length s.now.graph.now.resources.vertices }
+    requires vertex { vertex < length (vertices_of s.now.graph.now) }
     requires low { low ≤ vertex }
-    ensures above { IsTopFrom s.now.graph.now.resources.vertices low vertex result }
-    ensures short { TellsShort s.now.graph.now.resources.vertices (F.stands_for s.now.view.now)
+    ensures above { IsTopFrom (vertices_of s.now.graph.now) low vertex result }
+    ensures short { TellsShort (vertices_of s.now.graph.now) (F.stands_for s.now.view.now)
         (asked_totals s.now.wanted.now (F.keeps s.now.view.now)) s.now.window until.new need.now result }
-    ensures clear { TellsClear s.now.graph.now.resources.vertices (F.stands_for s.now.view.now)
+    ensures clear { TellsClear (vertices_of s.now.graph.now) (F.stands_for s.now.view.now)
         (asked_totals s.now.wanted.now (F.keeps s.now.view.now)) s.now.window need.now low vertex vertex result }
-    ensures own { (jobs : List Job) → F.stands_for s.now.view.now jobs → AsksWithin need.now →
-        IfNone result (IsShortFor s.now.graph.now.resources.vertices jobs s.now.window
-        (asked_totals s.now.wanted.now (F.keeps s.now.view.now)) need.now vertex → ⊥) }
+    ensures own { InEach (F.stands_for s.now.view.now) (λ present. AsksWithin need.now →
+        IfNone result (IsShortFor (vertices_of s.now.graph.now) present s.now.window
+        (asked_totals s.now.wanted.now (F.keeps s.now.view.now)) need.now vertex → ⊥)) }
     ensures falls { FallsWithin s.now.window until.old until.new }
-    ensures work { TakesTops s.now.graph.now.resources.vertices (F.stands_for s.now.view.now)
+    ensures work { TakesTops (vertices_of s.now.graph.now) (F.stands_for s.now.view.now)
         (asked_totals s.now.wanted.now (F.keeps s.now.view.now)) s.now.window (needs_all s.now.needs.now) need.now
         low vertex (vertex + 1) (length (all_of need.now) * F.cost s.now.view.now) steps.old steps.new }
 {
@@ -221,30 +222,30 @@ pub(crate) fn next_open_until<F: FreeView, L: Ledger>(
     steps: &mut Steps<L>,
 ) -> Option<u32>
     requires stands { StandsAt (needs_all s.now.needs.now) s.now.wanted.now index need.now }
-    requires valid { IsValidNeed s.now.graph.now.resources.vertices need.now }
-    requires of_kind { IsKindOfNeed s.now.graph.now.resources.vertices need.now (Some kind) }
-    requires within { to ≤ length s.now.graph.now.resources.vertices }
-    ensures of_kind { IfSome result (λ vertex. HasKind s.now.graph.now.resources.vertices kind vertex
+    requires valid { IsValidNeed (vertices_of s.now.graph.now) need.now }
+    requires of_kind { IsKindOfNeed (vertices_of s.now.graph.now) need.now (Some kind) }
+    requires within { to ≤ length (vertices_of s.now.graph.now) }
+    ensures of_kind { IfSome result (λ vertex. HasKind (vertices_of s.now.graph.now) kind vertex
         × (from ≤ vertex) × (vertex < to)) }
-    ensures skipped { (jobs : List Job) → F.stands_for s.now.view.now jobs → (w : Window) →
+    ensures skipped { InEach (F.stands_for s.now.view.now) (λ present. (w : Window) →
         ReachesOver s.now.window until.new w →
-        (let vs : List Vertex = s.now.graph.now.resources.vertices in
-        let ok : Claim → Type 0 = open_to vs jobs s.now.barred.now w in
-        MatchOption result (ServesNone vs ok need.now from to) (ServesNone vs ok need.now from)) }
-    ensures clear { (jobs : List Job) → F.stands_for s.now.view.now jobs →
-        (let vs : List Vertex = s.now.graph.now.resources.vertices in
+        (let vs : List Vertex = vertices_of s.now.graph.now in
+        let ok : Claim → Type 0 = open_to vs present s.now.barred.now w in
+        MatchOption result (ServesNone vs ok need.now from to) (ServesNone vs ok need.now from))) }
+    ensures clear { InEach (F.stands_for s.now.view.now)
+        (λ present. let vs : List Vertex = vertices_of s.now.graph.now in
         let keeps : ℕ → ℕ → Type 0 = asked_totals s.now.wanted.now (F.keeps s.now.view.now) in
-        IsClearBefore vs jobs s.now.window keeps need.now from to →
-        IfSome result (IsClearWithin vs jobs s.now.window keeps need.now)) }
+        IsClearBefore vs present s.now.window keeps need.now from to →
+        IfSome result (IsClearWithin vs present s.now.window keeps need.now)) }
     ensures falls { FallsWithin s.now.window until.old until.new }
-    ensures work { (jobs : List Job) → F.stands_for s.now.view.now jobs → (place : ℕ) →
-        (let vs : List Vertex = s.now.graph.now.resources.vertices in
+    ensures work { InEach (F.stands_for s.now.view.now) (λ present. (place : ℕ) →
+        (let vs : List Vertex = vertices_of s.now.graph.now in
         let keeps : ℕ → ℕ → Type 0 = asked_totals s.now.wanted.now (F.keeps s.now.view.now) in
         let all : List Need = needs_all s.now.needs.now in
-        let taken : ℕ → Type 0 = TakesEach (HasEachOpen vs jobs s.now.window keeps all)
+        let taken : ℕ → Type 0 = TakesEach (HasEachOpen vs present s.now.window keeps all)
         (length (all_of need.now) * F.cost s.now.view.now) steps.old steps.new place (place + 1) from in
-        IsPlaceOf all place need.now → IsClearBefore vs jobs s.now.window keeps need.now from to →
-        MatchOption result (taken to) (λ vertex. taken (vertex + 1))) }
+        IsPlaceOf all place need.now → IsClearBefore vs present s.now.window keeps need.now from to →
+        MatchOption result (taken to) (λ vertex. taken (vertex + 1)))) }
 {
     s.graph.is_valid();
     let mut at = from;

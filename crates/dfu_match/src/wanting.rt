@@ -6,6 +6,7 @@ ghost use Rattle.prune_filters.specs.Demands.{capped};
 ghost use Rattle.dfu_match.specs.Tables.{all_of, needs_all, IsWantedBy};
 ghost use Rattle.dfu_match.specs.declared.wanting.Wanted.{Wanted};
 ghost use Rattle.dfu_match.specs.Tables.{Grows};
+ghost use Rattle.resource_graph.specs.NamedGraph.{vertices_of};
 
 use crate::demanding::{Kinds, demands_of};
 use flux_defs::{List, Need};
@@ -50,7 +51,7 @@ pub(crate) fn table_of(
     kinds: &Kinds,
     needs: &List<Need>,
 ) -> Result<List<Wanted>, AllocError>
-    ensures { IfOk result (AllZip (IsWantedBy kinds.now.graph.now.resources.vertices) (needs_all needs.now)) }
+    ensures { IfOk result (AllZip (IsWantedBy (vertices_of kinds.now.graph.now)) (needs_all needs.now)) }
 {
     let mut table = Vec::new(alloc);
     list_all(alloc, kinds, needs, &mut table)?;
@@ -65,7 +66,7 @@ fn list_all(
     needs: &List<Need>,
     table: &mut Vec<Wanted>,
 ) -> Result<(), AllocError>
-    ensures { OnOk result (Grows (IsWantedBy kinds.now.graph.now.resources.vertices) (needs_all needs.now)
+    ensures { OnOk result (Grows (IsWantedBy (vertices_of kinds.now.graph.now)) (needs_all needs.now)
         table.old.items table.new.items) }
 {
     for need in needs.items() {
@@ -82,7 +83,7 @@ fn list_one(
     need: &Need,
     table: &mut Vec<Wanted>,
 ) -> Result<(), AllocError>
-    ensures { OnOk result (Grows (IsWantedBy kinds.now.graph.now.resources.vertices) (all_of need.now)
+    ensures { OnOk result (Grows (IsWantedBy (vertices_of kinds.now.graph.now)) (all_of need.now)
         table.old.items table.new.items) }
 {
     let wanted = wanted_of(alloc, kinds, need)?;
@@ -102,7 +103,7 @@ fn list_one(
 
 /// The entry of the need.
 fn wanted_of(alloc: Global, kinds: &Kinds, need: &Need) -> Result<Wanted, AllocError>
-    ensures { IfOk result (IsWantedBy kinds.now.graph.now.resources.vertices need.now) }
+    ensures { IfOk result (IsWantedBy (vertices_of kinds.now.graph.now) need.now) }
 {
     Ok(Wanted {
         demands: demands_of(alloc, kinds, need)?,

@@ -1,7 +1,6 @@
 //! Writes the lowest-first claims, each once, at the end of a list.
 ghost use Rattle.std.specs.Prelude.{◌≡◌, ℕ, ◌+◌, ◌*◌, ◌<◌, ◌≤◌, [], false, length, List, IfOk, MatchBool, Some};
 ghost use Rattle.flux_defs.specs.declared.vertices.Vertex.{Vertex};
-ghost use Rattle.flux_defs.specs.declared.claims.Job.{Job};
 ghost use Rattle.flux_defs.specs.declared.claims.Claim.{Claim};
 ghost use Rattle.flux_defs.specs.Graph.{Scope, Beneath, IsIn};
 ghost use Rattle.flux_defs.specs.Needs.{amount_of, IsOfNeed, IsValidNeed, AreValidNeeds};
@@ -13,8 +12,10 @@ ghost use Rattle.dfu_match.specs.Pairs.{HasEachOpen, IsClear, IsClearWithin, IsC
 ghost use Rattle.dfu_match.specs.Pairs.{IsPlaceOf, IsPlaceOfAll, IsSpanOf};
 ghost use Rattle.dfu_match.specs.Pairs.{AreLooks, AreLooksAll, TakesEach, asked_totals};
 ghost use Rattle.flux_defs.specs.declared.requests.Need.{Need};
+ghost use Rattle.flux_defs.specs.Present.{InEach};
 ghost use Rattle.resource_graph.specs.Tables.{IsPast};
 ghost use Rattle.std.specs.List.{AllByRecursion};
+ghost use Rattle.resource_graph.specs.NamedGraph.{vertices_of};
 
 use crate::counting::{copies, serves};
 use crate::holding::{held_alone, offer_held};
@@ -39,28 +40,28 @@ pub(crate) fn write_needs<F: FreeView, L: Ledger>(
     steps: &mut Steps<L>,
 ) -> Result<bool, AllocError>
     requires stand { StandAt (needs_all s.now.needs.now) s.now.wanted.now index needs.now }
-    requires scope { IsScope s.now.graph.now.resources.vertices scope }
-    requires open { IsOpenScope s.now.graph.now.resources.vertices (F.stands_for s.now.view.now) s.now.barred.now
+    requires scope { IsScope (vertices_of s.now.graph.now) scope }
+    requires open { IsOpenScope (vertices_of s.now.graph.now) (F.stands_for s.now.view.now) s.now.barred.now
         s.now.window scope }
-    requires valid { AreValidNeeds s.now.graph.now.resources.vertices needs.now }
+    requires valid { AreValidNeeds (vertices_of s.now.graph.now) needs.now }
     requires may { MayScale k needs.now }
     requires some { 1 ≤ k }
     ensures written { IfOk result (λ fit. Extends out.old.items out.new.items
-        (λ claims. (jobs : List Job) → F.stands_for s.now.view.now jobs →
-        (let vs : List Vertex = s.now.graph.now.resources.vertices in
-        let ok : Claim → Type 0 = open_to vs jobs s.now.barred.now s.now.window in
+        (λ claims. InEach (F.stands_for s.now.view.now)
+        (λ present. let vs : List Vertex = vertices_of s.now.graph.now in
+        let ok : Claim → Type 0 = open_to vs present s.now.barred.now s.now.window in
         MatchBool fit
         (Lowest vs ok k (scope_of scope) needs.now claims)
         (SomeFits vs ok (scope_of scope) needs.now k → ⊥)))) }
-    ensures work { (jobs : List Job) → F.stands_for s.now.view.now jobs → (place from to times : ℕ) →
-        (let vs : List Vertex = s.now.graph.now.resources.vertices in
+    ensures work { InEach (F.stands_for s.now.view.now) (λ present. (place from to times : ℕ) →
+        (let vs : List Vertex = vertices_of s.now.graph.now in
         let keeps : ℕ → ℕ → Type 0 = asked_totals s.now.wanted.now (F.keeps s.now.view.now) in
         let all : List Need = needs_all s.now.needs.now in
         IsPlaceOfAll all place needs.now →
-        AllByRecursion (IsClearScope vs jobs s.now.window keeps scope) needs.now → IsSpanOf vs scope from to →
+        AllByRecursion (IsClearScope vs present s.now.window keeps scope) needs.now → IsSpanOf vs scope from to →
         AreLooksAll times needs.now →
-        TakesEach (HasEachOpen vs jobs s.now.window keeps all) (times * ((length all + 2) * F.cost s.now.view.now))
-        steps.old steps.new place (place + length (needs_all needs.now)) from to) }
+        TakesEach (HasEachOpen vs present s.now.window keeps all) (times * ((length all + 2) * F.cost s.now.view.now))
+        steps.old steps.new place (place + length (needs_all needs.now)) from to)) }
 {
     let mut at = index;
     for need in needs.items() {
@@ -86,27 +87,27 @@ fn write_group<F: FreeView, L: Ledger>(
     steps: &mut Steps<L>,
 ) -> Result<bool, AllocError>
     requires stands { StandsAt (needs_all s.now.needs.now) s.now.wanted.now index need.now }
-    requires scope { IsScope s.now.graph.now.resources.vertices scope }
-    requires open { IsOpenScope s.now.graph.now.resources.vertices (F.stands_for s.now.view.now) s.now.barred.now
+    requires scope { IsScope (vertices_of s.now.graph.now) scope }
+    requires open { IsOpenScope (vertices_of s.now.graph.now) (F.stands_for s.now.view.now) s.now.barred.now
         s.now.window scope }
-    requires valid { IsValidNeed s.now.graph.now.resources.vertices need.now }
+    requires valid { IsValidNeed (vertices_of s.now.graph.now) need.now }
     requires may { MayScaleNeed k need.now }
     requires some { 1 ≤ k }
     ensures written { IfOk result (λ filled. Extends out.old.items out.new.items
-        (λ claims. (jobs : List Job) → F.stands_for s.now.view.now jobs →
-        (let vs : List Vertex = s.now.graph.now.resources.vertices in
-        let ok : Claim → Type 0 = open_to vs jobs s.now.barred.now s.now.window in
+        (λ claims. InEach (F.stands_for s.now.view.now)
+        (λ present. let vs : List Vertex = vertices_of s.now.graph.now in
+        let ok : Claim → Type 0 = open_to vs present s.now.barred.now s.now.window in
         MatchBool filled
         (LowestGroup vs ok (scope_of scope) need.now (k * amount_of need.now) claims)
         (SomeGroup vs ok (scope_of scope) need.now (k * amount_of need.now) → ⊥)))) }
-    ensures work { (jobs : List Job) → F.stands_for s.now.view.now jobs → (place from to times : ℕ) →
-        (let vs : List Vertex = s.now.graph.now.resources.vertices in
+    ensures work { InEach (F.stands_for s.now.view.now) (λ present. (place from to times : ℕ) →
+        (let vs : List Vertex = vertices_of s.now.graph.now in
         let keeps : ℕ → ℕ → Type 0 = asked_totals s.now.wanted.now (F.keeps s.now.view.now) in
         let all : List Need = needs_all s.now.needs.now in
-        IsPlaceOf all place need.now → IsClearScope vs jobs s.now.window keeps scope need.now →
+        IsPlaceOf all place need.now → IsClearScope vs present s.now.window keeps scope need.now →
         IsSpanOf vs scope from to → AreLooks times need.now →
-        TakesEach (HasEachOpen vs jobs s.now.window keeps all) (times * ((length all + 2) * F.cost s.now.view.now))
-        steps.old steps.new place (place + length (all_of need.now)) from to) }
+        TakesEach (HasEachOpen vs present s.now.window keeps all) (times * ((length all + 2) * F.cost s.now.view.now))
+        steps.old steps.new place (place + length (all_of need.now)) from to)) }
 {
     s.graph.is_valid();
     let Some(kind) = kind_of(s.graph, need) else {
@@ -143,30 +144,30 @@ pub(crate) fn offer<F: FreeView, L: Ledger>(
     steps: &mut Steps<L>,
 ) -> Result<u64, AllocError>
     requires stands { StandsAt (needs_all s.now.needs.now) s.now.wanted.now index need.now }
-    requires vertex { vertex < length s.now.graph.now.resources.vertices }
-    requires open { IsOpenScope s.now.graph.now.resources.vertices (F.stands_for s.now.view.now) s.now.barred.now
+    requires vertex { vertex < length (vertices_of s.now.graph.now) }
+    requires open { IsOpenScope (vertices_of s.now.graph.now) (F.stands_for s.now.view.now) s.now.barred.now
         s.now.window entered }
-    requires of_need { IsOfNeed s.now.graph.now.resources.vertices need.now vertex }
-    requires valid { IsValidNeed s.now.graph.now.resources.vertices need.now }
+    requires of_need { IsOfNeed (vertices_of s.now.graph.now) need.now vertex }
+    requires valid { IsValidNeed (vertices_of s.now.graph.now) need.now }
     requires may { MayAsk most need.now }
     requires some { 1 ≤ most }
     ensures within { IfOk result (λ served. served ≤ most) }
     ensures offers { IfOk result (λ served. Extends out.old.items out.new.items
-        (λ claims. (jobs : List Job) → F.stands_for s.now.view.now jobs →
-        (let vs : List Vertex = s.now.graph.now.resources.vertices in
-        let ok : Claim → Type 0 = open_to vs jobs s.now.barred.now s.now.window in
+        (λ claims. InEach (F.stands_for s.now.view.now)
+        (λ present. let vs : List Vertex = vertices_of s.now.graph.now in
+        let ok : Claim → Type 0 = open_to vs present s.now.barred.now s.now.window in
         (scope : Scope) → IsIn vs scope vertex →
         Offers (CanServe vs ok scope need.now vertex)
         (LowestPiece vs ok need.now vertex) most served claims))) }
-    ensures work { (jobs : List Job) → F.stands_for s.now.view.now jobs → (place past times : ℕ) →
-        (let vs : List Vertex = s.now.graph.now.resources.vertices in
+    ensures work { InEach (F.stands_for s.now.view.now) (λ present. (place past times : ℕ) →
+        (let vs : List Vertex = vertices_of s.now.graph.now in
         let keeps : ℕ → ℕ → Type 0 = asked_totals s.now.wanted.now (F.keeps s.now.view.now) in
         let all : List Need = needs_all s.now.needs.now in
-        IsPlaceOf all place need.now → IsClearWithin vs jobs s.now.window keeps need.now vertex →
+        IsPlaceOf all place need.now → IsClearWithin vs present s.now.window keeps need.now vertex →
         IsPast vs vertex past → AreLooks times need.now →
-        TakesEach (HasEachOpen vs jobs s.now.window keeps all) (times * ((length all + 2) * F.cost s.now.view.now))
+        TakesEach (HasEachOpen vs present s.now.window keeps all) (times * ((length all + 2) * F.cost s.now.view.now))
         (steps.old + 2 * F.cost s.now.view.now) steps.new (place + 1) (place + length (all_of need.now))
-        (vertex + 1) past) }
+        (vertex + 1) past)) }
 {
     s.graph.is_valid();
     match need {
@@ -251,29 +252,29 @@ fn write_shared<F: FreeView, L: Ledger>(
     steps: &mut Steps<L>,
 ) -> Result<bool, AllocError>
     requires stand { StandAt (needs_all s.now.needs.now) s.now.wanted.now index needs.now }
-    requires vertex { vertex < length s.now.graph.now.resources.vertices }
-    requires open { IsOpenScope s.now.graph.now.resources.vertices (F.stands_for s.now.view.now) s.now.barred.now
+    requires vertex { vertex < length (vertices_of s.now.graph.now) }
+    requires open { IsOpenScope (vertices_of s.now.graph.now) (F.stands_for s.now.view.now) s.now.barred.now
         s.now.window (Some vertex) }
-    requires valid { AreValidNeeds s.now.graph.now.resources.vertices needs.now }
+    requires valid { AreValidNeeds (vertices_of s.now.graph.now) needs.now }
     requires may { MayScale k needs.now }
     requires some { 1 ≤ k }
     ensures written { IfOk result (λ fit. Extends out.old.items out.new.items
-        (λ claims. (fit ≡ false → claims ≡ []) × ((jobs : List Job) → F.stands_for s.now.view.now jobs →
-        (let vs : List Vertex = s.now.graph.now.resources.vertices in
-        let ok : Claim → Type 0 = open_to vs jobs s.now.barred.now s.now.window in
+        (λ claims. (fit ≡ false → claims ≡ []) ×
+        (InEach (F.stands_for s.now.view.now) (λ present. let vs : List Vertex = vertices_of s.now.graph.now in
+        let ok : Claim → Type 0 = open_to vs present s.now.barred.now s.now.window in
         MatchBool fit
         (FollowsPass vs ok vertex
         (Lowest vs ok k (Beneath vertex) needs.now) claims)
         (SomeFits vs ok (Beneath vertex) needs.now k → ⊥))))) }
-    ensures work { (jobs : List Job) → F.stands_for s.now.view.now jobs → (place past times : ℕ) →
-        (let vs : List Vertex = s.now.graph.now.resources.vertices in
+    ensures work { InEach (F.stands_for s.now.view.now) (λ present. (place past times : ℕ) →
+        (let vs : List Vertex = vertices_of s.now.graph.now in
         let keeps : ℕ → ℕ → Type 0 = asked_totals s.now.wanted.now (F.keeps s.now.view.now) in
         let all : List Need = needs_all s.now.needs.now in
         IsPlaceOfAll all place needs.now →
-        AllByRecursion (λ need. IsClear vs jobs s.now.window keeps need vertex) needs.now → IsPast vs vertex past →
+        AllByRecursion (λ need. IsClear vs present s.now.window keeps need vertex) needs.now → IsPast vs vertex past →
         AreLooksAll times needs.now →
-        TakesEach (HasEachOpen vs jobs s.now.window keeps all) (times * ((length all + 2) * F.cost s.now.view.now))
-        steps.old steps.new place (place + length (needs_all needs.now)) (vertex + 1) past) }
+        TakesEach (HasEachOpen vs present s.now.window keeps all) (times * ((length all + 2) * F.cost s.now.view.now))
+        steps.old steps.new place (place + length (needs_all needs.now)) (vertex + 1) past)) }
 {
     let mark = out.len();
     push(out, Claim::Pass { vertex })?;

@@ -17,6 +17,7 @@ use Rattle.flux_defs.specs.Asks.{window_of, CountsWithin, scene_of, SomeFit, IsS
 use Rattle.match_laws.proofs.Live.{LivesOn, available_on}
 use Rattle.match_laws.proofs.MoreAvailable.{fits_more}
 use Rattle.flux_defs.specs.Free.{total_at}
+use Rattle.flux_defs.specs.Present.{Present}
 use Rattle.prune_filters.specs.Demands.{needs_demand}
 use Rattle.prune_laws.proofs.Demanded.{fit_total}
 use Rattle.dfu_match.specs.declared.matching.Matched.{Matched}
@@ -44,10 +45,11 @@ later_window horizon ask t c = elim (eqb_tells ask.duration 0) [
   ))
 ]
 
-module _ (vertices : List Vertex) (jobs : List Job) (horizon : ℕ) (ask : Ask) where
+module _ (vertices : List Vertex) (present : Present) (horizon : ℕ) (ask : Ask) where
   -- where no job ends at t + 1, what is available over the window there is available over the window at t
-  available_before : (t : ℕ) → CountsWithin horizon ask (t + 1) → NoneEnds jobs (t + 1) → (c : Claim) →
-      IsAvailable (scene_of vertices jobs ask) (window_of horizon ask (t + 1)) c → IsAvailable (scene_of vertices jobs
+  available_before : (t : ℕ) → CountsWithin horizon ask (t + 1) → NoneEnds present.jobs (t + 1) → (c : Claim) →
+      IsAvailable (scene_of vertices present ask) (window_of horizon ask (t + 1)) c →
+      IsAvailable (scene_of vertices present
       ask) (window_of horizon ask t) c
   available_before t counts none c a m lo hi =
       let w = later_window horizon ask t counts in
@@ -55,13 +57,15 @@ module _ (vertices : List Vertex) (jobs : List Job) (horizon : ℕ) (ask : Ask) 
         | inl later ↦ a m (omega arith) (omega (arith, w.0))
         | inr here ↦
             (let e : m ≡ t = omega arith in
-            subst (λ (x : ℕ). IsTrue (is_available_at (scene_of vertices jobs ask) x c)) (sym e)
-            (available_on (scene_of vertices jobs ask) t (t + 1) (lives_on jobs t none) c (a (t + 1) (omega arith)
+            subst (λ (x : ℕ). IsTrue (is_available_at (scene_of vertices present ask) x c)) (sym e)
+            (available_on (scene_of vertices present ask) t (t + 1) (lives_on present.jobs t none) c
+            (a (t + 1) (omega arith)
             w.1)))
       ]
 
-  pub start_before : (t : ℕ) → NoneEnds jobs (t + 1) → IsStart vertices jobs horizon ask (t + 1) → IsStart vertices
-      jobs horizon ask t
+  pub start_before : (t : ℕ) → NoneEnds present.jobs (t + 1) → IsStart vertices present horizon ask (t + 1) →
+      IsStart vertices
+      present horizon ask t
   start_before t none s =
       let c : CountsWithin horizon ask (t + 1) = s.0 in
       let lt : t + 1 < horizon = c.0 in
@@ -69,8 +73,8 @@ module _ (vertices : List Vertex) (jobs : List Job) (horizon : ℕ) (ask : Ask) 
         (omega arith, omega arith),
         (
           s.1.0,
-          fits_more vertices (IsAvailable (scene_of vertices jobs ask) (window_of horizon ask (t + 1))) (IsAvailable
-              (scene_of vertices jobs ask) (window_of horizon ask t))
+          fits_more vertices (IsAvailable (scene_of vertices present ask) (window_of horizon ask (t + 1))) (IsAvailable
+              (scene_of vertices present ask) (window_of horizon ask t))
               (available_before t c none) 1 Everywhere ask.needs s.1.0 s.1.1,
         ),
       )
@@ -83,17 +87,18 @@ none_or_point (job ∷ jobs) x = elim (eqb_tells job.end x) [
 ]
 
 -- no start stands before a moment
-abbrev pub NoStartBefore : List Vertex → List Job → ℕ → Ask → ℕ → ℕ → Type 0
-NoStartBefore vertices jobs horizon ask moment t = (u : ℕ) → moment ≤ u → u < t → IsStart vertices jobs horizon ask u
+abbrev pub NoStartBefore : List Vertex → Present → ℕ → Ask → ℕ → ℕ → Type 0
+NoStartBefore vertices present horizon ask moment t = (u : ℕ) → moment ≤ u → u < t →
+    IsStart vertices present horizon ask u
     → ⊥
 
 -- where a match came to no claims none fit
-pub no_fit : (vertices : List Vertex) (jobs : List Job) (keeps : ℕ → ℕ → Type 0) (ask : Ask) (w : Window)
-    (matched : Matched) → IsMatched vertices jobs keeps ask w matched →
-    ((claims : List Claim) → matched ≡ Fits claims → ⊥) → SomeFit vertices jobs ask w → ⊥
-no_fit vertices jobs keeps ask w (Fits claims) is never fit = never claims refl
-no_fit vertices jobs keeps ask w (Short s) is never fit = is.0 fit
-no_fit vertices jobs keeps ask w (NoFit until) is never fit = is.0 fit
+pub no_fit : (vertices : List Vertex) (present : Present) (keeps : ℕ → ℕ → Type 0) (ask : Ask) (w : Window)
+    (matched : Matched) → IsMatched vertices present keeps ask w matched →
+    ((claims : List Claim) → matched ≡ Fits claims → ⊥) → SomeFit vertices present ask w → ⊥
+no_fit vertices present keeps ask w (Fits claims) is never fit = never claims refl
+no_fit vertices present keeps ask w (Short s) is never fit = is.0 fit
+no_fit vertices present keeps ask w (NoFit until) is never fit = is.0 fit
 
 -- a window that counts isn't empty, and one that begins later ends no sooner
 window_opens : (horizon : ℕ) (ask : Ask) (u : ℕ) → CountsWithin horizon ask u → u < (window_of horizon ask u).to
@@ -110,17 +115,18 @@ ends_no_sooner horizon ask t u lt = elim (eqb_tells ask.duration 0) [
 ]
 
 -- the ask can't start at a later moment that isn't worth a try
-module _ (g : ResourceGraph) (names : List (List ℕ)) (valid : IsValidGraph g names) (jobs : List Job) (horizon : ℕ)
+module _ (g : ResourceGraph) (names : List (List ℕ)) (valid : IsValidGraph g names) (present : Present) (horizon : ℕ)
     (ask : Ask) (proper : IsProperAsk g.vertices ask) (keeps : ℕ → ℕ → Type 0) (t u : ℕ) (later : t < u)
-    (start : IsStart g.vertices jobs horizon ask u) where
+    (start : IsStart g.vertices present horizon ask u) where
   -- what the ask demands in full is there at each moment of its window
   in_full : (kind m : ℕ) → u ≤ m → m < (window_of horizon ask u).to →
-      needs_demand g.vertices kind ask.needs ≤ total_at g.vertices jobs kind m 0
-  in_full kind m lo hi = fit_total g names valid jobs ask.barred (window_of horizon ask u) ask.needs proper.needs kind m
+      needs_demand g.vertices kind ask.needs ≤ total_at g.vertices present kind m 0
+  in_full kind m lo hi = fit_total g names valid present ask.barred (window_of horizon ask u) ask.needs proper.needs
+      kind m
       lo hi start.1.0 start.1.1
 
-  pub worth_try : (matched : Matched) → IsMatched g.vertices jobs keeps ask (window_of horizon ask t) matched →
-      IsWorthTry g.vertices jobs matched u
+  pub worth_try : (matched : Matched) → IsMatched g.vertices present keeps ask (window_of horizon ask t) matched →
+      IsWorthTry g.vertices present matched u
   worth_try (Fits claims) is = tt
   worth_try (Short s) is =
       let opens = window_opens horizon ask u start.0 in
@@ -142,40 +148,41 @@ module _ (g : ResourceGraph) (names : List (List ℕ)) (valid : IsValidGraph g n
         (reached, ends_no_sooner horizon ask t u later, window_opens horizon ask u start.0) start.1)
   ]
 
-module _ (vertices : List Vertex) (jobs : List Job) (horizon : ℕ) (ask : Ask) (moment t : ℕ) (before : NoStartBefore
-    vertices jobs horizon ask moment t) where
-  module _ (none : SomeFit vertices jobs ask (window_of horizon ask t) → ⊥) where
+module _ (vertices : List Vertex) (present : Present) (horizon : ℕ) (ask : Ask) (moment t : ℕ) (before : NoStartBefore
+    vertices present horizon ask moment t) where
+  module _ (none : SomeFit vertices present ask (window_of horizon ask t) → ⊥) where
     -- nothing starts up to a moment before which no later start or end of a job is a start
-    up_to : (d : ℕ) → ((u : ℕ) → t < u → u ≤ t + d → IsPoint jobs u → IsStart vertices jobs horizon ask u → ⊥) →
-        IsStart vertices jobs horizon ask (t + d) → ⊥
+    up_to : (d : ℕ) → ((u : ℕ) → t < u → u ≤ t + d → IsPoint present.jobs u → IsStart vertices present horizon ask u →
+        ⊥) →
+        IsStart vertices present horizon ask (t + d) → ⊥
     up_to zero passed s = let e : t + 0 ≡ t = omega arith in
-        none (subst (IsStart vertices jobs horizon ask) e s).1
+        none (subst (IsStart vertices present horizon ask) e s).1
     up_to (suc d) passed s =
         let e : t + suc d ≡ t + d + 1 = omega arith in
-        let s' = subst (IsStart vertices jobs horizon ask) e s in
-        elim (none_or_point jobs (t + d + 1)) [
-          | inl over ↦ up_to d (λ u lo hi. passed u lo (omega arith)) (start_before vertices jobs horizon ask (t + d)
+        let s' = subst (IsStart vertices present horizon ask) e s in
+        elim (none_or_point present.jobs (t + d + 1)) [
+          | inl over ↦ up_to d (λ u lo hi. passed u lo (omega arith)) (start_before vertices present horizon ask (t + d)
               over s')
           | inr point ↦ passed (t + d + 1) (omega arith) (omega arith) point s'
         ]
 
     -- nothing starts before the next moment to try
     pub none_to_next : (p : ℕ) →
-        ((u : ℕ) → t < u → u < p → IsPoint jobs u → IsStart vertices jobs horizon ask u → ⊥) →
-        NoStartBefore vertices jobs horizon ask moment p
+        ((u : ℕ) → t < u → u < p → IsPoint present.jobs u → IsStart vertices present horizon ask u → ⊥) →
+        NoStartBefore vertices present horizon ask moment p
     none_to_next p passed u lo hi s = elim (cases_lt u t) [
       | inl lt ↦ before u lo lt s
       | inr ge ↦ (let e : u ≡ t + (u - t) = omega arith in
-          up_to (u - t) (λ x a b. passed x a (omega arith)) (subst (IsStart vertices jobs horizon ask) e s))
+          up_to (u - t) (λ x a b. passed x a (omega arith)) (subst (IsStart vertices present horizon ask) e s))
     ]
 
     -- there is none: nothing starts
-    pub none_ever : ((u : ℕ) → t < u → IsPoint jobs u → IsStart vertices jobs horizon ask u → ⊥) → (u : ℕ) →
-        moment ≤ u → IsStart vertices jobs horizon ask u → ⊥
+    pub none_ever : ((u : ℕ) → t < u → IsPoint present.jobs u → IsStart vertices present horizon ask u → ⊥) → (u : ℕ) →
+        moment ≤ u → IsStart vertices present horizon ask u → ⊥
     none_ever passed u lo s = none_to_next (u + 1) (λ x a b. passed x a) u lo (omega arith) s
 
   -- no window from t on counts: nothing starts
-  pub none_past : (CountsWithin horizon ask t → ⊥) → (u : ℕ) → moment ≤ u → IsStart vertices jobs horizon ask u → ⊥
+  pub none_past : (CountsWithin horizon ask t → ⊥) → (u : ℕ) → moment ≤ u → IsStart vertices present horizon ask u → ⊥
   none_past over u lo s = elim (cases_lt u t) [
     | inl lt ↦ before u lo lt s
     | inr ge ↦ (let a : u < horizon = s.0.0 in let b : u + ask.duration ≤ horizon = s.0.1 in over (
@@ -185,7 +192,8 @@ module _ (vertices : List Vertex) (jobs : List Job) (horizon : ℕ) (ask : Ask) 
     ))
   ]
 
-  pub is_earliest : moment ≤ t → IsStart vertices jobs horizon ask t → IsEarliest vertices jobs horizon ask moment t
+  pub is_earliest : moment ≤ t → IsStart vertices present horizon ask t →
+      IsEarliest vertices present horizon ask moment t
   is_earliest le s = record {
     later = le;
     starts = s;

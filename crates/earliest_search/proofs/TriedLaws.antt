@@ -6,11 +6,11 @@ use Rattle.std.proofs.lemmas.Bool.Decides.{nat_tests}
 use Rattle.std.proofs.lemmas.List.Sums.{sum_by-cons}
 use Rattle.std.proofs.Math.Nat.{mul-le-mul_left}
 use Rattle.flux_defs.specs.declared.vertices.Vertex.{Vertex}
-use Rattle.flux_defs.specs.declared.claims.Job.{Job}
 use Rattle.flux_defs.specs.declared.claims.Window.{Window}
 use Rattle.flux_defs.specs.declared.requests.Need.{Need}
 use Rattle.flux_defs.specs.declared.requests.Ask.{Ask}
 use Rattle.flux_defs.specs.Asks.{CountsWithin, window_of}
+use Rattle.flux_defs.specs.Present.{Present}
 use Rattle.earliest_search.specs.Tried.{IsNowOrPoint, HasEachTried, TakesTries}
 use Rattle.dfu_match.specs.Pairs.{IsEnoughFor}
 
@@ -62,18 +62,18 @@ module _ (weight : ℕ → ℕ) where
           omega (arith, one, rest)
 
 -- the list has each moment that is tried before `start`
-abbrev pub HasEachBefore : List Job → ℕ → Ask → ℕ → ℕ → List ℕ → Type 0
-HasEachBefore jobs horizon ask now start tried =
-    (t : ℕ) → IsNowOrPoint jobs now t → CountsWithin horizon ask t → t < start → Contains tried t
+abbrev pub HasEachBefore : Present → ℕ → Ask → ℕ → ℕ → List ℕ → Type 0
+HasEachBefore present horizon ask now start tried =
+    (t : ℕ) → IsNowOrPoint present now t → CountsWithin horizon ask t → t < start → Contains tried t
 
-module _ (jobs : List Job) (horizon : ℕ) (ask : Ask) (now : ℕ) (tried : List ℕ) where
-  pub each_before : (last start : ℕ) → start ≤ last + 1 → HasEachTried jobs horizon ask now last tried →
-      HasEachBefore jobs horizon ask now start tried
+module _ (present : Present) (horizon : ℕ) (ask : Ask) (now : ℕ) (tried : List ℕ) where
+  pub each_before : (last start : ℕ) → start ≤ last + 1 → HasEachTried present horizon ask now last tried →
+      HasEachBefore present horizon ask now start tried
   each_before last start le has t is counts lt = has t is counts (omega arith)
 
   -- no moment past the horizon counts
-  pub each_counted : (start : ℕ) → HasEachTried jobs horizon ask now horizon tried →
-      HasEachBefore jobs horizon ask now start tried
+  pub each_counted : (start : ℕ) → HasEachTried present horizon ask now horizon tried →
+      HasEachBefore present horizon ask now start tried
   each_counted start has t is counts lt = let in' : t < horizon = counts.0 in has t is counts (omega arith)
 
 -- a match at one moment more, and the look for the next
@@ -90,12 +90,12 @@ module _ (cost : ℕ) (weight : ℕ → ℕ) (tried : List ℕ) (start old mid n
       omega (arith, more, all)
 
 -- where fewer totals are kept, what is enough is enough where more are
-pub enough_more : (vertices : List Vertex) (jobs : List Job) (w : Window) (few more : ℕ → ℕ → Type 0) →
+pub enough_more : (vertices : List Vertex) (present : Present) (w : Window) (few more : ℕ → ℕ → Type 0) →
     ((v kind : ℕ) → few v kind → more v kind) → (needs : List Need) (looks : ℕ) →
-    IsEnoughFor vertices jobs w few needs looks → IsEnoughFor vertices jobs w more needs looks
-enough_more vertices jobs w few more along needs looks (inl root) =
+    IsEnoughFor vertices present w few needs looks → IsEnoughFor vertices present w more needs looks
+enough_more vertices present w few more along needs looks (inl root) =
     inl ((root.0.0, (along 0 root.0.0 root.0.1.0, root.0.1.1)), root.1)
-enough_more vertices jobs w few more along needs looks (inr some) = inr (
+enough_more vertices present w few more along needs looks (inr some) = inr (
   some.0,
   (λ place v need at lt opens. some.1 place v need at lt (λ u below is.
       opens u below (is.0, (along u is.0 is.1.0, is.1.1)))),
@@ -111,11 +111,11 @@ sum_more few more le (t ∷ ts) =
     let b = sum_by-cons more t ts in
     omega (arith, one, rest, a, b)
 
-module _ (vertices : List Vertex) (jobs : List Job) (horizon : ℕ) (ask : Ask) (now : ℕ) where
+module _ (vertices : List Vertex) (present : Present) (horizon : ℕ) (ask : Ask) (now : ℕ) where
   -- fewer steps before, and a later last moment
   pub tries_later : (keeps : ℕ → ℕ → Type 0) (cost last later old start new : ℕ) → last ≤ later → start ≤ old →
-      TakesTries vertices jobs keeps cost horizon ask now last start new →
-      TakesTries vertices jobs keeps cost horizon ask now later old new
+      TakesTries vertices present keeps cost horizon ask now last start new →
+      TakesTries vertices present keeps cost horizon ask now later old new
   tries_later keeps cost last later old start new le few takes tried looks has enough =
       let t = takes tried looks (λ u is counts most. has u is counts (omega (arith, le, most))) enough in
       omega (arith, t, few)
@@ -123,11 +123,12 @@ module _ (vertices : List Vertex) (jobs : List Job) (horizon : ℕ) (ask : Ask) 
   -- more totals are kept, and an answer costs less
   pub tries_along : (few more : ℕ → ℕ → Type 0) → ((v kind : ℕ) → few v kind → more v kind) →
       (cost most last old new : ℕ) → cost ≤ most →
-      TakesTries vertices jobs more cost horizon ask now last old new →
-      TakesTries vertices jobs few most horizon ask now last old new
+      TakesTries vertices present more cost horizon ask now last old new →
+      TakesTries vertices present few most horizon ask now last old new
   tries_along few more along cost most last old new le takes tried looks has enough =
       let t = takes tried looks has (λ u there counts.
-      enough_more vertices jobs (window_of horizon ask u) few more along ask.needs (looks u) (enough u there counts)) in
+      enough_more vertices present (window_of horizon ask u) few more along ask.needs (looks u)
+      (enough u there counts)) in
       let s = sum_more (λ u. (looks u + 1) * cost) (λ u. (looks u + 1) * most)
       (λ u. mul-le-mul_left (looks u + 1) le) tried in
       omega (arith, t, s)

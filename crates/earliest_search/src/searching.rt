@@ -1,10 +1,11 @@
 //! The search over starts.
 ghost use Rattle.std.specs.Prelude.{◌≡◌, ℕ, ◌+◌, ◌<◌, ◌≤◌, List, IfOk, IfSome, MatchOption};
-ghost use Rattle.flux_defs.specs.declared.claims.Job.{Job};
 ghost use Rattle.flux_defs.specs.Needs.{IsProperAsk};
 ghost use Rattle.flux_defs.specs.Asks.{window_of, IsLowestFirst, IsStart, IsEarliest};
+ghost use Rattle.flux_defs.specs.Present.{InEach};
 ghost use Rattle.dfu_match.specs.Matches.{IsKeptShort};
 ghost use Rattle.earliest_search.specs.Tried.{TakesTries, IsNextTryOrNone};
+ghost use Rattle.resource_graph.specs.NamedGraph.{vertices_of};
 
 use crate::windows::{counts, window_at};
 use dfu_match::{Known, Matched, Matcher};
@@ -32,8 +33,8 @@ fn next_try<F: TotalsView, L: Ledger>(
 ) -> Option<u64>
     requires { IsKeptShort (F.keeps view.now) after matched.now }
     ensures later { IfSome result (λ t. after < t) }
-    ensures next { (jobs : List Job) → F.stands_for view.now jobs →
-        IsNextTryOrNone (F.graph view.now) jobs matched.now after result }
+    ensures next { InEach (F.stands_for view.now) (λ present. IsNextTryOrNone (F.graph view.now) present matched.now
+        after result) }
     ensures work { steps.new ≤ steps.old + F.cost view.now }
 {
     match matched {
@@ -58,19 +59,20 @@ pub fn earliest<F: TotalsView, L: Ledger>(
     horizon: u64,
     steps: &mut Steps<L>,
 ) -> Result<Option<Found>, AllocError>
-    requires over { F.graph view.now ≡ graph.now.resources.vertices }
-    requires proper { IsProperAsk graph.now.resources.vertices ask.now }
-    ensures found { IfOk result (λ found. (jobs : List Job) → F.stands_for view.now jobs →
-        MatchOption found
-        ((t : ℕ) → now ≤ t → IsStart graph.now.resources.vertices jobs horizon ask.now t → ⊥)
-        (λ f. IsEarliest graph.now.resources.vertices jobs horizon ask.now now f.start
-        × IsLowestFirst graph.now.resources.vertices jobs ask.now (window_of horizon ask.now f.start) f.claims)) }
-    ensures work { (jobs : List Job) → F.stands_for view.now jobs →
-        TakesTries graph.now.resources.vertices jobs (F.keeps view.now) (F.cost view.now) horizon ask.now now horizon
-        steps.old steps.new }
-    ensures soon { IfOk result (λ found. (jobs : List Job) → F.stands_for view.now jobs →
-        IfSome found (λ f. TakesTries graph.now.resources.vertices jobs (F.keeps view.now) (F.cost view.now) horizon
-        ask.now now f.start steps.old steps.new)) }
+    requires over { F.graph view.now ≡ vertices_of graph.now }
+    requires proper { IsProperAsk (vertices_of graph.now) ask.now }
+    ensures found { IfOk result (λ found. InEach (F.stands_for view.now) (λ present. MatchOption found
+        ((t : ℕ) → now ≤ t → IsStart (vertices_of graph.now) present horizon ask.now t → ⊥)
+        (λ f. IsEarliest (vertices_of graph.now) present horizon ask.now now f.start
+        × IsLowestFirst (vertices_of graph.now) present ask.now (window_of horizon ask.now f.start) f.claims))) }
+    ensures work { InEach (F.stands_for view.now)
+        (λ present. TakesTries (vertices_of graph.now) present (F.keeps view.now) (F.cost view.now) horizon ask.now now
+        horizon
+        steps.old steps.new) }
+    ensures soon { IfOk result (λ found. InEach (F.stands_for view.now)
+        (λ present. IfSome found (λ f. TakesTries (vertices_of graph.now) present (F.keeps view.now) (F.cost view.now)
+        horizon
+        ask.now now f.start steps.old steps.new))) }
 {
     graph.is_valid();
     let matcher = Matcher::of(alloc, graph, ask)?;

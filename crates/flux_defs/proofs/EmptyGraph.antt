@@ -9,7 +9,7 @@ use Rattle.std.proofs.lemmas.Option.{slice_get-get_or}
 use Rattle.flux_defs.specs.declared.vertices.Vertex.{Vertex}
 use Rattle.flux_defs.specs.declared.claims.Window.{Window}
 use Rattle.flux_defs.specs.Graph.{is_pool_kind, is_pool, size_of}
-use Rattle.flux_defs.specs.Present.{Present, nothing}
+use Rattle.flux_defs.specs.Present.{Present, bare}
 use Rattle.flux_defs.specs.Closed.{no_bars}
 use Rattle.flux_defs.specs.Free.{IsFreeIn, free_at}
 
@@ -33,7 +33,7 @@ all_free true size h = omega arith
 all_free false size h = sym (h refl)
 
 free_there : (vertices : List Vertex) (m v : ℕ) (x : Vertex) →
-    slice_get vertices v ≡ Some x → free_at (no_bars vertices nothing) m v ≡ x.size
+    slice_get vertices v ≡ Some x → free_at (no_bars vertices bare) m v ≡ x.size
 free_there vertices m v x e =
     let size : size_of vertices v ≡ x.size = ap (λ o. option_map_or (λ y. y.size) o 0) e in
     let pool : is_pool vertices v ≡ is_pool_kind vertices x.kind =
@@ -43,18 +43,18 @@ free_there vertices m v x e =
     ∙ all_free (is_pool_kind vertices x.kind) x.size (size_of_unit vertices v x x.kind e refl))
 
 free_of_empty : (vertices : List Vertex) (w : Window) (v : ℕ) (d : Vertex) →
-    w.from < w.to → v < length vertices → IsFreeIn (no_bars vertices nothing) w v (get_or vertices v d).size
+    w.from < w.to → v < length vertices → IsFreeIn (no_bars vertices bare) w v (get_or vertices v d).size
 free_of_empty vertices w v d opens within =
     let there = slice_get-get_or vertices v d within in record {
-      each = λ m lo hi. (let free : free_at (no_bars vertices nothing) m v
+      each = λ m lo hi. (let free : free_at (no_bars vertices bare) m v
           ≡ (get_or vertices v d).size = free_there vertices m v (get_or vertices v d) there in omega arith);
       reached = (w.from, omega arith, opens, free_there vertices w.from v (get_or vertices v d) there);
     }
 
 pub free_read : (vertices items : List Vertex) (present : Present) (w : Window) (v : ℕ) (d : Vertex) →
-    present ≡ nothing → items ≡ vertices → w.from < w.to → v < length vertices →
+    present ≡ bare → items ≡ vertices → w.from < w.to → v < length vertices →
     IsFreeIn (no_bars vertices present) w v (get_or items v d).size
 free_read vertices items present w v d none same opens within =
     subst (λ (other : Present). IsFreeIn (no_bars vertices other) w v (get_or items v d).size) (sym none)
-    (subst (λ (vs : List Vertex). IsFreeIn (no_bars vertices nothing) w v (get_or vs v d).size)
+    (subst (λ (vs : List Vertex). IsFreeIn (no_bars vertices bare) w v (get_or vs v d).size)
     (sym same) (free_of_empty vertices w v d opens within))

@@ -5,7 +5,7 @@ use Rattle.flux_defs.specs.declared.claims.Claim.{Claim}
 use Rattle.flux_defs.specs.declared.claims.Window.{Window}
 use Rattle.flux_defs.specs.declared.requests.Ask.{Ask}
 use Rattle.flux_defs.specs.Graph.{Everywhere}
-use Rattle.flux_defs.specs.Present.{Present, nothing}
+use Rattle.flux_defs.specs.Present.{Present, bare}
 use Rattle.flux_defs.specs.Closed.{Scene}
 use Rattle.flux_defs.specs.Available.{IsAvailable}
 use Rattle.flux_defs.specs.Fits.{Fits}
@@ -43,14 +43,16 @@ IsLowestFirst vertices present ask w claims =
 
 -- the ask may start at t: its window there counts, and some claims fit it
 abbrev pub IsStart : List Vertex → Present → ℕ → Ask → ℕ → Type 0
-IsStart vertices present horizon ask t = CountsWithin horizon ask t × SomeFit vertices present ask (window_of horizon ask t)
+IsStart vertices present horizon ask t = CountsWithin horizon ask t × SomeFit vertices present ask
+    (window_of horizon ask t)
 
 -- t is the earliest start from `moment` on
-pub record IsEarliest (vertices : List Vertex) (present : Present) (horizon : ℕ) (ask : Ask) (moment t : ℕ) : Type 0 where
+pub record IsEarliest (vertices : List Vertex) (present : Present) (horizon : ℕ) (ask : Ask) (moment t : ℕ) :
+    Type 0 where
   pub later : moment ≤ t
   pub starts : IsStart vertices present horizon ask t
   pub least : (u : ℕ) → moment ≤ u → IsStart vertices present horizon ask u → t ≤ u
 
 -- some claims fit the graph without jobs and with every vertex up; the ask's bars count, its duration doesn't
 abbrev pub IsSatisfiable : List Vertex → Ask → Type 0
-IsSatisfiable vertices ask = SomeFit vertices nothing ask (record { from = 0; to = 1 })
+IsSatisfiable vertices ask = SomeFit vertices bare ask (record { from = 0; to = 1 })

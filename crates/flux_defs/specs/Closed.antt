@@ -17,7 +17,8 @@ pub record Scene : Type 0 where
 abbrev pub no_bars : List Vertex → Present → Scene
 no_bars vertices present = record { vertices = vertices; present = present; barred = [] }
 
--- v is out of service for the ask, whatever the jobs have: the ask bars it or a vertex above it, or one of these is down
+-- v is out of service for the ask, whatever the jobs have: the ask bars it or a vertex above it, or one of these is
+-- down
 abbrev pub is_withheld : Scene → ℕ → Bool
 is_withheld s v =
     list_any (is_at_or_below s.vertices v) s.barred || list_any (is_at_or_below s.vertices v) s.present.down
@@ -25,7 +26,8 @@ is_withheld s v =
 -- v or a vertex below it is out of service for the ask
 abbrev pub has_withheld : Scene → ℕ → Bool
 has_withheld s v =
-    list_any (λ u. is_at_or_below s.vertices u v) s.barred || list_any (λ u. is_at_or_below s.vertices u v) s.present.down
+    list_any (λ u. is_at_or_below s.vertices u v) s.barred || list_any (λ u. is_at_or_below s.vertices u v)
+    s.present.down
 
 -- v is closed at m: a live job holds it or a vertex above it, or it is withheld
 abbrev pub is_closed : Scene → ℕ → ℕ → Bool

@@ -26,7 +26,7 @@ abbrev pub total_at : List Vertex → Present → ℕ → ℕ → ℕ → ℕ
 total_at vertices present kind m v =
     sum_by
     (λ (u, x).
-        if (x.kind == kind) && is_at_or_below vertices u v then free_at (no_bars vertices (all_up present)) m u else 0)
+    if (x.kind == kind) && is_at_or_below vertices u v then free_at (no_bars vertices (all_up present)) m u else 0)
     (enumerate_from 0 vertices)
 
 -- n is the least of these numbers over the window

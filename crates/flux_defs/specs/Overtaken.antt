@@ -94,7 +94,8 @@ pub record IsFirstTaken (vertices : List Vertex) (present : Present) (w : Window
 -- that stands in its way
 abbrev pub IsTakenBy : Setting → List Entry → ℕ → Window → List Claim → ℕ → ℕ → Type 0
 IsTakenBy g history place w claims at index =
-    (claim : Claim) × IsFirstTaken g.graph.vertices (present_of (state_at history (length history))) w claims index claim
+    (claim : Claim) × IsFirstTaken g.graph.vertices (present_of (state_at history (length history))) w claims index
+    claim
     × IsFirstFrom (Blocks g.graph.vertices w claim history) place at
 
 -- what was taken of a candidate: its ask and its verdict say which claims are needed, and when

@@ -105,7 +105,8 @@ Replies g s (command.Allocate id ask) =
 Replies g s (command.Reserve id ask) =
     JobReplies g s id ask
     (Unless ((t : ℕ) × (s.moment ≤ t) × IsStart g.graph.vertices (present_of s) g.horizon ask t) reply.NoStart
-    (λ r. (t : ℕ) × IsEarliest g.graph.vertices (present_of s) g.horizon ask s.moment t × AcceptedOrFull g s id ask t r))
+    (λ r. (t : ℕ) × IsEarliest g.graph.vertices (present_of s) g.horizon ask s.moment t × AcceptedOrFull g s id ask t
+    r))
 Replies g s (command.Satisfy ask) =
     Unless (IsSatisfiable g.graph.vertices ask) reply.Unsatisfiable (λ r. r ≡ reply.Satisfiable)
 Replies g s (command.Cancel id) = Unless (IsSome (job_with id s.jobs)) reply.Absent (λ r. r ≡ reply.Cancelled)

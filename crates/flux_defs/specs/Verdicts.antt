@@ -24,12 +24,14 @@ IsSearchable c = ⊥
 abbrev pub FoundAt : Setting → State → Ask → ℕ → Verdict → Type 0
 FoundAt g s ask start v =
     (claims : List Claim)
-    × IsLowestFirst g.graph.vertices (present_of s) ask (window_of g.horizon ask start) claims × (v ≡ Found start claims)
+    × IsLowestFirst g.graph.vertices (present_of s) ask (window_of g.horizon ask start) claims ×
+    (v ≡ Found start claims)
 
 -- what is found of an ask at the present moment alone
 abbrev pub FindsNow : Setting → State → Ask → Verdict → Type 0
 FindsNow g s ask =
-    Unless (SomeFit g.graph.vertices (present_of s) ask (window_of g.horizon ask s.moment)) NoFit (FoundAt g s ask s.moment)
+    Unless (SomeFit g.graph.vertices (present_of s) ask (window_of g.horizon ask s.moment)) NoFit
+    (FoundAt g s ask s.moment)
 
 -- what is found of an ask at its earliest start
 abbrev pub FindsEarliest : Setting → State → Ask → Verdict → Type 0

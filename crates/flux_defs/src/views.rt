@@ -2,7 +2,7 @@
 ghost use Rattle.std.specs.Prelude.{◌≡◌, ℕ, ◌+◌, ◌<◌, ◌≤◌, IsTrue, List, MatchOption, IfSome, IfNone};
 ghost use Rattle.flux_defs.specs.declared.vertices.Vertex.{Vertex};
 ghost use Rattle.flux_defs.specs.declared.claims.Window.{Window};
-ghost use Rattle.flux_defs.specs.Present.{Present, InEach, nothing};
+ghost use Rattle.flux_defs.specs.Present.{Present, InEach, bare};
 ghost use Rattle.flux_defs.specs.Jobs.{IsPoint, IsNextPoint};
 ghost use Rattle.flux_defs.specs.Closed.{IsClosedOver, IsTouchedOver};
 ghost use Rattle.flux_defs.specs.Free.{IsFreeOver, IsTotalOver, IsTooLittle, IsTooLittleAt};
@@ -15,9 +15,9 @@ use crate::steps::Steps;
 use crate::vertices::Vertex;
 use std::sync::ledger::Ledger;
 
-/// A view of a list of vertices and of what stands at a moment: jobs, and vertices that are down. It need not keep them:
-/// each answer holds for all that the view stands for. No call takes memory, and each but `is_bare` takes at least one
-/// step and at most `cost`.
+/// A view of a list of vertices and of what stands at a moment: jobs, and vertices that are down. It need not keep
+/// them: each answer holds for all that the view stands for. No call takes memory, and each but `is_bare` takes at
+/// least one step and at most `cost`.
 pub trait FreeView {
     /// The vertices.
     ghost graph: { Self → List Vertex };
@@ -33,9 +33,10 @@ pub trait FreeView {
 
     /// Whether it is known that there are no jobs, and that no vertex is down. It takes no step.
     fn is_bare(&self) -> bool
-        ensures bare { IsTrue result → InEach (stands_for self.now) (λ present. present ≡ nothing) };
+        ensures bare { IsTrue result → InEach (stands_for self.now) (λ present. present ≡ bare) };
 
-    /// Whether the vertex is closed at some moment of the window: a job holds it or one above it, or one of these is down.
+    /// Whether the vertex is closed at some moment of the window: a job holds it or one above it, or one of these is
+    /// down.
     fn closed_over<L: Ledger>(&self, vertex: u32, window: Window, steps: &mut Steps<L>) -> bool
         requires asked { MayBeAsked (graph self.now) vertex window }
         ensures answer { Tells (stands_for self.now) (λ present w. IsClosedOver (graph self.now) present w vertex)
@@ -43,8 +44,8 @@ pub trait FreeView {
         ensures some_work { steps.old < steps.new }
         ensures work { steps.new ≤ steps.old + cost self.now };
 
-    /// Until when the vertex is closed, in seconds: at some moment of each window that begins then or before and ends no
-    /// sooner than this one. `None` exactly where it isn't at a moment of this one.
+    /// Until when the vertex is closed, in seconds: at some moment of each window that begins then or before and ends
+    /// no sooner than this one. `None` exactly where it isn't at a moment of this one.
     fn closed_until<L: Ledger>(
         &self,
         vertex: u32,
@@ -58,8 +59,8 @@ pub trait FreeView {
         ensures some_work { steps.old < steps.new }
         ensures work { steps.new ≤ steps.old + cost self.now };
 
-    /// Whether the vertex is touched at some moment of the window: a job has a claim on it or below it, or a vertex there
-    /// is down.
+    /// Whether the vertex is touched at some moment of the window: a job has a claim on it or below it, or a vertex
+    /// there is down.
     fn touched_over<L: Ledger>(&self, vertex: u32, window: Window, steps: &mut Steps<L>) -> bool
         requires asked { MayBeAsked (graph self.now) vertex window }
         ensures answer { Tells (stands_for self.now) (λ present w. IsTouchedOver (graph self.now) present w vertex)
@@ -67,8 +68,8 @@ pub trait FreeView {
         ensures some_work { steps.old < steps.new }
         ensures work { steps.new ≤ steps.old + cost self.now };
 
-    /// Until when the vertex is touched, in seconds: at some moment of each window that begins then or before and ends no
-    /// sooner than this one. `None` exactly where it isn't at a moment of this one.
+    /// Until when the vertex is touched, in seconds: at some moment of each window that begins then or before and ends
+    /// no sooner than this one. `None` exactly where it isn't at a moment of this one.
     fn touched_until<L: Ledger>(
         &self,
         vertex: u32,
@@ -173,11 +174,11 @@ impl<'a> NoJobs<'a> {
 
 impl<'a> FreeView for NoJobs<'a> {
     ghost use Rattle.std.specs.Prelude.{◌≡◌};
-    ghost use Rattle.flux_defs.specs.Present.{nothing};
+    ghost use Rattle.flux_defs.specs.Present.{bare};
 
     ghost graph = { λ view. view.vertices.now };
 
-    ghost stands_for = { λ view present. present ≡ nothing };
+    ghost stands_for = { λ view present. present ≡ bare };
 
     ghost keeps = { λ view vertex kind. ⊥ };
 

@@ -12,7 +12,7 @@ use Rattle.flux_defs.specs.Available.{IsAvailable}
 use Rattle.flux_defs.specs.Fits.{Pick, Piece, Pieces}
 use Rattle.flux_defs.specs.Lowest.{FillsFrom, CanServe, LowestPiece, Lowest}
 use Rattle.flux_defs.specs.Asks.{SomeFit, IsLowestFirst}
-use Rattle.flux_defs.specs.Present.{nothing}
+use Rattle.flux_defs.specs.Present.{bare}
 use Rattle.flux_laws.proofs.Filling.{CanFill, IsDownward, can_fill_from, run, fills_run, fills_past, within_supply}
 use Rattle.flux_laws.proofs.FitLaws.{serves_less, group_fills}
 use Rattle.flux_laws.proofs.Lists.{lowest_list_fits}
@@ -38,7 +38,7 @@ core_piece ok n count v four is may =
 
 module _ (w : Window) where
   abbrev ok : Claim → Type 0
-  ok = IsAvailable (no_bars two_nodes nothing) w
+  ok = IsAvailable (no_bars two_nodes bare) w
 
   pub core_serves : (n count v : ℕ) →
       HasFourCores n → IsCoreOf n v → CanServe two_nodes ok (Beneath n) (cores count) v 1
@@ -51,7 +51,7 @@ module _ (w : Window) where
       (p.0, four.only v p.1.0 p.1.1)
 
   core_down : (n count : ℕ) → IsDownward (CanServe two_nodes ok (Beneath n) (cores count))
-  core_down n count = serves_less two_nodes ok (takes_less (no_bars two_nodes nothing) w) (Beneath n) (cores count)
+  core_down n count = serves_less two_nodes ok (takes_less (no_bars two_nodes bare) w) (Beneath n) (cores count)
 
   past_to : (n count missing : ℕ) (picks : List Pick) → HasFourCores n →
       (low : ℕ) → low ≤ n + 1 → FillsFrom (CanServe two_nodes ok (Beneath n) (cores count)) (n + 1) missing picks →
@@ -164,7 +164,7 @@ module _ (w : Window) where
   slot_writes k n four = transport⁻¹ (lowest_Spread two_nodes ok k (cores 3 ∷ []) n 1 (Pass n ∷ holds (run (n + 1) 3)))
       (holds (run (n + 1) 3), refl, one_slot n four)
 
-  pub two_slots : IsLowestFirst two_nodes nothing
+  pub two_slots : IsLowestFirst two_nodes bare
       (slots 2) w (Pass 1 ∷ Hold 2 ∷ Hold 3 ∷ Hold 4 ∷ Pass 6 ∷ Hold 7 ∷ Hold 8 ∷ Hold 9 ∷ [])
   two_slots = (
     (1, 1) ∷ (6, 1) ∷ [],
@@ -194,11 +194,11 @@ module _ (w : Window) where
             (subst (λ (x : ℕ). CanServe two_nodes ok Everywhere (slot k) x (copies_on x + 1)) second c)
       ]
 
-  pub three_slots : SomeFit two_nodes nothing (slots 3) w → ⊥
+  pub three_slots : SomeFit two_nodes bare (slots 3) w → ⊥
   three_slots s =
       let fit = s.1 in
       let can = CanServe two_nodes ok Everywhere (slot 3) in
       let filled : CanFill can 0 3 = group_fills (Piece two_nodes ok Everywhere (slot 3)) 3 fit.0 fit.3 in
-      let few : 3 ≤ 2 = within_supply can (serves_less two_nodes ok (takes_less (no_bars two_nodes nothing) w) Everywhere
+      let few : 3 ≤ 2 = within_supply can (serves_less two_nodes ok (takes_less (no_bars two_nodes bare) w) Everywhere
       (slot 3)) copies_on (no_more 3) 11 0 3 (λ v q some c. (node_opens 3 v q c).0) filled in
       omega arith

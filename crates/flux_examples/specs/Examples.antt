@@ -11,7 +11,7 @@ use Rattle.flux_defs.specs.Closed.{Scene}
 use Rattle.flux_defs.specs.Available.{IsAvailable}
 use Rattle.flux_defs.specs.Lowest.{CanServe}
 use Rattle.flux_defs.specs.Asks.{SomeFit, IsLowestFirst}
-use Rattle.flux_defs.specs.Present.{up_with, nothing, Present}
+use Rattle.flux_defs.specs.Present.{up_with, bare, Present}
 
 abbrev pub cluster : Vertex
 cluster = record { kind = 0; size = 1; parent = None; id = Some 0; rank = None }
@@ -38,11 +38,11 @@ abbrev pub slots : ℕ → Ask
 slots k = record { needs = Spread k (cores 3 ∷ []) ∷ []; duration = 60; barred = [] }
 
 abbrev pub TwoSlotsAreLowest : Type 0
-TwoSlotsAreLowest = (w : Window) → IsLowestFirst two_nodes nothing (slots 2) w
+TwoSlotsAreLowest = (w : Window) → IsLowestFirst two_nodes bare (slots 2) w
     (Pass 1 ∷ Hold 2 ∷ Hold 3 ∷ Hold 4 ∷ Pass 6 ∷ Hold 7 ∷ Hold 8 ∷ Hold 9 ∷ [])
 
 abbrev pub ThreeSlotsNeverFit : Type 0
-ThreeSlotsNeverFit = (w : Window) → SomeFit two_nodes nothing (slots 3) w → ⊥
+ThreeSlotsNeverFit = (w : Window) → SomeFit two_nodes bare (slots 3) w → ⊥
 
 -- a job that holds core 0 of node 0 for a hundred seconds
 abbrev pub first_core : Job

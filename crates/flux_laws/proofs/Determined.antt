@@ -54,7 +54,8 @@ lowest_once vertices present ask w a b x y =
     lowest_list_once vertices (IsAvailable scene w) (takes_less scene w) 1 Everywhere ask.needs a b x y
 
 pub lowest_fits : (vertices : List Vertex) (present : Present) (ask : Ask) (w : Window) (claims : List Claim) →
-    IsLowestFirst vertices present ask w claims → FitsAsk vertices (IsAvailable (scene_of vertices present ask) w) ask claims
+    IsLowestFirst vertices present ask w claims → FitsAsk vertices (IsAvailable (scene_of vertices present ask) w) ask
+    claims
 lowest_fits vertices present ask w claims low =
     lowest_list_fits vertices (IsAvailable (scene_of vertices present ask) w) 1 Everywhere ask.needs claims low
 
@@ -74,7 +75,8 @@ module _ (g : Setting) (s : State) where
   job_once id start ask a b x y =
       same_job a.id a.start a.end a.claims b.id b.start b.end b.claims
       (x.id-is ∙ sym y.id-is) (x.start-is ∙ sym y.start-is) (x.end-is ∙ sym y.end-is)
-      (lowest_once g.graph.vertices (present_of s) ask (window_of g.horizon ask start) a.claims b.claims x.lowest y.lowest)
+      (lowest_once g.graph.vertices (present_of s) ask (window_of g.horizon ask start) a.claims b.claims x.lowest
+      y.lowest)
 
   accepted_once : (id : ℕ) (ask : Ask) (start : ℕ) (r t : Reply) →
       AcceptedOrFull g s id ask start r → AcceptedOrFull g s id ask start t → r ≡ t
@@ -87,7 +89,8 @@ module _ (g : Setting) (s : State) where
 
   reserved_once : (id : ℕ) (ask : Ask) (r t : Reply) →
       ((n : ℕ) × IsEarliest g.graph.vertices (present_of s) g.horizon ask s.moment n × AcceptedOrFull g s id ask n r) →
-      ((n : ℕ) × IsEarliest g.graph.vertices (present_of s) g.horizon ask s.moment n × AcceptedOrFull g s id ask n t) → r ≡ t
+      ((n : ℕ) × IsEarliest g.graph.vertices (present_of s) g.horizon ask s.moment n × AcceptedOrFull g s id ask n t) →
+      r ≡ t
   reserved_once id ask r t p q =
       accepted_once id ask p.0 r t p.2 (subst (λ (n : ℕ). AcceptedOrFull g s id ask n t)
       (earliest_once g.graph.vertices (present_of s) g.horizon ask s.moment q.0 p.0 q.1 p.1) q.2)

@@ -32,7 +32,8 @@ ReplyIsDetermined = (g : Setting) (s : State) (c : Command) (r t : Reply) → Re
 -- Lowest-first claims fit.
 abbrev pub LowestFits : Type 0
 LowestFits = (vertices : List Vertex) (present : Present) (ask : Ask) (w : Window) (claims : List Claim) →
-    IsLowestFirst vertices present ask w claims → FitsAsk vertices (IsAvailable (scene_of vertices present ask) w) ask claims
+    IsLowestFirst vertices present ask w claims → FitsAsk vertices (IsAvailable (scene_of vertices present ask) w) ask
+    claims
 
 -- A fit with the multiplier k is a fit of the needs scaled by k.
 abbrev pub MultiplyingIsScaling : Type 0

@@ -69,12 +69,15 @@ module _ (s : Scene) (m n : ℕ) (lives : LivesOn s.present.jobs m n) where
       (holds_over s.vertices v)) (is_withheld s v) (claim_on s.present.jobs m n (holds_over s.vertices v) lives)
 
   touched_on : (v : ℕ) → IsTrue (is_touched s m v) → IsTrue (is_touched s n v)
-  touched_on v = or_mono (some_live_claim s.present.jobs m (is_on_or_below s.vertices v)) (some_live_claim s.present.jobs n
-      (is_on_or_below s.vertices v)) (has_withheld s v) (claim_on s.present.jobs m n (is_on_or_below s.vertices v) lives)
+  touched_on v = or_mono (some_live_claim s.present.jobs m (is_on_or_below s.vertices v))
+      (some_live_claim s.present.jobs n
+      (is_on_or_below s.vertices v)) (has_withheld s v)
+      (claim_on s.present.jobs m n (is_on_or_below s.vertices v) lives)
 
   free_on : (v : ℕ) → free_at s n v ≤ free_at s m v
   free_on v = free_mono (is_closed s m v) (is_closed s n v) (is_pool s.vertices v)
-      (size_of s.vertices v) (taken_at s.present.jobs m v) (taken_at s.present.jobs n v) (closed_on v) (taken_on s.present.jobs m n v lives)
+      (size_of s.vertices v) (taken_at s.present.jobs m v) (taken_at s.present.jobs n v) (closed_on v)
+      (taken_on s.present.jobs m n v lives)
 
   pub available_on : (c : Claim) → IsTrue (is_available_at s n c) → IsTrue (is_available_at s m c)
   available_on (Take v q) h = le_mono q (free_at s n v) (free_at s m v) (free_on v) h

@@ -88,82 +88,83 @@ module _ (scene : Scene) (w : Window) (v : ℕ) where
       at_least h e = grind (arith, nat_tests)
 
 -- an ask's bars close and touch vertices beside what stands
-module _ (vertices : List Vertex) (present : Present) (barred : List ℕ) (w : Window) (v : ℕ) (opens : w.from < w.to) where
-  abbrev pub scene : Scene
-  scene = record { vertices = vertices; present = present; barred = barred }
+module _ (vertices : List Vertex) (present : Present) (barred : List ℕ) (w : Window) (v : ℕ) (opens : w.from < w.to)
+  where
+    abbrev pub scene : Scene
+    scene = record { vertices = vertices; present = present; barred = barred }
 
-  abbrev held : ℕ → Bool
-  held m = some_live_claim present.jobs m (holds_over vertices v)
+    abbrev held : ℕ → Bool
+    held m = some_live_claim present.jobs m (holds_over vertices v)
 
-  abbrev claimed : ℕ → Bool
-  claimed m = some_live_claim present.jobs m (is_on_or_below vertices v)
+    abbrev claimed : ℕ → Bool
+    claimed m = some_live_claim present.jobs m (is_on_or_below vertices v)
 
-  abbrev is_barred : Bool
-  is_barred = list_any (is_at_or_below vertices v) barred
+    abbrev is_barred : Bool
+    is_barred = list_any (is_at_or_below vertices v) barred
 
-  abbrev has_barred : Bool
-  has_barred = list_any (λ u. is_at_or_below vertices u v) barred
+    abbrev has_barred : Bool
+    has_barred = list_any (λ u. is_at_or_below vertices u v) barred
 
-  abbrev is_down : Bool
-  is_down = list_any (is_at_or_below vertices v) present.down
+    abbrev is_down : Bool
+    is_down = list_any (is_at_or_below vertices v) present.down
 
-  abbrev has_down : Bool
-  has_down = list_any (λ u. is_at_or_below vertices u v) present.down
+    abbrev has_down : Bool
+    has_down = list_any (λ u. is_at_or_below vertices u v) present.down
 
-  -- a barred vertex is closed, and one at or above a barred one touched
-  pub closed_barred : (b : Bool) → b ≡ true → b ≡ is_barred → (IsTrue b ↔ IsClosedIn scene w v)
-  closed_barred b t e =
-      (λ _. (w.from, omega arith, opens, or_right (held w.from) _ (or_left _ is_down (sym e ∙ t))), λ _. t)
+    -- a barred vertex is closed, and one at or above a barred one touched
+    pub closed_barred : (b : Bool) → b ≡ true → b ≡ is_barred → (IsTrue b ↔ IsClosedIn scene w v)
+    closed_barred b t e =
+        (λ _. (w.from, omega arith, opens, or_right (held w.from) _ (or_left _ is_down (sym e ∙ t))), λ _. t)
 
-  pub touched_barred : (b : Bool) → b ≡ true → b ≡ has_barred → (IsTrue b ↔ IsTouchedIn scene w v)
-  touched_barred b t e =
-      (λ _. (w.from, omega arith, opens, or_right (claimed w.from) _ (or_left _ has_down (sym e ∙ t))), λ _. t)
+    pub touched_barred : (b : Bool) → b ≡ true → b ≡ has_barred → (IsTrue b ↔ IsTouchedIn scene w v)
+    touched_barred b t e =
+        (λ _. (w.from, omega arith, opens, or_right (claimed w.from) _ (or_left _ has_down (sym e ∙ t))), λ _. t)
 
-  -- of any other vertex what stands decides
-  same_closed : (m : ℕ) → is_barred ≡ false → is_closed scene m v ≡ is_closed (no_bars vertices present) m v
-  same_closed m e = ap (λ b. held m || (b || is_down)) e
+    -- of any other vertex what stands decides
+    same_closed : (m : ℕ) → is_barred ≡ false → is_closed scene m v ≡ is_closed (no_bars vertices present) m v
+    same_closed m e = ap (λ b. held m || (b || is_down)) e
 
-  same_touched : (m : ℕ) → has_barred ≡ false → is_touched scene m v ≡ is_touched (no_bars vertices present) m v
-  same_touched m e = ap (λ b. claimed m || (b || has_down)) e
+    same_touched : (m : ℕ) → has_barred ≡ false → is_touched scene m v ≡ is_touched (no_bars vertices present) m v
+    same_touched m e = ap (λ b. claimed m || (b || has_down)) e
 
-  pub closed_unbarred : (a b : Bool) → b ≡ false → b ≡ is_barred →
-      (IsTrue a ↔ IsClosedOver vertices present w v) → (IsTrue a ↔ IsClosedIn scene w v)
-  closed_unbarred a b f e h = (
-    λ t. let s = h.0 t in (s.0, s.1, s.2, same_closed s.0 (sym e ∙ f) ∙ s.3),
-    λ s. h.1 (s.0, s.1, s.2, sym (same_closed s.0 (sym e ∙ f)) ∙ s.3),
-  )
+    pub closed_unbarred : (a b : Bool) → b ≡ false → b ≡ is_barred →
+        (IsTrue a ↔ IsClosedOver vertices present w v) → (IsTrue a ↔ IsClosedIn scene w v)
+    closed_unbarred a b f e h = (
+      λ t. let s = h.0 t in (s.0, s.1, s.2, same_closed s.0 (sym e ∙ f) ∙ s.3),
+      λ s. h.1 (s.0, s.1, s.2, sym (same_closed s.0 (sym e ∙ f)) ∙ s.3),
+    )
 
-  pub touched_unbarred : (a b : Bool) → b ≡ false → b ≡ has_barred →
-      (IsTrue a ↔ IsTouchedOver vertices present w v) → (IsTrue a ↔ IsTouchedIn scene w v)
-  touched_unbarred a b f e h = (
-    λ t. let s = h.0 t in (s.0, s.1, s.2, same_touched s.0 (sym e ∙ f) ∙ s.3),
-    λ s. h.1 (s.0, s.1, s.2, sym (same_touched s.0 (sym e ∙ f)) ∙ s.3),
-  )
+    pub touched_unbarred : (a b : Bool) → b ≡ false → b ≡ has_barred →
+        (IsTrue a ↔ IsTouchedOver vertices present w v) → (IsTrue a ↔ IsTouchedIn scene w v)
+    touched_unbarred a b f e h = (
+      λ t. let s = h.0 t in (s.0, s.1, s.2, same_touched s.0 (sym e ∙ f) ∙ s.3),
+      λ s. h.1 (s.0, s.1, s.2, sym (same_touched s.0 (sym e ∙ f)) ∙ s.3),
+    )
 
-  -- what is free of a vertex that isn't closed
-  abbrev free_open : ℕ → ℕ
-  free_open m = if is_pool vertices v then (size_of vertices v - taken_at present.jobs m v) else 1
+    -- what is free of a vertex that isn't closed
+    abbrev free_open : ℕ → ℕ
+    free_open m = if is_pool vertices v then (size_of vertices v - taken_at present.jobs m v) else 1
 
-  closed_bar : (m : ℕ) → is_barred ≡ true → free_at scene m v ≡ 0
-  closed_bar m e = go (held m) is_barred (free_open m) e
-    where
-      go : (a b : Bool) (n : ℕ) → b ≡ true → (let free : ℕ = (if a || (b || is_down) then 0 else n) in free ≡ 0)
-      go true b n e = refl
-      go false true n e = refl
-      go false false n e = absurd (true≢false (sym e))
+    closed_bar : (m : ℕ) → is_barred ≡ true → free_at scene m v ≡ 0
+    closed_bar m e = go (held m) is_barred (free_open m) e
+      where
+        go : (a b : Bool) (n : ℕ) → b ≡ true → (let free : ℕ = (if a || (b || is_down) then 0 else n) in free ≡ 0)
+        go true b n e = refl
+        go false true n e = refl
+        go false false n e = absurd (true≢false (sym e))
 
-  same_free : (m : ℕ) → is_barred ≡ false → free_at scene m v ≡ free_at (no_bars vertices present) m v
-  same_free m e = ap (λ b. if held m || (b || is_down) then 0 else free_open m) e
+    same_free : (m : ℕ) → is_barred ≡ false → free_at scene m v ≡ free_at (no_bars vertices present) m v
+    same_free m e = ap (λ b. if held m || (b || is_down) then 0 else free_open m) e
 
-  -- nothing is free of a barred vertex
-  pub free_barred : (b : Bool) → b ≡ true → b ≡ is_barred → IsFreeIn scene w v 0
-  free_barred b t e =
-      record { each = λ m lo hi. omega arith; reached = (w.from, omega arith, opens, closed_bar w.from (sym e ∙ t)) }
+    -- nothing is free of a barred vertex
+    pub free_barred : (b : Bool) → b ≡ true → b ≡ is_barred → IsFreeIn scene w v 0
+    free_barred b t e =
+        record { each = λ m lo hi. omega arith; reached = (w.from, omega arith, opens, closed_bar w.from (sym e ∙ t)) }
 
-  -- and of any other as much as without bars
-  pub free_unbarred : (b : Bool) (n : ℕ) → b ≡ false →
-      b ≡ is_barred → IsFreeOver vertices present w v n → IsFreeIn scene w v n
-  free_unbarred b n t e f = record {
-    each = λ m lo hi. subst (λ x. n ≤ x) (sym (same_free m (sym e ∙ t))) (f.each m lo hi);
-    reached = (let r = f.reached in (r.0, r.1, r.2, same_free r.0 (sym e ∙ t) ∙ r.3));
-  }
+    -- and of any other as much as without bars
+    pub free_unbarred : (b : Bool) (n : ℕ) → b ≡ false →
+        b ≡ is_barred → IsFreeOver vertices present w v n → IsFreeIn scene w v n
+    free_unbarred b n t e f = record {
+      each = λ m lo hi. subst (λ x. n ≤ x) (sym (same_free m (sym e ∙ t))) (f.each m lo hi);
+      reached = (let r = f.reached in (r.0, r.1, r.2, same_free r.0 (sym e ∙ t) ∙ r.3));
+    }

@@ -16,10 +16,11 @@ use Rattle.flux_defs.specs.Jobs.{vertex_of}
 use Rattle.flux_defs.specs.Closed.{no_bars}
 use Rattle.flux_defs.specs.Available.{IsAvailable}
 use Rattle.flux_defs.specs.Asks.{window_of}
-use Rattle.flux_defs.specs.Scheduler.{Setting}
+use Rattle.flux_defs.specs.Scheduler.{Setting, present_of}
 use Rattle.flux_defs.specs.Histories.{state_at}
 use Rattle.flux_defs.specs.Overtaken.{Candidate, Frees, Delays, Blocks, IsFirstFrom, NoneFrom, IsAllocate, IsPastFor}
 use Rattle.flux_defs.specs.Overtaken.{CanBeOvertaken, IsOvertaken}
+use Rattle.flux_defs.specs.Present.{Present}
 use Rattle.list_laws.proofs.Lists.{all_along, all_at}
 use Rattle.candidate_check.specs.Taken.{IsFirstGone}
 use Rattle.commit_laws.specs.CommitLaws.{state_now, StillStands}
@@ -31,15 +32,15 @@ use Rattle.overtaken_check.specs.Scans.{cause_of, candidate_of, IsTooLate, Delay
 use Rattle.overtaken_check.specs.Scans.{IsTakenFrom, IsFree, IsWhy, WereClaimed}
 
 -- claims that were had are on vertices of the graph
-pub on_vertices : (vertices : List Vertex) (jobs : List Job) (w : Window) (claims : List Claim) →
-    WereClaimed vertices jobs w claims → All (λ c. vertex_of c < length vertices) claims
-on_vertices vertices jobs w claims was =
+pub on_vertices : (vertices : List Vertex) (present : Present) (w : Window) (claims : List Claim) →
+    WereClaimed vertices present w claims → All (λ c. vertex_of c < length vertices) claims
+on_vertices vertices present w claims was =
     All-from_recursion (λ c. vertex_of c < length vertices) claims
-    (all_along (λ c. IsAvailable (no_bars vertices jobs) w c × (vertex_of c < length vertices))
+    (all_along (λ c. IsAvailable (no_bars vertices present) w c × (vertex_of c < length vertices))
     (λ c. vertex_of c < length vertices) (λ c h. h.1) claims was)
 
 module _ (vertices : List Vertex) (w : Window) (claims : List Claim) (history : List Entry) (place index : ℕ)
-    (gone : IsFirstGone vertices (state_now history).jobs w claims index) where
+    (gone : IsFirstGone vertices (present_of (state_now history)) w claims index) where
   there : (x : Claim) → Some x ≡ slice_get claims index → gone.0 ≡ x
   there x is = let both : Some x ≡ Some gone.0 = is ∙ gone.1.there in cc
 
@@ -49,17 +50,19 @@ module _ (vertices : List Vertex) (w : Window) (claims : List Claim) (history : 
 
   -- and some entry is in its way
   pub is_blocked : (x : Claim) → Some x ≡ slice_get claims index → NoneFrom (Frees history) place →
-      WereClaimed vertices (state_at history place).jobs w claims → NoneFrom (Blocks vertices w x history) place → ⊥
+      WereClaimed vertices (present_of (state_at history place)) w claims →
+      NoneFrom (Blocks vertices w x history) place → ⊥
   is_blocked x is frees was none =
       gone.1.taken
       (still_there history place vertices w gone.0 frees
       (subst (λ (c : Claim). NoneFrom (Blocks vertices w c history) place) (sym (there x is)) none)
-      (all_at (λ c. IsAvailable (no_bars vertices (state_at history place).jobs) w c × (vertex_of c < length vertices))
+      (all_at (λ c. IsAvailable (no_bars vertices (present_of (state_at history place))) w c ×
+      (vertex_of c < length vertices))
       claims index gone.0 was gone.1.there).0)
 
   pub taken_from : (x : Claim) → Some x ≡ slice_get claims index → (at : ℕ) →
       IsFirstFrom (Blocks vertices w x history) place at →
-      IsTakenFrom vertices (state_now history).jobs w claims history place (cause.Taken at index)
+      IsTakenFrom vertices (present_of (state_now history)) w claims history place (cause.Taken at index)
   taken_from x is at first = (
     gone.0,
     gone.1,

@@ -21,6 +21,8 @@ use Rattle.flux_defs.specs.Histories.{state_at}
 use Rattle.flux_defs.specs.Overtaken as over
 use Rattle.flux_defs.specs.Overtaken.{Candidate, HasEntry, HasAccepted, Frees, Blocks, conflicts, IsFirstFrom}
 use Rattle.flux_defs.specs.Overtaken.{IsFirstTaken, NoneFrom}
+use Rattle.flux_defs.specs.Scheduler.{present_of}
+use Rattle.flux_defs.specs.Present.{Present}
 use Rattle.commit_laws.specs.CommitLaws.{state_now}
 use Rattle.overtaken_check.specs.declared.causes.Cause.{Cause}
 use Rattle.overtaken_check.specs.declared.causes.Cause.TheVariants as cause
@@ -70,17 +72,17 @@ abbrev pub IsUnhindered : Option ℕ → List Entry → ℕ → Type 0
 IsUnhindered last history place = NoneFrom (Frees history) place × NoneFrom (DelaysPast last history) place
 
 -- the first of the claims that isn't available any more, and the first entry in its way
-abbrev pub IsTakenFrom : List Vertex → List Job → Window → List Claim → List Entry → ℕ → Cause → Type 0
-IsTakenFrom vertices jobs w claims history place (cause.Taken at index) =
-    (claim : Claim) × IsFirstTaken vertices jobs w claims index claim
+abbrev pub IsTakenFrom : List Vertex → Present → Window → List Claim → List Entry → ℕ → Cause → Type 0
+IsTakenFrom vertices present w claims history place (cause.Taken at index) =
+    (claim : Claim) × IsFirstTaken vertices present w claims index claim
     × IsFirstFrom (Blocks vertices w claim history) place at
-IsTakenFrom vertices jobs w claims history place c = ⊥
+IsTakenFrom vertices present w claims history place c = ⊥
 
 -- nothing overtook the claims
 abbrev pub IsFree : List Vertex → Window → List Claim → Option ℕ → List Entry → ℕ → Type 0
 IsFree vertices w claims last history place =
     IsUnhindered last history place
-    × AllByRecursion (IsAvailable (no_bars vertices (state_now history).jobs) w) claims
+    × AllByRecursion (IsAvailable (no_bars vertices (present_of (state_now history))) w) claims
 
 -- why claims that were found are overtaken: the first of the three kinds that holds
 abbrev pub IsWhy : List Vertex → Window → List Claim → Option ℕ → List Entry → ℕ → Cause → Type 0
@@ -88,27 +90,27 @@ IsWhy vertices w claims last history place (cause.Freed at) = IsHindered last hi
 IsWhy vertices w claims last history place (cause.Late at) = IsHindered last history place (cause.Late at)
 IsWhy vertices w claims last history place (cause.Taken at claim) =
     IsUnhindered last history place
-    × IsTakenFrom vertices (state_now history).jobs w claims history place (cause.Taken at claim)
+    × IsTakenFrom vertices (present_of (state_now history)) w claims history place (cause.Taken at claim)
 
 -- the candidate of a command, a place and a verdict
 abbrev pub candidate_of : Command → ℕ → Verdict → Candidate
 candidate_of c place v = record { command = c; place = place; verdict = v }
 
 -- the claims were available over the window, and are on vertices of the graph
-abbrev pub WereClaimed : List Vertex → List Job → Window → List Claim → Type 0
-WereClaimed vertices jobs w claims =
-    AllByRecursion (λ c. IsAvailable (no_bars vertices jobs) w c × (vertex_of c < length vertices)) claims
+abbrev pub WereClaimed : List Vertex → Present → Window → List Claim → Type 0
+WereClaimed vertices present w claims =
+    AllByRecursion (λ c. IsAvailable (no_bars vertices present) w c × (vertex_of c < length vertices)) claims
 
 -- where claims were found for an ask, its window counts and they were available over it
-abbrev pub WasFoundFor : List Vertex → ℕ → List Job → Ask → ℕ → List Claim → Type 0
-WasFoundFor vertices horizon jobs ask start claims =
-    CountsWithin horizon ask start × WereClaimed vertices jobs (window_of horizon ask start) claims
+abbrev pub WasFoundFor : List Vertex → ℕ → Present → Ask → ℕ → List Claim → Type 0
+WasFoundFor vertices horizon present ask start claims =
+    CountsWithin horizon ask start × WereClaimed vertices present (window_of horizon ask start) claims
 
 -- the verdict may be one on the command: claims are found for an allocate or a reserve
-abbrev pub MayBeFound : List Vertex → ℕ → List Job → Verdict → Command → Type 0
-MayBeFound vertices horizon jobs (Found start claims) (command.Allocate id ask) =
-    WasFoundFor vertices horizon jobs ask start claims
-MayBeFound vertices horizon jobs (Found start claims) (command.Reserve id ask) =
-    WasFoundFor vertices horizon jobs ask start claims
-MayBeFound vertices horizon jobs (Found start claims) c = ⊥
-MayBeFound vertices horizon jobs v c = Unit {0}
+abbrev pub MayBeFound : List Vertex → ℕ → Present → Verdict → Command → Type 0
+MayBeFound vertices horizon present (Found start claims) (command.Allocate id ask) =
+    WasFoundFor vertices horizon present ask start claims
+MayBeFound vertices horizon present (Found start claims) (command.Reserve id ask) =
+    WasFoundFor vertices horizon present ask start claims
+MayBeFound vertices horizon present (Found start claims) c = ⊥
+MayBeFound vertices horizon present v c = Unit {0}

@@ -7,6 +7,7 @@ ghost use Rattle.flux_defs.specs.Histories.{state_at};
 ghost use Rattle.flux_defs.specs.Jobs.{holds_over, is_on_or_below};
 ghost use Rattle.flux_defs.specs.Overtaken.{Frees, Blocks, conflicts};
 ghost use Rattle.overtaken_check.specs.Scans.{IsTooLate, MovesPast, moment_past, DelaysPast, IsInWay, AcceptsInWay};
+ghost use Rattle.resource_graph.specs.NamedGraph.{vertices_of};
 
 use flux_defs::{Claim, Entry, Job, Reply, Steps, Window};
 use plain_jobs::containment::is_at_or_below;
@@ -80,7 +81,7 @@ pub(crate) fn moment_past<L: Ledger>(
 
 /// Whether the claim holds the vertex or one above it.
 fn holds_over(graph: &Graph, vertex: u32, claim: &Claim) -> bool
-    ensures { result ≡ holds_over graph.now.resources.vertices vertex claim.now }
+    ensures { result ≡ holds_over (vertices_of graph.now) vertex claim.now }
 {
     match claim {
         Claim::Hold { vertex: held } => is_at_or_below(graph, vertex, *held),
@@ -90,7 +91,7 @@ fn holds_over(graph: &Graph, vertex: u32, claim: &Claim) -> bool
 
 /// Whether the other claim is in the way of this one.
 fn is_conflict(graph: &Graph, claim: Claim, other: &Claim) -> bool
-    ensures { result ≡ conflicts graph.now.resources.vertices claim other.now }
+    ensures { result ≡ conflicts (vertices_of graph.now) claim other.now }
 {
     match claim {
         Claim::Hold { vertex } => is_at_or_below(graph, other.vertex(), vertex)
@@ -101,21 +102,21 @@ fn is_conflict(graph: &Graph, claim: Claim, other: &Claim) -> bool
 }
 
 fn has_conflict(graph: &Graph, claim: Claim, claims: &[Claim]) -> bool
-    ensures { result ≡ list_any (conflicts graph.now.resources.vertices claim) claims.now }
+    ensures { result ≡ list_any (conflicts (vertices_of graph.now) claim) claims.now }
 {
     claims.iter().any(|other| is_conflict(graph, claim, other))
 }
 
 /// Whether the job overlaps the window and has a claim in the way of this one.
 fn is_in_way(graph: &Graph, window: Window, claim: Claim, job: &Job) -> bool
-    ensures { IsTrue result ↔ IsInWay graph.now.resources.vertices window claim job.now }
+    ensures { IsTrue result ↔ IsInWay (vertices_of graph.now) window claim job.now }
 {
     job.start < window.to && window.from < job.end && has_conflict(graph, claim, job.claims.items())
 }
 
 /// Whether the entry accepted such a job.
 fn accepts_in_way(graph: &Graph, window: Window, claim: Claim, entry: &Entry) -> bool
-    ensures { IsTrue result ↔ AcceptsInWay graph.now.resources.vertices window claim entry.now }
+    ensures { IsTrue result ↔ AcceptsInWay (vertices_of graph.now) window claim entry.now }
 {
     match &entry.reply {
         Reply::Allocated(job) => is_in_way(graph, window, claim, job),
@@ -133,7 +134,7 @@ pub(crate) fn blocks_at<L: Ledger>(
     at: u64,
     steps: &mut Steps<L>,
 ) -> bool
-    ensures answer { IsTrue result ↔ Blocks graph.now.resources.vertices window claim journal.now at }
+    ensures answer { IsTrue result ↔ Blocks (vertices_of graph.now) window claim journal.now at }
     ensures work { steps.new ≤ steps.old + 2 * dig (length journal.now + 1) }
 {
     match journal.get(at, steps) {

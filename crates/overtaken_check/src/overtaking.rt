@@ -5,7 +5,7 @@ ghost use Rattle.flux_defs.specs.Jobs.{vertex_of};
 ghost use Rattle.flux_defs.specs.Closed.{no_bars};
 ghost use Rattle.flux_defs.specs.Available.{IsAvailable};
 ghost use Rattle.flux_defs.specs.Asks.{window_of};
-ghost use Rattle.flux_defs.specs.Scheduler.{Setting};
+ghost use Rattle.flux_defs.specs.Scheduler.{Setting, present_of};
 ghost use Rattle.flux_defs.specs.Histories.{state_at};
 ghost use Rattle.flux_defs.specs.Overtaken.{Frees, NoneFrom, IsOvertaken};
 ghost use Rattle.commit_laws.specs.CommitLaws.{state_now, StillStands};
@@ -13,6 +13,7 @@ ghost use Rattle.candidate_check.specs.Taken.{IsFirstGone};
 ghost use Rattle.overtaken_check.specs.Scans.{cause_of, candidate_of, IsHindered, IsUnhindered, IsTakenFrom, IsFree};
 ghost use Rattle.overtaken_check.specs.Scans.{IsWhy, WereClaimed, WasFoundFor, MayBeFound};
 ghost use Rattle.overtaken_check.specs.Costs.{scan_most, claims_found};
+ghost use Rattle.resource_graph.specs.NamedGraph.{vertices_of};
 
 use crate::causes::Cause;
 use crate::scans::{first_block, first_cancel, first_delay};
@@ -55,10 +56,10 @@ fn blocked<L: Ledger>(
     steps: &mut Steps<L>,
 ) -> Cause
     requires frees { NoneFrom (Frees journal.now) place }
-    requires was { WereClaimed graph.now.resources.vertices (state_at journal.now place).jobs window claims.now }
-    requires gone { IsFirstGone graph.now.resources.vertices (state_now journal.now).jobs window claims.now index }
-    ensures answer { IsTakenFrom graph.now.resources.vertices
-        (state_now journal.now).jobs window claims.now journal.now place
+    requires was { WereClaimed (vertices_of graph.now) (present_of (state_at journal.now place)) window claims.now }
+    requires gone { IsFirstGone (vertices_of graph.now) (present_of (state_now journal.now)) window claims.now index }
+    ensures answer { IsTakenFrom (vertices_of graph.now)
+        (present_of (state_now journal.now)) window claims.now journal.now place
         result }
     ensures work { steps.new ≤ steps.old + scan_most journal.now place }
 {
@@ -84,15 +85,15 @@ fn taken<F: FreeView, L: Ledger>(
     place: u64,
     steps: &mut Steps<L>,
 ) -> Option<Cause>
-    requires over { F.graph view.now ≡ graph.now.resources.vertices }
-    requires jobs { F.stands_for view.now (state_now journal.now).jobs }
+    requires over { F.graph view.now ≡ vertices_of graph.now }
+    requires jobs { F.stands_for view.now (present_of (state_now journal.now)) }
     requires window { window.from < window.to }
     requires frees { NoneFrom (Frees journal.now) place }
-    requires was { WereClaimed graph.now.resources.vertices (state_at journal.now place).jobs window claims.now }
+    requires was { WereClaimed (vertices_of graph.now) (present_of (state_at journal.now place)) window claims.now }
     ensures answer { MatchOption result
-        (AllByRecursion (IsAvailable (no_bars graph.now.resources.vertices (state_now journal.now).jobs) window)
+        (AllByRecursion (IsAvailable (no_bars (vertices_of graph.now) (present_of (state_now journal.now))) window)
         claims.now)
-        (IsTakenFrom graph.now.resources.vertices (state_now journal.now).jobs window claims.now journal.now place) }
+        (IsTakenFrom (vertices_of graph.now) (present_of (state_now journal.now)) window claims.now journal.now place) }
     ensures work { steps.new ≤ steps.old + 2 * F.cost view.now * length claims.now + scan_most journal.now place }
 {
     match still_free(view, claims, window, steps) {
@@ -115,14 +116,14 @@ fn found_overtaken<F: FreeView, L: Ledger>(
     last: Option<u64>,
     steps: &mut Steps<L>,
 ) -> Option<Cause>
-    requires over { F.graph view.now ≡ graph.now.resources.vertices }
-    requires jobs { F.stands_for view.now (state_now journal.now).jobs }
+    requires over { F.graph view.now ≡ vertices_of graph.now }
+    requires jobs { F.stands_for view.now (present_of (state_now journal.now)) }
     requires moment { moment ≡ (state_at journal.now place).moment }
-    requires found { WasFoundFor graph.now.resources.vertices horizon (state_at journal.now place).jobs ask.now start
+    requires found { WasFoundFor (vertices_of graph.now) horizon (present_of (state_at journal.now place)) ask.now start
         claims.now }
     ensures answer { MatchOption result
-        (IsFree graph.now.resources.vertices (window_of horizon ask.now start) claims.now last journal.now place)
-        (IsWhy graph.now.resources.vertices (window_of horizon ask.now start) claims.now last journal.now place) }
+        (IsFree (vertices_of graph.now) (window_of horizon ask.now start) claims.now last journal.now place)
+        (IsWhy (vertices_of graph.now) (window_of horizon ask.now start) claims.now last journal.now place) }
     ensures work { steps.new ≤ steps.old + 2 * F.cost view.now * length claims.now + 3 * scan_most journal.now place }
 {
     if place >= journal.len() {
@@ -151,12 +152,12 @@ pub fn overtaken<F: FreeView, L: Ledger>(
     verdict: &Verdict,
     steps: &mut Steps<L>,
 ) -> Option<Cause>
-    requires over { F.graph view.now ≡ graph.now.resources.vertices }
-    requires jobs { F.stands_for view.now (state_now journal.now).jobs }
+    requires over { F.graph view.now ≡ vertices_of graph.now }
+    requires jobs { F.stands_for view.now (present_of (state_now journal.now)) }
     requires moment { moment ≡ (state_at journal.now place).moment }
-    requires found { MayBeFound graph.now.resources.vertices horizon (state_at journal.now place).jobs verdict.now
+    requires found { MayBeFound (vertices_of graph.now) horizon (present_of (state_at journal.now place)) verdict.now
         command.now }
-    ensures answer { (g : Setting) → g.graph.vertices ≡ graph.now.resources.vertices → g.horizon ≡ horizon →
+    ensures answer { (g : Setting) → g.graph.vertices ≡ (vertices_of graph.now) → g.horizon ≡ horizon →
         MatchOption result (StillStands g journal.now (candidate_of command.now place verdict.now))
         (λ cause. IsOvertaken g journal.now (candidate_of command.now place verdict.now) (cause_of cause)) }
     ensures work { steps.new ≤ steps.old + 2 * F.cost view.now * length

@@ -4,6 +4,7 @@ ghost use Rattle.flux_defs.specs.Histories.{state_at};
 ghost use Rattle.flux_defs.specs.Overtaken.{Frees, Blocks, IsFirstFrom, NoneFrom};
 ghost use Rattle.overtaken_check.specs.Scans.{DelaysPast};
 ghost use Rattle.overtaken_check.specs.Costs.{scan_most};
+ghost use Rattle.resource_graph.specs.NamedGraph.{vertices_of};
 
 use crate::entries::{blocks_at, frees_at, moment_past};
 use flux_defs::{Claim, Entry, Steps, Window};
@@ -61,8 +62,8 @@ pub(crate) fn first_block<L: Ledger>(
     place: u64,
     steps: &mut Steps<L>,
 ) -> Option<u64>
-    ensures answer { MatchOption result (NoneFrom (Blocks graph.now.resources.vertices window claim journal.now) place)
-        (IsFirstFrom (Blocks graph.now.resources.vertices window claim journal.now) place) }
+    ensures answer { MatchOption result (NoneFrom (Blocks (vertices_of graph.now) window claim journal.now) place)
+        (IsFirstFrom (Blocks (vertices_of graph.now) window claim journal.now) place) }
     ensures work { steps.new ≤ steps.old + scan_most journal.now place }
 {
     for at in place..journal.len() {

@@ -12,11 +12,12 @@ use Rattle.flux_defs.specs.Graph.{is_pool_kind, is_pool, size_of}
 use Rattle.flux_defs.specs.ValidGraph.{HasFairSizes}
 use Rattle.flux_defs.specs.Closed.{Scene, no_bars, is_closed, IsClosedOver}
 use Rattle.flux_defs.specs.Free.{free_at, taken_at, IsFreeOver}
+use Rattle.flux_defs.specs.Present.{up_with}
 use Rattle.plain_jobs.specs.Spans.{IsMostTaken}
 
 module _ (vertices : List Vertex) (jobs : List Job) (w : Window) (v : ℕ) where
   abbrev scene : Scene
-  scene = no_bars vertices jobs
+  scene = no_bars vertices (up_with jobs)
 
   abbrev free_where : Bool → Bool → ℕ → ℕ
   free_where closed pool m = if closed then 0 else (if pool then (size_of vertices v - taken_at jobs m v) else 1)
@@ -29,17 +30,18 @@ module _ (vertices : List Vertex) (jobs : List Job) (w : Window) (v : ℕ) where
   free_open m pool h k = ap (λ b. free_where b (is_pool vertices v) m) h ∙ ap (λ b. free_where false b m) k
 
   pub free_where_closed : (b : Bool) →
-      b ≡ true → (IsTrue b ↔ IsClosedOver vertices jobs w v) → IsFreeOver vertices jobs w v 0
+      b ≡ true → (IsTrue b ↔ IsClosedOver vertices (up_with jobs) w v) → IsFreeOver vertices (up_with jobs) w v 0
   free_where_closed b e h =
       let s = h.0 e in record { each = λ m lo hi. omega arith; reached = (s.0, s.1, s.2, free_closed s.0 s.3) }
 
   is_open : (b : Bool) → b ≡ false →
-      (IsTrue b ↔ IsClosedOver vertices jobs w v) → (m : ℕ) → w.from ≤ m → m < w.to → is_closed scene m v ≡ false
+      (IsTrue b ↔ IsClosedOver vertices (up_with jobs) w v) → (m : ℕ) → w.from ≤ m → m < w.to →
+      is_closed scene m v ≡ false
   is_open b e h m lo hi = false_from_ne_true (is_closed scene m v) (λ t. true≢false (sym (h.1 (m, lo, hi, t)) ∙ e))
 
-  pub free_of_pool : (b : Bool) (n size r : ℕ) → b ≡ false → (IsTrue b ↔ IsClosedOver vertices jobs w v) →
+  pub free_of_pool : (b : Bool) (n size r : ℕ) → b ≡ false → (IsTrue b ↔ IsClosedOver vertices (up_with jobs) w v) →
       is_pool vertices v ≡ true → size_of vertices v ≡ size → size ≤ 18446744073709551615 →
-      r ≡ size - n → IsMostTaken jobs w v 18446744073709551615 n → IsFreeOver vertices jobs w v r
+      r ≡ size - n → IsMostTaken jobs w v 18446744073709551615 n → IsFreeOver vertices (up_with jobs) w v r
   free_of_pool b n size r e h pool s le is most = record {
     each = λ m lo hi. (let free : free_at scene m v
         ≡ size_of vertices v - taken_at jobs m v = free_open m true (is_open b e h m lo hi) pool in
@@ -54,8 +56,8 @@ module _ (vertices : List Vertex) (jobs : List Job) (w : Window) (v : ℕ) where
     ));
   }
 
-  pub free_of_other : (b : Bool) → b ≡ false → (IsTrue b ↔ IsClosedOver vertices jobs w v) →
-      is_pool vertices v ≡ false → w.from < w.to → IsFreeOver vertices jobs w v 1
+  pub free_of_other : (b : Bool) → b ≡ false → (IsTrue b ↔ IsClosedOver vertices (up_with jobs) w v) →
+      is_pool vertices v ≡ false → w.from < w.to → IsFreeOver vertices (up_with jobs) w v 1
   free_of_other b e h pool opens = record {
     each =
         λ m lo hi. (let free : free_at scene m v ≡ 1 = free_open m false (is_open b e h m lo hi) pool in omega arith);

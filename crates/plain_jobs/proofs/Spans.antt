@@ -14,6 +14,7 @@ use Rattle.flux_defs.specs.declared.claims.Window.{Window}
 use Rattle.flux_defs.specs.Jobs.{is_live, some_live_claim, SomeMoment, EachMoment, holds_over, is_on_or_below}
 use Rattle.flux_defs.specs.Closed.{IsClosedOver, IsTouchedOver}
 use Rattle.flux_defs.specs.Free.{taken_at}
+use Rattle.flux_defs.specs.Present.{up_with}
 use Rattle.match_laws.proofs.Live.{LivesOn, taken_on}
 use Rattle.plain_jobs.specs.Spans.{overlaps, some_overlap, IsMostTaken, Raises}
 
@@ -142,13 +143,13 @@ most_taken jobs w v cap n begin starts m lo hi =
 -- the answers over a list of jobs
 pub closed_tells : (vertices : List Vertex) (jobs : List Job) (w : Window) (v : ℕ) →
     w.from < w.to → (b : Bool) → b ≡ some_overlap jobs w (holds_over vertices v) →
-    (IsTrue b ↔ IsClosedOver vertices jobs w v)
+    (IsTrue b ↔ IsClosedOver vertices (up_with jobs) w v)
 closed_tells vertices jobs w v opens b e = let t = some_overlap_tells w opens (holds_over vertices v) jobs in
     (λ h. t.0 (sym e ∙ h), λ s. e ∙ t.1 s)
 
 pub touched_tells : (vertices : List Vertex) (jobs : List Job) (w : Window) (v : ℕ) →
     w.from < w.to → (b : Bool) → b ≡ some_overlap jobs w (is_on_or_below vertices v) →
-    (IsTrue b ↔ IsTouchedOver vertices jobs w v)
+    (IsTrue b ↔ IsTouchedOver vertices (up_with jobs) w v)
 touched_tells vertices jobs w v opens b e = let t = some_overlap_tells w opens (is_on_or_below vertices v) jobs in
     (λ h. t.0 (sym e ∙ h), λ s. e ∙ t.1 s)
 

@@ -1,5 +1,6 @@
 //! The list of jobs as a view.
 ghost use Rattle.std.specs.Prelude.{◌≡◌};
+ghost use Rattle.resource_graph.specs.NamedGraph.{vertices_of};
 
 use crate::jobs::{is_closed, is_touched, next_point};
 use crate::takes::most_taken;
@@ -7,7 +8,7 @@ use flux_defs::{FreeView, Job, List, Steps, Window};
 use resource_graph::Graph;
 use std::sync::ledger::Ledger;
 
-/// A graph and a plain list of jobs. It keeps no totals.
+/// A graph, all of whose vertices are up, and a plain list of jobs. It keeps no totals.
 #[derive(Clone, Copy)]
 pub struct PlainJobs<'a> {
     graph: &'a Graph,
@@ -26,10 +27,11 @@ impl<'a> PlainJobs<'a> {
 
 impl<'a> FreeView for PlainJobs<'a> {
     ghost use Rattle.std.specs.Prelude.{◌≡◌};
+    ghost use Rattle.flux_defs.specs.Present.{up_with};
 
-    ghost graph = { λ view. view.graph.now.resources.vertices };
+    ghost graph = { λ view. (vertices_of view.graph.now) };
 
-    ghost stands_for = { λ view jobs. jobs ≡ view.jobs.now };
+    ghost stands_for = { λ view present. present ≡ up_with view.jobs.now };
 
     ghost keeps = { λ view vertex kind. ⊥ };
 

@@ -20,7 +20,8 @@ pub trait TotalsView: FreeView {
     ) -> Option<u64>
         requires kept { Self.keeps self.now 0 kind }
         ensures later { IfSome result (λ t. after < t) }
-        ensures answer { InEach (Self.stands_for self.now) (λ present. IsNextAmpleOrNone (Self.graph self.now) present kind amount after result) }
+        ensures answer { InEach (Self.stands_for self.now) (λ present. IsNextAmpleOrNone (Self.graph self.now) present
+            kind amount after result) }
         ensures some_work { steps.old < steps.new }
         ensures work { steps.new ≤ steps.old + Self.cost self.now };
 }

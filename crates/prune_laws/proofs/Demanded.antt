@@ -400,7 +400,8 @@ too_little_none g names valid present barred w need fine v short scope u q under
     let there = piece_total g names valid present barred w kind m lo hi scope need fine u q can.0 some can.1 in
     let one = demand_more g.vertices kind 1 q need some in
     let part : total_at g.vertices present kind m u ≤ total_at g.vertices present kind m v =
-    part_sum kind (λ x. free_at (no_bars g.vertices (all_up present)) m x) g.vertices (λ x. is_at_or_below g.vertices x u)
+    part_sum kind (λ x. free_at (no_bars g.vertices (all_up present)) m x) g.vertices
+    (λ x. is_at_or_below g.vertices x u)
     (λ x. is_at_or_below g.vertices x v)
     (λ x lt h. below_trans g.vertices (parents_first g valid.preorder) x u v lt h under) in
     let all : demand g.vertices kind q need ≤ total_at g.vertices present kind m u = there in

@@ -1,6 +1,7 @@
 -- A graph with the texts of its vertices (RFC 4).
 use Rattle.std.specs.Prelude.{◌≡◌, ℕ, List, [], ◌++◌, length, reverse, slice_get, unwrap_or, codes}
 use Rattle.std.specs.List.{flat_map}
+use Rattle.flux_defs.specs.declared.vertices.Vertex.{Vertex}
 use Rattle.flux_defs.specs.Graph.{ResourceGraph}
 use Rattle.resource_graph.specs.Chains.{chain_of}
 use Rattle.flux_defs.specs.ValidGraph.{IsValidGraph}
@@ -12,6 +13,10 @@ pub record NamedGraph : Type 0 where
   pub bases : List (List ℕ)
   pub units : List (List ℕ)
   pub properties : List (List (List ℕ))
+
+-- its vertices
+abbrev pub vertices_of : NamedGraph → List Vertex
+vertices_of g = g.resources.vertices
 
 -- the graph is valid, and each vertex has its texts
 pub record IsWhole (g : NamedGraph) : Type 0 where

@@ -27,8 +27,9 @@ use Rattle.flux_defs.specs.Free.{taken_at}
 use Rattle.flux_defs.specs.Available.{is_available_at, IsAvailable}
 use Rattle.flux_defs.specs.Asks.{window_of, CountsWithin, scene_of, IsLowestFirst}
 use Rattle.flux_defs.specs.Scheduler.{Setting, State, IsProper, IsAcceptedAs, AcceptedOrFull, Replies, accepted_reply}
-use Rattle.flux_defs.specs.Scheduler.{JobReplies, job_with, info_at}
+use Rattle.flux_defs.specs.Scheduler.{JobReplies, job_with, info_at, present_of}
 use Rattle.flux_defs.specs.Sound.{AreAllSeparate}
+use Rattle.flux_defs.specs.Present.{up_with}
 use Rattle.flux_laws.proofs.Aside.{separate_fits}
 use Rattle.flux_laws.proofs.Determined.{lowest_fits}
 use Rattle.sound_laws.proofs.Had.{IsHad, TakesPool, fits_had}
@@ -56,10 +57,10 @@ free_without false false q n h = h
 
 module _ (vertices : List Vertex) (jobs : List Job) (barred : List ℕ) where
   abbrev scene : Scene
-  scene = record { vertices = vertices; jobs = jobs; barred = barred }
+  scene = record { vertices = vertices; present = up_with jobs; barred = barred }
 
   unbarred_at : (m : ℕ) (c : Claim) → IsTrue (is_available_at scene m c) →
-      IsTrue (is_available_at (no_bars vertices jobs) m c)
+      IsTrue (is_available_at (no_bars vertices (up_with jobs)) m c)
   unbarred_at m (Take v q) h =
       free_without (some_live_claim jobs m (holds_over vertices v)) (is_withheld scene v) q
       (if is_pool vertices v then (size_of vertices v - taken_at jobs m v) else 1) h
@@ -69,7 +70,7 @@ module _ (vertices : List Vertex) (jobs : List Job) (barred : List ℕ) where
       (open_without (some_live_claim jobs m (is_on_or_below vertices v)) (has_withheld scene v) b.1)
   unbarred_at m (Pass v) h = open_without (some_live_claim jobs m (holds_over vertices v)) (is_withheld scene v) h
 
-  unbarred : (w : Window) (c : Claim) → IsAvailable scene w c → IsAvailable (no_bars vertices jobs) w c
+  unbarred : (w : Window) (c : Claim) → IsAvailable scene w c → IsAvailable (no_bars vertices (up_with jobs)) w c
   unbarred w c h m lo hi = unbarred_at m c (h m lo hi)
 
 pool_of : (vertices : List Vertex) (c : Claim) → TakesPool vertices c → TakesFromPool vertices c
@@ -100,12 +101,12 @@ module _ (g : Setting) (names : List (List ℕ)) (valid : IsValidGraph g.graph n
       let vs = g.graph.vertices in
       let w : Window = record { from = job.start; to = job.end } in
       let sp = spans g.horizon ask start counts in
-      let low : IsLowestFirst vs s.jobs ask w job.claims =
-      subst (λ (x : Window). IsLowestFirst vs s.jobs ask x job.claims)
+      let low : IsLowestFirst vs (present_of s) ask w job.claims =
+      subst (λ (x : Window). IsLowestFirst vs (present_of s) ask x job.claims)
       (same_window start (window_of g.horizon ask start).to job.start job.end (sym is.start-is) (sym is.end-is))
       is.lowest in
-      let ok = IsAvailable (scene_of vs s.jobs ask) w in
-      let fit = lowest_fits vs s.jobs ask w job.claims low in
+      let ok = IsAvailable (scene_of vs (present_of s) ask) w in
+      let fit = lowest_fits vs (present_of s) ask w job.claims low in
       let had = fits_had vs ok 1 Everywhere ask.needs proper.needs job.claims fit in
       record {
         begins = subst (λ (n : ℕ). job.start < n) (sym is.end-is)
@@ -121,8 +122,9 @@ module _ (g : Setting) (names : List (List ℕ)) (valid : IsValidGraph g.graph n
             stood book (g.graph, sym over, valid.preorder) s.jobs jobs at.jobs stands w job.claims
             (subst (λ (x : List Vertex). AllByRecursion (λ c. vertex_of c < length x) job.claims) (sym over)
             (fits_on vs ok 1 Everywhere ask.needs job.claims fit))
-            (subst (λ (x : List Vertex). AllByRecursion (IsAvailable (no_bars x s.jobs) w) job.claims) (sym over)
-            (all_along (IsHad vs ok) (IsAvailable (no_bars vs s.jobs) w)
+            (subst (λ (x : List Vertex). AllByRecursion (IsAvailable (no_bars x (present_of s)) w) job.claims)
+            (sym over)
+            (all_along (IsHad vs ok) (IsAvailable (no_bars vs (present_of s)) w)
             (λ c h. unbarred vs s.jobs ask.barred w c h.0) job.claims had));
         fresh = fresh_row journal s job.id (get (rows_of book) job.id) (at.table job.id)
             (subst (λ (n : ℕ). Contains s.used n → ⊥) (sym is.id-is) fresh);

@@ -8,7 +8,7 @@ use Rattle.flux_defs.specs.declared.journal.Reply.{Reply}
 use Rattle.flux_defs.specs.declared.journal.Entry.{Entry}
 use Rattle.flux_defs.specs.declared.verdicts.Verdict.{Verdict}
 use Rattle.flux_defs.specs.declared.verdicts.Verdict.TheVariants.{Found, NoFit, Unsat, Sat, Long, Known}
-use Rattle.flux_defs.specs.Scheduler.{Setting, State, first_state, IsProper, Replies}
+use Rattle.flux_defs.specs.Scheduler.{Setting, State, first_state, IsProper, Replies, present_of}
 use Rattle.flux_defs.specs.Histories.{state_after, state_at}
 use Rattle.flux_defs.specs.Verdicts.{Finds, FindsJob, Yields, YieldsJob}
 use Rattle.graph_laws.proofs.Preorder.{parents_first}
@@ -74,7 +74,7 @@ answers_yield g s id ask none Long r n h = h
 
 -- claims that were found may be looked for
 pub may_be_found : (g : Setting) (s : State) (v : Verdict) (k : Command) → Finds g s k v →
-    MayBeFound g.graph.vertices g.horizon s.jobs v k
+    MayBeFound g.graph.vertices g.horizon (present_of s) v k
 may_be_found g s (Found start claims) (command.Allocate id ask) f =
     let h = allocate_found g s ask start claims id f in (h.0, were_claimed g s ask start claims h)
 may_be_found g s (Found start claims) (command.Reserve id ask) f =

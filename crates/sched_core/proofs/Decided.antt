@@ -6,7 +6,7 @@ use Rattle.flux_defs.specs.declared.journal.Command.TheVariants as command
 use Rattle.flux_defs.specs.declared.journal.Reply.{Reply}
 use Rattle.flux_defs.specs.declared.journal.Reply.TheVariants as reply
 use Rattle.flux_defs.specs.Asks.{window_of, CountsWithin, SomeFit, IsLowestFirst, IsStart, IsEarliest, IsSatisfiable}
-use Rattle.flux_defs.specs.Scheduler.{Setting, State, Where, Unless, JobReplies, Replies, AcceptedOrFull}
+use Rattle.flux_defs.specs.Scheduler.{Setting, State, Where, Unless, JobReplies, Replies, AcceptedOrFull, present_of}
 use Rattle.flux_defs.specs.Scheduler.{accepted_reply}
 use Rattle.flux_defs.specs.declared.verdicts.Verdict.{Verdict}
 use Rattle.flux_defs.specs.declared.verdicts.Verdict.TheVariants.{Found}
@@ -40,7 +40,7 @@ as_given graph rules s id ask v r h horizon l limit n none eh el en given =
 
 module _ (g : Setting) (s : State) (id : ℕ) (ask : Ask) where
   accepts : (start : ℕ) (claims : List Claim) (none r : Reply) →
-      IsLowestFirst g.graph.vertices s.jobs ask (window_of g.horizon ask start) claims →
+      IsLowestFirst g.graph.vertices (present_of s) ask (window_of g.horizon ask start) claims →
       YieldsJob g s id ask none (Found start claims) r → AcceptedOrFull g s id ask start r
   accepts start claims none r low h = (
     job_of g id ask start claims,
@@ -65,13 +65,14 @@ module _ (g : Setting) (s : State) (id : ℕ) (ask : Ask) where
   -- what is given after a look at the present moment, and after a look for the earliest start
   abbrev pub NowGiven : Reply → Type 0
   NowGiven =
-      Unless (SomeFit g.graph.vertices s.jobs ask (window_of g.horizon ask s.moment)) reply.Busy
+      Unless (SomeFit g.graph.vertices (present_of s) ask (window_of g.horizon ask s.moment)) reply.Busy
       (AcceptedOrFull g s id ask s.moment)
 
   abbrev pub StartGiven : Reply → Type 0
   StartGiven =
-      Unless ((t : ℕ) × (s.moment ≤ t) × IsStart g.graph.vertices s.jobs g.horizon ask t) reply.NoStart
-      (λ r. (t : ℕ) × IsEarliest g.graph.vertices s.jobs g.horizon ask s.moment t × AcceptedOrFull g s id ask t r)
+      Unless ((t : ℕ) × (s.moment ≤ t) × IsStart g.graph.vertices (present_of s) g.horizon ask t) reply.NoStart
+      (λ r. (t : ℕ) × IsEarliest g.graph.vertices (present_of s) g.horizon ask s.moment t × AcceptedOrFull g s id ask t
+      r)
 
   now_given : (v : Verdict) (r : Reply) → Answers g s id ask reply.Busy v r → FindsNow g s ask v → NowGiven r
   now_given v r h (inl (none, e)) = inl (none, by reply.Busy v _ r e h)

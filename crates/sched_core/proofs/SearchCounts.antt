@@ -15,13 +15,14 @@ use Rattle.std.specs.Result.{IsErr}
 use Rattle.flux_defs.specs.declared.verdicts.Verdict.{Verdict}
 use Rattle.std.specs.Option.{IsSomeAnd}
 use Rattle.flux_defs.specs.declared.vertices.Vertex.{Vertex}
-use Rattle.flux_defs.specs.declared.claims.Job.{Job}
 use Rattle.flux_defs.specs.declared.requests.Ask.{Ask}
 use Rattle.flux_defs.specs.declared.journal.Command.{Command}
 use Rattle.flux_defs.specs.declared.journal.Command.TheVariants as command
 use Rattle.flux_defs.specs.Asks.{window_of}
 use Rattle.flux_defs.specs.Digits.{dig}
 use Rattle.flux_defs.proofs.DigitLaws.{dig_mono}
+use Rattle.flux_defs.specs.Scheduler.{present_of}
+use Rattle.flux_defs.specs.Present.{Present, InEach, IsUpWith}
 use Rattle.resource_graph.specs.NamedGraph.{NamedGraph}
 use Rattle.book_laws.specs.Grouped.{count_claims}
 use Rattle.earliest_search.proofs.TriedLaws.{enough_more, tries_along, tries_later}
@@ -104,40 +105,40 @@ keeps_at site kept same v kind h =
     (λ high. some_along (slice_get (graph_at site).resources.kinds kind) _ _
     (λ low any. any_map pair_of (λ pair. (pair.1 ≡ low) × ((pair.0 ≡ high) ⊎ (pair.0 ≡ codes "ALL"))) rules any))) h)
 
-module _ (vertices : List Vertex) (jobs : List Job) (horizon moment : ℕ) where
+module _ (vertices : List Vertex) (present : Present) (horizon moment : ℕ) where
   -- nothing is searched
   pub search_none : (keeps : ℕ → ℕ → Type 0) (cost : ℕ) (at : Starts) (ask : Ask) (last old new : ℕ) → new ≤ old →
-      SearchTakes vertices jobs keeps cost horizon moment at ask last old new
+      SearchTakes vertices present keeps cost horizon moment at ask last old new
   search_none keeps cost starts.Now ask last old new le = λ looks enough. omega (arith, le)
   search_none keeps cost starts.Earliest ask last old new le = λ tried looks has enough. omega (arith, le)
 
   -- fewer steps before
   pub search_later : (keeps : ℕ → ℕ → Type 0) (cost : ℕ) (at : Starts) (ask : Ask) (last old start new : ℕ) → start ≤
       old →
-      SearchTakes vertices jobs keeps cost horizon moment at ask last start new →
-      SearchTakes vertices jobs keeps cost horizon moment at ask last old new
+      SearchTakes vertices present keeps cost horizon moment at ask last start new →
+      SearchTakes vertices present keeps cost horizon moment at ask last old new
   search_later keeps cost starts.Now ask last old start new le takes = λ looks enough.
       let t = takes looks enough in omega (arith, le, t)
   search_later keeps cost starts.Earliest ask last old start new le takes =
-      tries_later vertices jobs horizon ask moment keeps cost last last old start new (omega arith) le takes
+      tries_later vertices present horizon ask moment keeps cost last last old start new (omega arith) le takes
 
   -- more totals are kept, and an answer costs less
   module _ (few more : ℕ → ℕ → Type 0) (along : (v kind : ℕ) → few v kind → more v kind) (cost most : ℕ)
       (le : cost ≤ most) where
     search_along : (at : Starts) (ask : Ask) (last old new : ℕ) →
-        SearchTakes vertices jobs more cost horizon moment at ask last old new →
-        SearchTakes vertices jobs few most horizon moment at ask last old new
+        SearchTakes vertices present more cost horizon moment at ask last old new →
+        SearchTakes vertices present few most horizon moment at ask last old new
     search_along starts.Now ask last old new takes = λ looks enough.
-        let t = takes looks (enough_more vertices jobs (window_of horizon ask moment) few more along ask.needs looks
+        let t = takes looks (enough_more vertices present (window_of horizon ask moment) few more along ask.needs looks
         enough) in
         let more' : looks * cost ≤ looks * most = mul-le-mul_left looks le in
         omega (arith, t, more')
     search_along starts.Earliest ask last old new takes =
-        tries_along vertices jobs horizon ask moment few more along cost most last old new le takes
+        tries_along vertices present horizon ask moment few more along cost most last old new le takes
 
     command_along : (find finds : ℕ) → find ≤ finds → (c : Command) (last old new : ℕ) →
-        CommandTakes vertices jobs more cost horizon moment find c last old new →
-        CommandTakes vertices jobs few most horizon moment finds c last old new
+        CommandTakes vertices present more cost horizon moment find c last old new →
+        CommandTakes vertices present few most horizon moment finds c last old new
     command_along find finds fewer (command.Allocate id ask) last old new takes =
         search_later few most starts.Now ask last (old + finds + satisfy_most vertices ask)
         (old + find + satisfy_most vertices ask) new (omega (arith, fewer))
@@ -154,9 +155,9 @@ module _ (vertices : List Vertex) (jobs : List Job) (horizon moment : ℕ) where
 
 -- what is taken over the book is taken in the state of the course
 pub course_takes : (site : Site) (kept : Kept) → IsCore site kept → (c : Command) (last old new : ℕ) →
-    ((jobs : List Job) → StandsFor kept.book jobs →
-    CommandTakes (vertices_at site) jobs (IsTotalKept kept.book) (cost_of kept.book) site.horizon (moment_of kept.book)
-    (16 * dig (len (rows_of kept.book) + 2)) c last old new) →
+    InEach (IsUpWith (StandsFor kept.book)) (λ present.
+    CommandTakes (vertices_at site) present (IsTotalKept kept.book) (cost_of kept.book) site.horizon
+    (moment_of kept.book) (16 * dig (len (rows_of kept.book) + 2)) c last old new) →
     CourseTakes (record { setting = setting_in site kept; journal = journal_in kept }) c last old new
 course_takes site kept core c last old new takes =
     let s = left_by (journal_in kept) in
@@ -171,8 +172,9 @@ course_takes site kept core c last old new takes =
     let find : 16 * dig (len (rows_of kept.book) + 2) ≤ 16 * digits =
     mul-le-mul_left 16 (dig_mono (len (rows_of kept.book) + 2) (2 * count_claims s.jobs + length s.used + 4)
     (omega (arith, few))) in
-    command_along (vertices_at site) s.jobs site.horizon s.moment (IsKindKeptAt (setting_in site kept))
+    command_along (vertices_at site) (present_of s) site.horizon s.moment (IsKindKeptAt (setting_in site kept))
     (IsTotalKept kept.book) (keeps_at site kept core.graph-is) (cost_of kept.book) (512 * digits) view
     (16 * dig (len (rows_of kept.book) + 2)) (16 * digits) find c last old new
-    (subst (λ m. CommandTakes (vertices_at site) s.jobs (IsTotalKept kept.book) (cost_of kept.book) site.horizon m
-    (16 * dig (len (rows_of kept.book) + 2)) c last old new) of.moment (takes s.jobs of.jobs))
+    (subst (λ m. CommandTakes (vertices_at site) (present_of s) (IsTotalKept kept.book) (cost_of kept.book)
+    site.horizon m
+    (16 * dig (len (rows_of kept.book) + 2)) c last old new) of.moment (takes (present_of s) (of.jobs, refl)))

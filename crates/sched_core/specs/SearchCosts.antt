@@ -2,7 +2,6 @@
 use Rattle.std.specs.Prelude.{◌≡◌, ℕ, ◌+◌, ◌*◌, ◌≤◌, ◌⊎◌, List, length, slice_get, Any, codes, Result, Ok, Err}
 use Rattle.std.specs.Option.{IsSomeAnd}
 use Rattle.flux_defs.specs.declared.vertices.Vertex.{Vertex}
-use Rattle.flux_defs.specs.declared.claims.Job.{Job}
 use Rattle.flux_defs.specs.declared.requests.Ask.{Ask}
 use Rattle.flux_defs.specs.declared.journal.Command.{Command}
 use Rattle.flux_defs.specs.declared.journal.Command.TheVariants as command
@@ -11,7 +10,8 @@ use Rattle.flux_defs.specs.declared.verdicts.Verdict.TheVariants as verdict
 use Rattle.flux_defs.specs.Asks.{window_of}
 use Rattle.flux_defs.specs.Digits.{dig}
 use Rattle.flux_defs.specs.Graph.{ResourceGraph}
-use Rattle.flux_defs.specs.Scheduler.{Setting}
+use Rattle.flux_defs.specs.Scheduler.{Setting, present_of}
+use Rattle.flux_defs.specs.Present.{Present, InEach, IsUpWith}
 use Rattle.book_laws.specs.Grouped.{count_claims}
 use Rattle.dfu_match.specs.Tables.{needs_all}
 use Rattle.dfu_match.specs.Pairs.{IsEnoughFor}
@@ -42,14 +42,15 @@ abbrev pub satisfy_most : List Vertex → Ask → ℕ
 satisfy_most vertices ask =
     (length (needs_all ask.needs) + 2) * (length (needs_all ask.needs) * length vertices)
 
--- over the vertices, jobs, the totals that are kept and what an answer costs, with a horizon and the present moment
-module _ (vertices : List Vertex) (jobs : List Job) (keeps : ℕ → ℕ → Type 0) (cost horizon moment : ℕ) where
+-- over the vertices, what stands, the totals that are kept and what an answer costs, with a horizon and the present
+-- moment
+module _ (vertices : List Vertex) (present : Present) (keeps : ℕ → ℕ → Type 0) (cost horizon moment : ℕ) where
   -- from `old` steps to `new` ones for an ask at these starts: a match at the present moment, or at each moment tried
   abbrev pub SearchTakes : Starts → Ask → ℕ → ℕ → ℕ → Type 0
   SearchTakes starts.Now ask last old new =
-      (looks : ℕ) → IsEnoughFor vertices jobs (window_of horizon ask moment) keeps ask.needs looks →
+      (looks : ℕ) → IsEnoughFor vertices present (window_of horizon ask moment) keeps ask.needs looks →
       new ≤ old + looks * cost
-  SearchTakes starts.Earliest ask last old new = TakesTries vertices jobs keeps cost horizon ask moment last old new
+  SearchTakes starts.Earliest ask last old new = TakesTries vertices present keeps cost horizon ask moment last old new
 
   -- the same of a command, with the look for the id, and whether the ask is satisfiable
   abbrev pub CommandTakes : ℕ → Command → ℕ → ℕ → ℕ → Type 0
@@ -60,13 +61,13 @@ module _ (vertices : List Vertex) (jobs : List Job) (keeps : ℕ → ℕ → Typ
   CommandTakes find (command.Satisfy ask) last old new = new ≤ old + satisfy_most vertices ask
   CommandTakes find c last old new = Unit {0}
 
--- so many steps are taken over a book, whichever of its jobs it stands for
+-- so many steps are taken over a book, whatever it stands for
 abbrev pub BookTakes : {E : Type 0} → ResourceGraph → ℕ → BookState → ℕ → Starts → Ask → Result Verdict E → ℕ → ℕ →
     Type 0
 BookTakes g horizon book moment starts ask result old new =
-    (jobs : List Job) → StandsFor book jobs →
-    SearchTakes g.vertices jobs (IsTotalKept book) (cost_of book) horizon moment starts ask (last_in horizon result) old
-    new
+    InEach (IsUpWith (StandsFor book)) (λ present.
+    SearchTakes g.vertices present (IsTotalKept book) (cost_of book) horizon moment starts ask (last_in horizon result)
+    old new)
 
 -- the setting's filter rules keep totals of this type (the second) at this vertex (the first)
 abbrev pub IsKindKeptAt : Setting → ℕ → ℕ → Type 0
@@ -84,5 +85,5 @@ digits_held course = dig (2 * count_claims (state_of course).jobs + length (stat
 -- so many steps are taken for a command in the state of a course
 abbrev pub CourseTakes : Course → Command → ℕ → ℕ → ℕ → Type 0
 CourseTakes course c last old new =
-    CommandTakes course.setting.graph.vertices (state_of course).jobs (IsKindKeptAt course.setting)
+    CommandTakes course.setting.graph.vertices (present_of (state_of course)) (IsKindKeptAt course.setting)
     (512 * digits_held course) course.setting.horizon (state_of course).moment (16 * digits_held course) c last old new

@@ -10,6 +10,7 @@ ghost use Rattle.sched_core.specs.Courses.{left_by, journal_in, vertices_at, set
 ghost use Rattle.sched_core.specs.Answered.{FindsAt, command_of};
 ghost use Rattle.flux_defs.specs.Digits.{dig};
 ghost use Rattle.flux_defs.specs.declared.claims.Job.{Job};
+ghost use Rattle.flux_defs.specs.Present.{InEach, IsUpWith};
 ghost use Rattle.book_state.specs.Books.{StandsFor, IsTotalKept, cost_of, rows_of, moment_of};
 ghost use Rattle.sched_core.specs.Courses.{graph_at};
 ghost use Rattle.sched_core.specs.SearchCosts.{BookTakes, CommandTakes, last_in, satisfy_most};
@@ -84,10 +85,10 @@ pub(crate) fn find<L: Ledger>(
     requires proper { IsProper (vertices_at site.now) command.now }
     requires searchable { IsSearchable command.now }
     ensures found { IfOk result (Finds (setting_in site.now kept.now) (left_by (journal_in kept.now)) command.now) }
-    ensures work { (jobs : List Job) → StandsFor kept.now.book jobs →
-        CommandTakes (vertices_at site.now) jobs (IsTotalKept kept.now.book) (cost_of kept.now.book) site.now.horizon
+    ensures work { InEach (IsUpWith (StandsFor kept.now.book)) (λ present.
+        CommandTakes (vertices_at site.now) present (IsTotalKept kept.now.book) (cost_of kept.now.book) site.now.horizon
         (moment_of kept.now.book) (16 * dig (len (rows_of kept.now.book) + 2)) command.now
-        (last_in site.now.horizon result) steps.old steps.new }
+        (last_in site.now.horizon result) steps.old steps.new) }
 {
     match command {
         Command::Allocate { job, ask } => job_verdict(site, kept, *job, ask, Starts::Now, steps),

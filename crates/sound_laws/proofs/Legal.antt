@@ -56,7 +56,8 @@ module _ (g : Setting) (names : List (List ℕ)) (valid : IsValidGraph g.graph n
   accepts s c id start ask job r needs accepted is sound =
       let spans = same_window start
       (window_of g.horizon ask start).to job.start job.end (sym accepted.start-is) (sym accepted.end-is) in
-      let low = subst (λ (w : Window). IsLowestFirst g.graph.vertices (present_of s) ask w job.claims) spans accepted.lowest in
+      let low = subst (λ (w : Window). IsLowestFirst g.graph.vertices (present_of s) ask w job.claims) spans
+      accepted.lowest in
       subst (λ (y : Reply). Sound (after s c y))
       (sym is) (either (job.start == s.moment) (accepted_keeps g.graph names valid s.jobs ask needs job low sound))
     where

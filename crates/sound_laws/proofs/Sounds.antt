@@ -17,7 +17,7 @@ use Rattle.flux_defs.specs.Closed.{Scene, is_closed, is_touched, is_withheld, ha
 use Rattle.flux_defs.specs.Free.{taken_at}
 use Rattle.flux_defs.specs.Available.{IsAvailable}
 use Rattle.flux_defs.specs.Sound.{AreSeparate, AreAllSeparate, KeepApart, AllKeepApart, IsSound}
-use Rattle.flux_defs.specs.Present.{up_with, nothing}
+use Rattle.flux_defs.specs.Present.{up_with}
 use Rattle.graph_laws.proofs.Containment.{not_to}
 use Rattle.sound_laws.proofs.Members.{each_member, any_member}
 use Rattle.list_laws.proofs.Lists.{all_append, all_filter, all_contained}

@@ -11,6 +11,7 @@ use Rattle.flux_defs.specs.ValidGraph.{StandsInPreorder}
 use Rattle.flux_defs.specs.Jobs.{some_live_claim, SomeMoment}
 use Rattle.flux_defs.specs.Closed.{no_bars, is_closed, IsClosedOver}
 use Rattle.flux_defs.specs.Free.{total_at, IsTotalOver, IsTooLittle, IsTooLittleAt}
+use Rattle.flux_defs.specs.Present.{up_with}
 use Rattle.graph_laws.proofs.Preorder.{parents_first}
 use Rattle.graph_laws.proofs.Containment.{ParentsFirst, below_parent}
 use Rattle.planner_points.specs.declared.spans.Span.{Span}
@@ -123,12 +124,12 @@ module _ (vertices : List Vertex) (first : ParentsFirst vertices) (wide : ℕ) w
 -- closed is held along the chain
 pub closed_moment_is : (vertices : List Vertex) (jobs : List Job) (w : Window) (v : ℕ) (found : Option ℕ) →
     IsMomentOrNone w (along_at jobs vertices (length vertices) (Some v)) found →
-    IsMomentOrNone w (λ m. IsTrue (is_closed (no_bars vertices jobs) m v)) found
+    IsMomentOrNone w (λ m. IsTrue (is_closed (no_bars vertices (up_with jobs)) m v)) found
 closed_moment_is vertices jobs w v None none = λ h. none ((held_closed vertices jobs w v).1 h)
 closed_moment_is vertices jobs w v (Some m) (lo, hi, h) = (
   lo,
   hi,
-  here (λ k. IsTrue (is_closed (no_bars vertices jobs) k v)) m ((held_closed vertices jobs (second m) v).0
+  here (λ k. IsTrue (is_closed (no_bars vertices (up_with jobs)) k v)) m ((held_closed vertices jobs (second m) v).0
       (there (along_at jobs vertices (length vertices) (Some v)) m h)),
 )
 
@@ -145,12 +146,12 @@ module _ (g : ResourceGraph) (o : StandsInPreorder g) (jobs : List Job) (fair : 
   left m = free_at (capacity g.vertices kind v) (grouped (part_count g.vertices kind v) jobs) m
 
   -- where that is less than an amount its total is too little, whether it is closed or not
-  pub less_left : (m amount : ℕ) → left m < amount → IsTooLittleAt g.vertices jobs v kind amount m
+  pub less_left : (m amount : ℕ) → left m < amount → IsTooLittleAt g.vertices (up_with jobs) v kind amount m
   less_left m amount lt =
       let used = used_grouped (part_count g.vertices kind v) jobs m in
       let most =
       live_most (part_count g.vertices kind v) (part_within g.vertices kind v) jobs m (part_less g.vertices kind v) in
-      elim (cases_Bool (is_closed (no_bars g.vertices jobs) m v)) [
+      elim (cases_Bool (is_closed (no_bars g.vertices (up_with jobs)) m v)) [
         | inl closed ↦ (let none = total_closed g o kind v jobs m closed in omega (arith, none, lt))
         | inr open_ ↦ (
             let all = total_open g o kind v jobs m fair.within fair.pools open_ in
@@ -158,51 +159,52 @@ module _ (g : ResourceGraph) (o : StandsInPreorder g) (jobs : List Job) (fair : 
       ]
 
   -- a closed vertex has too little of some amount
-  pub closed_little : (m amount : ℕ) → 0 < amount → IsTrue (is_closed (no_bars g.vertices jobs) m v) →
-      IsTooLittleAt g.vertices jobs v kind amount m
+  pub closed_little : (m amount : ℕ) → 0 < amount → IsTrue (is_closed (no_bars g.vertices (up_with jobs)) m v) →
+      IsTooLittleAt g.vertices (up_with jobs) v kind amount m
   closed_little m amount some closed = let none = total_closed g o kind v jobs m closed in omega (arith, none, some)
 
   -- where jobs leave nothing at some moment its least total is 0
   pub nothing_left : (w : Window) →
       IsLeastFree (capacity g.vertices kind v) (grouped (part_count g.vertices kind v) jobs) w 0 →
-      IsTotalOver g.vertices jobs w kind v 0
+      IsTotalOver g.vertices (up_with jobs) w kind v 0
   nothing_left w least =
       let (m, lo, hi, e) = least.reached in
-      let few : total_at g.vertices jobs kind m v < 1 = less_left m 1 (omega (arith, e)) in
+      let few : total_at g.vertices (up_with jobs) kind m v < 1 = less_left m 1 (omega (arith, e)) in
       record { each = λ k a b. omega arith; reached = (m, lo, hi, omega (arith, few)) }
 
   -- where it is never closed and jobs leave enough, its total is enough
   pub enough_left : v < length g.vertices → (w : Window) (amount : ℕ) → NeverClosed g.vertices jobs w v →
       HasRoom (capacity g.vertices kind v) (grouped (part_count g.vertices kind v) jobs) w amount →
-      IsTooLittle g.vertices jobs w v kind amount → ⊥
+      IsTooLittle g.vertices (up_with jobs) w v kind amount → ⊥
   enough_left inside w amount never room (m, lo, hi, lt) =
       let vertices = g.vertices in
       let open' : NeverClosed vertices jobs (second m) v =
-      λ s. never (m, lo, hi, here (λ k. IsTrue (is_closed (no_bars vertices jobs) k v)) m s) in
+      λ s. never (m, lo, hi, here (λ k. IsTrue (is_closed (no_bars vertices (up_with jobs)) k v)) m s) in
       let total = left_in_total g o jobs (second m) kind v (left m) fair open'
       (counts_all vertices (parents_first g o) v inside jobs (second m) kind (capacity vertices kind v) (left m) open'
       (least_there (capacity vertices kind v) (grouped (part_count vertices kind v) jobs) m)) in
-      let same = here (λ k. total_at vertices jobs kind k v ≡ left m) m total.reached in
+      let same = here (λ k. total_at vertices (up_with jobs) kind k v ≡ left m) m total.reached in
       let le = room m lo hi in
       omega (arith, lt, same, le)
 
   -- where jobs leave enough it is too little exactly where the vertex is closed
   pub closed_or_enough : v < length g.vertices → (w : Window) (amount : ℕ) → 0 < amount →
       HasRoom (capacity g.vertices kind v) (grouped (part_count g.vertices kind v) jobs) w amount →
-      (found : Option ℕ) → IsMomentOrNone w (λ m. IsTrue (is_closed (no_bars g.vertices jobs) m v)) found →
-      IsMomentOrNone w (IsTooLittleAt g.vertices jobs v kind amount) found
+      (found : Option ℕ) → IsMomentOrNone w (λ m. IsTrue (is_closed (no_bars g.vertices (up_with jobs)) m v)) found →
+      IsMomentOrNone w (IsTooLittleAt g.vertices (up_with jobs) v kind amount) found
   closed_or_enough inside w amount some room None never = enough_left inside w amount never room
   closed_or_enough inside w amount some room (Some m) (lo, hi, closed) = (lo, hi, closed_little m amount some closed)
 
 -- a vertex is closed over the window exactly where a moment was found at which it is
 pub closed_told : (vertices : List Vertex) (jobs : List Job) (w : Window) (v : ℕ) (found : Option ℕ) (closed : Bool) →
-    closed ≡ is_some found → IsMomentOrNone w (λ m. IsTrue (is_closed (no_bars vertices jobs) m v)) found →
-    (IsTrue closed ↔ IsClosedOver vertices jobs w v)
+    closed ≡ is_some found → IsMomentOrNone w (λ m. IsTrue (is_closed (no_bars vertices (up_with jobs)) m v)) found →
+    (IsTrue closed ↔ IsClosedOver vertices (up_with jobs) w v)
 closed_told vertices jobs w v None closed is never = (λ t. absurd (true≢false (sym t ∙ is)), λ s. absurd (never s))
 closed_told vertices jobs w v (Some m) closed is (lo, hi, p) = (λ t. (m, lo, hi, p), λ s. is)
 
 pub never_closed : (vertices : List Vertex) (jobs : List Job) (w : Window) (v : ℕ) (found : Option ℕ) (closed : Bool) →
     closed ≡ is_some found → closed ≡ false →
-    IsMomentOrNone w (λ m. IsTrue (is_closed (no_bars vertices jobs) m v)) found → NeverClosed vertices jobs w v
+    IsMomentOrNone w (λ m. IsTrue (is_closed (no_bars vertices (up_with jobs)) m v)) found →
+    NeverClosed vertices jobs w v
 never_closed vertices jobs w v found closed is open' told =
     λ s. true≢false (sym ((closed_told vertices jobs w v found closed is told).1 s) ∙ open')

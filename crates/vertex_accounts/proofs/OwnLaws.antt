@@ -11,6 +11,7 @@ use Rattle.flux_defs.specs.declared.claims.Window.{Window}
 use Rattle.flux_defs.specs.Graph.{is_at_or_below}
 use Rattle.flux_defs.specs.Jobs.{some_live_claim, SomeMoment, is_on_or_below, holds_over}
 use Rattle.flux_defs.specs.Closed.{no_bars, is_closed, IsTouchedOver}
+use Rattle.flux_defs.specs.Present.{up_with}
 use Rattle.graph_laws.proofs.Containment.{ParentsFirst, below_self}
 use Rattle.planner_points.specs.Spans.{free_at, IsLeastFree}
 use Rattle.book_laws.specs.Amounts.{live_sum, is_hold, hold_of, claim_within, part_of, part_within}
@@ -57,7 +58,7 @@ module _ (vertices : List Vertex) (first : ParentsFirst vertices) (v : ℕ) (ins
   pub touched_either : (jobs : List Job) (w : Window) →
       ((SomeMoment w (λ m. IsTrue (some_live_claim jobs m (counts_at vertices v)))
       ⊎ SomeMoment w (λ m. IsTrue (some_live_claim jobs m (is_hold v))))
-      ↔ IsTouchedOver vertices jobs w v)
+      ↔ IsTouchedOver vertices (up_with jobs) w v)
   touched_either jobs w = (
     λ either. elim either [
       | inl (m, lo, hi, h) ↦ (
@@ -109,7 +110,7 @@ module _ (vertices : List Vertex) (first : ParentsFirst vertices) (v : ℕ) (ins
     where
       same : (m : ℕ) → w.from ≤ m → m < w.to → free_at total (grouped (part_count vertices kind v) jobs) m
           ≡ free_at total (grouped (part_within vertices kind v) jobs) m
-      same m lo hi = elim (cases_Bool (is_closed (no_bars vertices jobs) m v)) [
+      same m lo hi = elim (cases_Bool (is_closed (no_bars vertices (up_with jobs)) m v)) [
         | inl closed ↦ absurd (never (m, lo, hi, closed))
         | inr open_ ↦ ap (λ k. total - k) (used_grouped (part_count vertices kind v) jobs m
             ∙ live_unless (holds_over vertices v) (part_count vertices kind v) (part_within vertices kind v)

@@ -13,6 +13,7 @@ use Rattle.flux_defs.specs.ValidGraph.{StandsInPreorder}
 use Rattle.flux_defs.specs.Jobs.{holds_over, IsPoint, IsNextPoint}
 use Rattle.flux_defs.specs.Closed.{no_bars, is_closed}
 use Rattle.flux_defs.specs.Free.{total_at}
+use Rattle.flux_defs.specs.Present.{up_with}
 use Rattle.graph_laws.proofs.Containment.{below_le}
 use Rattle.graph_laws.proofs.Preorder.{parents_first}
 use Rattle.planner_points.specs.declared.spans.Span.{Span}
@@ -68,11 +69,11 @@ module _ (g : ResourceGraph)
   root_held (Pass u) h = absurd (true≢false (sym h))
 
   -- so what jobs leave of the root's capacity is its total, whether it is held or not
-  pub root_total : (m : ℕ) → total_at g.vertices jobs kind m 0
+  pub root_total : (m : ℕ) → total_at g.vertices (up_with jobs) kind m 0
       ≡ free_at (capacity g.vertices kind 0) (grouped (part_within g.vertices kind 0) jobs) m
   root_total m =
       let used = used_grouped (part_within g.vertices kind 0) jobs m in
-      elim (cases_Bool (is_closed (no_bars g.vertices jobs) m 0)) [
+      elim (cases_Bool (is_closed (no_bars g.vertices (up_with jobs)) m 0)) [
         | inl held ↦ (
             let none = total_closed g o kind 0 jobs m held in
             let all = live_where
@@ -86,7 +87,7 @@ module _ (g : ResourceGraph)
 
   pub next_ample_is : (after next amount : ℕ) → IsNextPoint jobs after next → (found : Option ℕ) →
       FirstOrNone (capacity g.vertices kind 0) (grouped (part_within g.vertices kind 0) jobs) next amount found →
-      IsNextAmpleOrNone g.vertices jobs kind amount after found
+      IsNextAmpleOrNone g.vertices (up_with jobs) kind amount after found
   next_ample_is after next amount is None first = λ u lo point ample.
       let e = root_total u in
       let less = first u (is.least u lo point) in

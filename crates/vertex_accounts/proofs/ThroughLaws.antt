@@ -10,6 +10,7 @@ use Rattle.flux_defs.specs.ValidGraph.{StandsInPreorder}
 use Rattle.flux_defs.specs.Jobs.{some_live_claim, SomeMoment}
 use Rattle.flux_defs.specs.Closed.{no_bars, is_closed, is_touched}
 use Rattle.flux_defs.specs.Free.{IsTooLittleAt}
+use Rattle.flux_defs.specs.Present.{up_with}
 use Rattle.graph_laws.proofs.Containment.{ParentsFirst}
 use Rattle.planner_points.specs.Spans.{free_at, HasRoom}
 use Rattle.book_laws.specs.Amounts.{capacity}
@@ -70,7 +71,7 @@ module _ (vertices : List Vertex) (jobs : List Job) (v : ℕ) where
   -- there it is closed
   pub less_closed : v < length vertices → (m : ℕ) →
       free_at (total_in vertices Holds v) (grouped (amount_in vertices Holds v) jobs) m < most_claims →
-      IsTrue (is_closed (no_bars vertices jobs) m v)
+      IsTrue (is_closed (no_bars vertices (up_with jobs)) m v)
   less_closed inside m lt =
       let along = here_along jobs (second m) vertices (length vertices) v (Some v) (λ e. omega (arith, e, inside)) refl
       m (omega arith, omega arith, less_held m lt) in
@@ -80,30 +81,30 @@ module _ (vertices : List Vertex) (jobs : List Job) (v : ℕ) where
     -- and touched
     pub less_touched : (m : ℕ) →
         free_at (total_in vertices Holds v) (grouped (amount_in vertices Holds v) jobs) m < most_claims →
-        IsTrue (is_touched (no_bars vertices jobs) m v)
+        IsTrue (is_touched (no_bars vertices (up_with jobs)) m v)
     less_touched m lt =
-        here (λ k. IsTrue (is_touched (no_bars vertices jobs) k v)) m
+        here (λ k. IsTrue (is_touched (no_bars vertices (up_with jobs)) k v)) m
         ((touched_either vertices first v inside jobs (second m)).0 (inr (there (held_at jobs v) m (less_held m lt))))
 
     -- it is touched too where less than all claims are left
     pub claimed_touched : (m : ℕ) →
         free_at (total_in vertices Claims v) (grouped (amount_in vertices Claims v) jobs) m < most_claims →
-        IsTrue (is_touched (no_bars vertices jobs) m v)
+        IsTrue (is_touched (no_bars vertices (up_with jobs)) m v)
     claimed_touched m lt =
         let spans = grouped (amount_in vertices Claims v) jobs in
         let total = total_in vertices Claims v in
         let counted = counted_is vertices jobs (second m) v (free_at total spans m) (least_there total spans m) in
-        here (λ k. IsTrue (is_touched (no_bars vertices jobs) k v)) m
+        here (λ k. IsTrue (is_touched (no_bars vertices (up_with jobs)) k v)) m
         ((touched_either vertices first v inside jobs (second m)).0 (inl (counted.0 lt)))
 
     -- and nowhere else
     pub never_touched : (w : Window) →
         HasRoom (total_in vertices Holds v) (grouped (amount_in vertices Holds v) jobs) w most_claims →
         HasRoom (total_in vertices Claims v) (grouped (amount_in vertices Claims v) jobs) w most_claims →
-        SomeMoment w (λ m. IsTrue (is_touched (no_bars vertices jobs) m v)) → ⊥
+        SomeMoment w (λ m. IsTrue (is_touched (no_bars vertices (up_with jobs)) m v)) → ⊥
     never_touched w unheld unclaimed (m, lo, hi, touched) =
         elim ((touched_either vertices first v inside jobs (second m)).1
-        (there (λ k. IsTrue (is_touched (no_bars vertices jobs) k v)) m touched)) [
+        (there (λ k. IsTrue (is_touched (no_bars vertices (up_with jobs)) k v)) m touched)) [
           | inl counts ↦ (
               let spans = grouped (amount_in vertices Claims v) jobs in
               let total = total_in vertices Claims v in
@@ -129,7 +130,7 @@ module _ (vertices : List Vertex) (jobs : List Job) (v : ℕ) where
         (HasRoom (total_in vertices Claims v) (grouped (amount_in vertices Claims v) jobs) w most_claims)
         (SomeMoment w
         (λ m. free_at (total_in vertices Claims v) (grouped (amount_in vertices Claims v) jobs) m < most_claims)) →
-        (IsTrue (not room) ↔ SomeMoment w (λ m. IsTrue (is_touched (no_bars vertices jobs) m v)))
+        (IsTrue (not room) ↔ SomeMoment w (λ m. IsTrue (is_touched (no_bars vertices (up_with jobs)) m v)))
     touched_by w unheld true unclaimed = (λ no. absurd (cc), λ t. absurd (never_touched w unheld unclaimed t))
     touched_by w unheld false (m, lo, hi, less) = (λ yes. (m, lo, hi, claimed_touched m less), λ t. refl)
 
@@ -137,8 +138,8 @@ module _ (vertices : List Vertex) (jobs : List Job) (v : ℕ) where
 pub closed_or_through : (g : ResourceGraph) (o : StandsInPreorder g) (jobs : List Job) → AreFair g.vertices jobs →
     (kind v : ℕ) → v < length g.vertices → (w : Window) (amount : ℕ) → 0 < amount →
     HasRoom (capacity g.vertices kind v) (grouped (part_count g.vertices kind v) jobs) w amount →
-    (found : Option ℕ) → IsThroughOrNone w (λ m. IsTrue (is_closed (no_bars g.vertices jobs) m v)) found →
-    IsThroughOrNone w (IsTooLittleAt g.vertices jobs v kind amount) found
+    (found : Option ℕ) → IsThroughOrNone w (λ m. IsTrue (is_closed (no_bars g.vertices (up_with jobs)) m v)) found →
+    IsThroughOrNone w (IsTooLittleAt g.vertices (up_with jobs) v kind amount) found
 closed_or_through g o jobs fair kind v inside w amount some room None never =
     enough_left g o jobs fair kind v inside w amount never room
 closed_or_through g o jobs fair kind v inside w amount some room (Some m) is =

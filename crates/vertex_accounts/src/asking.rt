@@ -8,6 +8,7 @@ ghost use Rattle.flux_defs.specs.Graph.{chain, is_pool, parent_of};
 ghost use Rattle.flux_defs.specs.Jobs.{some_live_claim, IsPoint, IsNextPoint, SomeMoment};
 ghost use Rattle.flux_defs.specs.Closed.{no_bars, is_closed, is_touched, IsClosedOver, IsTouchedOver};
 ghost use Rattle.flux_defs.specs.Free.{IsFreeOver, IsTotalOver, IsTooLittleAt};
+ghost use Rattle.flux_defs.specs.Present.{up_with};
 ghost use Rattle.planner_points.specs.Spans.{free_at, IsLeastFree, HasRoom, IsLastBelow};
 ghost use Rattle.book_laws.specs.Amounts.{is_hold, holds_along};
 ghost use Rattle.book_laws.specs.Grouped.{grouped};
@@ -210,7 +211,7 @@ impl<P: Planner + Drop> Accounts<P> {
         ensures answer { (jobs : List Job) →
             AreAccounts P.total_of P.stands_for graph.now.resources.vertices jobs self.now →
             IsMomentOrNone window
-            (λ m. IsTrue (is_closed (no_bars graph.now.resources.vertices jobs) m vertex)) result }
+            (λ m. IsTrue (is_closed (no_bars graph.now.resources.vertices (up_with jobs)) m vertex)) result }
         ensures counted { steps.old ≤ steps.new }
         ensures work { (most_looks : ℕ) → CostWithin P.look_cost most_looks (items_of self.now.planners) →
             steps.new ≤ steps.old + rest_most (length graph.now.resources.vertices) most_looks }
@@ -243,7 +244,7 @@ impl<P: Planner + Drop> Accounts<P> {
         requires inside { vertex < length graph.now.resources.vertices }
         ensures answer { (jobs : List Job) →
             AreAccounts P.total_of P.stands_for graph.now.resources.vertices jobs self.now →
-            (IsTrue result ↔ IsClosedOver graph.now.resources.vertices jobs window vertex) }
+            (IsTrue result ↔ IsClosedOver graph.now.resources.vertices (up_with jobs) window vertex) }
         ensures some_work { steps.old < steps.new }
         ensures work { (most_looks : ℕ) → CostWithin P.look_cost most_looks (items_of self.now.planners) →
             steps.new ≤ steps.old + closed_most (length graph.now.resources.vertices) most_looks }
@@ -268,7 +269,7 @@ impl<P: Planner + Drop> Accounts<P> {
         requires inside { vertex < length graph.now.resources.vertices }
         ensures answer { (jobs : List Job) →
             AreAccounts P.total_of P.stands_for graph.now.resources.vertices jobs self.now →
-            (IsTrue result ↔ IsTouchedOver graph.now.resources.vertices jobs window vertex) }
+            (IsTrue result ↔ IsTouchedOver graph.now.resources.vertices (up_with jobs) window vertex) }
         ensures some_work { steps.old < steps.new }
         ensures work { (most_looks : ℕ) → CostWithin P.look_cost most_looks (items_of self.now.planners) →
             steps.new ≤ steps.old + (look_most (length graph.now.resources.vertices) most_looks + most_looks) }
@@ -334,7 +335,7 @@ impl<P: Planner + Drop> Accounts<P> {
         ensures answer { (jobs : List Job) →
             AreAccounts P.total_of P.stands_for graph.now.resources.vertices jobs self.now →
             IsThroughOrNone window
-            (λ m. IsTrue (is_closed (no_bars graph.now.resources.vertices jobs) m vertex)) result }
+            (λ m. IsTrue (is_closed (no_bars graph.now.resources.vertices (up_with jobs)) m vertex)) result }
         ensures counted { steps.old ≤ steps.new }
         ensures work { (most_looks : ℕ) → CostWithin P.look_cost most_looks (items_of self.now.planners) →
             steps.new ≤ steps.old + (rest_most (length graph.now.resources.vertices) most_looks + most_looks) }
@@ -368,7 +369,7 @@ impl<P: Planner + Drop> Accounts<P> {
         ensures answer { (jobs : List Job) →
             AreAccounts P.total_of P.stands_for graph.now.resources.vertices jobs self.now →
             IsThroughOrNone window
-            (λ m. IsTrue (is_closed (no_bars graph.now.resources.vertices jobs) m vertex)) result }
+            (λ m. IsTrue (is_closed (no_bars graph.now.resources.vertices (up_with jobs)) m vertex)) result }
         ensures some_work { steps.old < steps.new }
         ensures work { (most_looks : ℕ) → CostWithin P.look_cost most_looks (items_of self.now.planners) →
             steps.new ≤ steps.old + (closed_most (length graph.now.resources.vertices) most_looks + most_looks) }
@@ -394,7 +395,7 @@ impl<P: Planner + Drop> Accounts<P> {
         ensures answer { (jobs : List Job) →
             AreAccounts P.total_of P.stands_for graph.now.resources.vertices jobs self.now →
             IsThroughOrNone window
-            (λ m. IsTrue (is_touched (no_bars graph.now.resources.vertices jobs) m vertex)) result }
+            (λ m. IsTrue (is_touched (no_bars graph.now.resources.vertices (up_with jobs)) m vertex)) result }
         ensures some_work { steps.old < steps.new }
         ensures work { (most_looks : ℕ) → CostWithin P.look_cost most_looks (items_of self.now.planners) →
             steps.new ≤ steps.old + (closed_most (length graph.now.resources.vertices) most_looks + most_looks) }
@@ -434,7 +435,7 @@ impl<P: Planner + Drop> Accounts<P> {
         requires inside { vertex < length graph.now.resources.vertices }
         ensures answer { (jobs : List Job) →
             AreAccounts P.total_of P.stands_for graph.now.resources.vertices jobs self.now →
-            IsFreeOver graph.now.resources.vertices jobs window vertex result }
+            IsFreeOver graph.now.resources.vertices (up_with jobs) window vertex result }
         ensures some_work { steps.old < steps.new }
         ensures work { (most_looks : ℕ) → CostWithin P.look_cost most_looks (items_of self.now.planners) →
             steps.new ≤ steps.old + (closed_most (length graph.now.resources.vertices) most_looks + most_looks) }
@@ -470,7 +471,7 @@ impl<P: Planner + Drop> Accounts<P> {
         requires inside { vertex < length graph.now.resources.vertices }
         ensures answer { (kind : ℕ) (jobs : List Job) → HasPlace self.now kind place →
             AreAccounts P.total_of P.stands_for graph.now.resources.vertices jobs self.now →
-            IsMomentOrNone window (IsTooLittleAt graph.now.resources.vertices jobs vertex kind amount) result }
+            IsMomentOrNone window (IsTooLittleAt graph.now.resources.vertices (up_with jobs) vertex kind amount) result }
         ensures some_work { steps.old < steps.new }
         ensures work { (most_looks : ℕ) → CostWithin P.look_cost most_looks (items_of self.now.planners) →
             steps.new ≤ steps.old + (closed_most (length graph.now.resources.vertices) most_looks + most_looks) }
@@ -503,7 +504,8 @@ impl<P: Planner + Drop> Accounts<P> {
         requires inside { vertex < length graph.now.resources.vertices }
         ensures answer { (kind : ℕ) (jobs : List Job) → HasPlace self.now kind place →
             AreAccounts P.total_of P.stands_for graph.now.resources.vertices jobs self.now →
-            IsThroughOrNone window (IsTooLittleAt graph.now.resources.vertices jobs vertex kind amount) result }
+            IsThroughOrNone window (IsTooLittleAt graph.now.resources.vertices (up_with jobs) vertex kind amount)
+            result }
         ensures some_work { steps.old < steps.new }
         ensures work { (most_looks : ℕ) → CostWithin P.look_cost most_looks (items_of self.now.planners) →
             steps.new ≤ steps.old + (closed_most (length graph.now.resources.vertices) most_looks + 2 * most_looks) }
@@ -535,7 +537,7 @@ impl<P: Planner + Drop> Accounts<P> {
         requires inside { vertex < length graph.now.resources.vertices }
         ensures answer { (kind : ℕ) (jobs : List Job) → HasPlace self.now kind place →
             AreAccounts P.total_of P.stands_for graph.now.resources.vertices jobs self.now →
-            IsTotalOver graph.now.resources.vertices jobs window kind vertex result }
+            IsTotalOver graph.now.resources.vertices (up_with jobs) window kind vertex result }
         ensures some_work { steps.old < steps.new }
         ensures work { (most_looks : ℕ) → CostWithin P.look_cost most_looks (items_of self.now.planners) →
             steps.new ≤ steps.old + (closed_most (length graph.now.resources.vertices) most_looks + most_looks) }
@@ -583,7 +585,7 @@ impl<P: Planner + Drop> Accounts<P> {
         requires kept { HasTotals self.now kind }
         ensures answer { (jobs : List Job) →
             AreAccounts P.total_of P.stands_for graph.now.resources.vertices jobs self.now →
-            IsNextAmpleOrNone graph.now.resources.vertices jobs kind amount after result }
+            IsNextAmpleOrNone graph.now.resources.vertices (up_with jobs) kind amount after result }
         ensures some_work { steps.old < steps.new }
         ensures work { (most_looks : ℕ) → CostWithin P.look_cost most_looks (items_of self.now.planners) →
             steps.new ≤ steps.old

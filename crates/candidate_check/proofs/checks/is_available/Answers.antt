@@ -13,33 +13,33 @@ of_equal : (scene : Scene) (w : Window) (b : Bool) (claim same : Claim) → clai
 of_equal scene w b claim same e h = subst (λ (c : Claim). IsTrue b ↔ IsAvailable scene w c) (sym e) h
 
 pub returns-in-Take-clause-answer : goal.returns-in-Take-clause-answer
-returns-in-Take-clause-answer g c = λ jobs stands.
-    let scene = no_bars (g.F.FreeView.graph c.args.view.now) jobs in
+returns-in-Take-clause-answer g c = λ present stands.
+    let scene = no_bars (g.F.FreeView.graph c.args.view.now) present in
     let take = c.in-Take in
     let told = available_take scene c.args.window take.vertex take.quantity c.free_over.result
-    (c.free_over.ensures.answer jobs stands) in
+    (c.free_over.ensures.answer present stands) in
     of_equal scene c.args.window (nat_le take.quantity c.free_over.result) c.args.claim _ take.is (
       λ t. told.0 (leb-true take.quantity c.free_over.result t),
       λ a. le-leb take.quantity c.free_over.result (told.1 a),
     )
 
 pub returns-in-Pass-clause-answer : goal.returns-in-Pass-clause-answer
-returns-in-Pass-clause-answer g c = λ jobs stands.
-    let scene = no_bars (g.F.FreeView.graph c.args.view.now) jobs in
+returns-in-Pass-clause-answer g c = λ present stands.
+    let scene = no_bars (g.F.FreeView.graph c.args.view.now) present in
     let closed = c.closed_over-in-Pass in
     of_equal scene c.args.window _ c.args.claim _ c.in-Pass.is
-    (available_pass scene c.args.window c.in-Pass.vertex closed.result (closed.ensures.answer jobs stands))
+    (available_pass scene c.args.window c.in-Pass.vertex closed.result (closed.ensures.answer present stands))
 
 pub returns-then-closed_over-clause-answer : goal.returns-then-closed_over-clause-answer
-returns-then-closed_over-clause-answer g c = λ jobs stands.
-    let scene = no_bars (g.F.FreeView.graph c.args.view.now) jobs in
+returns-then-closed_over-clause-answer g c = λ present stands.
+    let scene = no_bars (g.F.FreeView.graph c.args.view.now) present in
     of_equal scene c.args.window false c.args.claim _ c.in-Hold.is
     (admits_none scene c.args.window c.in-Hold.vertex true c.closed_over.result c.if-closed_over.true
-    (c.closed_over.ensures.answer jobs stands))
+    (c.closed_over.ensures.answer present stands))
 
 pub returns-else-closed_over-clause-answer : goal.returns-else-closed_over-clause-answer
-returns-else-closed_over-clause-answer g c = λ jobs stands.
-    let scene = no_bars (g.F.FreeView.graph c.args.view.now) jobs in
+returns-else-closed_over-clause-answer g c = λ present stands.
+    let scene = no_bars (g.F.FreeView.graph c.args.view.now) present in
     of_equal scene c.args.window _ c.args.claim _ c.in-Hold.is
     (hold_open scene c.args.window c.in-Hold.vertex c.closed_over.result c.touched_over.result c.if-closed_over.false
-    (c.closed_over.ensures.answer jobs stands) (c.touched_over.ensures.answer jobs stands))
+    (c.closed_over.ensures.answer present stands) (c.touched_over.ensures.answer present stands))

@@ -83,7 +83,7 @@ loop-need-preserved g c =
     }
 
 pub returns-then-own-clause-work : goal.returns-then-own-clause-work
-returns-then-own-clause-work g c = λ jobs stands.
+returns-then-own-clause-work g c = λ present stands.
     let s = c.args.s.now in
     let vs = s.graph.now.resources.vertices in
     let all = needs_all s.needs.now in
@@ -97,7 +97,7 @@ returns-then-own-clause-work g c = λ jobs stands.
     let place = 0 + length (needs_all (take i items)) in
     let here = tables.place_first all place (drop i items) (drop (i + 1) items) need split
     (tables.place_from all i 0 items (rw c.items-need-items.ensures (steps.first_place s.needs.now))) in
-    let taken = c.ask_rows.ensures.work jobs stands place here in (
+    let taken = c.ask_rows.ensures.work present stands place here in (
       known_all _ look (length vs) items i need c.loop-need-test.true c.need-item.is s.needs.now
           c.items-need-items.ensures c.args.steps.now c.loop-need.steps c.ask_rows.new.steps c.loop-need.invariant.steps
           taken.0,
@@ -107,7 +107,7 @@ returns-then-own-clause-work g c = λ jobs stands.
     )
 
 pub returns-clause-work : goal.returns-clause-work
-returns-clause-work g c = λ jobs stands.
+returns-clause-work g c = λ present stands.
     let same = c.loop-need.invariant.steps in (
       λ pairs has. omega (arith, same),
       λ need is spread pairs has. omega (arith, same),
@@ -115,7 +115,7 @@ returns-clause-work g c = λ jobs stands.
 
 -- its rows, which are of all vertices of the need, leave too little
 pub returns-then-own-clause-none : goal.returns-then-own-clause-none
-returns-then-own-clause-none g c = λ jobs stands w.
+returns-then-own-clause-none g c = λ present stands w.
     IfSome_then c.ask_rows.result c.ask_rows.ensures.less (λ until told reach.
     let s = c.args.s.now in
     let items : List Need = c.items-need-items.result.now in
@@ -132,4 +132,4 @@ returns-then-own-clause-none g c = λ jobs stands w.
     c.ask_rows.ensures.end ∙ ap (λ (k : Known). k.end) c.loop-need.invariant.known ∙ c.requires.all in
     known_refutes s.graph.now.resources (g.F.FreeView.stands_for s.view.now) s.barred.now s.needs.now s.window w
     c.ask_rows.new.known c.loop-need.own need until c.requires.valid c.ask_rows.ensures.known end same there told.1
-    reach jobs stands)
+    reach present stands)

@@ -29,12 +29,12 @@ past-past-requires g c =
     omega (arith, lt, le)
 
 pub returns-in-Some-clause-dead : goal.returns-in-Some-clause-dead
-returns-in-Some-clause-dead g c = λ jobs stands w reach.
+returns-in-Some-clause-dead g c = λ present stands w reach.
     let s = c.args.s.now in
     let graph = s.graph.now in
-    short_dead graph.resources graph.names c.is_valid.ensures.valid jobs s.barred.now w
+    short_dead graph.resources graph.names c.is_valid.ensures.valid present s.barred.now w
     (asked_totals s.wanted.now (g.F.FreeView.keeps s.view.now)) c.args.need.now c.requires.valid c.in-Some.top
-    c.past-past.result c.past-past.ensures (c.in-Some.ensures.short jobs stands w reach)
+    c.past-past.result c.past-past.ensures (c.in-Some.ensures.short present stands w reach)
 
 pub returns-in-Some-clause-known : goal.returns-in-Some-clause-known
 returns-in-Some-clause-known g c =
@@ -49,23 +49,23 @@ returns-in-Some-clause-known g c =
     (below_le graph.resources.vertices (parents_first graph.resources c.is_valid.ensures.valid.preorder)
     c.args.vertex c.in-Some.top c.in-Some.ensures.above.1)
     (c.past-past.ensures.whole c.args.vertex lt c.in-Some.ensures.above.1)
-    (λ jobs stands w reach. short_dead graph.resources graph.names c.is_valid.ensures.valid jobs s.barred.now w
+    (λ present stands w reach. short_dead graph.resources graph.names c.is_valid.ensures.valid present s.barred.now w
     (asked_totals s.wanted.now (g.F.FreeView.keeps s.view.now)) need c.requires.valid c.in-Some.top
-    c.past-past.result c.past-past.ensures (c.in-Some.ensures.short jobs stands w reach)))
+    c.past-past.result c.past-past.ensures (c.in-Some.ensures.short present stands w reach)))
     c.requires.known
 
 pub returns-in-Some-clause-work : goal.returns-in-Some-clause-work
-returns-in-Some-clause-work g c = λ jobs stands place at clear.
+returns-in-Some-clause-work g c = λ present stands place at clear.
     let s = c.args.s.now in
     let graph = s.graph.now in
     let need = c.args.need.now in
     let lt = need_inside graph.resources.vertices need c.args.vertex c.requires.of_need in
     let above = c.in-Some.ensures.above in
-    asked_short graph.resources graph.names c.is_valid.ensures.valid jobs s.window
+    asked_short graph.resources graph.names c.is_valid.ensures.valid present s.window
     (asked_totals s.wanted.now (g.F.FreeView.keeps s.view.now)) (needs_all s.needs.now) need place
     (g.F.FreeView.cost s.view.now) at c.args.low c.args.vertex clear c.requires.low lt c.args.steps.now
-    c.top_above.new.steps c.in-Some.top c.past-past.result above.0 above.1 (c.in-Some.ensures.clear jobs stands)
-    c.past-past.ensures (c.in-Some.ensures.work jobs stands place at (clear c.args.vertex c.requires.low lt)).0
+    c.top_above.new.steps c.in-Some.top c.past-past.result above.0 above.1 (c.in-Some.ensures.clear present stands)
+    c.past-past.ensures (c.in-Some.ensures.work present stands place at (clear c.args.vertex c.requires.low lt)).0
 
 pub returns-in-None-clause-known : goal.returns-in-None-clause-known
 returns-in-None-clause-known g c =
@@ -76,7 +76,7 @@ returns-in-None-clause-known g c =
     c.put-in-None.ensures.own c.put-in-None.ensures.put c.ask-row.ensures.row c.requires.known
 
 pub returns-in-None-clause-work : goal.returns-in-None-clause-work
-returns-in-None-clause-work g c = λ jobs stands place at clear.
+returns-in-None-clause-work g c = λ present stands place at clear.
     let s = c.args.s.now in
     let graph = s.graph.now in
     let need = c.args.need.now in
@@ -85,17 +85,19 @@ returns-in-None-clause-work g c = λ jobs stands place at clear.
     let all = needs_all s.needs.now in
     let cost = g.F.FreeView.cost s.view.now in
     let lt = need_inside graph.resources.vertices need c.args.vertex c.requires.of_need in
-    let over = c.in-None.ensures.clear jobs stands in
-    let above = c.in-None.ensures.work jobs stands place at (clear c.args.vertex c.requires.low lt) in
+    let over = c.in-None.ensures.clear present stands in
+    let above = c.in-None.ensures.work present stands place at (clear c.args.vertex c.requires.low lt) in
     elim (spread_or need) [
-      | inl spread ↦ asked_room graph.resources graph.names valid jobs s.window keeps all need place cost at c.args.low
+      | inl spread ↦ asked_room graph.resources graph.names valid present s.window keeps all need place cost at
+          c.args.low
           c.args.vertex clear c.requires.low lt over c.past.result c.past.ensures c.args.steps.now
           c.top_above.new.steps c.ask-row.new.steps (above.1 spread) (c.ask-row.ensures.copies spread)
-      | inr plain ↦ asked_within graph.resources graph.names valid jobs s.window keeps all need place cost at c.args.low
+      | inr plain ↦ asked_within graph.resources graph.names valid present s.window keeps all need place cost at
+          c.args.low
           c.args.vertex clear c.requires.low lt over c.past.result c.past.ensures c.args.steps.now
           c.top_above.new.steps c.ask-row.new.steps plain above.0
-          (c.ask-row.ensures.work jobs stands place c.past.result plain at
-          (asked_clear graph.resources graph.names valid jobs s.window keeps all need place cost at c.args.low
+          (c.ask-row.ensures.work present stands place c.past.result plain at
+          (asked_clear graph.resources graph.names valid present s.window keeps all need place cost at c.args.low
           c.args.vertex clear c.requires.low lt over c.past.result c.past.ensures
-          (c.in-None.ensures.own jobs stands plain)) c.past.ensures)
+          (c.in-None.ensures.own present stands plain)) c.past.ensures)
     ]

@@ -27,8 +27,9 @@ each-init g c =
           told.rows told.end told.lefts c.requires.known;
       own = told.own ∙ c.requires.is_own;
       end = refl;
-      dead = λ jobs stands w reach scope v q lo hi some can. omega (arith, lo, hi);
-      asked = λ jobs stands place at. asked_start graph.resources graph.names c.is_valid.ensures.valid jobs s.window
+      dead = λ present stands w reach scope v q lo hi some can. omega (arith, lo, hi);
+      asked = λ present stands place at. asked_start graph.resources graph.names c.is_valid.ensures.valid present
+          s.window
           (asked_totals s.wanted.now (g.F.FreeView.keeps s.view.now)) (needs_all s.needs.now) c.args.need.now place
           (g.F.FreeView.cost s.view.now) c.args.steps.now;
       left = told.left;
@@ -37,12 +38,12 @@ each-init g c =
     }
 
 pub returns-in_default-clause-work : goal.returns-in_default-clause-work
-returns-in_default-clause-work g c = λ jobs stands place at.
+returns-in_default-clause-work g c = λ present stands place at.
     let s = c.args.s.now in
-    asked_all s.graph.now.resources s.graph.now.names c.is_valid.ensures.valid jobs s.window
+    asked_all s.graph.now.resources s.graph.now.names c.is_valid.ensures.valid present s.window
     (asked_totals s.wanted.now (g.F.FreeView.keeps s.view.now)) (needs_all s.needs.now) c.args.need.now place
     (g.F.FreeView.cost s.view.now) c.args.steps.now c.each.steps 0 c.each.low
-    (c.each.invariant.asked jobs stands place at)
+    (c.each.invariant.asked present stands place at)
 
 pub renew-low-requires-clause-of_need : goal.renew-low-requires-clause-of_need
 renew-low-requires-clause-of_need g c =
@@ -56,19 +57,19 @@ renew-low-requires-clause-of_need g c =
     c.each.invariant.known).of_need
 
 pub returns-in_default-row_at-clause-work : goal.returns-in_default-row_at-clause-work
-returns-in_default-row_at-clause-work g c = λ jobs stands place at.
+returns-in_default-row_at-clause-work g c = λ present stands place at.
     let s = c.args.s.now in
     let graph = s.graph.now in
     let valid = c.is_valid.ensures.valid in
     let keeps = asked_totals s.wanted.now (g.F.FreeView.keeps s.view.now) in
     let all = needs_all s.needs.now in
     let cost = g.F.FreeView.cost s.view.now in
-    let before = c.each.invariant.asked jobs stands place at in
-    asked_all graph.resources graph.names valid jobs s.window keeps all c.args.need.now place cost c.args.steps.now
+    let before = c.each.invariant.asked present stands place at in
+    asked_all graph.resources graph.names valid present s.window keeps all c.args.need.now place cost c.args.steps.now
     c.renew-low.new.steps 0 c.renew-low.result
-    (asked_next graph.resources graph.names valid jobs s.window keeps all c.args.need.now place cost c.args.steps.now
+    (asked_next graph.resources graph.names valid present s.window keeps all c.args.need.now place cost c.args.steps.now
     c.each.steps c.renew-low.new.steps 0 c.each.low c.renew-low.result before
-    (c.renew-low.ensures.work jobs stands place at before.clear before.within))
+    (c.renew-low.ensures.work present stands place at before.clear before.within))
 
 pub each-smaller : goal.each-smaller
 each-smaller g c =
@@ -93,14 +94,14 @@ each-preserved g c =
       own = c.renew-low.ensures.own ∙ c.each.invariant.own;
       end = c.renew-low.ensures.end ∙ c.each.invariant.end;
       dead = c.renew-low.ensures.dead;
-      asked = λ jobs stands place at.
+      asked = λ present stands place at.
           let s = c.args.s.now in
           let graph = s.graph.now in
-          let before = c.each.invariant.asked jobs stands place at in
-          asked_next graph.resources graph.names c.is_valid.ensures.valid jobs s.window
+          let before = c.each.invariant.asked present stands place at in
+          asked_next graph.resources graph.names c.is_valid.ensures.valid present s.window
           (asked_totals s.wanted.now (g.F.FreeView.keeps s.view.now)) (needs_all s.needs.now) c.args.need.now place
           (g.F.FreeView.cost s.view.now) c.args.steps.now c.each.steps c.renew-low.new.steps 0 c.each.low
-          c.renew-low.result before (c.renew-low.ensures.work jobs stands place at before.clear before.within);
+          c.renew-low.result before (c.renew-low.ensures.work present stands place at before.clear before.within);
       left = subst (λ (rs : List Row). IsLeft c.args.need.now rs c.renewed-left.result)
           (sym (c.renew-low.ensures.place now (sym c.in-Some-row_at.ensures)))
           (c.renewed-left.ensures.left c.each.known.rows.items c.in-Some.at c.in-Some.row c.in-Some.ensures.there
@@ -113,9 +114,9 @@ each-preserved g c =
     }
 
 pub returns-clause-work : goal.returns-clause-work
-returns-clause-work g c = λ jobs stands place at.
+returns-clause-work g c = λ present stands place at.
     let s = c.args.s.now in
-    asked_all s.graph.now.resources s.graph.now.names c.is_valid.ensures.valid jobs s.window
+    asked_all s.graph.now.resources s.graph.now.names c.is_valid.ensures.valid present s.window
     (asked_totals s.wanted.now (g.F.FreeView.keeps s.view.now)) (needs_all s.needs.now) c.args.need.now place
     (g.F.FreeView.cost s.view.now) c.args.steps.now c.each.steps 0 c.each.low
-    (c.each.invariant.asked jobs stands place at)
+    (c.each.invariant.asked present stands place at)

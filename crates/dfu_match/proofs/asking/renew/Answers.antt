@@ -7,8 +7,8 @@ use Rattle.dfu_match.proofs.RowLaws.{knows_put, none_row}
 use Rattle.dfu_match.proofs.asking.renew.Goals as goal
 
 pub returns-then-low-vertex-clause-work : goal.returns-then-low-vertex-clause-work
-returns-then-low-vertex-clause-work g c = λ jobs stands place at clear within.
-    c.ask_row.ensures.work jobs stands place at clear
+returns-then-low-vertex-clause-work g c = λ present stands place at clear within.
+    c.ask_row.ensures.work present stands place at clear
 
 pub returns-then-vertex-dead-clause-known : goal.returns-then-vertex-dead-clause-known
 returns-then-vertex-dead-clause-known g c =
@@ -22,16 +22,16 @@ returns-then-vertex-dead-clause-known g c =
     c.requires.known
 
 pub returns-then-vertex-dead-clause-work : goal.returns-then-vertex-dead-clause-work
-returns-then-vertex-dead-clause-work g c = λ jobs stands place at clear within.
+returns-then-vertex-dead-clause-work g c = λ present stands place at clear within.
     let s = c.args.s.now in
-    asked_still s.graph.now.resources.vertices jobs s.window
+    asked_still s.graph.now.resources.vertices present s.window
     (asked_totals s.wanted.now (g.F.FreeView.keeps s.view.now)) (needs_all s.needs.now) c.args.need.now place
     ((length (needs_all s.needs.now) + 2) * g.F.FreeView.cost s.view.now) c.args.steps.now c.args.low clear within
 
 pub returns-else-dead-vertex-clause-work : goal.returns-else-dead-vertex-clause-work
-returns-else-dead-vertex-clause-work g c = λ jobs stands place at clear within.
+returns-else-dead-vertex-clause-work g c = λ present stands place at clear within.
     let s = c.args.s.now in
-    asked_still s.graph.now.resources.vertices jobs s.window
+    asked_still s.graph.now.resources.vertices present s.window
     (asked_totals s.wanted.now (g.F.FreeView.keeps s.view.now)) (needs_all s.needs.now) c.args.need.now place
     ((length (needs_all s.needs.now) + 2) * g.F.FreeView.cost s.view.now) c.args.steps.now c.args.low clear within
 

@@ -18,17 +18,18 @@ invariant_of-kinds g c =
     }
 
 pub returns-in-Some-total_until-clause-most : goal.returns-in-Some-total_until-clause-most
-returns-in-Some-total_until-clause-most g c = λ jobs stands w reach.
+returns-in-Some-total_until-clause-most g c = λ present stands w reach.
     let s = c.args.s.now in
     let graph = s.graph.now in
     let need = c.args.need.now in
     let room = c.in-Some-least_room.room in
     let later = reach_later s.window w c.min.result c.in-Some-total_until.moment (omega (arith, c.min.ensures)) reach in
-    few_copies graph.resources graph.names c.is_valid.ensures.valid jobs s.barred.now w need c.requires.valid room.kind
+    few_copies graph.resources graph.names c.is_valid.ensures.valid present s.barred.now w need c.requires.valid
+    room.kind
     c.args.vertex room.copies c.saturating_add.result (omega arith)
-    (subst (λ (us : List Vertex). IsTooLittle us jobs w c.args.vertex room.kind
+    (subst (λ (us : List Vertex). IsTooLittle us present w c.args.vertex room.kind
     (capped (demand graph.resources.vertices room.kind c.saturating_add.result need)))
-    s.over (rw c.demand_of-more.ensures at (c.in-Some-total_until.ensures.answer jobs stands w later)))
+    s.over (rw c.demand_of-more.ensures at (c.in-Some-total_until.ensures.answer present stands w later)))
 
 pub least_room-requires-clause-few : goal.least_room-requires-clause-few
 least_room-requires-clause-few g c =

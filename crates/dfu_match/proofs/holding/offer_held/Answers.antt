@@ -13,17 +13,17 @@ use Rattle.dfu_match.proofs.holding.offer_held.Goals as goal
 
 pub returns-then-not-admits-clause-offers : goal.returns-then-not-admits-clause-offers
 returns-then-not-admits-clause-offers g c =
-    extends_none c.args.out.now.items _ (λ jobs stands scope count within.
+    extends_none c.args.out.now.items _ (λ present stands scope count within.
     let vs = c.args.s.now.graph.now.resources.vertices in
-    let ok : Claim → Type 0 = open_to vs jobs c.args.s.now.barred.now c.args.s.now.window in
+    let ok : Claim → Type 0 = open_to vs present c.args.s.now.barred.now c.args.s.now.window in
     offers_none _ _ c.args.most 0 refl (node_closed vs ok scope count (c.args.need.now ∷ []) c.args.node c.args.most
-    (λ may. true≢false (sym ((c.admits.ensures.answer jobs stands).1 may) ∙ c.if-not-admits.true))))
+    (λ may. true≢false (sym ((c.admits.ensures.answer present stands).1 may) ∙ c.if-not-admits.true))))
 
 pub write_held-requires-clause-open : goal.write_held-requires-clause-open
-write_held-requires-clause-open g c = λ jobs stands.
+write_held-requires-clause-open g c = λ present stands.
     let s = c.args.s.now in
-    admitted_open (meets s.graph.now.resources.vertices jobs s.barred.now) s.window c.args.node false
-    ((c.admits.ensures.answer jobs stands).0 c.if-not-admits.false)
+    admitted_open (meets s.graph.now.resources.vertices present s.barred.now) s.window c.args.node false
+    ((c.admits.ensures.answer present stands).0 c.if-not-admits.false)
 
 pub returns-then-copies-eq0-clause-offers : goal.returns-then-copies-eq0-clause-offers
 returns-then-copies-eq0-clause-offers g c =
@@ -37,14 +37,14 @@ returns-then-copies-eq0-clause-offers g c =
     (cut_back c.args.out.now.items c.write_held.new.out.items (pass ++ wrote.0) all) in (
       [],
       back ∙ sym (append-nil c.args.out.now.items),
-      λ jobs stands scope count within.
+      λ present stands scope count within.
           let vs = c.args.s.now.graph.now.resources.vertices in
-          let ok : Claim → Type 0 = open_to vs jobs c.args.s.now.barred.now c.args.s.now.window in
+          let ok : Claim → Type 0 = open_to vs present c.args.s.now.barred.now c.args.s.now.window in
           offers_none _ _ c.args.most c.whole_times-copies.result c.if-copies-eq0.true
           (greatest_held vs ok scope (takes_less _ _) need count c.args.node c.args.most c.in_ok-reached.reached
           c.whole_times-copies.result within c.requires.node
-          ((c.admits.ensures.answer jobs stands).0 c.if-not-admits.false)
-          (rw (c.from.ensures, c.from-2.ensures, c.amount-amount.ensures) at (wrote.2 jobs stands).0)
+          ((c.admits.ensures.answer present stands).0 c.if-not-admits.false)
+          (rw (c.from.ensures, c.from-2.ensures, c.amount-amount.ensures) at (wrote.2 present stands).0)
           (rw c.amount-amount.ensures at c.whole_times-copies.ensures.low)
           (rw c.amount-amount.ensures at c.whole_times-copies.ensures.high) c.whole_times-copies.ensures.within),
     )
@@ -71,15 +71,15 @@ returns-clause-offers g c =
       c.truncate-2.ensures.items ∙ (ap (λ n. take n c.write_held.new.out.items) cut
           ∙ cut_to out pass wrote.0 c.write_held.new.out.items total
           (wrote.1 ∙ ap (λ x. x ++ wrote.0) c.in_ok-push.ensures.ok)),
-      λ jobs stands scope count within.
+      λ present stands scope count within.
           let vs = c.args.s.now.graph.now.resources.vertices in
-          let ok : Claim → Type 0 = open_to vs jobs c.args.s.now.barred.now c.args.s.now.window in
+          let ok : Claim → Type 0 = open_to vs present c.args.s.now.barred.now c.args.s.now.window in
           copies_held vs ok scope need count c.args.node c.args.most c.in_ok-reached.reached
           c.whole_times-copies.result wrote.0 c.requires.held c.if-copies-eq0.false low
           (greatest_held vs ok scope (takes_less _ _) need count c.args.node c.args.most c.in_ok-reached.reached
           c.whole_times-copies.result within c.requires.node
-          ((c.admits.ensures.answer jobs stands).0 c.if-not-admits.false)
-          (rw (c.from.ensures, c.from-2.ensures, c.amount-amount.ensures) at (wrote.2 jobs stands).0) low
+          ((c.admits.ensures.answer present stands).0 c.if-not-admits.false)
+          (rw (c.from.ensures, c.from-2.ensures, c.amount-amount.ensures) at (wrote.2 present stands).0) low
           (rw c.amount-amount.ensures at c.whole_times-copies.ensures.high) c.whole_times-copies.ensures.within)
-          (wrote.2 jobs stands).1,
+          (wrote.2 present stands).1,
     )

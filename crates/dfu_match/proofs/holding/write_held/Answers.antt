@@ -17,9 +17,9 @@ use Rattle.dfu_match.proofs.holding.write_held.Goals as goal
 
 pub returns-in_default-clause-written : goal.returns-in_default-clause-written
 returns-in_default-clause-written g c =
-    extends_none c.args.out.now.items _ (λ jobs stands.
+    extends_none c.args.out.now.items _ (λ present stands.
     let vs = c.args.s.now.graph.now.resources.vertices in
-    let ok : Claim → Type 0 = open_to vs jobs c.args.s.now.barred.now c.args.s.now.window in
+    let ok : Claim → Type 0 = open_to vs present c.args.s.now.barred.now c.args.s.now.window in
     let scope = scope_of c.args.scope in
     let need = c.args.need.now in
     let down = serves_less vs ok (takes_less _ _) scope need in
@@ -33,17 +33,17 @@ loop-reached-init g c = record {
   within = omega arith;
   from = omega arith;
   each = omega arith;
-  written = extends_none c.args.out.now.items _ (λ jobs stands.
+  written = extends_none c.args.out.now.items _ (λ present stands.
       let vs = c.args.s.now.graph.now.resources.vertices in
-      let ok : Claim → Type 0 = open_to vs jobs c.args.s.now.barred.now c.args.s.now.window in
+      let ok : Claim → Type 0 = open_to vs present c.args.s.now.barred.now c.args.s.now.window in
       let scope = scope_of c.args.scope in
       let need = c.args.need.now in
       up_to_start _ (serves_less vs ok (takes_less _ _) scope need) _ c.args.most c.span_of-span.result.from
       (none_before vs ok scope need c.span_of-span.result.from c.span_of-span.result.to
       c.span_of-span.ensures.covers));
-  walked = λ jobs stands place here clear.
+  walked = λ present stands place here clear.
       let s = c.args.s.now in
-      steps.walked_start s.graph.now.resources s.graph.now.names c.is_valid.ensures.valid jobs s.window
+      steps.walked_start s.graph.now.resources s.graph.now.names c.is_valid.ensures.valid present s.window
       (asked_totals s.wanted.now (g.F.FreeView.keeps s.view.now)) (needs_all s.needs.now) c.args.need.now place
       ((length (needs_all s.needs.now) + 2) * g.F.FreeView.cost s.view.now) c.args.scope c.args.steps.now
       c.span_of-span.result.from c.span_of-span.result.to c.span_of-span.ensures.span c.span_of-span.ensures.within
@@ -55,9 +55,9 @@ returns-in_default-next_open_until-clause-written g c =
     let wrote = c.loop-reached.invariant.written in (
       wrote.0,
       wrote.1,
-      λ jobs stands.
+      λ present stands.
           let vs = c.args.s.now.graph.now.resources.vertices in
-          let ok : Claim → Type 0 = open_to vs jobs c.args.s.now.barred.now c.args.s.now.window in
+          let ok : Claim → Type 0 = open_to vs present c.args.s.now.barred.now c.args.s.now.window in
           let scope = scope_of c.args.scope in
           let need = c.args.need.now in
           let all = up_to_end _ (serves_less vs ok (takes_less _ _) scope need) _ c.args.most c.loop-reached.at
@@ -65,8 +65,8 @@ returns-in_default-next_open_until-clause-written g c =
           (λ lt. none_after vs ok scope need c.span_of-span.result.from c.loop-reached.at c.span_of-span.result.to
           c.span_of-span.ensures.covers (over_own c.args.s.now.window c.next_open_until.new.until
           c.in_default-next_open_until.ensures.falls c.args.s.now.opens _
-          (c.in_default-next_open_until.ensures.skipped jobs stands)))
-          (wrote.2 jobs stands) in (
+          (c.in_default-next_open_until.ensures.skipped present stands)))
+          (wrote.2 present stands) in (
             greatest_along _ _ c.args.most c.loop-reached.reached (group_from vs ok scope need)
                 (group_to vs ok scope need) all.0,
             all.1,
@@ -78,14 +78,14 @@ returns-clause-written g c =
     let wrote = c.loop-reached.invariant.written in (
       wrote.0,
       wrote.1,
-      λ jobs stands.
+      λ present stands.
           let vs = c.args.s.now.graph.now.resources.vertices in
-          let ok : Claim → Type 0 = open_to vs jobs c.args.s.now.barred.now c.args.s.now.window in
+          let ok : Claim → Type 0 = open_to vs present c.args.s.now.barred.now c.args.s.now.window in
           let scope = scope_of c.args.scope in
           let need = c.args.need.now in
           let all = up_to_end _ (serves_less vs ok (takes_less _ _) scope need) _ c.args.most c.loop-reached.at
           c.loop-reached.reached wrote.0 c.loop-reached.invariant.within
-          (λ lt. absurd (let over = c.loop-reached-test.false in omega (arith, over, lt))) (wrote.2 jobs stands) in (
+          (λ lt. absurd (let over = c.loop-reached-test.false in omega (arith, over, lt))) (wrote.2 present stands) in (
             greatest_along _ _ c.args.most c.loop-reached.reached (group_from vs ok scope need)
                 (group_to vs ok scope need) all.0,
             all.1,
@@ -121,8 +121,8 @@ loop-reached-preserved g c =
         before.0 ++ wrote.0,
         extends_twice c.args.out.now.items c.loop-reached.out.items c.hold.new.out.items before.0 wrote.0 before.1
             wrote.1,
-        λ jobs stands.
-            let ok : Claim → Type 0 = open_to vs jobs s.barred.now s.window in
+        λ present stands.
+            let ok : Claim → Type 0 = open_to vs present s.barred.now s.window in
             let scope = scope_of c.args.scope in
             let down = serves_less vs ok (takes_less _ _) scope need in
             up_to_over _ down _ c.args.most (v + 1) c.past-next.result (c.loop-reached.reached + c.from-reached.result)
@@ -134,20 +134,21 @@ loop-reached-preserved g c =
             (up_to_over _ down _ c.args.most c.loop-reached.at v c.loop-reached.reached before.0 low
             (none_skipped vs ok scope need c.loop-reached.at v
             (rw c.in-Some-next_open_until.is at (over_own s.window c.next_open_until.new.until
-            c.next_open_until.ensures.falls s.opens _ (c.next_open_until.ensures.skipped jobs stands))))
-            (before.2 jobs stands))
-            (wrote.2 jobs stands need scope (c.args.most - c.loop-reached.reached) c.requires.held is.0 is.1
+            c.next_open_until.ensures.falls s.opens _ (c.next_open_until.ensures.skipped present stands))))
+            (before.2 present stands))
+            (wrote.2 present stands need scope (c.args.most - c.loop-reached.reached) c.requires.held is.0 is.1
             (omega (arith, some))))),
       );
-      walked = λ jobs stands place here clear.
+      walked = λ present stands place here clear.
           let keeps = asked_totals s.wanted.now (g.F.FreeView.keeps s.view.now) in
           let all = needs_all s.needs.now in
           let cost = g.F.FreeView.cost s.view.now in
-          let before = c.loop-reached.invariant.walked jobs stands place here clear in
-          let alone = rw c.in-Some-next_open_until.is at (c.next_open_until.ensures.clear jobs stands before.clear) in
+          let before = c.loop-reached.invariant.walked present stands place here clear in
+          let alone = rw c.in-Some-next_open_until.is at (c.next_open_until.ensures.clear present stands before.clear)
+          in
           let walk = rw c.in-Some-next_open_until.is at
-          (c.next_open_until.ensures.work jobs stands place here before.clear) in
-          steps.walked_next graph.resources graph.names c.is_valid.ensures.valid jobs s.window keeps all need place
+          (c.next_open_until.ensures.work present stands place here before.clear) in
+          steps.walked_next graph.resources graph.names c.is_valid.ensures.valid present s.window keeps all need place
           ((length all + 2) * cost) c.args.scope (length (all_of need) * cost) (2 * cost) c.args.steps.now
           c.loop-reached.steps c.next_open_until.new.steps c.hold.new.steps c.span_of-span.result.from
           c.loop-reached.at c.span_of-span.result.to v c.past-next.result c.span_of-span.ensures.span
@@ -157,7 +158,7 @@ loop-reached-preserved g c =
     }
 
 pub returns-in_default-next_open_until-clause-work : goal.returns-in_default-next_open_until-clause-work
-returns-in_default-next_open_until-clause-work g c = λ jobs stands place from to here clear span.
+returns-in_default-next_open_until-clause-work g c = λ present stands place from to here clear span.
     let s = c.args.s.now in
     let graph = s.graph.now in
     let need = c.args.need.now in
@@ -166,16 +167,16 @@ returns-in_default-next_open_until-clause-work g c = λ jobs stands place from t
     let cost = g.F.FreeView.cost s.view.now in
     let same = span_same graph.resources graph.names c.is_valid.ensures.valid c.args.scope from to
     c.span_of-span.result.from c.span_of-span.result.to span c.span_of-span.ensures.span in
-    let before = c.loop-reached.invariant.walked jobs stands place here clear in
-    let walk = c.in_default-next_open_until.ensures.work jobs stands place here before.clear in
+    let before = c.loop-reached.invariant.walked present stands place here clear in
+    let walk = c.in_default-next_open_until.ensures.work present stands place here before.clear in
     let enough = steps.look_costs (length (all_of need)) (length all) cost (place_few all place need here) in
-    rw (same.0, same.1) (steps.walked_none graph.resources graph.names c.is_valid.ensures.valid jobs s.window keeps
+    rw (same.0, same.1) (steps.walked_none graph.resources graph.names c.is_valid.ensures.valid present s.window keeps
     all need place ((length all + 2) * cost) (length (all_of need) * cost) c.args.steps.now c.loop-reached.steps
     c.next_open_until.new.steps c.span_of-span.result.from c.loop-reached.at c.span_of-span.result.to
     (omega (arith, enough)) before walk)
 
 pub returns-in_err-held-clause-work : goal.returns-in_err-held-clause-work
-returns-in_err-held-clause-work g c = λ jobs stands place from to here clear span.
+returns-in_err-held-clause-work g c = λ present stands place from to here clear span.
     let s = c.args.s.now in
     let graph = s.graph.now in
     let need = c.args.need.now in
@@ -186,14 +187,15 @@ returns-in_err-held-clause-work g c = λ jobs stands place from to here clear sp
     c.span_of-span.result.from c.span_of-span.result.to span c.span_of-span.ensures.span in
     let v = c.in-Some-next_open_until.vertex in
     let next = rw c.in-Some-next_open_until.is at c.next_open_until.ensures.of_kind in
-    let before = c.loop-reached.invariant.walked jobs stands place here clear in
-    let alone = rw c.in-Some-next_open_until.is at (c.next_open_until.ensures.clear jobs stands before.clear) in
+    let before = c.loop-reached.invariant.walked present stands place here clear in
+    let alone = rw c.in-Some-next_open_until.is at (c.next_open_until.ensures.clear present stands before.clear) in
     let walk = rw c.in-Some-next_open_until.is at
-    (c.next_open_until.ensures.work jobs stands place here before.clear) in
-    rw (same.0, same.1) (steps.walked_end graph.resources graph.names c.is_valid.ensures.valid jobs s.window keeps all
+    (c.next_open_until.ensures.work present stands place here before.clear) in
+    rw (same.0, same.1) (steps.walked_end graph.resources graph.names c.is_valid.ensures.valid present s.window keeps
+    all
     need place ((length all + 2) * cost) c.args.steps.now c.hold.new.steps c.span_of-span.result.from
     c.past-next.result c.span_of-span.result.to
-    (steps.walked_next graph.resources graph.names c.is_valid.ensures.valid jobs s.window keeps all need place
+    (steps.walked_next graph.resources graph.names c.is_valid.ensures.valid present s.window keeps all need place
     ((length all + 2) * cost) c.args.scope (length (all_of need) * cost) (2 * cost) c.args.steps.now
     c.loop-reached.steps c.next_open_until.new.steps c.hold.new.steps c.span_of-span.result.from c.loop-reached.at
     c.span_of-span.result.to v c.past-next.result c.span_of-span.ensures.span c.span_of-span.ensures.within here
@@ -201,14 +203,14 @@ returns-in_err-held-clause-work g c = λ jobs stands place from to here clear sp
     alone c.past-next.ensures walk (λ pairs has. (let work = c.hold.ensures.work in omega (arith, work)))))
 
 pub returns-clause-work : goal.returns-clause-work
-returns-clause-work g c = λ jobs stands place from to here clear span.
+returns-clause-work g c = λ present stands place from to here clear span.
     let s = c.args.s.now in
     let graph = s.graph.now in
     let all = needs_all s.needs.now in
     let same = span_same graph.resources graph.names c.is_valid.ensures.valid c.args.scope from to
     c.span_of-span.result.from c.span_of-span.result.to span c.span_of-span.ensures.span in
-    rw (same.0, same.1) (steps.walked_end graph.resources graph.names c.is_valid.ensures.valid jobs s.window
+    rw (same.0, same.1) (steps.walked_end graph.resources graph.names c.is_valid.ensures.valid present s.window
     (asked_totals s.wanted.now (g.F.FreeView.keeps s.view.now)) all c.args.need.now place
     ((length all + 2) * g.F.FreeView.cost s.view.now) c.args.steps.now c.loop-reached.steps
     c.span_of-span.result.from c.loop-reached.at c.span_of-span.result.to
-    (c.loop-reached.invariant.walked jobs stands place here clear))
+    (c.loop-reached.invariant.walked present stands place here clear))

@@ -1,6 +1,6 @@
 use Rattle.std.proofs.Common.{◌≡◌, ◌-◌, ◌+◌, ◌*◌, ◌≤◌, ℕ, List, length}
-use Rattle.flux_defs.specs.declared.claims.Job.{Job}
 use Rattle.flux_defs.specs.Lowest.{CanServe, LowestPiece}
+use Rattle.flux_defs.specs.Present.{InEach}
 use Rattle.match_laws.specs.Offers.{Extends}
 use Rattle.dfu_match.specs.Tables.{needs_all}
 use Rattle.dfu_match.specs.Pairs.{IsClearScope, IsPlaceOf, asked_totals}
@@ -16,19 +16,20 @@ invariant-loop-reached g l = record {
   from : l.span.from ≤ l.at;
   each : length l.out.items ≡ length l.initial.out.items + l.reached;
   written : Extends l.initial.out.items l.out.items
-      (λ claims. (jobs : List Job) → g.F.FreeView.stands_for l.s.view.now jobs →
-      FilledUpTo (CanServe l.s.graph.now.resources.vertices
-      (open_to l.s.graph.now.resources.vertices jobs l.s.barred.now l.s.window) (scope_of l.fn.scope) l.need)
+      (λ claims. InEach (g.F.FreeView.stands_for l.s.view.now)
+      (λ present. FilledUpTo (CanServe l.s.graph.now.resources.vertices
+      (open_to l.s.graph.now.resources.vertices present l.s.barred.now l.s.window) (scope_of l.fn.scope) l.need)
       (LowestPiece l.s.graph.now.resources.vertices
-      (open_to l.s.graph.now.resources.vertices jobs l.s.barred.now l.s.window) l.need) l.most l.at l.reached claims);
-  walked : (jobs : List Job) → g.F.FreeView.stands_for l.s.view.now jobs → (place : ℕ) →
+      (open_to l.s.graph.now.resources.vertices present l.s.barred.now l.s.window) l.need) l.most l.at l.reached
+      claims));
+  walked : InEach (g.F.FreeView.stands_for l.s.view.now) (λ present. (place : ℕ) →
       IsPlaceOf (needs_all l.s.needs.now) place l.need →
-      IsClearScope l.s.graph.now.resources.vertices jobs l.s.window
+      IsClearScope l.s.graph.now.resources.vertices present l.s.window
       (asked_totals l.s.wanted.now (g.F.FreeView.keeps l.s.view.now)) l.fn.scope l.need →
-      Walked l.s.graph.now.resources.vertices jobs l.s.window
+      Walked l.s.graph.now.resources.vertices present l.s.window
       (asked_totals l.s.wanted.now (g.F.FreeView.keeps l.s.view.now)) (needs_all l.s.needs.now) l.need place
       ((length (needs_all l.s.needs.now) + 2) * g.F.FreeView.cost l.s.view.now) l.initial.steps l.steps l.span.from
-      l.at l.span.to;
+      l.at l.span.to);
 }
 
 abbrev pub decreases-loop-reached : goal.decreases-loop-reached

@@ -2,20 +2,20 @@ use Rattle.dfu_match.proofs.RowLaws.{knows_nothing}
 use Rattle.dfu_match.proofs.matching.match_at.Goals as goal
 
 pub returns-in_err-claims-clause-work : goal.returns-in_err-claims-clause-work
-returns-in_err-claims-clause-work g c = λ jobs stands looks enough.
-    c.over.ensures.work jobs stands looks (rw (c.in_ok-matcher.ensures.graph, c.in_ok-matcher.ensures.ask) enough)
+returns-in_err-claims-clause-work g c = λ present stands looks enough.
+    c.over.ensures.work present stands looks (rw (c.in_ok-matcher.ensures.graph, c.in_ok-matcher.ensures.ask) enough)
 
 pub returns-in-Fits-clause-work : goal.returns-in-Fits-clause-work
-returns-in-Fits-clause-work g c = λ jobs stands looks enough.
-    c.over.ensures.work jobs stands looks (rw (c.in_ok-matcher.ensures.graph, c.in_ok-matcher.ensures.ask) enough)
+returns-in-Fits-clause-work g c = λ present stands looks enough.
+    c.over.ensures.work present stands looks (rw (c.in_ok-matcher.ensures.graph, c.in_ok-matcher.ensures.ask) enough)
 
 pub returns-in-Short-clause-work : goal.returns-in-Short-clause-work
-returns-in-Short-clause-work g c = λ jobs stands looks enough.
-    c.over.ensures.work jobs stands looks (rw (c.in_ok-matcher.ensures.graph, c.in_ok-matcher.ensures.ask) enough)
+returns-in-Short-clause-work g c = λ present stands looks enough.
+    c.over.ensures.work present stands looks (rw (c.in_ok-matcher.ensures.graph, c.in_ok-matcher.ensures.ask) enough)
 
 pub returns-clause-work : goal.returns-clause-work
-returns-clause-work g c = λ jobs stands looks enough.
-    c.over.ensures.work jobs stands looks (rw (c.in_ok-matcher.ensures.graph, c.in_ok-matcher.ensures.ask) enough)
+returns-clause-work g c = λ present stands looks enough.
+    c.over.ensures.work present stands looks (rw (c.in_ok-matcher.ensures.graph, c.in_ok-matcher.ensures.ask) enough)
 
 pub over-requires-clause-known : goal.over-requires-clause-known
 over-requires-clause-known g c =

@@ -37,14 +37,14 @@ none_can_be can n g one = elim (cases_lt 0 n) [
 ]
 
 pub returns-clause-answer : goal.returns-clause-answer
-returns-clause-answer g c = λ jobs stands.
-    let greatest = c.copies.ensures.greatest jobs stands in (
+returns-clause-answer g c = λ present stands.
+    let greatest = c.copies.ensures.greatest present stands in (
       (λ h. one_can_be _ c.copies.result greatest (ltb-true 0 c.copies.result h)),
       (λ fit. lt-ltb 0 c.copies.result (none_can_be _ c.copies.result greatest fit)),
     )
 
 pub returns-clause-work : goal.returns-clause-work
-returns-clause-work g c = λ jobs stands.
+returns-clause-work g c = λ present stands.
     let vs = c.args.graph.now.resources.vertices in
     let needs = c.args.ask.now.needs in
     let all = needs_all needs in
@@ -53,8 +53,8 @@ returns-clause-work g c = λ jobs stands.
     let many = every_length (length all) (length vs) in
     let work = takes_most _ ((length all + 2) * g.F.FreeView.cost c.args.view.now) c.args.steps.now
     c.copies.new.steps 0 (0 + length all) 0 (length vs) pairs
-    (every_open vs jobs c.args.window keeps all)
-    (c.copies.ensures.work jobs stands 0 0 (length vs) (first_place needs)
-    (clear_everywhere vs jobs c.args.window keeps needs) (refl, refl)) in
+    (every_open vs present c.args.window keeps all)
+    (c.copies.ensures.work present stands 0 0 (length vs) (first_place needs)
+    (clear_everywhere vs present c.args.window keeps needs) (refl, refl)) in
     let same = ap (λ n. (length all + 2) * n * g.F.FreeView.cost c.args.view.now) many in
     omega (arith, work, same)

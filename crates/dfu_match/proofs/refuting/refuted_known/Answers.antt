@@ -14,9 +14,9 @@ refuted-requires g c =
 
 -- there are rows of all of its vertices
 pub returns-clause-none : goal.returns-clause-none
-returns-clause-none g c = λ jobs stands w. IfSome_then c.refuted.result c.refuted.ensures (λ until told reach.
+returns-clause-none g c = λ present stands w. IfSome_then c.refuted.result c.refuted.ensures (λ until told reach.
     let s = c.args.s.now in
     known_refutes s.graph.now.resources (g.F.FreeView.stands_for s.view.now) s.barred.now s.needs.now s.window w
     c.args.known.now c.own.result c.in-Some.need.now until c.requires.valid c.requires.known
     (c.reaches.ensures c.if-not-reaches.false ∙ c.len.ensures) (sym c.own.ensures) (sym c.in-Some.ensures.value)
-    (rw c.rows.ensures at told.1) reach jobs stands)
+    (rw c.rows.ensures at told.1) reach present stands)

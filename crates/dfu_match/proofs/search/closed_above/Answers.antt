@@ -13,17 +13,17 @@ closed-requires g c =
     (sym c.above.ensures ∙ c.in-Some.is)
 
 pub returns-then-is_one-clause-answer : goal.returns-then-is_one-clause-answer
-returns-then-is_one-clause-answer g c = λ jobs stands.
+returns-then-is_one-clause-answer g c = λ present stands.
     let s = c.args.s.now in
-    let scene = meets s.graph.now.resources.vertices jobs s.barred.now in
+    let scene = meets s.graph.now.resources.vertices present s.barred.now in
     let open' = subst (λ o. IsOpenScope s.graph.now.resources.vertices (g.F.FreeView.stands_for s.view.now)
     s.barred.now s.window o) (c.if-is_one.ensures refl) c.requires.open in
     subst (λ (o : Option ℕ). IsTrue false ↔ IsSomeAnd o (IsClosedIn scene s.window))
-    (sym c.in-Some.is ∙ c.above.ensures) (λ t. absurd (true≢false (sym t)), λ h. absurd (open' jobs stands h))
+    (sym c.in-Some.is ∙ c.above.ensures) (λ t. absurd (true≢false (sym t)), λ h. absurd (open' present stands h))
 
 pub returns-else-is_one-clause-answer : goal.returns-else-is_one-clause-answer
-returns-else-is_one-clause-answer g c = λ jobs stands.
+returns-else-is_one-clause-answer g c = λ present stands.
     let s = c.args.s.now in
     subst (λ (o : Option ℕ). IsTrue c.closed.result
-    ↔ IsSomeAnd o (IsClosedIn (meets s.graph.now.resources.vertices jobs s.barred.now) s.window))
-    (sym c.in-Some.is ∙ c.above.ensures) (c.closed.ensures.answer jobs stands)
+    ↔ IsSomeAnd o (IsClosedIn (meets s.graph.now.resources.vertices present s.barred.now) s.window))
+    (sym c.in-Some.is ∙ c.above.ensures) (c.closed.ensures.answer present stands)

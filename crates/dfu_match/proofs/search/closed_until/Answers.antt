@@ -6,17 +6,17 @@ use Rattle.dfu_match.proofs.ReachLaws.{reach_later}
 use Rattle.dfu_match.proofs.search.closed_until.Goals as goal
 
 pub returns-in-Some-clause-closed : goal.returns-in-Some-clause-closed
-returns-in-Some-clause-closed g c = λ is jobs stands w reach.
+returns-in-Some-clause-closed g c = λ is present stands w reach.
     let s = c.args.s.now in
     let later = reach_later s.window w c.min.result c.in-Some.moment (omega (arith, c.min.ensures)) reach in
-    closed_too s.graph.now.resources.vertices jobs s.barred.now w c.args.vertex
-    (subst (λ (vs : List Vertex). IsClosedOver vs jobs w c.args.vertex) s.over
-    (c.in-Some.ensures.answer jobs stands w later))
+    closed_too s.graph.now.resources.vertices present s.barred.now w c.args.vertex
+    (subst (λ (vs : List Vertex). IsClosedOver vs present w c.args.vertex) s.over
+    (c.in-Some.ensures.answer present stands w later))
 
 pub returns-in-None-clause-open : goal.returns-in-None-clause-open
-returns-in-None-clause-open g c = λ is jobs stands.
+returns-in-None-clause-open g c = λ is present stands.
     let s = c.args.s.now in
-    not_closed s.graph.now.resources.vertices jobs s.barred.now s.window c.args.vertex s.opens c.bars_over.result
+    not_closed s.graph.now.resources.vertices present s.barred.now s.window c.args.vertex s.opens c.bars_over.result
     c.if-bars_over.false c.bars_over.ensures
-    (subst (λ (vs : List Vertex). IsClosedOver vs jobs s.window c.args.vertex → ⊥) s.over
-    (c.in-None.ensures.answer jobs stands))
+    (subst (λ (vs : List Vertex). IsClosedOver vs present s.window c.args.vertex → ⊥) s.over
+    (c.in-None.ensures.answer present stands))

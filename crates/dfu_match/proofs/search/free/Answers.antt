@@ -5,9 +5,9 @@ use Rattle.match_laws.proofs.ViewLaws.{free_unbarred}
 use Rattle.dfu_match.proofs.search.free.Goals as goal
 
 pub returns-clause-answer : goal.returns-clause-answer
-returns-clause-answer g c = λ jobs stands.
+returns-clause-answer g c = λ present stands.
     let s = c.args.s.now in
-    let told = subst (λ (vs : List Vertex). IsFreeOver vs jobs s.window c.args.vertex c.free_over.result) s.over
-    (c.free_over.ensures.answer jobs stands) in
-    free_unbarred s.graph.now.resources.vertices jobs s.barred.now s.window c.args.vertex s.opens c.bars_over.result
+    let told = subst (λ (vs : List Vertex). IsFreeOver vs present s.window c.args.vertex c.free_over.result) s.over
+    (c.free_over.ensures.answer present stands) in
+    free_unbarred s.graph.now.resources.vertices present s.barred.now s.window c.args.vertex s.opens c.bars_over.result
     c.free_over.result c.if-bars_over.false c.bars_over.ensures told

@@ -7,9 +7,9 @@ use Rattle.dfu_match.proofs.SingleLaws.{count_few, greatest_count}
 use Rattle.dfu_match.proofs.singles.reach_singles.Goals as goal
 
 pub returns-clause-greatest : goal.returns-clause-greatest
-returns-clause-greatest g c = λ jobs stands.
+returns-clause-greatest g c = λ present stands.
     let vs = c.args.s.now.graph.now.resources.vertices in
-    let ok : Claim → Type 0 = open_to vs jobs c.args.s.now.barred.now c.args.s.now.window in
+    let ok : Claim → Type 0 = open_to vs present c.args.s.now.barred.now c.args.s.now.window in
     let from = c.span_of-span.result.from in
     let to = c.span_of-span.result.to in
     let few = count_few vs c.args.kind from to in
@@ -21,4 +21,4 @@ returns-clause-greatest g c = λ jobs stands.
     omega (arith, few, least, all, counted, same, c.span_of-span.type_inv) in
     rw is (greatest_count vs ok (takes_less _ _) (scope_of c.args.scope) c.args.need.now c.args.kind from to
     c.args.most c.requires.of_kind c.span_of-span.ensures.covers c.span_of-span.ensures.within
-    (c.requires.singles jobs stands))
+    (c.requires.singles present stands))

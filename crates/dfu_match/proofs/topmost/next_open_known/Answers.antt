@@ -17,12 +17,12 @@ use Rattle.dfu_match.proofs.RowLaws.{knows_noted, knows_passed, none_at, row_bet
 use Rattle.dfu_match.proofs.topmost.next_open_known.Goals as goal
 
 pub returns-in_default-clause-skipped : goal.returns-in_default-clause-skipped
-returns-in_default-clause-skipped g c = λ jobs stands.
+returns-in_default-clause-skipped g c = λ present stands.
     let s = c.args.s.now in
     let graph = s.graph.now in
-    laws.skipped_all graph.resources graph.names c.is_valid.ensures.valid jobs s.barred.now s.window c.args.need.now
+    laws.skipped_all graph.resources graph.names c.is_valid.ensures.valid present s.barred.now s.window c.args.need.now
     c.args.kind c.requires.of_kind c.args.from c.look.at c.args.to c.in_default.ensures
-    (c.look.invariant.skipped jobs stands)
+    (c.look.invariant.skipped present stands)
 
 pub returns-in_default-clause-known : goal.returns-in_default-clause-known
 returns-in_default-clause-known g c =
@@ -37,29 +37,29 @@ returns-in_default-clause-known g c =
     c.look.invariant.known
 
 pub returns-in_default-clause-work : goal.returns-in_default-clause-work
-returns-in_default-clause-work g c = λ jobs stands place at before.
+returns-in_default-clause-work g c = λ present stands place at before.
     let steps = length (all_of c.args.need.now) * g.F.FreeView.cost c.args.s.now.view.now in
     takes_within _ steps steps c.args.steps.now c.look.steps place (place + 1) c.args.from (min c.look.low c.args.to)
     place (place + 1) c.args.from c.args.to (omega arith) (omega arith) (omega arith) (omega arith) (omega arith)
-    (c.look.invariant.taken jobs stands place at before)
+    (c.look.invariant.taken present stands place at before)
 
 pub returns-then-is_some-clause-work : goal.returns-then-is_some-clause-work
-returns-then-is_some-clause-work g c = λ jobs stands place at before.
+returns-then-is_some-clause-work g c = λ present stands place at before.
     let steps = length (all_of c.args.need.now) * g.F.FreeView.cost c.args.s.now.view.now in
     takes_within _ steps steps c.args.steps.now c.look.steps place (place + 1) c.args.from (min c.look.low c.args.to)
     place (place + 1) c.args.from c.args.to (omega arith) (omega arith) (omega arith) (omega arith) (omega arith)
-    (c.look.invariant.taken jobs stands place at before)
+    (c.look.invariant.taken present stands place at before)
 
 pub returns-then-is_some-clause-skipped : goal.returns-then-is_some-clause-skipped
-returns-then-is_some-clause-skipped g c = λ jobs stands.
+returns-then-is_some-clause-skipped g c = λ present stands.
     let s = c.args.s.now in
     let graph = s.graph.now in
     let next = rw c.in-Some.is at c.next_of_kind.ensures in
-    laws.skipped_shut graph.resources graph.names c.is_valid.ensures.valid jobs s.barred.now s.window c.args.need.now
+    laws.skipped_shut graph.resources graph.names c.is_valid.ensures.valid present s.barred.now s.window c.args.need.now
     c.args.kind c.requires.of_kind c.in-Some.vertex c.args.from c.look.at c.args.to s.opens (s.shuts c.if-s.true)
     next.of_kind (rank_node graph.resources.vertices c.in-Some.vertex
     (ap is_some (sym c.rank_at.ensures) ∙ (sym c.is_some.ensures ∙ c.if-is_some.true)))
-    (c.look.invariant.skipped jobs stands)
+    (c.look.invariant.skipped present stands)
 
 -- a vertex of which is known that it serves nothing is passed over
 pub look-preserved-then-serves_none : goal.look-preserved-then-serves_none
@@ -78,15 +78,15 @@ look-preserved-then-serves_none g c =
     record {
       later = c.look.invariant.later;
       order = omega (arith, order, low, later);
-      skipped = λ jobs stands scope u q lo hi some can.
-          let ok = open_to vs jobs s.barred.now s.window in
+      skipped = λ present stands scope u q lo hi some can.
+          let ok = open_to vs present s.barred.now s.window in
           let dead = none_at graph.resources (g.F.FreeView.stands_for s.view.now) s.barred.now s.needs.now s.window
-          c.look.known c.args.own need c.requires.valid c.requires.of_own told.0 c.look.invariant.known s.opens jobs
+          c.look.known c.args.own need c.requires.valid c.requires.of_own told.0 c.look.invariant.known s.opens present
           stands scope u q some can in
           elim (cases_lt u c.in-Some.vertex) [
-            | inl before ↦ laws.skipped_to graph.resources graph.names valid jobs s.barred.now s.window need
+            | inl before ↦ laws.skipped_to graph.resources graph.names valid present s.barred.now s.window need
                 c.args.kind c.requires.of_kind c.args.from c.look.at c.args.to c.in-Some.vertex next
-                (c.look.invariant.skipped jobs stands) scope u q lo before some can
+                (c.look.invariant.skipped present stands) scope u q lo before some can
             | inr after ↦ elim (cases_lt c.in-Some.vertex u) [
               | inl below ↦ elim (cases_lt u c.past-next.result) [
                 | inl inside ↦ none_inside graph.resources graph.names valid ok need c.args.kind c.in-Some.vertex
@@ -113,25 +113,25 @@ look-preserved-then-serves_none g c =
     }
 
 pub returns-in-None-clause-skipped : goal.returns-in-None-clause-skipped
-returns-in-None-clause-skipped g c = λ jobs stands.
+returns-in-None-clause-skipped g c = λ present stands.
     let s = c.args.s.now in
     let graph = s.graph.now in
-    laws.skipped_to graph.resources graph.names c.is_valid.ensures.valid jobs s.barred.now s.window c.args.need.now
+    laws.skipped_to graph.resources graph.names c.is_valid.ensures.valid present s.barred.now s.window c.args.need.now
     c.args.kind c.requires.of_kind c.args.from c.look.at c.args.to c.in-Some.vertex
-    (rw c.in-Some.is at c.next_of_kind.ensures) (c.look.invariant.skipped jobs stands)
+    (rw c.in-Some.is at c.next_of_kind.ensures) (c.look.invariant.skipped present stands)
 
 pub returns-in-None-clause-clear : goal.returns-in-None-clause-clear
-returns-in-None-clause-clear g c = λ jobs stands before.
+returns-in-None-clause-clear g c = λ present stands before.
     let s = c.args.s.now in
     let graph = s.graph.now in
     let next = rw c.in-Some.is at c.next_of_kind.ensures in
     let low = next.low in
     let order = c.look.invariant.order in
-    clear_within graph.resources graph.names c.is_valid.ensures.valid jobs s.window
+    clear_within graph.resources graph.names c.is_valid.ensures.valid present s.window
     (asked_totals s.wanted.now (g.F.FreeView.keeps s.view.now)) c.args.need.now c.look.low c.args.to c.in-Some.vertex
     (let hi = next.high in let most = c.requires.within in omega (arith, hi, most))
-    (c.look.invariant.clear jobs stands before) (omega (arith, low, order)) next.high
-    (c.in-None.ensures.clear jobs stands) (c.in-None.ensures.own jobs stands)
+    (c.look.invariant.clear present stands before) (omega (arith, low, order)) next.high
+    (c.in-None.ensures.clear present stands) (c.in-None.ensures.own present stands)
 
 pub returns-in-None-clause-known : goal.returns-in-None-clause-known
 returns-in-None-clause-known g c =
@@ -151,7 +151,7 @@ returns-in-None-clause-known g c =
     c.unknown-row.ensures.row c.look.invariant.known
 
 pub returns-in-None-clause-work : goal.returns-in-None-clause-work
-returns-in-None-clause-work g c = λ jobs stands place at before.
+returns-in-None-clause-work g c = λ present stands place at before.
     let s = c.args.s.now in
     let next = rw c.in-Some.is at c.next_of_kind.ensures in
     let lo = next.low in
@@ -161,12 +161,12 @@ returns-in-None-clause-work g c = λ jobs stands place at before.
     let steps = length (all_of c.args.need.now) * g.F.FreeView.cost s.view.now in
     takes_upto _ steps c.args.steps.now c.look.steps c.top_within.new.steps place (place + 1) c.args.from
     (min c.look.low c.args.to) (c.in-Some.vertex + 1) (omega (arith, from, order, lo, hi)) (omega (arith, lo, order))
-    (c.look.invariant.taken jobs stands place at before)
+    (c.look.invariant.taken present stands place at before)
     (takes_within _ steps steps c.look.steps c.top_within.new.steps place (place + 1) c.look.low
     (c.in-Some.vertex + 1) place (place + 1) (min c.look.low c.args.to) (c.in-Some.vertex + 1) (omega arith)
     (omega arith) (omega arith) (omega (arith, order, lo, hi)) (omega arith)
-    (c.top_within.ensures.work jobs stands place at
-    (c.look.invariant.clear jobs stands before c.in-Some.vertex (omega (arith, order, lo)) hi)))
+    (c.top_within.ensures.work present stands place at
+    (c.look.invariant.clear present stands before c.in-Some.vertex (omega (arith, order, lo)) hi)))
 
 pub past-past-requires : goal.past-past-requires
 past-past-requires g c =
@@ -179,16 +179,16 @@ past-past-requires g c =
     omega arith
 
 pub note_short-requires-clause-none : goal.note_short-requires-clause-none
-note_short-requires-clause-none g c = λ jobs stands w reach.
+note_short-requires-clause-none g c = λ present stands w reach.
     let s = c.args.s.now in
     let graph = s.graph.now in
     let valid = c.is_valid.ensures.valid in
     let next = rw c.in-Some.is at c.next_of_kind.ensures in
-    laws.skipped_past graph.resources graph.names valid jobs s.barred.now w c.args.need.now c.args.kind
+    laws.skipped_past graph.resources graph.names valid present s.barred.now w c.args.need.now c.args.kind
     c.requires.of_kind (asked_totals s.wanted.now (g.F.FreeView.keeps s.view.now)) c.requires.valid
     c.look.at c.look.at c.in-Some.vertex c.in-Some-top_within.top c.past-past.result
-    c.in-Some-top_within.ensures.above.1 (c.in-Some-top_within.ensures.short jobs stands w reach) c.past-past.ensures
-    (laws.skipped_to graph.resources graph.names valid jobs s.barred.now w c.args.need.now c.args.kind
+    c.in-Some-top_within.ensures.above.1 (c.in-Some-top_within.ensures.short present stands w reach) c.past-past.ensures
+    (laws.skipped_to graph.resources graph.names valid present s.barred.now w c.args.need.now c.args.kind
     c.requires.of_kind c.look.at c.look.at c.args.to c.in-Some.vertex next
     (λ scope u q lo hi some can. omega (arith, lo, hi)))
 
@@ -212,34 +212,35 @@ look-preserved g c =
     record {
       later = omega (arith, from, top, past);
       order = omega arith;
-      skipped = λ jobs stands.
+      skipped = λ present stands.
           let within : s.window.from ≤ c.top_within.new.until = c.top_within.ensures.falls.1 (omega arith) in
-          laws.skipped_past graph.resources graph.names valid jobs s.barred.now s.window c.args.need.now c.args.kind
+          laws.skipped_past graph.resources graph.names valid present s.barred.now s.window c.args.need.now c.args.kind
           c.requires.of_kind keeps c.requires.valid c.args.from c.look.at c.in-Some.vertex c.in-Some-top_within.top
           c.past-past.result above.1
-          (c.in-Some-top_within.ensures.short jobs stands s.window
+          (c.in-Some-top_within.ensures.short present stands s.window
           (reach_all s.window c.top_within.new.until within s.opens))
           c.past-past.ensures
-          (laws.skipped_to graph.resources graph.names valid jobs s.barred.now s.window c.args.need.now c.args.kind
+          (laws.skipped_to graph.resources graph.names valid present s.barred.now s.window c.args.need.now c.args.kind
           c.requires.of_kind c.args.from c.look.at c.args.to c.in-Some.vertex next
-          (c.look.invariant.skipped jobs stands));
+          (c.look.invariant.skipped present stands));
       known = c.note_short.ensures.known;
       own = c.note_short.ensures.own ∙ c.look.invariant.own;
-      clear = λ jobs stands before. clear_past graph.resources graph.names valid jobs s.window keeps c.args.need.now
+      clear = λ present stands before. clear_past graph.resources graph.names valid present s.window keeps
+          c.args.need.now
           c.look.low c.args.to c.in-Some.vertex c.in-Some-top_within.top c.past-past.result c.requires.within
-          (c.look.invariant.clear jobs stands before) (omega (arith, lo, order)) hi (omega (arith, hi, most)) above.1
-          (c.in-Some-top_within.ensures.clear jobs stands) c.past-past.ensures;
-      taken = λ jobs stands place at before.
+          (c.look.invariant.clear present stands before) (omega (arith, lo, order)) hi (omega (arith, hi, most)) above.1
+          (c.in-Some-top_within.ensures.clear present stands) c.past-past.ensures;
+      taken = λ present stands place at before.
           let steps = length (all_of c.args.need.now) * g.F.FreeView.cost s.view.now in
           takes_within _ steps steps c.args.steps.now c.top_within.new.steps place (place + 1) c.args.from
           (c.in-Some.vertex + 1) place (place + 1) c.args.from (min c.past-past.result c.args.to) (omega arith)
           (omega arith) (omega arith) (omega arith) (omega (arith, inside, hi))
           (takes_upto _ steps c.args.steps.now c.look.steps c.top_within.new.steps place (place + 1) c.args.from
           (min c.look.low c.args.to) (c.in-Some.vertex + 1) (omega (arith, from, order, lo, hi))
-          (omega (arith, lo, order)) (c.look.invariant.taken jobs stands place at before)
+          (omega (arith, lo, order)) (c.look.invariant.taken present stands place at before)
           (takes_within _ steps steps c.look.steps c.top_within.new.steps place (place + 1) c.look.low
           (c.in-Some.vertex + 1) place (place + 1) (min c.look.low c.args.to) (c.in-Some.vertex + 1) (omega arith)
           (omega arith) (omega arith) (omega (arith, order, lo, hi)) (omega arith)
-          (c.top_within.ensures.work jobs stands place at
-          (c.look.invariant.clear jobs stands before c.in-Some.vertex (omega (arith, order, lo)) hi))));
+          (c.top_within.ensures.work present stands place at
+          (c.look.invariant.clear present stands before c.in-Some.vertex (omega (arith, order, lo)) hi))));
     }

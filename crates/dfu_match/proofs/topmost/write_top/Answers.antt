@@ -114,11 +114,11 @@ pub loop-need-init : goal.loop-need-init
 loop-need-init g c = record {
   stand = rw c.items-need-items.ensures (inr (steps.first_place c.args.s.now.needs.now));
   known = c.requires.known;
-  written = laws.extends_none c.args.out.now.items _ (λ jobs stands rest low. low);
+  written = laws.extends_none c.args.out.now.items _ (λ present stands rest low. low);
   own = refl;
-  taken = λ jobs stands place from to times here clear span look.
+  taken = λ present stands place from to times here clear span look.
       takes_none _ _ c.args.steps.now place (place + 0) from to;
-  alone = λ jobs stands place from to times here clear span look need one. (λ e. refl, λ le. absurd (omega arith));
+  alone = λ present stands place from to times here clear span look need one. (λ e. refl, λ le. absurd (omega arith));
 }
 
 pub returns-then-not-filled-clause-written : goal.returns-then-not-filled-clause-written
@@ -133,10 +133,10 @@ returns-then-not-filled-clause-written g c =
       before.0 ++ wrote.0,
       laws.extends_twice c.args.out.now.items c.loop-need.out.items c.write_top_group.new.out.items before.0 wrote.0
           before.1 wrote.1,
-      λ jobs stands fit.
+      λ present stands fit.
           let vs = c.args.s.now.graph.now.resources.vertices in
-          let ok : Claim → Type 0 = open_to vs jobs c.args.s.now.barred.now c.args.s.now.window in
-          let never = rw c.if-not-filled.true at (wrote.2 jobs stands) in
+          let ok : Claim → Type 0 = open_to vs present c.args.s.now.barred.now c.args.s.now.window in
+          let never = rw c.if-not-filled.true at (wrote.2 present stands) in
           never (group_at vs ok 1 Everywhere items i need (drop (i + 1) items) split
           (rw c.items-need-items.ensures fit)),
     )
@@ -161,39 +161,39 @@ loop-need-preserved g c =
         before.0 ++ wrote.0,
         laws.extends_twice c.args.out.now.items c.loop-need.out.items c.write_top_group.new.out.items before.0 wrote.0
             before.1 wrote.1,
-        λ jobs stands.
+        λ present stands.
             let vs = c.args.s.now.graph.now.resources.vertices in
-            let ok : Claim → Type 0 = open_to vs jobs c.args.s.now.barred.now c.args.s.now.window in
-            let group = rw c.if-not-filled.false at (wrote.2 jobs stands) in
+            let ok : Claim → Type 0 = open_to vs present c.args.s.now.barred.now c.args.s.now.window in
+            let group = rw c.if-not-filled.false at (wrote.2 present stands) in
             completes_next vs ok 1 Everywhere items (drop i items) (drop (i + 1) items) need
-            before.0 wrote.0 split group (before.2 jobs stands),
+            before.0 wrote.0 split group (before.2 present stands),
       );
-      taken = λ jobs stands place from to times here clear span look.
+      taken = λ present stands place from to times here clear span look.
           let all = needs_all c.args.s.now.needs.now in
           let each = times * ((length all + 2) * g.F.FreeView.cost c.args.s.now.view.now) in
           let keeps = asked_totals c.args.s.now.wanted.now (g.F.FreeView.keeps c.args.s.now.view.now) in
           let before = length (needs_all (take i items)) in
           let place' = tables.place_first all (place + before) (drop i items) (drop (i + 1) items) need split
           (tables.place_from all i place items here) in
-          let scope = counts.each_at (IsClearScope c.args.s.now.graph.now.resources.vertices jobs c.args.s.now.window
+          let scope = counts.each_at (IsClearScope c.args.s.now.graph.now.resources.vertices present c.args.s.now.window
           keeps None) items i need (drop (i + 1) items) split clear in
           let look' = steps.looks_at times items i need (drop (i + 1) items) split look in
           steps.listed_next _ each c.args.steps.now c.loop-need.steps c.write_top_group.new.steps place from to items
           (drop (i + 1) items) i need c.loop-need-test.true c.need-item.is
-          (c.loop-need.invariant.taken jobs stands place from to times here clear span look)
+          (c.loop-need.invariant.taken present stands place from to times here clear span look)
           (group_each _ _ times (place + before) from to need c.loop-need.steps c.write_top_group.new.steps
           (steps.looks_some times need look')
-          (c.write_top_group.ensures.work jobs stands (place + before) from to times place' scope span look'));
-      alone = λ jobs stands place from to times here clear span look one is.
+          (c.write_top_group.ensures.work present stands (place + before) from to times place' scope span look'));
+      alone = λ present stands place from to times here clear span look one is.
           let all = needs_all c.args.s.now.needs.now in
           let keeps = asked_totals c.args.s.now.wanted.now (g.F.FreeView.keeps c.args.s.now.view.now) in
-          let scope = counts.each_at (IsClearScope c.args.s.now.graph.now.resources.vertices jobs c.args.s.now.window
+          let scope = counts.each_at (IsClearScope c.args.s.now.graph.now.resources.vertices present c.args.s.now.window
           keeps None) items i need (drop (i + 1) items) split clear in (
             λ e. absurd (omega arith),
             λ le. alone_group _ _ _ all items i need one c.loop-need-test.true c.need-item.is is
                 c.args.steps.now c.loop-need.steps c.write_top_group.new.steps place from to here
-                (c.loop-need.invariant.alone jobs stands place from to times here clear span look one is).0
-                (λ at there. c.write_top_group.ensures.work jobs stands at from to times there scope span
+                (c.loop-need.invariant.alone present stands place from to times here clear span look one is).0
+                (λ at there. c.write_top_group.ensures.work present stands at from to times there scope span
                 (steps.looks_at times items i need (drop (i + 1) items) split look)),
           );
     }
@@ -204,23 +204,23 @@ returns-clause-written g c =
     let wrote = c.loop-need.invariant.written in (
       wrote.0,
       wrote.1,
-      λ jobs stands.
+      λ present stands.
           let vs = c.args.s.now.graph.now.resources.vertices in
-          let ok : Claim → Type 0 = open_to vs jobs c.args.s.now.barred.now c.args.s.now.window in
+          let ok : Claim → Type 0 = open_to vs present c.args.s.now.barred.now c.args.s.now.window in
           rw (← c.items-need-items.ensures) (completes_end vs ok 1 Everywhere items
           (drop c.loop-need.need-index items) wrote.0
-          (drop_all c.loop-need.need-index items c.loop-need-test.false) (wrote.2 jobs stands)),
+          (drop_all c.loop-need.need-index items c.loop-need-test.false) (wrote.2 present stands)),
     )
 
 pub returns-in_err-filled-clause-work : goal.returns-in_err-filled-clause-work
-returns-in_err-filled-clause-work g c = λ jobs stands place from to times here clear span look.
+returns-in_err-filled-clause-work g c = λ present stands place from to times here clear span look.
     let s = c.args.s.now in
     let vs = s.graph.now.resources.vertices in
     let all = needs_all s.needs.now in
     let items : List Need = c.items-need-items.result.now in
     let keeps = asked_totals s.wanted.now (g.F.FreeView.keeps s.view.now) in
-    let open' : List Pair → Type 0 = HasEachOpen vs jobs s.window keeps all in
-    let clears : Need → Type 0 = IsClearScope vs jobs s.window keeps None in
+    let open' : List Pair → Type 0 = HasEachOpen vs present s.window keeps all in
+    let clears : Need → Type 0 = IsClearScope vs present s.window keeps None in
     let one = (length all + 2) * g.F.FreeView.cost s.view.now in
     let each = times * one in
     let i = c.loop-need.need-index in
@@ -228,30 +228,30 @@ returns-in_err-filled-clause-work g c = λ jobs stands place from to times here 
     c.write_top_group.new.steps place from to times (λ here clear look. (
       steps.listed_over open' clears all items i c.need-item.result c.loop-need-test.true c.need-item.is each
           c.args.steps.now c.loop-need.steps c.write_top_group.new.steps place from to times here clear look
-          (c.loop-need.invariant.taken jobs stands place from to times here clear span look)
+          (c.loop-need.invariant.taken present stands place from to times here clear span look)
           (λ at there open'' few. group_each _ _ times at from to c.need-item.result c.loop-need.steps
           c.write_top_group.new.steps (steps.looks_some times c.need-item.result few)
-          (c.write_top_group.ensures.work jobs stands at from to times there open'' span few)),
+          (c.write_top_group.ensures.work present stands at from to times there open'' span few)),
       λ need is. alone_group _ _ _ all items i c.need-item.result need c.loop-need-test.true c.need-item.is is
           c.args.steps.now c.loop-need.steps c.write_top_group.new.steps place from to here
-          (c.loop-need.invariant.alone jobs stands place from to times here clear span look need is).0
+          (c.loop-need.invariant.alone present stands place from to times here clear span look need is).0
           (λ at there.
           let split : drop i items ≡ c.need-item.result ∷ drop (i + 1) items =
           counts.item_split items i c.need-item.result c.loop-need-test.true c.need-item.is in
-          c.write_top_group.ensures.work jobs stands at from to times there
+          c.write_top_group.ensures.work present stands at from to times there
           (counts.each_at clears items i c.need-item.result (drop (i + 1) items) split clear) span
           (steps.looks_at times items i c.need-item.result (drop (i + 1) items) split look)),
     )) here clear look
 
 pub returns-then-not-filled-clause-work : goal.returns-then-not-filled-clause-work
-returns-then-not-filled-clause-work g c = λ jobs stands place from to times here clear span look.
+returns-then-not-filled-clause-work g c = λ present stands place from to times here clear span look.
     let s = c.args.s.now in
     let vs = s.graph.now.resources.vertices in
     let all = needs_all s.needs.now in
     let items : List Need = c.items-need-items.result.now in
     let keeps = asked_totals s.wanted.now (g.F.FreeView.keeps s.view.now) in
-    let open' : List Pair → Type 0 = HasEachOpen vs jobs s.window keeps all in
-    let clears : Need → Type 0 = IsClearScope vs jobs s.window keeps None in
+    let open' : List Pair → Type 0 = HasEachOpen vs present s.window keeps all in
+    let clears : Need → Type 0 = IsClearScope vs present s.window keeps None in
     let one = (length all + 2) * g.F.FreeView.cost s.view.now in
     let each = times * one in
     let i = c.loop-need.need-index in
@@ -259,41 +259,41 @@ returns-then-not-filled-clause-work g c = λ jobs stands place from to times her
     c.write_top_group.new.steps place from to times (λ here clear look. (
       steps.listed_over open' clears all items i c.need-item.result c.loop-need-test.true c.need-item.is each
           c.args.steps.now c.loop-need.steps c.write_top_group.new.steps place from to times here clear look
-          (c.loop-need.invariant.taken jobs stands place from to times here clear span look)
+          (c.loop-need.invariant.taken present stands place from to times here clear span look)
           (λ at there open'' few. group_each _ _ times at from to c.need-item.result c.loop-need.steps
           c.write_top_group.new.steps (steps.looks_some times c.need-item.result few)
-          (c.write_top_group.ensures.work jobs stands at from to times there open'' span few)),
+          (c.write_top_group.ensures.work present stands at from to times there open'' span few)),
       λ need is. alone_group _ _ _ all items i c.need-item.result need c.loop-need-test.true c.need-item.is is
           c.args.steps.now c.loop-need.steps c.write_top_group.new.steps place from to here
-          (c.loop-need.invariant.alone jobs stands place from to times here clear span look need is).0
+          (c.loop-need.invariant.alone present stands place from to times here clear span look need is).0
           (λ at there.
           let split : drop i items ≡ c.need-item.result ∷ drop (i + 1) items =
           counts.item_split items i c.need-item.result c.loop-need-test.true c.need-item.is in
-          c.write_top_group.ensures.work jobs stands at from to times there
+          c.write_top_group.ensures.work present stands at from to times there
           (counts.each_at clears items i c.need-item.result (drop (i + 1) items) split clear) span
           (steps.looks_at times items i c.need-item.result (drop (i + 1) items) split look)),
     )) here clear look
 
 pub returns-clause-work : goal.returns-clause-work
-returns-clause-work g c = λ jobs stands place from to times here clear span look.
+returns-clause-work g c = λ present stands place from to times here clear span look.
     let s = c.args.s.now in
     let vs = s.graph.now.resources.vertices in
     let all = needs_all s.needs.now in
     let items : List Need = c.items-need-items.result.now in
     let keeps = asked_totals s.wanted.now (g.F.FreeView.keeps s.view.now) in
-    let open' : List Pair → Type 0 = HasEachOpen vs jobs s.window keeps all in
-    let clears : Need → Type 0 = IsClearScope vs jobs s.window keeps None in
+    let open' : List Pair → Type 0 = HasEachOpen vs present s.window keeps all in
+    let clears : Need → Type 0 = IsClearScope vs present s.window keeps None in
     let one = (length all + 2) * g.F.FreeView.cost s.view.now in
     let each = times * one in
     let i = c.loop-need.need-index in
     needs_same open' clears all items s.needs.now c.items-need-items.ensures one each c.args.steps.now
     c.loop-need.steps place from to times (λ here clear look. (
       steps.listed_end open' each c.args.steps.now c.loop-need.steps place from to items i
-          (c.loop-need.invariant.taken jobs stands place from to times here clear span look),
+          (c.loop-need.invariant.taken present stands place from to times here clear span look),
       λ need is.
           let few : length items ≡ 1 = ap length is in
           let over = c.loop-need-test.false in
-          (c.loop-need.invariant.alone jobs stands place from to times here clear span look need is).1
+          (c.loop-need.invariant.alone present stands place from to times here clear span look need is).1
           (omega (arith, few, over)),
     )) here clear look
 

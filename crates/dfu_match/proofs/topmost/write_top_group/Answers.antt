@@ -24,9 +24,9 @@ use Rattle.dfu_match.proofs.topmost.write_top_group.Goals as goal
 
 pub returns-in_default-clause-written : goal.returns-in_default-clause-written
 returns-in_default-clause-written g c =
-    laws.extends_none c.args.out.now.items _ (λ jobs stands some.
+    laws.extends_none c.args.out.now.items _ (λ present stands some.
     let vs = c.args.s.now.graph.now.resources.vertices in
-    let ok : Claim → Type 0 = open_to vs jobs c.args.s.now.barred.now c.args.s.now.window in
+    let ok : Claim → Type 0 = open_to vs present c.args.s.now.barred.now c.args.s.now.window in
     let scope = Everywhere in
     let need = c.args.need.now in
     let never = none_at_all vs ok scope need c.in_default.ensures in
@@ -43,16 +43,16 @@ loop-missing-init g c =
     record {
       within = omega arith;
       from = omega arith;
-      written = laws.extends_none c.args.out.now.items _ (λ jobs stands.
+      written = laws.extends_none c.args.out.now.items _ (λ present stands.
           let vs = c.args.s.now.graph.now.resources.vertices in
-          let ok : Claim → Type 0 = open_to vs jobs c.args.s.now.barred.now c.args.s.now.window in
+          let ok : Claim → Type 0 = open_to vs present c.args.s.now.barred.now c.args.s.now.window in
           rw total (filled_start _ _ (1 * amount_of c.args.need.now) c.span_of-span.result.from
           (none_before vs ok Everywhere c.args.need.now c.span_of-span.result.from
           c.span_of-span.result.to c.span_of-span.ensures.covers)));
       known = c.requires.known;
-      walked = λ jobs stands place times here clear look.
+      walked = λ present stands place times here clear look.
           let s = c.args.s.now in
-          visited_start s.graph.now.resources s.graph.now.names c.is_valid.ensures.valid jobs s.window
+          visited_start s.graph.now.resources s.graph.now.names c.is_valid.ensures.valid present s.window
           (asked_totals s.wanted.now (g.F.FreeView.keeps s.view.now)) (needs_all s.needs.now) c.args.need.now place
           ((length (needs_all s.needs.now) + 2) * g.F.FreeView.cost s.view.now)
           (times * ((length (needs_all s.needs.now) + 2) * g.F.FreeView.cost s.view.now)) None
@@ -66,16 +66,16 @@ returns-in_default-next_open_known-clause-written g c =
     let wrote = c.loop-missing.invariant.written in (
       wrote.0,
       wrote.1,
-      λ jobs stands some.
+      λ present stands some.
           let vs = c.args.s.now.graph.now.resources.vertices in
-          let ok : Claim → Type 0 = open_to vs jobs c.args.s.now.barred.now c.args.s.now.window in
+          let ok : Claim → Type 0 = open_to vs present c.args.s.now.barred.now c.args.s.now.window in
           let scope = Everywhere in
           let need = c.args.need.now in
           filled_none _ (serves_less vs ok (takes_less _ _) scope need) _ (1 * amount_of need)
           c.loop-missing.at c.loop-missing.missing wrote.0
           (none_after vs ok scope need c.span_of-span.result.from c.loop-missing.at c.span_of-span.result.to
-          c.span_of-span.ensures.covers (c.in_default-next_open_known.ensures.skipped jobs stands))
-          c.loop-missing-test.true (wrote.2 jobs stands) (group_to vs ok scope need (1 * amount_of need) some),
+          c.span_of-span.ensures.covers (c.in_default-next_open_known.ensures.skipped present stands))
+          c.loop-missing-test.true (wrote.2 present stands) (group_to vs ok scope need (1 * amount_of need) some),
     )
 
 pub loop-missing-preserved : goal.loop-missing-preserved
@@ -102,8 +102,8 @@ loop-missing-preserved g c =
         before.0 ++ wrote.0,
         laws.extends_twice c.args.out.now.items c.loop-missing.out.items c.offer.new.out.items before.0 wrote.0
             before.1 wrote.1,
-        λ jobs stands.
-            let ok : Claim → Type 0 = open_to vs jobs s.barred.now s.window in
+        λ present stands.
+            let ok : Claim → Type 0 = open_to vs present s.barred.now s.window in
             let scope = Everywhere in
             filled_over _ _ (1 * amount_of need) (v + 1) c.past-next.result
             (c.loop-missing.missing - c.from-missing-in-loop-missing.result)
@@ -118,29 +118,30 @@ loop-missing-preserved g c =
             c.loop-missing-test.true
             (filled_over _ _ (1 * amount_of need) c.loop-missing.at v c.loop-missing.missing before.0 low
             (none_skipped vs ok scope need c.loop-missing.at v
-            (rw c.in-Some-next_open_known.is at (c.next_open_known.ensures.skipped jobs stands)))
-            (before.2 jobs stands))
-            (wrote.2 jobs stands scope is.1))),
+            (rw c.in-Some-next_open_known.is at (c.next_open_known.ensures.skipped present stands)))
+            (before.2 present stands))
+            (wrote.2 present stands scope is.1))),
       );
       known = knows_put vs (g.F.FreeView.stands_for s.view.now) s.barred.now s.needs.now s.window c.args.own
           c.unknown-row.result c.next_open_known.new.known c.put.new.self need c.requires.of_own c.put.ensures.own
           c.put.ensures.put c.unknown-row.ensures.row c.next_open_known.ensures.known;
-      walked = λ jobs stands place times here clear look.
+      walked = λ present stands place times here clear look.
           let keeps = asked_totals s.wanted.now (g.F.FreeView.keeps s.view.now) in
           let all = needs_all s.needs.now in
           let cost = g.F.FreeView.cost s.view.now in
-          let before = c.loop-missing.invariant.walked jobs stands place times here clear look in
-          let alone = rw c.in-Some-next_open_known.is at (c.next_open_known.ensures.clear jobs stands before.clear) in
+          let before = c.loop-missing.invariant.walked present stands place times here clear look in
+          let alone = rw c.in-Some-next_open_known.is at (c.next_open_known.ensures.clear present stands before.clear)
+          in
           let walk = rw c.in-Some-next_open_known.is at
-          (c.next_open_known.ensures.work jobs stands place here before.clear) in
+          (c.next_open_known.ensures.work present stands place here before.clear) in
           let few = tables.place_few all place need here in
-          visited_next graph.resources graph.names c.is_valid.ensures.valid jobs s.window keeps all need place
+          visited_next graph.resources graph.names c.is_valid.ensures.valid present s.window keeps all need place
           ((length all + 2) * cost) (times * ((length all + 2) * cost)) None (length (all_of need) * cost) (2 * cost)
           c.args.steps.now c.loop-missing.steps c.next_open_known.new.steps c.offer.new.steps
           c.span_of-span.result.from c.loop-missing.at c.span_of-span.result.to v c.past-next.result
           c.span_of-span.ensures.span c.span_of-span.ensures.within here
           (steps.look_costs (length (all_of need)) (length all) cost few) before next.1 next.2 alone past walk
-          (c.offer.ensures.work jobs stands place c.past-next.result times here alone past look);
+          (c.offer.ensures.work present stands place c.past-next.result times here alone past look);
     }
 
 pub returns-clause-written : goal.returns-clause-written
@@ -149,12 +150,12 @@ returns-clause-written g c =
     let none : c.loop-missing.missing ≡ 0 = (let over = c.loop-missing-test.false in omega arith) in (
       wrote.0,
       wrote.1,
-      λ jobs stands. filled_done _ _ (1 * amount_of c.args.need.now) c.loop-missing.at wrote.0
-          (rw none at (wrote.2 jobs stands)),
+      λ present stands. filled_done _ _ (1 * amount_of c.args.need.now) c.loop-missing.at wrote.0
+          (rw none at (wrote.2 present stands)),
     )
 
 pub returns-in_default-clause-work : goal.returns-in_default-clause-work
-returns-in_default-clause-work g c = λ jobs stands place from to times here clear span look.
+returns-in_default-clause-work g c = λ present stands place from to times here clear span look.
     let need = c.args.need.now in (
       0,
       0,
@@ -166,7 +167,7 @@ returns-in_default-clause-work g c = λ jobs stands place from to times here cle
 pub returns-in_default-next_open_known-clause-work :
     goal.returns-in_default-next_open_known-clause-work
 returns-in_default-next_open_known-clause-work g c =
-    λ jobs stands place from to times here clear span look.
+    λ present stands place from to times here clear span look.
     let s = c.args.s.now in
     let graph = s.graph.now in
     let need = c.args.need.now in
@@ -175,16 +176,16 @@ returns-in_default-next_open_known-clause-work g c =
     let cost = g.F.FreeView.cost s.view.now in
     let same = span_same graph.resources graph.names c.is_valid.ensures.valid None from to
     c.span_of-span.result.from c.span_of-span.result.to span c.span_of-span.ensures.span in
-    let before = c.loop-missing.invariant.walked jobs stands place times here clear look in
-    let walk = c.in_default-next_open_known.ensures.work jobs stands place here before.clear in
+    let before = c.loop-missing.invariant.walked present stands place times here clear look in
+    let walk = c.in_default-next_open_known.ensures.work present stands place here before.clear in
     let enough = steps.look_costs (length (all_of need)) (length all) cost (tables.place_few all place need here) in
-    rw (same.0, same.1) (visited_none graph.resources graph.names c.is_valid.ensures.valid jobs s.window keeps
+    rw (same.0, same.1) (visited_none graph.resources graph.names c.is_valid.ensures.valid present s.window keeps
     all need place ((length all + 2) * cost) (times * ((length all + 2) * cost)) (length (all_of need) * cost)
     c.args.steps.now c.loop-missing.steps c.next_open_known.new.steps c.span_of-span.result.from c.loop-missing.at
     c.span_of-span.result.to (omega (arith, enough)) before walk)
 
 pub returns-clause-work : goal.returns-clause-work
-returns-clause-work g c = λ jobs stands place from to times here clear span look.
+returns-clause-work g c = λ present stands place from to times here clear span look.
     let s = c.args.s.now in
     let graph = s.graph.now in
     let need = c.args.need.now in
@@ -193,13 +194,13 @@ returns-clause-work g c = λ jobs stands place from to times here clear span loo
     let cost = g.F.FreeView.cost s.view.now in
     let same = span_same graph.resources graph.names c.is_valid.ensures.valid None from to
     c.span_of-span.result.from c.span_of-span.result.to span c.span_of-span.ensures.span in
-    rw (same.0, same.1) (visited_end graph.resources graph.names c.is_valid.ensures.valid jobs s.window keeps all
+    rw (same.0, same.1) (visited_end graph.resources graph.names c.is_valid.ensures.valid present s.window keeps all
     need place ((length all + 2) * cost) (times * ((length all + 2) * cost)) c.args.steps.now c.loop-missing.steps
     c.span_of-span.result.from c.loop-missing.at c.span_of-span.result.to
-    (c.loop-missing.invariant.walked jobs stands place times here clear look))
+    (c.loop-missing.invariant.walked present stands place times here clear look))
 
 pub returns-in_err-served-clause-work : goal.returns-in_err-served-clause-work
-returns-in_err-served-clause-work g c = λ jobs stands place from to times here clear span look.
+returns-in_err-served-clause-work g c = λ present stands place from to times here clear span look.
     let s = c.args.s.now in
     let graph = s.graph.now in
     let need = c.args.need.now in
@@ -210,17 +211,17 @@ returns-in_err-served-clause-work g c = λ jobs stands place from to times here 
     c.span_of-span.result.from c.span_of-span.result.to span c.span_of-span.ensures.span in
     let v = c.in-Some-next_open_known.vertex in
     let next = rw c.in-Some-next_open_known.is at c.next_open_known.ensures.of_kind in
-    let before = c.loop-missing.invariant.walked jobs stands place times here clear look in
-    let alone = rw c.in-Some-next_open_known.is at (c.next_open_known.ensures.clear jobs stands before.clear) in
+    let before = c.loop-missing.invariant.walked present stands place times here clear look in
+    let alone = rw c.in-Some-next_open_known.is at (c.next_open_known.ensures.clear present stands before.clear) in
     let walk = rw c.in-Some-next_open_known.is at
-    (c.next_open_known.ensures.work jobs stands place here before.clear) in
+    (c.next_open_known.ensures.work present stands place here before.clear) in
     let enough = steps.look_costs (length (all_of need)) (length all) cost (tables.place_few all place need here) in
-    rw (same.0, same.1) (visited_end graph.resources graph.names c.is_valid.ensures.valid jobs s.window keeps all
+    rw (same.0, same.1) (visited_end graph.resources graph.names c.is_valid.ensures.valid present s.window keeps all
     need place ((length all + 2) * cost) (times * ((length all + 2) * cost)) c.args.steps.now c.offer.new.steps
     c.span_of-span.result.from c.past-next.result c.span_of-span.result.to
-    (visited_next graph.resources graph.names c.is_valid.ensures.valid jobs s.window keeps all need place
+    (visited_next graph.resources graph.names c.is_valid.ensures.valid present s.window keeps all need place
     ((length all + 2) * cost) (times * ((length all + 2) * cost)) None (length (all_of need) * cost) (2 * cost)
     c.args.steps.now c.loop-missing.steps c.next_open_known.new.steps c.offer.new.steps c.span_of-span.result.from
     c.loop-missing.at c.span_of-span.result.to v c.past-next.result c.span_of-span.ensures.span
     c.span_of-span.ensures.within here (omega (arith, enough)) before next.1 next.2 alone c.past-next.ensures walk
-    (c.offer.ensures.work jobs stands place c.past-next.result times here alone c.past-next.ensures look)))
+    (c.offer.ensures.work present stands place c.past-next.result times here alone c.past-next.ensures look)))

@@ -28,13 +28,13 @@ top_short-requires g t c κs within =
     )
 
 pub returns-then-s-index-clause-clear : goal.returns-then-s-index-clause-clear
-returns-then-s-index-clause-clear g t c = λ jobs stands u low high above is.
+returns-then-s-index-clause-clear g t c = λ present stands u low high above is.
     let s = c.args.s.now in
     is.1.0.0 (none_past (needs_all s.needs.now) s.wanted.now c.args.index c.args.need.now c.if-s-index.true s.whole
     c.requires.stands)
 
 pub returns-then-s-index-clause-work : goal.returns-then-s-index-clause-work
-returns-then-s-index-clause-work g t c = λ jobs stands place at before.
+returns-then-s-index-clause-work g t c = λ present stands place at before.
     let s = c.args.s.now in
     takes_none _ (length (all_of c.args.need.now) * g.F.FreeView.cost s.view.now) c.args.steps.now place (place + 1)
     c.args.low (c.args.vertex + 1)
@@ -77,44 +77,45 @@ returns-in-None-top_short-clause-above g t c =
     )) c.own_short-in-None-top_short.result c.own_short-in-None-top_short.ensures.same
 
 pub returns-in-None-clause-clear : goal.returns-in-None-clause-clear
-returns-in-None-clause-clear g t c = λ jobs stands.
+returns-in-None-clause-clear g t c = λ present stands.
     let s = c.args.s.now in
     let graph = s.graph.now in
     let keeps = asked_totals s.wanted.now (g.F.FreeView.keeps s.view.now) in
-    let alone = clear_alone graph.resources graph.names c.is_valid.ensures.valid jobs s.window keeps c.args.need.now
+    let alone = clear_alone graph.resources graph.names c.is_valid.ensures.valid present s.window keeps c.args.need.now
     c.args.vertex c.args.low c.requires.vertex c.in-None.ensures in
-    own_clear graph.resources.vertices jobs s.window keeps c.args.need.now c.args.vertex c.args.low c.own_short.result
-    c.own_short.ensures.same alone (c.own_short.ensures.enough jobs stands)
+    own_clear graph.resources.vertices present s.window keeps c.args.need.now c.args.vertex c.args.low
+    c.own_short.result
+    c.own_short.ensures.same alone (c.own_short.ensures.enough present stands)
 
 pub returns-in-None-clause-work : goal.returns-in-None-clause-work
-returns-in-None-clause-work g t c = λ jobs stands place at before.
+returns-in-None-clause-work g t c = λ present stands place at before.
     let s = c.args.s.now in
     let graph = s.graph.now in
     let keeps = asked_totals s.wanted.now (g.F.FreeView.keeps s.view.now) in
-    let alone = clear_alone graph.resources graph.names c.is_valid.ensures.valid jobs s.window keeps c.args.need.now
+    let alone = clear_alone graph.resources graph.names c.is_valid.ensures.valid present s.window keeps c.args.need.now
     c.args.vertex c.args.low c.requires.vertex c.in-None.ensures in
-    let opens = open_here graph.resources graph.names c.is_valid.ensures.valid jobs s.window keeps c.args.need.now
+    let opens = open_here graph.resources graph.names c.is_valid.ensures.valid present s.window keeps c.args.need.now
     c.args.vertex c.args.low before alone in
-    own_takes graph.resources.vertices jobs s.window keeps (needs_all s.needs.now) c.args.need.now
+    own_takes graph.resources.vertices present s.window keeps (needs_all s.needs.now) c.args.need.now
     (length (all_of c.args.need.now) * g.F.FreeView.cost s.view.now) c.args.steps.now c.own_short.new.steps place
     c.args.vertex c.args.low c.own_short.ensures.work c.requires.low at c.requires.vertex opens
 
 pub returns-in-Some-top_short-clause-clear : goal.returns-in-Some-top_short-clause-clear
-returns-in-Some-top_short-clause-clear g t c = λ jobs stands.
+returns-in-Some-top_short-clause-clear g t c = λ present stands.
     let s = c.args.s.now in
     let graph = s.graph.now in
     let first = parents_first graph.resources c.is_valid.ensures.valid.preorder in
     let lt = first c.args.vertex c.in-Some.parent c.in-Some.ensures.0 in
     let le = below_le graph.resources.vertices first c.in-Some.parent c.in-Some-top_short.top
     c.in-Some-top_short.ensures.above.1 in
-    clear_child graph.resources graph.names c.is_valid.ensures.valid jobs s.window
+    clear_child graph.resources graph.names c.is_valid.ensures.valid present s.window
     (asked_totals s.wanted.now (g.F.FreeView.keeps s.view.now)) c.args.need.now c.args.vertex c.in-Some.parent
     c.args.low
     c.in-Some-top_short.top c.requires.vertex c.in-Some.ensures.0 (omega (arith, lt, le))
-    (c.in-Some-top_short.ensures.clear jobs stands)
+    (c.in-Some-top_short.ensures.clear present stands)
 
 pub returns-in-Some-top_short-clause-work : goal.returns-in-Some-top_short-clause-work
-returns-in-Some-top_short-clause-work g t c = λ jobs stands place at before.
+returns-in-Some-top_short-clause-work g t c = λ present stands place at before.
     let s = c.args.s.now in
     let graph = s.graph.now in
     let lt = parents_first graph.resources c.is_valid.ensures.valid.preorder c.args.vertex c.in-Some.parent
@@ -124,43 +125,43 @@ returns-in-Some-top_short-clause-work g t c = λ jobs stands place at before.
     (c.in-Some.parent + 1)
     place (place + 1) c.args.low (c.args.vertex + 1) (omega arith) (omega arith) (omega arith) (omega arith)
     (omega (arith, lt))
-    (c.top_short.ensures.work jobs stands place at
-    (clear_parent graph.resources graph.names c.is_valid.ensures.valid jobs s.window
+    (c.top_short.ensures.work present stands place at
+    (clear_parent graph.resources graph.names c.is_valid.ensures.valid present s.window
     (asked_totals s.wanted.now (g.F.FreeView.keeps s.view.now)) c.args.need.now c.args.vertex c.in-Some.parent
     c.args.low
     c.requires.vertex c.in-Some.ensures.0 before))
 
 pub returns-in-None-top_short-clause-clear : goal.returns-in-None-top_short-clause-clear
-returns-in-None-top_short-clause-clear g t c = λ jobs stands.
+returns-in-None-top_short-clause-clear g t c = λ present stands.
     let s = c.args.s.now in
     let graph = s.graph.now in
     let keeps = asked_totals s.wanted.now (g.F.FreeView.keeps s.view.now) in
-    let above = clear_upto graph.resources graph.names c.is_valid.ensures.valid jobs s.window keeps c.args.need.now
+    let above = clear_upto graph.resources graph.names c.is_valid.ensures.valid present s.window keeps c.args.need.now
     c.args.vertex c.in-Some.parent c.args.low c.requires.vertex c.in-Some.ensures.0
-    (c.in-None-top_short.ensures.clear jobs stands) in
-    own_clear graph.resources.vertices jobs s.window keeps c.args.need.now c.args.vertex c.args.low
+    (c.in-None-top_short.ensures.clear present stands) in
+    own_clear graph.resources.vertices present s.window keeps c.args.need.now c.args.vertex c.args.low
     c.own_short-in-None-top_short.result c.own_short-in-None-top_short.ensures.same above
-    (c.own_short-in-None-top_short.ensures.enough jobs stands)
+    (c.own_short-in-None-top_short.ensures.enough present stands)
 
 pub returns-in-None-top_short-clause-work : goal.returns-in-None-top_short-clause-work
-returns-in-None-top_short-clause-work g t c = λ jobs stands place at before.
+returns-in-None-top_short-clause-work g t c = λ present stands place at before.
     let s = c.args.s.now in
     let graph = s.graph.now in
     let keeps = asked_totals s.wanted.now (g.F.FreeView.keeps s.view.now) in
     let lt = parents_first graph.resources c.is_valid.ensures.valid.preorder c.args.vertex c.in-Some.parent
     c.in-Some.ensures.0 in
     let steps = length (all_of c.args.need.now) * g.F.FreeView.cost s.view.now in
-    let above = clear_upto graph.resources graph.names c.is_valid.ensures.valid jobs s.window keeps c.args.need.now
+    let above = clear_upto graph.resources graph.names c.is_valid.ensures.valid present s.window keeps c.args.need.now
     c.args.vertex c.in-Some.parent c.args.low c.requires.vertex c.in-Some.ensures.0
-    (c.in-None-top_short.ensures.clear jobs stands) in
-    let opens = open_here graph.resources graph.names c.is_valid.ensures.valid jobs s.window keeps c.args.need.now
+    (c.in-None-top_short.ensures.clear present stands) in
+    let opens = open_here graph.resources graph.names c.is_valid.ensures.valid present s.window keeps c.args.need.now
     c.args.vertex c.args.low before above in
     takes_upto _ steps c.args.steps.now c.top_short.new.steps c.own_short-in-None-top_short.new.steps place (place + 1)
     c.args.low (c.in-Some.parent + 1) (c.args.vertex + 1)
     (let lo = c.in-Some.ensures.1 in omega (arith, lo)) (omega (arith, lt))
-    (c.top_short.ensures.work jobs stands place at
-    (clear_parent graph.resources graph.names c.is_valid.ensures.valid jobs s.window keeps c.args.need.now
+    (c.top_short.ensures.work present stands place at
+    (clear_parent graph.resources graph.names c.is_valid.ensures.valid present s.window keeps c.args.need.now
     c.args.vertex c.in-Some.parent c.args.low c.requires.vertex c.in-Some.ensures.0 before))
-    (own_takes graph.resources.vertices jobs s.window keeps (needs_all s.needs.now) c.args.need.now steps
+    (own_takes graph.resources.vertices present s.window keeps (needs_all s.needs.now) c.args.need.now steps
     c.top_short.new.steps c.own_short-in-None-top_short.new.steps place c.args.vertex (c.in-Some.parent + 1)
     c.own_short-in-None-top_short.ensures.work (omega (arith, lt)) at c.requires.vertex opens)

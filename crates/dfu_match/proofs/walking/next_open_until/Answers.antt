@@ -11,21 +11,21 @@ use Rattle.dfu_match.proofs.ReachLaws.{falls_twice, reach_later}
 use Rattle.dfu_match.proofs.walking.next_open_until.Goals as goal
 
 pub returns-in_default-clause-skipped : goal.returns-in_default-clause-skipped
-returns-in_default-clause-skipped g c = λ jobs stands w reach.
+returns-in_default-clause-skipped g c = λ present stands w reach.
     let s = c.args.s.now in
     let graph = s.graph.now in
-    laws.skipped_all graph.resources graph.names c.is_valid.ensures.valid jobs s.barred.now w c.args.need.now
+    laws.skipped_all graph.resources graph.names c.is_valid.ensures.valid present s.barred.now w c.args.need.now
     c.args.kind c.requires.of_kind c.args.from c.look.at c.args.to c.in_default.ensures
-    (c.look.invariant.skipped jobs stands w reach)
+    (c.look.invariant.skipped present stands w reach)
 
 pub returns-in-None-clause-skipped : goal.returns-in-None-clause-skipped
-returns-in-None-clause-skipped g c = λ jobs stands w reach.
+returns-in-None-clause-skipped g c = λ present stands w reach.
     let s = c.args.s.now in
     let graph = s.graph.now in
-    laws.skipped_to graph.resources graph.names c.is_valid.ensures.valid jobs s.barred.now w c.args.need.now
+    laws.skipped_to graph.resources graph.names c.is_valid.ensures.valid present s.barred.now w c.args.need.now
     c.args.kind c.requires.of_kind c.args.from c.look.at c.args.to c.in-Some.vertex
     (rw c.in-Some.is at c.next_of_kind.ensures)
-    (c.look.invariant.skipped jobs stands w (reach_later s.window w c.top_within.new.until c.look.until
+    (c.look.invariant.skipped present stands w (reach_later s.window w c.top_within.new.until c.look.until
     c.in-None.ensures.falls.0 reach))
 
 pub past-at-requires : goal.past-at-requires
@@ -52,24 +52,24 @@ look-preserved g c =
           omega (arith, past, from, low, next));
       falls = falls_twice s.window c.args.until.now c.look.until c.top_within.new.until c.look.invariant.falls
           c.top_within.ensures.falls;
-      skipped = λ jobs stands w reach. laws.skipped_past graph.resources graph.names c.is_valid.ensures.valid jobs
+      skipped = λ present stands w reach. laws.skipped_past graph.resources graph.names c.is_valid.ensures.valid present
           s.barred.now w c.args.need.now c.args.kind c.requires.of_kind
           (asked_totals s.wanted.now (g.F.FreeView.keeps s.view.now)) c.requires.valid
           c.args.from c.look.at c.in-Some.vertex c.in-Some-top_within.top c.past-at.result
           c.in-Some-top_within.ensures.above.1
-          (c.in-Some-top_within.ensures.short jobs stands w reach) c.past-at.ensures
-          (laws.skipped_to graph.resources graph.names c.is_valid.ensures.valid jobs s.barred.now w
+          (c.in-Some-top_within.ensures.short present stands w reach) c.past-at.ensures
+          (laws.skipped_to graph.resources graph.names c.is_valid.ensures.valid present s.barred.now w
           c.args.need.now c.args.kind c.requires.of_kind c.args.from c.look.at c.args.to c.in-Some.vertex next
-          (c.look.invariant.skipped jobs stands w (reach_later s.window w c.top_within.new.until c.look.until
+          (c.look.invariant.skipped present stands w (reach_later s.window w c.top_within.new.until c.look.until
           c.top_within.ensures.falls.0 reach)));
-      clear = λ jobs stands before. clear_past graph.resources graph.names c.is_valid.ensures.valid jobs s.window
+      clear = λ present stands before. clear_past graph.resources graph.names c.is_valid.ensures.valid present s.window
           (asked_totals s.wanted.now (g.F.FreeView.keeps s.view.now)) c.args.need.now c.look.at c.args.to
           c.in-Some.vertex
-          c.in-Some-top_within.top c.past-at.result c.requires.within (c.look.invariant.clear jobs stands before)
+          c.in-Some-top_within.top c.past-at.result c.requires.within (c.look.invariant.clear present stands before)
           (let above = c.in-Some-top_within.ensures.above.0 in let lo = next.low in omega (arith, above, lo)) next.high
           (let hi = next.high in let most = c.requires.within in omega (arith, hi, most))
-          c.in-Some-top_within.ensures.above.1 (c.in-Some-top_within.ensures.clear jobs stands) c.past-at.ensures;
-      taken = λ jobs stands place at before.
+          c.in-Some-top_within.ensures.above.1 (c.in-Some-top_within.ensures.clear present stands) c.past-at.ensures;
+      taken = λ present stands place at before.
           let steps = length (all_of c.args.need.now) * g.F.FreeView.cost s.view.now in
           let lo = next.low in
           let hi = next.high in
@@ -82,12 +82,12 @@ look-preserved g c =
           (omega arith) (omega arith) (omega arith) (omega (arith, inside, hi))
           (takes_upto _ steps c.args.steps.now c.look.steps c.top_within.new.steps place (place + 1) c.args.from
           (min c.look.at c.args.to) (c.in-Some.vertex + 1) (omega (arith, from, lo, hi)) (omega (arith, lo))
-          (c.look.invariant.taken jobs stands place at before)
+          (c.look.invariant.taken present stands place at before)
           (takes_within _ steps steps c.look.steps c.top_within.new.steps place (place + 1) c.look.at
           (c.in-Some.vertex + 1) place (place + 1) (min c.look.at c.args.to) (c.in-Some.vertex + 1) (omega arith)
           (omega arith) (omega arith) (omega arith) (omega arith)
-          (c.top_within.ensures.work jobs stands place at
-          (c.look.invariant.clear jobs stands before c.in-Some.vertex lo hi))));
+          (c.top_within.ensures.work present stands place at
+          (c.look.invariant.clear present stands before c.in-Some.vertex lo hi))));
     }
 
 pub look-init : goal.look-init
@@ -97,39 +97,39 @@ look-init g c =
     record {
       later = omega arith;
       falls = (omega arith, λ le. le);
-      skipped = λ jobs stands w reach scope v q lo hi some can. omega (arith, lo, hi);
-      clear = λ jobs stands before. before;
-      taken = λ jobs stands place at before. takes_none _ _ c.args.steps.now place (place + 1) c.args.from
+      skipped = λ present stands w reach scope v q lo hi some can. omega (arith, lo, hi);
+      clear = λ present stands before. before;
+      taken = λ present stands place at before. takes_none _ _ c.args.steps.now place (place + 1) c.args.from
           (min c.args.from c.args.to);
     }
 
 pub returns-in_default-clause-work : goal.returns-in_default-clause-work
-returns-in_default-clause-work g c = λ jobs stands place at before.
+returns-in_default-clause-work g c = λ present stands place at before.
     let steps = length (all_of c.args.need.now) * g.F.FreeView.cost c.args.s.now.view.now in
     takes_within _ steps steps c.args.steps.now c.look.steps place (place + 1) c.args.from (min c.look.at c.args.to)
     place (place + 1) c.args.from c.args.to (omega arith) (omega arith) (omega arith) (omega arith) (omega arith)
-    (c.look.invariant.taken jobs stands place at before)
+    (c.look.invariant.taken present stands place at before)
 
 pub returns-then-is_some-clause-work : goal.returns-then-is_some-clause-work
-returns-then-is_some-clause-work g c = λ jobs stands place at before.
+returns-then-is_some-clause-work g c = λ present stands place at before.
     let steps = length (all_of c.args.need.now) * g.F.FreeView.cost c.args.s.now.view.now in
     takes_within _ steps steps c.args.steps.now c.look.steps place (place + 1) c.args.from (min c.look.at c.args.to)
     place (place + 1) c.args.from c.args.to (omega arith) (omega arith) (omega arith) (omega arith) (omega arith)
-    (c.look.invariant.taken jobs stands place at before)
+    (c.look.invariant.taken present stands place at before)
 
 pub returns-in-None-clause-clear : goal.returns-in-None-clause-clear
-returns-in-None-clause-clear g c = λ jobs stands before.
+returns-in-None-clause-clear g c = λ present stands before.
     let s = c.args.s.now in
     let graph = s.graph.now in
     let next = rw c.in-Some.is at c.next_of_kind.ensures in
-    clear_within graph.resources graph.names c.is_valid.ensures.valid jobs s.window
+    clear_within graph.resources graph.names c.is_valid.ensures.valid present s.window
     (asked_totals s.wanted.now (g.F.FreeView.keeps s.view.now)) c.args.need.now c.look.at c.args.to c.in-Some.vertex
     (let hi = next.high in let most = c.requires.within in omega (arith, hi, most))
-    (c.look.invariant.clear jobs stands before) next.low next.high (c.in-None.ensures.clear jobs stands)
-    (c.in-None.ensures.own jobs stands)
+    (c.look.invariant.clear present stands before) next.low next.high (c.in-None.ensures.clear present stands)
+    (c.in-None.ensures.own present stands)
 
 pub returns-in-None-clause-work : goal.returns-in-None-clause-work
-returns-in-None-clause-work g c = λ jobs stands place at before.
+returns-in-None-clause-work g c = λ present stands place at before.
     let s = c.args.s.now in
     let next = rw c.in-Some.is at c.next_of_kind.ensures in
     let lo = next.low in
@@ -138,20 +138,20 @@ returns-in-None-clause-work g c = λ jobs stands place at before.
     let steps = length (all_of c.args.need.now) * g.F.FreeView.cost s.view.now in
     takes_upto _ steps c.args.steps.now c.look.steps c.top_within.new.steps place (place + 1) c.args.from
     (min c.look.at c.args.to) (c.in-Some.vertex + 1) (omega (arith, from, lo, hi)) (omega (arith, lo))
-    (c.look.invariant.taken jobs stands place at before)
+    (c.look.invariant.taken present stands place at before)
     (takes_within _ steps steps c.look.steps c.top_within.new.steps place (place + 1) c.look.at
     (c.in-Some.vertex + 1) place (place + 1) (min c.look.at c.args.to) (c.in-Some.vertex + 1) (omega arith)
     (omega arith) (omega arith) (omega arith) (omega arith)
-    (c.top_within.ensures.work jobs stands place at
-    (c.look.invariant.clear jobs stands before c.in-Some.vertex lo hi)))
+    (c.top_within.ensures.work present stands place at
+    (c.look.invariant.clear present stands before c.in-Some.vertex lo hi)))
 
 pub returns-then-is_some-clause-skipped : goal.returns-then-is_some-clause-skipped
-returns-then-is_some-clause-skipped g c = λ jobs stands w reach.
+returns-then-is_some-clause-skipped g c = λ present stands w reach.
     let s = c.args.s.now in
     let graph = s.graph.now in
     let next = rw c.in-Some.is at c.next_of_kind.ensures in
-    laws.skipped_shut graph.resources graph.names c.is_valid.ensures.valid jobs s.barred.now w c.args.need.now
+    laws.skipped_shut graph.resources graph.names c.is_valid.ensures.valid present s.barred.now w c.args.need.now
     c.args.kind c.requires.of_kind c.in-Some.vertex c.args.from c.look.at c.args.to reach.2 (s.shuts c.if-s.true)
     next.of_kind (rank_node graph.resources.vertices c.in-Some.vertex
     (ap is_some (sym c.rank_at.ensures) ∙ (sym c.is_some.ensures ∙ c.if-is_some.true)))
-    (c.look.invariant.skipped jobs stands w reach)
+    (c.look.invariant.skipped present stands w reach)

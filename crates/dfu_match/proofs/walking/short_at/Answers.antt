@@ -11,7 +11,7 @@ use Rattle.dfu_match.proofs.ReachLaws.{told_until}
 use Rattle.dfu_match.proofs.walking.short_at.Goals as goal
 
 pub returns-in-None-clause-short : goal.returns-in-None-clause-short
-returns-in-None-clause-short g c = λ jobs stands is.
+returns-in-None-clause-short g c = λ present stands is.
     let s = c.args.s.now in
     let lookup = c.in-None.ensures.lookup in
     let past : length s.wanted.now ≤ c.args.index = ltb-false c.args.index (length s.wanted.now) (sym lookup.0) in
@@ -33,10 +33,11 @@ returns-in-Some g c =
     c.requires.stands entry in
     let tells = s.tells c.args.index need c.in-Some.wanted.now there entry in
     record {
-      short = λ jobs stands. told_until vs jobs s.window kept need demands tells.demands c.args.vertex s.wanted.now
+      short = λ present stands. told_until vs present s.window kept need demands tells.demands c.args.vertex
+          s.wanted.now
           (λ none. (let zero = ap length none in omega (arith, zero, lt))) c.short_until.result
-          (subst (λ (us : List Vertex). IsSoUntil (λ w. IsShortOf us jobs w kept demands c.args.vertex) s.window
-          c.short_until.result) s.over (c.short_until.ensures.answer jobs stands));
+          (subst (λ (us : List Vertex). IsSoUntil (λ w. IsShortOf us present w kept demands c.args.vertex) s.window
+          c.short_until.result) s.over (c.short_until.ensures.answer present stands));
       within = c.short_until.ensures.within;
       work = (let few = mul-le-mul_right (g.F.FreeView.cost s.view.now) tells.few in
           omega (arith, few, c.short_until.ensures.work));

@@ -15,10 +15,10 @@ top_short-requires-clause-vertex g c =
     omega (arith, less, lt)
 
 pub returns-in-None-clause-clear : goal.returns-in-None-clause-clear
-returns-in-None-clause-clear g c = λ jobs stands.
+returns-in-None-clause-clear g c = λ present stands.
     let s = c.args.s.now in
     let graph = s.graph.now in
-    clear_alone graph.resources graph.names c.is_valid.ensures.valid jobs s.window
+    clear_alone graph.resources graph.names c.is_valid.ensures.valid present s.window
     (asked_totals s.wanted.now (g.F.FreeView.keeps s.view.now)) c.args.need.now c.args.vertex c.args.low
     c.requires.vertex c.in-None.ensures
 
@@ -30,16 +30,16 @@ returns-in-Some-clause-above g c =
     c.requires.vertex c.in-Some.parent c.in-Some.ensures.0 c.top_short.result c.top_short.ensures.above
 
 pub returns-in-Some-clause-clear : goal.returns-in-Some-clause-clear
-returns-in-Some-clause-clear g c = λ jobs stands.
+returns-in-Some-clause-clear g c = λ present stands.
     let s = c.args.s.now in
     let graph = s.graph.now in
     laws.clear_by_parent graph.resources graph.names c.is_valid.ensures.valid c.args.vertex c.args.low
-    c.requires.vertex jobs s.window (asked_totals s.wanted.now (g.F.FreeView.keeps s.view.now)) c.args.need.now
+    c.requires.vertex present s.window (asked_totals s.wanted.now (g.F.FreeView.keeps s.view.now)) c.args.need.now
     c.in-Some.parent c.in-Some.ensures.0 c.top_short.result c.top_short.ensures.above
-    (c.top_short.ensures.clear jobs stands)
+    (c.top_short.ensures.clear present stands)
 
 pub returns-in-Some-clause-work : goal.returns-in-Some-clause-work
-returns-in-Some-clause-work g c = λ jobs stands place here before.
+returns-in-Some-clause-work g c = λ present stands place here before.
     let s = c.args.s.now in
     let graph = s.graph.now in
     let keeps = asked_totals s.wanted.now (g.F.FreeView.keeps s.view.now) in
@@ -49,6 +49,6 @@ returns-in-Some-clause-work g c = λ jobs stands place here before.
     c.in-Some.ensures.0 in
     takes_within _ steps steps c.args.steps.now c.top_short.new.steps place (place + 1) c.args.low (parent + 1) place
     (place + 1) c.args.low c.args.vertex (omega arith) (omega arith) (omega arith) (omega arith) (omega (arith, less))
-    (c.top_short.ensures.work jobs stands place here
-    (clear_parent graph.resources graph.names c.is_valid.ensures.valid jobs s.window keeps c.args.need.now
+    (c.top_short.ensures.work present stands place here
+    (clear_parent graph.resources graph.names c.is_valid.ensures.valid present s.window keeps c.args.need.now
     c.args.vertex parent c.args.low c.requires.vertex c.in-Some.ensures.0 before))

@@ -32,12 +32,12 @@ use Rattle.dfu_match.proofs.writing.+writing.Goals as goal
 
 pub offer-returns-then-not-admits-clause-offers : goal.offer-returns-then-not-admits-clause-offers
 offer-returns-then-not-admits-clause-offers g t c =
-    laws.extends_none c.args.out.now.items _ (λ jobs stands scope within.
+    laws.extends_none c.args.out.now.items _ (λ present stands scope within.
     let vs = c.args.s.now.graph.now.resources.vertices in
-    let ok : Claim → Type 0 = open_to vs jobs c.args.s.now.barred.now c.args.s.now.window in
+    let ok : Claim → Type 0 = open_to vs present c.args.s.now.barred.now c.args.s.now.window in
     let none = counts.vertex_closed vs ok scope c.in-Vert.kind c.in-Vert.count c.in-Vert.hold c.in-Vert.needs
     c.args.vertex c.args.most
-    (λ may. true≢false (sym ((c.admits.ensures.answer jobs stands).1 may) ∙ c.if-not-admits.true)) in
+    (λ may. true≢false (sym ((c.admits.ensures.answer present stands).1 may) ∙ c.if-not-admits.true)) in
     rw c.in-Vert.is (laws.offers_none _ _ c.args.most 0 refl none))
 
 pub offer-copies-requires-clause-stand : goal.offer-copies-requires-clause-stand
@@ -52,33 +52,33 @@ offer-copies-requires-clause-valid g t c =
     c.in-Vert.needs (rw c.in-Vert.is at c.requires.valid)
 
 pub offer-copies-requires-clause-open : goal.offer-copies-requires-clause-open
-offer-copies-requires-clause-open g t c = λ jobs stands.
+offer-copies-requires-clause-open g t c = λ present stands.
     let s = c.args.s.now in
-    admitted_open (meets s.graph.now.resources.vertices jobs s.barred.now) s.window c.args.vertex c.in-Vert.hold
-    ((c.admits.ensures.answer jobs stands).0 c.if-not-admits.false)
+    admitted_open (meets s.graph.now.resources.vertices present s.barred.now) s.window c.args.vertex c.in-Vert.hold
+    ((c.admits.ensures.answer present stands).0 c.if-not-admits.false)
 
 pub offer-returns-then-copies-eq0-clause-offers : goal.offer-returns-then-copies-eq0-clause-offers
 offer-returns-then-copies-eq0-clause-offers g t c =
-    laws.extends_none c.args.out.now.items _ (λ jobs stands scope within.
+    laws.extends_none c.args.out.now.items _ (λ present stands scope within.
     let vs = c.args.s.now.graph.now.resources.vertices in
-    let ok : Claim → Type 0 = open_to vs jobs c.args.s.now.barred.now c.args.s.now.window in
+    let ok : Claim → Type 0 = open_to vs present c.args.s.now.barred.now c.args.s.now.window in
     let is = rw c.in-Vert.is at c.requires.of_need in
     let none = counts.vertex_open vs ok scope c.in-Vert.kind c.in-Vert.count c.in-Vert.hold c.in-Vert.needs
     c.args.vertex c.args.most c.copies.result c.requires.some within is
-    ((c.admits.ensures.answer jobs stands).0 c.if-not-admits.false) (c.copies.ensures.greatest jobs stands) in
+    ((c.admits.ensures.answer present stands).0 c.if-not-admits.false) (c.copies.ensures.greatest present stands) in
     rw c.in-Vert.is (laws.offers_none _ _ c.args.most c.copies.result c.if-copies-eq0.true none))
 
 pub offer-returns-then-hold-clause-offers : goal.offer-returns-then-hold-clause-offers
 offer-returns-then-hold-clause-offers g t c = (
   Hold c.args.vertex ∷ [],
   c.in_ok-push-in-Vert.ensures.ok,
-  λ jobs stands scope within.
+  λ present stands scope within.
       let vs = c.args.s.now.graph.now.resources.vertices in
-      let ok : Claim → Type 0 = open_to vs jobs c.args.s.now.barred.now c.args.s.now.window in
+      let ok : Claim → Type 0 = open_to vs present c.args.s.now.barred.now c.args.s.now.window in
       let is = rw c.in-Vert.is at c.requires.of_need in
       rw c.in-Vert.is (laws.offers_held vs ok scope c.in-Vert.kind c.in-Vert.count c.in-Vert.hold c.in-Vert.needs
       c.args.vertex c.args.most c.copies.result c.if-hold.true c.if-copies-eq0.false c.requires.some within is
-      ((c.admits.ensures.answer jobs stands).0 c.if-not-admits.false) (c.copies.ensures.greatest jobs stands)),
+      ((c.admits.ensures.answer present stands).0 c.if-not-admits.false) (c.copies.ensures.greatest present stands)),
 )
 
 pub offer-write_shared-requires : goal.offer-write_shared-requires
@@ -98,8 +98,9 @@ offer-write_shared-requires g t c κs h =
             (
               c.requires.vertex,
               (
-                λ jobs stands. admitted_open (meets vs jobs c.args.s.now.barred.now) c.args.s.now.window c.args.vertex
-                    c.in-Vert.hold ((c.admits.ensures.answer jobs stands).0 c.if-not-admits.false),
+                λ present stands. admitted_open (meets vs present c.args.s.now.barred.now) c.args.s.now.window
+                    c.args.vertex
+                    c.in-Vert.hold ((c.admits.ensures.answer present stands).0 c.if-not-admits.false),
                 (
                   counts.valid_inside vs c.in-Vert.kind c.in-Vert.count c.in-Vert.hold c.in-Vert.needs
                       (rw c.in-Vert.is at c.requires.valid),
@@ -117,14 +118,14 @@ offer-returns-then-not-fit-clause-offers g t c =
     let wrote = c.in_ok-fit-in-Vert.ensures.written in (
       wrote.0,
       wrote.1,
-      λ jobs stands scope within.
+      λ present stands scope within.
           let vs = c.args.s.now.graph.now.resources.vertices in
-          let ok : Claim → Type 0 = open_to vs jobs c.args.s.now.barred.now c.args.s.now.window in
+          let ok : Claim → Type 0 = open_to vs present c.args.s.now.barred.now c.args.s.now.window in
           let is = rw c.in-Vert.is at c.requires.of_need in
-          let never = rw c.if-not-fit.true at (wrote.2.1 jobs stands) in
+          let never = rw c.if-not-fit.true at (wrote.2.1 present stands) in
           rw c.in-Vert.is (laws.offers_unfit vs ok scope c.in-Vert.kind c.in-Vert.count c.in-Vert.hold c.in-Vert.needs
           c.args.vertex c.args.most wrote.0 (wrote.2.0 c.if-not-fit.true) c.requires.some within is
-          ((c.admits.ensures.answer jobs stands).0 c.if-not-admits.false) never),
+          ((c.admits.ensures.answer present stands).0 c.if-not-admits.false) never),
     )
 
 pub offer-returns-else-not-fit-clause-offers : goal.offer-returns-else-not-fit-clause-offers
@@ -132,27 +133,27 @@ offer-returns-else-not-fit-clause-offers g t c =
     let wrote = c.in_ok-fit-in-Vert.ensures.written in (
       wrote.0,
       wrote.1,
-      λ jobs stands scope within.
+      λ present stands scope within.
           let vs = c.args.s.now.graph.now.resources.vertices in
-          let ok : Claim → Type 0 = open_to vs jobs c.args.s.now.barred.now c.args.s.now.window in
+          let ok : Claim → Type 0 = open_to vs present c.args.s.now.barred.now c.args.s.now.window in
           let is = rw c.in-Vert.is at c.requires.of_need in
-          let low = rw c.if-not-fit.false at (wrote.2.1 jobs stands) in
+          let low = rw c.if-not-fit.false at (wrote.2.1 present stands) in
           rw c.in-Vert.is (laws.offers_shared vs ok scope c.in-Vert.kind c.in-Vert.count c.in-Vert.hold
           c.in-Vert.needs c.args.vertex c.args.most wrote.0 c.if-hold.false c.requires.some within is
-          ((c.admits.ensures.answer jobs stands).0 c.if-not-admits.false) low),
+          ((c.admits.ensures.answer present stands).0 c.if-not-admits.false) low),
     )
 
 pub offer-returns-then-quantity-eq0-clause-offers : goal.offer-returns-then-quantity-eq0-clause-offers
 offer-returns-then-quantity-eq0-clause-offers g t c =
-    laws.extends_none c.args.out.now.items _ (λ jobs stands scope within. laws.offers_none _ _ c.args.most
-    c.serves-quantity.result c.if-quantity-eq0.true (c.serves-quantity.ensures.greatest jobs stands scope within))
+    laws.extends_none c.args.out.now.items _ (λ present stands scope within. laws.offers_none _ _ c.args.most
+    c.serves-quantity.result c.if-quantity-eq0.true (c.serves-quantity.ensures.greatest present stands scope within))
 
 pub offer-returns-in_ok-push-in-Pool-clause-offers : goal.offer-returns-in_ok-push-in-Pool-clause-offers
 offer-returns-in_ok-push-in-Pool-clause-offers g t c = (
   Take c.args.vertex c.serves-quantity.result ∷ [],
   c.in_ok-push-in-Pool.ensures.ok,
-  λ jobs stands scope within.
-      let g = rw c.in-Pool.is at (c.serves-quantity.ensures.greatest jobs stands scope within) in
+  λ present stands scope within.
+      let g = rw c.in-Pool.is at (c.serves-quantity.ensures.greatest present stands scope within) in
       rw c.in-Pool.is (laws.offers_some _ _ c.args.most c.serves-quantity.result
       (Take c.args.vertex c.serves-quantity.result ∷ []) (let some = c.if-quantity-eq0.false in omega arith) g
       refl),
@@ -177,14 +178,14 @@ offer-returns-in-Some-clause-offers g t c =
     let wrote = c.in_ok-copies-in-Spread.ensures.offers in (
       wrote.0,
       wrote.1,
-      λ jobs stands scope within.
-          rw (c.in-Spread.is, c.in-Some.ensures.0) (wrote.2 jobs stands scope c.in-Spread.count within),
+      λ present stands scope within.
+          rw (c.in-Spread.is, c.in-Some.ensures.0) (wrote.2 present stands scope c.in-Spread.count within),
     )
 
 pub offer-returns-then-count-eq0-clause-offers : goal.offer-returns-then-count-eq0-clause-offers
 offer-returns-then-count-eq0-clause-offers g t c =
-    laws.extends_none c.args.out.now.items _ (λ jobs stands scope within. laws.offers_none _ _ c.args.most
-    c.serves-count.result c.if-count-eq0.true (c.serves-count.ensures.greatest jobs stands scope within))
+    laws.extends_none c.args.out.now.items _ (λ present stands scope within. laws.offers_none _ _ c.args.most
+    c.serves-count.result c.if-count-eq0.true (c.serves-count.ensures.greatest present stands scope within))
 
 pub offer-write_shared-requires-in-Spread : goal.offer-write_shared-requires-in-Spread
 offer-write_shared-requires-in-Spread g t c κs h =
@@ -204,11 +205,11 @@ offer-write_shared-requires-in-Spread g t c κs h =
             (
               c.requires.vertex,
               (
-                λ jobs stands.
-                    let ok : Claim → Type 0 = open_to vs jobs c.args.s.now.barred.now c.args.s.now.window in
-                    let greatest = rw c.in-Spread.is at (c.serves-count.ensures.greatest jobs stands Everywhere
+                λ present stands.
+                    let ok : Claim → Type 0 = open_to vs present c.args.s.now.barred.now c.args.s.now.window in
+                    let greatest = rw c.in-Spread.is at (c.serves-count.ensures.greatest present stands Everywhere
                     c.requires.vertex) in
-                    admitted_open (meets vs jobs c.args.s.now.barred.now) c.args.s.now.window c.args.vertex false
+                    admitted_open (meets vs present c.args.s.now.barred.now) c.args.s.now.window c.args.vertex false
                     (laws.copies_pass vs ok Everywhere c.in-Spread.count c.in-Spread.needs c.args.vertex c.args.most
                     c.serves-count.result c.if-count-eq0.false greatest),
                 (
@@ -230,11 +231,11 @@ offer-returns-then-not-fit-2-clause-offers g t c =
     let wrote = c.in_ok-fit-in-Spread.ensures.written in (
       wrote.0,
       wrote.1,
-      λ jobs stands scope within.
+      λ present stands scope within.
           let vs = c.args.s.now.graph.now.resources.vertices in
-          let ok : Claim → Type 0 = open_to vs jobs c.args.s.now.barred.now c.args.s.now.window in
-          let never = rw c.if-not-fit-2.true at (wrote.2.1 jobs stands) in
-          let greatest = rw c.in-Spread.is at (c.serves-count.ensures.greatest jobs stands scope within) in
+          let ok : Claim → Type 0 = open_to vs present c.args.s.now.barred.now c.args.s.now.window in
+          let never = rw c.if-not-fit-2.true at (wrote.2.1 present stands) in
+          let greatest = rw c.in-Spread.is at (c.serves-count.ensures.greatest present stands scope within) in
           absurd (laws.copies_fit vs ok scope c.in-Spread.count c.in-Spread.needs c.args.vertex c.args.most
           c.serves-count.result c.if-count-eq0.false greatest never),
     )
@@ -244,20 +245,20 @@ offer-returns-else-not-fit-2-clause-offers g t c =
     let wrote = c.in_ok-fit-in-Spread.ensures.written in (
       wrote.0,
       wrote.1,
-      λ jobs stands scope within.
+      λ present stands scope within.
           let vs = c.args.s.now.graph.now.resources.vertices in
-          let ok : Claim → Type 0 = open_to vs jobs c.args.s.now.barred.now c.args.s.now.window in
-          let low = rw c.if-not-fit-2.false at (wrote.2.1 jobs stands) in
-          let greatest = rw c.in-Spread.is at (c.serves-count.ensures.greatest jobs stands scope within) in
+          let ok : Claim → Type 0 = open_to vs present c.args.s.now.barred.now c.args.s.now.window in
+          let low = rw c.if-not-fit-2.false at (wrote.2.1 present stands) in
+          let greatest = rw c.in-Spread.is at (c.serves-count.ensures.greatest present stands scope within) in
           rw c.in-Spread.is (laws.offers_copies vs ok scope c.in-Spread.count c.in-Spread.needs c.args.vertex
           c.args.most c.serves-count.result wrote.0 c.if-count-eq0.false greatest low),
     )
 
 pub write_group-returns-in_default-clause-written : goal.write_group-returns-in_default-clause-written
 write_group-returns-in_default-clause-written g t c =
-    laws.extends_none c.args.out.now.items _ (λ jobs stands some.
+    laws.extends_none c.args.out.now.items _ (λ present stands some.
     let vs = c.args.s.now.graph.now.resources.vertices in
-    let ok : Claim → Type 0 = open_to vs jobs c.args.s.now.barred.now c.args.s.now.window in
+    let ok : Claim → Type 0 = open_to vs present c.args.s.now.barred.now c.args.s.now.window in
     let scope = scope_of c.args.scope in
     let need = c.args.need.now in
     let never = none_at_all vs ok scope need c.in_default.ensures in
@@ -274,15 +275,15 @@ write_group-loop-missing-init g t c =
     record {
       within = omega arith;
       from = omega arith;
-      written = laws.extends_none c.args.out.now.items _ (λ jobs stands.
+      written = laws.extends_none c.args.out.now.items _ (λ present stands.
           let vs = c.args.s.now.graph.now.resources.vertices in
-          let ok : Claim → Type 0 = open_to vs jobs c.args.s.now.barred.now c.args.s.now.window in
+          let ok : Claim → Type 0 = open_to vs present c.args.s.now.barred.now c.args.s.now.window in
           rw total (filled_start _ _ (c.args.k * amount_of c.args.need.now) c.span_of-span.result.from
           (none_before vs ok (scope_of c.args.scope) c.args.need.now c.span_of-span.result.from
           c.span_of-span.result.to c.span_of-span.ensures.covers)));
-      walked = λ jobs stands place times here clear look.
+      walked = λ present stands place times here clear look.
           let s = c.args.s.now in
-          steps.walked_start s.graph.now.resources s.graph.now.names c.is_valid.ensures.valid jobs s.window
+          steps.walked_start s.graph.now.resources s.graph.now.names c.is_valid.ensures.valid present s.window
           (asked_totals s.wanted.now (g.F.FreeView.keeps s.view.now)) (needs_all s.needs.now) c.args.need.now place
           (times * ((length (needs_all s.needs.now) + 2) * g.F.FreeView.cost s.view.now)) c.args.scope
           c.args.steps.now c.span_of-span.result.from c.span_of-span.result.to c.span_of-span.ensures.span
@@ -295,9 +296,9 @@ write_group-returns-in_default-next_open_until-clause-written g t c =
     let wrote = c.loop-missing.invariant.written in (
       wrote.0,
       wrote.1,
-      λ jobs stands some.
+      λ present stands some.
           let vs = c.args.s.now.graph.now.resources.vertices in
-          let ok : Claim → Type 0 = open_to vs jobs c.args.s.now.barred.now c.args.s.now.window in
+          let ok : Claim → Type 0 = open_to vs present c.args.s.now.barred.now c.args.s.now.window in
           let scope = scope_of c.args.scope in
           let need = c.args.need.now in
           filled_none _ (serves_less vs ok (takes_less _ _) scope need) _ (c.args.k * amount_of need)
@@ -305,8 +306,9 @@ write_group-returns-in_default-next_open_until-clause-written g t c =
           (none_after vs ok scope need c.span_of-span.result.from c.loop-missing.at c.span_of-span.result.to
           c.span_of-span.ensures.covers (over_own c.args.s.now.window c.next_open_until.new.until
           c.in_default-next_open_until.ensures.falls c.args.s.now.opens _
-          (c.in_default-next_open_until.ensures.skipped jobs stands)))
-          c.loop-missing-test.true (wrote.2 jobs stands) (group_to vs ok scope need (c.args.k * amount_of need) some),
+          (c.in_default-next_open_until.ensures.skipped present stands)))
+          c.loop-missing-test.true (wrote.2 present stands)
+          (group_to vs ok scope need (c.args.k * amount_of need) some),
     )
 
 pub write_group-loop-missing-preserved : goal.write_group-loop-missing-preserved
@@ -333,8 +335,8 @@ write_group-loop-missing-preserved g t c =
         before.0 ++ wrote.0,
         laws.extends_twice c.args.out.now.items c.loop-missing.out.items c.offer.new.out.items before.0 wrote.0
             before.1 wrote.1,
-        λ jobs stands.
-            let ok : Claim → Type 0 = open_to vs jobs s.barred.now s.window in
+        λ present stands.
+            let ok : Claim → Type 0 = open_to vs present s.barred.now s.window in
             let scope = scope_of c.args.scope in
             filled_over _ _ (c.args.k * amount_of need) (v + 1) c.past-next.result
             (c.loop-missing.missing - c.from-missing.result)
@@ -350,28 +352,29 @@ write_group-loop-missing-preserved g t c =
             (filled_over _ _ (c.args.k * amount_of need) c.loop-missing.at v c.loop-missing.missing before.0 low
             (none_skipped vs ok scope need c.loop-missing.at v
             (rw c.in-Some-next_open_until.is at (over_own s.window c.next_open_until.new.until
-            c.next_open_until.ensures.falls s.opens _ (c.next_open_until.ensures.skipped jobs stands))))
-            (before.2 jobs stands))
-            (wrote.2 jobs stands scope is.1))),
+            c.next_open_until.ensures.falls s.opens _ (c.next_open_until.ensures.skipped present stands))))
+            (before.2 present stands))
+            (wrote.2 present stands scope is.1))),
       );
-      walked = λ jobs stands place times here clear look.
+      walked = λ present stands place times here clear look.
           let keeps = asked_totals s.wanted.now (g.F.FreeView.keeps s.view.now) in
           let all = needs_all s.needs.now in
           let cost = g.F.FreeView.cost s.view.now in
-          let before = c.loop-missing.invariant.walked jobs stands place times here clear look in
-          let alone = rw c.in-Some-next_open_until.is at (c.next_open_until.ensures.clear jobs stands before.clear) in
+          let before = c.loop-missing.invariant.walked present stands place times here clear look in
+          let alone = rw c.in-Some-next_open_until.is at (c.next_open_until.ensures.clear present stands before.clear)
+          in
           let walk = rw c.in-Some-next_open_until.is at
-          (c.next_open_until.ensures.work jobs stands place here before.clear) in
+          (c.next_open_until.ensures.work present stands place here before.clear) in
           let few = tables.place_few all place need here in
           let enough = steps.look_costs (length (all_of need)) (length all) cost few in
           let more = steps.times_costs times ((length all + 2) * cost) (steps.looks_some times need look) in
-          steps.walked_next graph.resources graph.names c.is_valid.ensures.valid jobs s.window keeps all need place
+          steps.walked_next graph.resources graph.names c.is_valid.ensures.valid present s.window keeps all need place
           (times * ((length all + 2) * cost)) c.args.scope (length (all_of need) * cost) (2 * cost)
           c.args.steps.now c.loop-missing.steps c.next_open_until.new.steps c.offer.new.steps
           c.span_of-span.result.from c.loop-missing.at c.span_of-span.result.to v c.past-next.result
           c.span_of-span.ensures.span c.span_of-span.ensures.within here (omega (arith, enough, more)) before next.1
           next.2 alone past walk
-          (c.offer.ensures.work jobs stands place c.past-next.result times here alone past look);
+          (c.offer.ensures.work present stands place c.past-next.result times here alone past look);
     }
 
 pub write_group-returns-clause-written : goal.write_group-returns-clause-written
@@ -380,8 +383,8 @@ write_group-returns-clause-written g t c =
     let none : c.loop-missing.missing ≡ 0 = (let over = c.loop-missing-test.false in omega arith) in (
       wrote.0,
       wrote.1,
-      λ jobs stands. filled_done _ _ (c.args.k * amount_of c.args.need.now) c.loop-missing.at wrote.0
-          (rw none at (wrote.2 jobs stands)),
+      λ present stands. filled_done _ _ (c.args.k * amount_of c.args.need.now) c.loop-missing.at wrote.0
+          (rw none at (wrote.2 present stands)),
     )
 
 pub write_needs-write_group-requires : goal.write_needs-write_group-requires
@@ -437,8 +440,8 @@ write_needs-index_after-at-requires g t c =
 pub write_needs-loop-need-init : goal.write_needs-loop-need-init
 write_needs-loop-need-init g t c = record {
   stand = rw c.items-need-items.ensures c.requires.stand;
-  written = laws.extends_none c.args.out.now.items _ (λ jobs stands rest low. low);
-  taken = λ jobs stands place from to times here clear span look.
+  written = laws.extends_none c.args.out.now.items _ (λ present stands rest low. low);
+  taken = λ present stands place from to times here clear span look.
       takes_none _ _ c.args.steps.now place (place + 0) from to;
 }
 
@@ -454,10 +457,10 @@ write_needs-returns-then-not-filled-clause-written g t c =
       before.0 ++ wrote.0,
       laws.extends_twice c.args.out.now.items c.loop-need.out.items c.write_group.new.out.items before.0 wrote.0
           before.1 wrote.1,
-      λ jobs stands fit.
+      λ present stands fit.
           let vs = c.args.s.now.graph.now.resources.vertices in
-          let ok : Claim → Type 0 = open_to vs jobs c.args.s.now.barred.now c.args.s.now.window in
-          let never = rw c.if-not-filled.true at (wrote.2 jobs stands) in
+          let ok : Claim → Type 0 = open_to vs present c.args.s.now.barred.now c.args.s.now.window in
+          let never = rw c.if-not-filled.true at (wrote.2 present stands) in
           never (group_at vs ok c.args.k (scope_of c.args.scope) items i need (drop (i + 1) items) split
           (rw c.items-need-items.ensures fit)),
     )
@@ -479,26 +482,26 @@ write_needs-loop-need-preserved g t c =
         before.0 ++ wrote.0,
         laws.extends_twice c.args.out.now.items c.loop-need.out.items c.write_group.new.out.items before.0 wrote.0
             before.1 wrote.1,
-        λ jobs stands.
+        λ present stands.
             let vs = c.args.s.now.graph.now.resources.vertices in
-            let ok : Claim → Type 0 = open_to vs jobs c.args.s.now.barred.now c.args.s.now.window in
-            let group = rw c.if-not-filled.false at (wrote.2 jobs stands) in
+            let ok : Claim → Type 0 = open_to vs present c.args.s.now.barred.now c.args.s.now.window in
+            let group = rw c.if-not-filled.false at (wrote.2 present stands) in
             completes_next vs ok c.args.k (scope_of c.args.scope) items (drop i items) (drop (i + 1) items) need
-            before.0 wrote.0 split group (before.2 jobs stands),
+            before.0 wrote.0 split group (before.2 present stands),
       );
-      taken = λ jobs stands place from to times here clear span look.
+      taken = λ present stands place from to times here clear span look.
           let all = needs_all c.args.s.now.needs.now in
           let each = times * ((length all + 2) * g.F.FreeView.cost c.args.s.now.view.now) in
           let keeps = asked_totals c.args.s.now.wanted.now (g.F.FreeView.keeps c.args.s.now.view.now) in
           let before = length (needs_all (take i items)) in
           let place' = tables.place_first all (place + before) (drop i items) (drop (i + 1) items) need split
           (tables.place_from all i place items here) in
-          let scope = counts.each_at (IsClearScope c.args.s.now.graph.now.resources.vertices jobs c.args.s.now.window
+          let scope = counts.each_at (IsClearScope c.args.s.now.graph.now.resources.vertices present c.args.s.now.window
           keeps c.args.scope) items i need (drop (i + 1) items) split clear in
           steps.listed_next _ each c.args.steps.now c.loop-need.steps c.write_group.new.steps place from to items
           (drop (i + 1) items) i need c.loop-need-test.true c.need-item.is
-          (c.loop-need.invariant.taken jobs stands place from to times here clear span look)
-          (c.write_group.ensures.work jobs stands (place + before) from to times place' scope span
+          (c.loop-need.invariant.taken present stands place from to times here clear span look)
+          (c.write_group.ensures.work present stands (place + before) from to times place' scope span
           (steps.looks_at times items i need (drop (i + 1) items) split look));
     }
 
@@ -508,167 +511,173 @@ write_needs-returns-clause-written g t c =
     let wrote = c.loop-need.invariant.written in (
       wrote.0,
       wrote.1,
-      λ jobs stands.
+      λ present stands.
           let vs = c.args.s.now.graph.now.resources.vertices in
-          let ok : Claim → Type 0 = open_to vs jobs c.args.s.now.barred.now c.args.s.now.window in
+          let ok : Claim → Type 0 = open_to vs present c.args.s.now.barred.now c.args.s.now.window in
           rw (← c.items-need-items.ensures) (completes_end vs ok c.args.k (scope_of c.args.scope) items
           (drop c.loop-need.need-index items) wrote.0
-          (drop_all c.loop-need.need-index items c.loop-need-test.false) (wrote.2 jobs stands)),
+          (drop_all c.loop-need.need-index items c.loop-need-test.false) (wrote.2 present stands)),
     )
 
 pub offer-returns-then-copies-eq0-clause-work : goal.offer-returns-then-copies-eq0-clause-work
-offer-returns-then-copies-eq0-clause-work g t c = λ jobs stands place past times.
+offer-returns-then-copies-eq0-clause-work g t c = λ present stands place past times.
     rw c.in-Vert.is (λ here clear after look.
-    let within = steps.in_vertex _ _ c.is_valid.ensures.valid _ _ _ (needs_all c.args.s.now.needs.now) place _ _ _ _ _
+    let within = steps.in_vertex _ _ c.is_valid.ensures.valid present _ _ (needs_all c.args.s.now.needs.now) place _ _
+    _ _ _
     (rw c.in-Vert.is at c.requires.valid) here clear in
     steps.takes_times _ times _ _ _ _ _ _ _
     (steps.looks_some times (Vert c.in-Vert.kind c.in-Vert.count c.in-Vert.hold c.in-Vert.needs) look)
     (steps.takes_later _ _ _ _ _ _ _ _ _ _ c.admits.ensures.work
     (steps.after_Vert place c.in-Vert.kind c.in-Vert.count c.in-Vert.hold c.in-Vert.needs)
-    (c.copies.ensures.work jobs stands (place + 1) (c.args.vertex + 1) past within.0 within.1 (refl, after))))
+    (c.copies.ensures.work present stands (place + 1) (c.args.vertex + 1) past within.0 within.1 (refl, after))))
 
 pub offer-returns-in_err-push-in-Vert-clause-work : goal.offer-returns-in_err-push-in-Vert-clause-work
-offer-returns-in_err-push-in-Vert-clause-work g t c = λ jobs stands place past times.
+offer-returns-in_err-push-in-Vert-clause-work g t c = λ present stands place past times.
     rw c.in-Vert.is (λ here clear after look.
-    let within = steps.in_vertex _ _ c.is_valid.ensures.valid _ _ _ (needs_all c.args.s.now.needs.now) place _ _ _ _ _
+    let within = steps.in_vertex _ _ c.is_valid.ensures.valid present _ _ (needs_all c.args.s.now.needs.now) place _ _
+    _ _ _
     (rw c.in-Vert.is at c.requires.valid) here clear in
     steps.takes_times _ times _ _ _ _ _ _ _
     (steps.looks_some times (Vert c.in-Vert.kind c.in-Vert.count c.in-Vert.hold c.in-Vert.needs) look)
     (steps.takes_later _ _ _ _ _ _ _ _ _ _ c.admits.ensures.work
     (steps.after_Vert place c.in-Vert.kind c.in-Vert.count c.in-Vert.hold c.in-Vert.needs)
-    (c.copies.ensures.work jobs stands (place + 1) (c.args.vertex + 1) past within.0 within.1 (refl, after))))
+    (c.copies.ensures.work present stands (place + 1) (c.args.vertex + 1) past within.0 within.1 (refl, after))))
 
 pub offer-returns-then-hold-clause-work : goal.offer-returns-then-hold-clause-work
-offer-returns-then-hold-clause-work g t c = λ jobs stands place past times.
+offer-returns-then-hold-clause-work g t c = λ present stands place past times.
     rw c.in-Vert.is (λ here clear after look.
-    let within = steps.in_vertex _ _ c.is_valid.ensures.valid _ _ _ (needs_all c.args.s.now.needs.now) place _ _ _ _ _
+    let within = steps.in_vertex _ _ c.is_valid.ensures.valid present _ _ (needs_all c.args.s.now.needs.now) place _ _
+    _ _ _
     (rw c.in-Vert.is at c.requires.valid) here clear in
     steps.takes_times _ times _ _ _ _ _ _ _
     (steps.looks_some times (Vert c.in-Vert.kind c.in-Vert.count c.in-Vert.hold c.in-Vert.needs) look)
     (steps.takes_later _ _ _ _ _ _ _ _ _ _ c.admits.ensures.work
     (steps.after_Vert place c.in-Vert.kind c.in-Vert.count c.in-Vert.hold c.in-Vert.needs)
-    (c.copies.ensures.work jobs stands (place + 1) (c.args.vertex + 1) past within.0 within.1 (refl, after))))
+    (c.copies.ensures.work present stands (place + 1) (c.args.vertex + 1) past within.0 within.1 (refl, after))))
 
 pub offer-returns-in_err-fit-in-Vert-clause-work : goal.offer-returns-in_err-fit-in-Vert-clause-work
-offer-returns-in_err-fit-in-Vert-clause-work g t c = λ jobs stands place past times.
+offer-returns-in_err-fit-in-Vert-clause-work g t c = λ present stands place past times.
     rw c.in-Vert.is (λ here clear after look.
-    let within = steps.in_vertex _ _ c.is_valid.ensures.valid _ _ _ (needs_all c.args.s.now.needs.now) place _ _ _ _ _
+    let within = steps.in_vertex _ _ c.is_valid.ensures.valid present _ _ (needs_all c.args.s.now.needs.now) place _ _
+    _ _ _
     (rw c.in-Vert.is at c.requires.valid) here clear in
     steps.takes_later _ _ _ _ _ _ _ _ _ _ c.admits.ensures.work
     (steps.after_Vert place c.in-Vert.kind c.in-Vert.count c.in-Vert.hold c.in-Vert.needs)
-    (c.write_shared.ensures.work jobs stands (place + 1) past times within.0 within.1 after
+    (c.write_shared.ensures.work present stands (place + 1) past times within.0 within.1 after
     (steps.looks_Vert times c.in-Vert.kind c.in-Vert.count c.in-Vert.hold c.in-Vert.needs look)))
 
 pub offer-returns-then-not-fit-clause-work : goal.offer-returns-then-not-fit-clause-work
-offer-returns-then-not-fit-clause-work g t c = λ jobs stands place past times.
+offer-returns-then-not-fit-clause-work g t c = λ present stands place past times.
     rw c.in-Vert.is (λ here clear after look.
-    let within = steps.in_vertex _ _ c.is_valid.ensures.valid _ _ _ (needs_all c.args.s.now.needs.now) place _ _ _ _ _
+    let within = steps.in_vertex _ _ c.is_valid.ensures.valid present _ _ (needs_all c.args.s.now.needs.now) place _ _
+    _ _ _
     (rw c.in-Vert.is at c.requires.valid) here clear in
     steps.takes_later _ _ _ _ _ _ _ _ _ _ c.admits.ensures.work
     (steps.after_Vert place c.in-Vert.kind c.in-Vert.count c.in-Vert.hold c.in-Vert.needs)
-    (c.write_shared.ensures.work jobs stands (place + 1) past times within.0 within.1 after
+    (c.write_shared.ensures.work present stands (place + 1) past times within.0 within.1 after
     (steps.looks_Vert times c.in-Vert.kind c.in-Vert.count c.in-Vert.hold c.in-Vert.needs look)))
 
 pub offer-returns-else-not-fit-clause-work : goal.offer-returns-else-not-fit-clause-work
-offer-returns-else-not-fit-clause-work g t c = λ jobs stands place past times.
+offer-returns-else-not-fit-clause-work g t c = λ present stands place past times.
     rw c.in-Vert.is (λ here clear after look.
-    let within = steps.in_vertex _ _ c.is_valid.ensures.valid _ _ _ (needs_all c.args.s.now.needs.now) place _ _ _ _ _
+    let within = steps.in_vertex _ _ c.is_valid.ensures.valid present _ _ (needs_all c.args.s.now.needs.now) place _ _
+    _ _ _
     (rw c.in-Vert.is at c.requires.valid) here clear in
     steps.takes_later _ _ _ _ _ _ _ _ _ _ c.admits.ensures.work
     (steps.after_Vert place c.in-Vert.kind c.in-Vert.count c.in-Vert.hold c.in-Vert.needs)
-    (c.write_shared.ensures.work jobs stands (place + 1) past times within.0 within.1 after
+    (c.write_shared.ensures.work present stands (place + 1) past times within.0 within.1 after
     (steps.looks_Vert times c.in-Vert.kind c.in-Vert.count c.in-Vert.hold c.in-Vert.needs look)))
 
 pub offer-returns-then-quantity-eq0-clause-work : goal.offer-returns-then-quantity-eq0-clause-work
-offer-returns-then-quantity-eq0-clause-work g t c = λ jobs stands place past times here clear after look.
+offer-returns-then-quantity-eq0-clause-work g t c = λ present stands place past times here clear after look.
     steps.takes_times _ times _ _ _ _ _ _ _ (steps.looks_some times c.args.need.now look)
-    (c.serves-quantity.ensures.work jobs stands place past here clear after)
+    (c.serves-quantity.ensures.work present stands place past here clear after)
 
 pub offer-returns-in_err-push-in-Pool-clause-work : goal.offer-returns-in_err-push-in-Pool-clause-work
-offer-returns-in_err-push-in-Pool-clause-work g t c = λ jobs stands place past times here clear after look.
+offer-returns-in_err-push-in-Pool-clause-work g t c = λ present stands place past times here clear after look.
     steps.takes_times _ times _ _ _ _ _ _ _ (steps.looks_some times c.args.need.now look)
-    (c.serves-quantity.ensures.work jobs stands place past here clear after)
+    (c.serves-quantity.ensures.work present stands place past here clear after)
 
 pub offer-returns-in_ok-push-in-Pool-clause-work : goal.offer-returns-in_ok-push-in-Pool-clause-work
-offer-returns-in_ok-push-in-Pool-clause-work g t c = λ jobs stands place past times here clear after look.
+offer-returns-in_ok-push-in-Pool-clause-work g t c = λ present stands place past times here clear after look.
     steps.takes_times _ times _ _ _ _ _ _ _ (steps.looks_some times c.args.need.now look)
-    (c.serves-quantity.ensures.work jobs stands place past here clear after)
+    (c.serves-quantity.ensures.work present stands place past here clear after)
 
 pub offer-returns-in_err-copies-in-Spread-clause-work : goal.offer-returns-in_err-copies-in-Spread-clause-work
-offer-returns-in_err-copies-in-Spread-clause-work g t c = λ jobs stands place past times here clear after look.
-    let within = steps.in_copy _ _ c.is_valid.ensures.valid _ _ _ (needs_all c.args.s.now.needs.now) place _ _ _
+offer-returns-in_err-copies-in-Spread-clause-work g t c = λ present stands place past times here clear after look.
+    let within = steps.in_copy _ _ c.is_valid.ensures.valid present _ _ (needs_all c.args.s.now.needs.now) place _ _ _
     (rw c.in-Spread.is at c.requires.valid) (rw c.in-Spread.is at here) (rw c.in-Spread.is at clear) in
     let alone = c.in-Some.ensures.0 in
     steps.takes_times _ times _ _ _ _ _ _ _ (steps.looks_some times c.args.need.now look)
     (steps.takes_later _ _ _ _ _ _ _ _ _ _ (omega arith)
     (rw c.in-Spread.is (steps.after_alone place c.in-Spread.count c.in-Spread.needs c.in-Some.held.now alone))
-    (c.offer_held.ensures.work jobs stands (place + 1) past
+    (c.offer_held.ensures.work present stands (place + 1) past
     (tables.place_first (needs_all c.args.s.now.needs.now) (place + 1) c.in-Spread.needs [] c.in-Some.held.now alone
     within.0)
     (rw alone at within.1).0 after))
 
 pub offer-returns-in-Some-clause-work : goal.offer-returns-in-Some-clause-work
-offer-returns-in-Some-clause-work g t c = λ jobs stands place past times here clear after look.
-    let within = steps.in_copy _ _ c.is_valid.ensures.valid _ _ _ (needs_all c.args.s.now.needs.now) place _ _ _
+offer-returns-in-Some-clause-work g t c = λ present stands place past times here clear after look.
+    let within = steps.in_copy _ _ c.is_valid.ensures.valid present _ _ (needs_all c.args.s.now.needs.now) place _ _ _
     (rw c.in-Spread.is at c.requires.valid) (rw c.in-Spread.is at here) (rw c.in-Spread.is at clear) in
     let alone = c.in-Some.ensures.0 in
     steps.takes_times _ times _ _ _ _ _ _ _ (steps.looks_some times c.args.need.now look)
     (steps.takes_later _ _ _ _ _ _ _ _ _ _ (omega arith)
     (rw c.in-Spread.is (steps.after_alone place c.in-Spread.count c.in-Spread.needs c.in-Some.held.now alone))
-    (c.offer_held.ensures.work jobs stands (place + 1) past
+    (c.offer_held.ensures.work present stands (place + 1) past
     (tables.place_first (needs_all c.args.s.now.needs.now) (place + 1) c.in-Spread.needs [] c.in-Some.held.now alone
     within.0)
     (rw alone at within.1).0 after))
 
 pub offer-returns-then-count-eq0-clause-work : goal.offer-returns-then-count-eq0-clause-work
-offer-returns-then-count-eq0-clause-work g t c = λ jobs stands place past times here clear after look.
+offer-returns-then-count-eq0-clause-work g t c = λ present stands place past times here clear after look.
     steps.takes_times _ times _ _ _ _ _ _ _ (steps.looks_some times c.args.need.now look)
-    (c.serves-count.ensures.work jobs stands place past here clear after)
+    (c.serves-count.ensures.work present stands place past here clear after)
 
 pub offer-returns-in_err-fit-in-Spread-clause-work : goal.offer-returns-in_err-fit-in-Spread-clause-work
-offer-returns-in_err-fit-in-Spread-clause-work g t c = λ jobs stands place past times here clear after look.
-    let within = steps.in_copy _ _ c.is_valid.ensures.valid _ _ _ (needs_all c.args.s.now.needs.now) place _ _ _
+offer-returns-in_err-fit-in-Spread-clause-work g t c = λ present stands place past times here clear after look.
+    let within = steps.in_copy _ _ c.is_valid.ensures.valid present _ _ (needs_all c.args.s.now.needs.now) place _ _ _
     (rw c.in-Spread.is at c.requires.valid) (rw c.in-Spread.is at here) (rw c.in-Spread.is at clear) in
     steps.takes_twice _ times _ _ _ _ _ _ _ _
     (steps.looks_Spread times c.in-Spread.count c.in-Spread.needs (rw c.in-Spread.is at look))
-    (c.serves-count.ensures.work jobs stands place past here clear after)
+    (c.serves-count.ensures.work present stands place past here clear after)
     (steps.takes_later _ _ c.serves-count.new.steps c.serves-count.new.steps _ _ _ _ _ _ (omega arith)
     (rw c.in-Spread.is (steps.after_Spread place c.in-Spread.count c.in-Spread.needs))
-    (c.write_shared-in-Spread.ensures.work jobs stands (place + 1) past 1 within.0 within.1 after
+    (c.write_shared-in-Spread.ensures.work present stands (place + 1) past 1 within.0 within.1 after
     (inr (refl, within.2))))
 
 pub offer-returns-then-not-fit-2-clause-work : goal.offer-returns-then-not-fit-2-clause-work
-offer-returns-then-not-fit-2-clause-work g t c = λ jobs stands place past times here clear after look.
-    let within = steps.in_copy _ _ c.is_valid.ensures.valid _ _ _ (needs_all c.args.s.now.needs.now) place _ _ _
+offer-returns-then-not-fit-2-clause-work g t c = λ present stands place past times here clear after look.
+    let within = steps.in_copy _ _ c.is_valid.ensures.valid present _ _ (needs_all c.args.s.now.needs.now) place _ _ _
     (rw c.in-Spread.is at c.requires.valid) (rw c.in-Spread.is at here) (rw c.in-Spread.is at clear) in
     steps.takes_twice _ times _ _ _ _ _ _ _ _
     (steps.looks_Spread times c.in-Spread.count c.in-Spread.needs (rw c.in-Spread.is at look))
-    (c.serves-count.ensures.work jobs stands place past here clear after)
+    (c.serves-count.ensures.work present stands place past here clear after)
     (steps.takes_later _ _ c.serves-count.new.steps c.serves-count.new.steps _ _ _ _ _ _ (omega arith)
     (rw c.in-Spread.is (steps.after_Spread place c.in-Spread.count c.in-Spread.needs))
-    (c.write_shared-in-Spread.ensures.work jobs stands (place + 1) past 1 within.0 within.1 after
+    (c.write_shared-in-Spread.ensures.work present stands (place + 1) past 1 within.0 within.1 after
     (inr (refl, within.2))))
 
 pub offer-returns-else-not-fit-2-clause-work : goal.offer-returns-else-not-fit-2-clause-work
-offer-returns-else-not-fit-2-clause-work g t c = λ jobs stands place past times here clear after look.
-    let within = steps.in_copy _ _ c.is_valid.ensures.valid _ _ _ (needs_all c.args.s.now.needs.now) place _ _ _
+offer-returns-else-not-fit-2-clause-work g t c = λ present stands place past times here clear after look.
+    let within = steps.in_copy _ _ c.is_valid.ensures.valid present _ _ (needs_all c.args.s.now.needs.now) place _ _ _
     (rw c.in-Spread.is at c.requires.valid) (rw c.in-Spread.is at here) (rw c.in-Spread.is at clear) in
     steps.takes_twice _ times _ _ _ _ _ _ _ _
     (steps.looks_Spread times c.in-Spread.count c.in-Spread.needs (rw c.in-Spread.is at look))
-    (c.serves-count.ensures.work jobs stands place past here clear after)
+    (c.serves-count.ensures.work present stands place past here clear after)
     (steps.takes_later _ _ c.serves-count.new.steps c.serves-count.new.steps _ _ _ _ _ _ (omega arith)
     (rw c.in-Spread.is (steps.after_Spread place c.in-Spread.count c.in-Spread.needs))
-    (c.write_shared-in-Spread.ensures.work jobs stands (place + 1) past 1 within.0 within.1 after
+    (c.write_shared-in-Spread.ensures.work present stands (place + 1) past 1 within.0 within.1 after
     (inr (refl, within.2))))
 
 pub write_group-returns-in_default-clause-work : goal.write_group-returns-in_default-clause-work
-write_group-returns-in_default-clause-work g t c = λ jobs stands place from to times here clear span look.
+write_group-returns-in_default-clause-work g t c = λ present stands place from to times here clear span look.
     takes_none _ _ c.args.steps.now place (place + length (all_of c.args.need.now)) from to
 
 pub write_group-returns-in_default-next_open_until-clause-work :
     goal.write_group-returns-in_default-next_open_until-clause-work
 write_group-returns-in_default-next_open_until-clause-work g t c =
-    λ jobs stands place from to times here clear span look.
+    λ present stands place from to times here clear span look.
     let s = c.args.s.now in
     let graph = s.graph.now in
     let need = c.args.need.now in
@@ -677,18 +686,18 @@ write_group-returns-in_default-next_open_until-clause-work g t c =
     let cost = g.F.FreeView.cost s.view.now in
     let same = span_same graph.resources graph.names c.is_valid.ensures.valid c.args.scope from to
     c.span_of-span.result.from c.span_of-span.result.to span c.span_of-span.ensures.span in
-    let before = c.loop-missing.invariant.walked jobs stands place times here clear look in
-    let walk = c.in_default-next_open_until.ensures.work jobs stands place here before.clear in
+    let before = c.loop-missing.invariant.walked present stands place times here clear look in
+    let walk = c.in_default-next_open_until.ensures.work present stands place here before.clear in
     let enough = steps.look_costs (length (all_of need)) (length all) cost (tables.place_few all place need here) in
     let more = steps.times_costs times ((length all + 2) * cost) (steps.looks_some times need look) in
-    rw (same.0, same.1) (steps.walked_none graph.resources graph.names c.is_valid.ensures.valid jobs s.window keeps
+    rw (same.0, same.1) (steps.walked_none graph.resources graph.names c.is_valid.ensures.valid present s.window keeps
     all need place
     (times * ((length all + 2) * cost)) (length (all_of need) * cost) c.args.steps.now c.loop-missing.steps
     c.next_open_until.new.steps c.span_of-span.result.from c.loop-missing.at c.span_of-span.result.to
     (omega (arith, enough, more)) before walk)
 
 pub write_group-returns-clause-work : goal.write_group-returns-clause-work
-write_group-returns-clause-work g t c = λ jobs stands place from to times here clear span look.
+write_group-returns-clause-work g t c = λ present stands place from to times here clear span look.
     let s = c.args.s.now in
     let graph = s.graph.now in
     let need = c.args.need.now in
@@ -697,14 +706,15 @@ write_group-returns-clause-work g t c = λ jobs stands place from to times here 
     let cost = g.F.FreeView.cost s.view.now in
     let same = span_same graph.resources graph.names c.is_valid.ensures.valid c.args.scope from to
     c.span_of-span.result.from c.span_of-span.result.to span c.span_of-span.ensures.span in
-    rw (same.0, same.1) (steps.walked_end graph.resources graph.names c.is_valid.ensures.valid jobs s.window keeps all
+    rw (same.0, same.1) (steps.walked_end graph.resources graph.names c.is_valid.ensures.valid present s.window keeps
+    all
     need place
     (times * ((length all + 2) * cost)) c.args.steps.now c.loop-missing.steps
     c.span_of-span.result.from c.loop-missing.at c.span_of-span.result.to
-    (c.loop-missing.invariant.walked jobs stands place times here clear look))
+    (c.loop-missing.invariant.walked present stands place times here clear look))
 
 pub write_group-returns-in_err-served-clause-work : goal.write_group-returns-in_err-served-clause-work
-write_group-returns-in_err-served-clause-work g t c = λ jobs stands place from to times here clear span look.
+write_group-returns-in_err-served-clause-work g t c = λ present stands place from to times here clear span look.
     let s = c.args.s.now in
     let graph = s.graph.now in
     let need = c.args.need.now in
@@ -715,57 +725,58 @@ write_group-returns-in_err-served-clause-work g t c = λ jobs stands place from 
     c.span_of-span.result.from c.span_of-span.result.to span c.span_of-span.ensures.span in
     let v = c.in-Some-next_open_until.vertex in
     let next = rw c.in-Some-next_open_until.is at c.next_open_until.ensures.of_kind in
-    let before = c.loop-missing.invariant.walked jobs stands place times here clear look in
-    let alone = rw c.in-Some-next_open_until.is at (c.next_open_until.ensures.clear jobs stands before.clear) in
+    let before = c.loop-missing.invariant.walked present stands place times here clear look in
+    let alone = rw c.in-Some-next_open_until.is at (c.next_open_until.ensures.clear present stands before.clear) in
     let walk = rw c.in-Some-next_open_until.is at
-    (c.next_open_until.ensures.work jobs stands place here before.clear) in
+    (c.next_open_until.ensures.work present stands place here before.clear) in
     let enough = steps.look_costs (length (all_of need)) (length all) cost (tables.place_few all place need here) in
     let more = steps.times_costs times ((length all + 2) * cost) (steps.looks_some times need look) in
-    rw (same.0, same.1) (steps.walked_end graph.resources graph.names c.is_valid.ensures.valid jobs s.window keeps all
+    rw (same.0, same.1) (steps.walked_end graph.resources graph.names c.is_valid.ensures.valid present s.window keeps
+    all
     need place
     (times * ((length all + 2) * cost)) c.args.steps.now c.offer.new.steps
     c.span_of-span.result.from c.past-next.result c.span_of-span.result.to
-    (steps.walked_next graph.resources graph.names c.is_valid.ensures.valid jobs s.window keeps all need place
+    (steps.walked_next graph.resources graph.names c.is_valid.ensures.valid present s.window keeps all need place
     (times * ((length all + 2) * cost)) c.args.scope (length (all_of need) * cost) (2 * cost) c.args.steps.now
     c.loop-missing.steps c.next_open_until.new.steps c.offer.new.steps c.span_of-span.result.from c.loop-missing.at
     c.span_of-span.result.to v c.past-next.result c.span_of-span.ensures.span c.span_of-span.ensures.within here
     (omega (arith, enough, more)) before next.1 next.2 alone c.past-next.ensures walk
-    (c.offer.ensures.work jobs stands place c.past-next.result times here alone c.past-next.ensures look)))
+    (c.offer.ensures.work present stands place c.past-next.result times here alone c.past-next.ensures look)))
 
 pub write_needs-returns-in_err-filled-clause-work : goal.write_needs-returns-in_err-filled-clause-work
 write_needs-returns-in_err-filled-clause-work g t c =
     let s = c.args.s.now in
     let all = needs_all s.needs.now in
-    rw (← c.items-need-items.ensures) (λ jobs stands place from to times here clear span look.
-    steps.listed_over _ (IsClearScope s.graph.now.resources.vertices jobs s.window
+    rw (← c.items-need-items.ensures) (λ present stands place from to times here clear span look.
+    steps.listed_over _ (IsClearScope s.graph.now.resources.vertices present s.window
     (asked_totals s.wanted.now (g.F.FreeView.keeps s.view.now)) c.args.scope) all c.items-need-items.result.now
     c.loop-need.need-index c.need-item.result c.loop-need-test.true c.need-item.is
     (times * ((length all + 2) * g.F.FreeView.cost s.view.now)) c.args.steps.now c.loop-need.steps
     c.write_group.new.steps place from to times here clear look
-    (c.loop-need.invariant.taken jobs stands place from to times here clear span look)
-    (λ at there open' few. c.write_group.ensures.work jobs stands at from to times there open' span few))
+    (c.loop-need.invariant.taken present stands place from to times here clear span look)
+    (λ at there open' few. c.write_group.ensures.work present stands at from to times there open' span few))
 
 pub write_needs-returns-then-not-filled-clause-work : goal.write_needs-returns-then-not-filled-clause-work
 write_needs-returns-then-not-filled-clause-work g t c =
     let s = c.args.s.now in
     let all = needs_all s.needs.now in
-    rw (← c.items-need-items.ensures) (λ jobs stands place from to times here clear span look.
-    steps.listed_over _ (IsClearScope s.graph.now.resources.vertices jobs s.window
+    rw (← c.items-need-items.ensures) (λ present stands place from to times here clear span look.
+    steps.listed_over _ (IsClearScope s.graph.now.resources.vertices present s.window
     (asked_totals s.wanted.now (g.F.FreeView.keeps s.view.now)) c.args.scope) all c.items-need-items.result.now
     c.loop-need.need-index c.need-item.result c.loop-need-test.true c.need-item.is
     (times * ((length all + 2) * g.F.FreeView.cost s.view.now)) c.args.steps.now c.loop-need.steps
     c.write_group.new.steps place from to times here clear look
-    (c.loop-need.invariant.taken jobs stands place from to times here clear span look)
-    (λ at there open' few. c.write_group.ensures.work jobs stands at from to times there open' span few))
+    (c.loop-need.invariant.taken present stands place from to times here clear span look)
+    (λ at there open' few. c.write_group.ensures.work present stands at from to times there open' span few))
 
 pub write_needs-returns-clause-work : goal.write_needs-returns-clause-work
 write_needs-returns-clause-work g t c =
     let items : List Need = c.items-need-items.result.now in
-    rw (← c.items-need-items.ensures) (λ jobs stands place from to times here clear span look.
+    rw (← c.items-need-items.ensures) (λ present stands place from to times here clear span look.
     steps.listed_end _ (times * ((length
     (needs_all c.args.s.now.needs.now) + 2) * g.F.FreeView.cost c.args.s.now.view.now))
     c.args.steps.now c.loop-need.steps place from to items c.loop-need.need-index
-    (c.loop-need.invariant.taken jobs stands place from to times here clear span look))
+    (c.loop-need.invariant.taken present stands place from to times here clear span look))
 
 pub write_shared-returns-clause-written : goal.write_shared-returns-clause-written
 write_shared-returns-clause-written g t c =
@@ -778,5 +789,5 @@ write_shared-returns-clause-written g t c =
     (laws.cut_back c.args.out.now.items c.write_needs.new.out.items (pass ++ wrote.0) all) in (
       [],
       back ∙ sym (append-nil c.args.out.now.items),
-      (λ _. refl, λ jobs stands. rw c.if-fit.false at (wrote.2 jobs stands)),
+      (λ _. refl, λ present stands. rw c.if-fit.false at (wrote.2 present stands)),
     )

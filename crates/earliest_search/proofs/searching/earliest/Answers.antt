@@ -10,17 +10,17 @@ use Rattle.earliest_search.proofs.TriedLaws.{before_all, before_more, each_befor
 use Rattle.earliest_search.proofs.searching.earliest.Goals as goal
 
 pub returns-in-Fits-clause-found : goal.returns-in-Fits-clause-found
-returns-in-Fits-clause-found g c = λ jobs stands.
+returns-in-Fits-clause-found g c = λ present stands.
     let vs = c.args.graph.now.resources.vertices in
     let ask = c.args.ask.now in
     let t = c.starts.start in
-    let low : IsLowestFirst vs jobs ask (window_of c.args.horizon ask t) c.in-Fits.claims = rw
+    let low : IsLowestFirst vs present ask (window_of c.args.horizon ask t) c.in-Fits.claims = rw
     (c.in_ok-matcher.ensures.graph, c.in_ok-matcher.ensures.ask, c.window_at-window.ensures.window, c.in-Fits.is) at
-    (c.in_ok-matched.ensures.matched jobs stands) in (
-      is_earliest vs jobs c.args.horizon ask c.args.now t (c.starts.invariant.before jobs stands)
+    (c.in_ok-matched.ensures.matched present stands) in (
+      is_earliest vs present c.args.horizon ask c.args.now t (c.starts.invariant.before present stands)
           c.starts.invariant.later (
             c.counts.ensures.0 c.starts-test.true,
-            (c.in-Fits.claims, lowest_fits vs jobs ask (window_of c.args.horizon ask t) c.in-Fits.claims low),
+            (c.in-Fits.claims, lowest_fits vs present ask (window_of c.args.horizon ask t) c.in-Fits.claims low),
           ),
       low,
     )
@@ -33,26 +33,28 @@ returns-in-None g c =
     let t = c.starts.start in
     let keeps = g.F.FreeView.keeps c.args.view.now in
     record {
-      found = λ jobs stands.
+      found = λ present stands.
           let is = rw (c.in_ok-matcher.ensures.graph, c.in_ok-matcher.ensures.ask, c.window_at-window.ensures.window) at
-          (c.in_ok-matched.ensures.matched jobs stands) in
-          let next = subst (λ (us : List Vertex). IsNextTryOrNone us jobs c.in_ok-matched.matched t c.next_try.result)
-          c.requires.over (c.next_try.ensures.next jobs stands) in
+          (c.in_ok-matched.ensures.matched present stands) in
+          let next = subst (λ (us : List Vertex). IsNextTryOrNone us present c.in_ok-matched.matched t
+          c.next_try.result)
+          c.requires.over (c.next_try.ensures.next present stands) in
           let none = rw c.in-None.is at next in
-          none_ever vs jobs c.args.horizon ask c.args.now t (c.starts.invariant.before jobs stands)
-          (no_fit vs jobs keeps ask (window_of c.args.horizon ask t) c.in_ok-matched.matched is
+          none_ever vs present c.args.horizon ask c.args.now t (c.starts.invariant.before present stands)
+          (no_fit vs present keeps ask (window_of c.args.horizon ask t) c.in_ok-matched.matched is
           (λ claims e. c.in_default.not-Fits claims e))
-          (λ u lo point s. none u lo point (worth_try graph.resources graph.names c.is_valid.ensures.valid jobs
+          (λ u lo point s. none u lo point (worth_try graph.resources graph.names c.is_valid.ensures.valid present
           c.args.horizon ask c.requires.proper keeps t u lo s c.in_ok-matched.matched is));
-      work = λ jobs stands tried looks has opens.
+      work = λ present stands tried looks has opens.
           let cost = g.F.FreeView.cost c.args.view.now in
           let counts = c.counts.ensures.0 c.starts-test.true in
-          let there = has t (c.starts.invariant.point jobs stands) counts (omega (arith, counts.0)) in
+          let there = has t (c.starts.invariant.point present stands) counts (omega (arith, counts.0)) in
           let more = try_more cost (λ u. (looks u + 1) * cost) tried t c.args.steps.now c.starts.steps
           c.over.new.steps (looks t) refl there
-          (c.starts.invariant.spent jobs stands tried looks (each_counted jobs c.args.horizon c.args.ask.now c.args.now
+          (c.starts.invariant.spent present stands tried looks
+          (each_counted present c.args.horizon c.args.ask.now c.args.now
           tried t has) opens)
-          (c.over.ensures.work jobs stands (looks t) (rw (
+          (c.over.ensures.work present stands (looks t) (rw (
             c.in_ok-matcher.ensures.graph,
             c.in_ok-matcher.ensures.ask,
             c.window_at-window.ensures.window,
@@ -60,7 +62,7 @@ returns-in-None g c =
           let next = c.next_try.ensures.work in
           let all = before_all (λ u. (looks u + 1) * cost) (t + 1) tried in
           omega (arith, more, next, all);
-      soon = λ jobs stands. tt;
+      soon = λ present stands. tt;
     }
 
 pub starts-preserved : goal.starts-preserved
@@ -74,36 +76,36 @@ starts-preserved g c =
     let le = c.starts.invariant.later in
     record {
       later = omega arith;
-      before = λ jobs stands.
+      before = λ present stands.
           let is = rw (c.in_ok-matcher.ensures.graph, c.in_ok-matcher.ensures.ask, c.window_at-window.ensures.window) at
-          (c.in_ok-matched.ensures.matched jobs stands) in
-          let next = subst (λ (us : List Vertex). IsNextTry us jobs c.in_ok-matched.matched t c.in-Some.next)
-          c.requires.over (c.in-Some.ensures.next jobs stands) in
-          none_to_next vs jobs c.args.horizon ask c.args.now t (c.starts.invariant.before jobs stands)
-          (no_fit vs jobs keeps ask (window_of c.args.horizon ask t) c.in_ok-matched.matched is
+          (c.in_ok-matched.ensures.matched present stands) in
+          let next = subst (λ (us : List Vertex). IsNextTry us present c.in_ok-matched.matched t c.in-Some.next)
+          c.requires.over (c.in-Some.ensures.next present stands) in
+          none_to_next vs present c.args.horizon ask c.args.now t (c.starts.invariant.before present stands)
+          (no_fit vs present keeps ask (window_of c.args.horizon ask t) c.in_ok-matched.matched is
           (λ claims e. c.in_default.not-Fits claims e)) c.in-Some.next
           (λ u lo hi point s. next.least u lo hi point (worth_try graph.resources graph.names c.is_valid.ensures.valid
-          jobs c.args.horizon ask c.requires.proper keeps t u lo s c.in_ok-matched.matched is));
-      point = λ jobs stands.
-          let next = c.in-Some.ensures.next jobs stands in
+          present c.args.horizon ask c.requires.proper keeps t u lo s c.in_ok-matched.matched is));
+      point = λ present stands.
+          let next = c.in-Some.ensures.next present stands in
           inr (omega (arith, le, lt), next.point);
       known = (let matcher = c.in_ok-matcher.matcher in knows_later matcher.graph.now.resources.vertices
           (g.F.FreeView.stands_for c.args.view.now) matcher.ask.now.barred matcher.ask.now.needs
           (window_of c.args.horizon ask t) (window_of c.args.horizon ask c.in-Some.next) c.over.new.known
           (ends_no_sooner c.args.horizon ask t c.in-Some.next lt)
           (rw c.window_at-window.ensures.window at c.over.ensures.known));
-      spent = λ jobs stands tried looks has opens.
+      spent = λ present stands tried looks has opens.
           let cost = g.F.FreeView.cost c.args.view.now in
           let counts = c.counts.ensures.0 c.starts-test.true in
-          let there = has t (c.starts.invariant.point jobs stands) counts lt in
+          let there = has t (c.starts.invariant.point present stands) counts lt in
           let more = try_more cost (λ u. (looks u + 1) * cost) tried t c.args.steps.now c.starts.steps
           c.over.new.steps (looks t) refl there
-          (c.starts.invariant.spent jobs stands tried looks (λ u is count less. has u is count (omega (
+          (c.starts.invariant.spent present stands tried looks (λ u is count less. has u is count (omega (
             arith,
             less,
             lt,
           ))) opens)
-          (c.over.ensures.work jobs stands (looks t) (rw (
+          (c.over.ensures.work present stands (looks t) (rw (
             c.in_ok-matcher.ensures.graph,
             c.in_ok-matcher.ensures.ask,
             c.window_at-window.ensures.window,
@@ -114,78 +116,79 @@ starts-preserved g c =
     }
 
 pub returns-clause-found : goal.returns-clause-found
-returns-clause-found g c = λ jobs stands.
-    none_past c.args.graph.now.resources.vertices jobs c.args.horizon c.args.ask.now c.args.now c.starts.start
-    (c.starts.invariant.before jobs stands) (λ counts. true≢false (sym (c.counts.ensures.1 counts) ∙
+returns-clause-found g c = λ present stands.
+    none_past c.args.graph.now.resources.vertices present c.args.horizon c.args.ask.now c.args.now c.starts.start
+    (c.starts.invariant.before present stands) (λ counts. true≢false (sym (c.counts.ensures.1 counts) ∙
     c.starts-test.false))
 
 pub returns-in_err-matched-clause-work : goal.returns-in_err-matched-clause-work
-returns-in_err-matched-clause-work g c = λ jobs stands tried looks has opens.
+returns-in_err-matched-clause-work g c = λ present stands tried looks has opens.
     let cost = g.F.FreeView.cost c.args.view.now in
     let t = c.starts.start in
     let counts = c.counts.ensures.0 c.starts-test.true in
-    let there = has t (c.starts.invariant.point jobs stands) counts (omega (arith, counts.0)) in
+    let there = has t (c.starts.invariant.point present stands) counts (omega (arith, counts.0)) in
     try_all cost (λ u. (looks u + 1) * cost) tried t c.args.steps.now c.starts.steps
     c.over.new.steps (looks t) refl there
-    (c.starts.invariant.spent jobs stands tried looks (each_counted jobs c.args.horizon c.args.ask.now c.args.now
+    (c.starts.invariant.spent present stands tried looks (each_counted present c.args.horizon c.args.ask.now c.args.now
     tried t has) opens)
-    (c.over.ensures.work jobs stands (looks t) (rw (
+    (c.over.ensures.work present stands (looks t) (rw (
       c.in_ok-matcher.ensures.graph,
       c.in_ok-matcher.ensures.ask,
       c.window_at-window.ensures.window,
     ) (opens t there counts)))
 
 pub returns-in-Fits-clause-work : goal.returns-in-Fits-clause-work
-returns-in-Fits-clause-work g c = λ jobs stands tried looks has opens.
+returns-in-Fits-clause-work g c = λ present stands tried looks has opens.
     let cost = g.F.FreeView.cost c.args.view.now in
     let t = c.starts.start in
     let counts = c.counts.ensures.0 c.starts-test.true in
-    let there = has t (c.starts.invariant.point jobs stands) counts (omega (arith, counts.0)) in
+    let there = has t (c.starts.invariant.point present stands) counts (omega (arith, counts.0)) in
     try_all cost (λ u. (looks u + 1) * cost) tried t c.args.steps.now c.starts.steps
     c.over.new.steps (looks t) refl there
-    (c.starts.invariant.spent jobs stands tried looks (each_counted jobs c.args.horizon c.args.ask.now c.args.now
+    (c.starts.invariant.spent present stands tried looks (each_counted present c.args.horizon c.args.ask.now c.args.now
     tried t has) opens)
-    (c.over.ensures.work jobs stands (looks t) (rw (
+    (c.over.ensures.work present stands (looks t) (rw (
       c.in_ok-matcher.ensures.graph,
       c.in_ok-matcher.ensures.ask,
       c.window_at-window.ensures.window,
     ) (opens t there counts)))
 
 pub returns-in-Fits-clause-soon : goal.returns-in-Fits-clause-soon
-returns-in-Fits-clause-soon g c = λ jobs stands tried looks has opens.
+returns-in-Fits-clause-soon g c = λ present stands tried looks has opens.
     let cost = g.F.FreeView.cost c.args.view.now in
     let t = c.starts.start in
     let counts = c.counts.ensures.0 c.starts-test.true in
-    let there = has t (c.starts.invariant.point jobs stands) counts (omega arith) in
+    let there = has t (c.starts.invariant.point present stands) counts (omega arith) in
     try_all cost (λ u. (looks u + 1) * cost) tried t c.args.steps.now c.starts.steps
     c.over.new.steps (looks t) refl there
-    (c.starts.invariant.spent jobs stands tried looks (each_before jobs c.args.horizon c.args.ask.now c.args.now tried
+    (c.starts.invariant.spent present stands tried looks (each_before present c.args.horizon c.args.ask.now c.args.now
+    tried
     t t (omega arith) has) opens)
-    (c.over.ensures.work jobs stands (looks t) (rw (
+    (c.over.ensures.work present stands (looks t) (rw (
       c.in_ok-matcher.ensures.graph,
       c.in_ok-matcher.ensures.ask,
       c.window_at-window.ensures.window,
     ) (opens t there counts)))
 
 pub returns-clause-work : goal.returns-clause-work
-returns-clause-work g c = λ jobs stands tried looks has opens.
+returns-clause-work g c = λ present stands tried looks has opens.
     let cost = g.F.FreeView.cost c.args.view.now in
     let t = c.starts.start in
-    let spent = c.starts.invariant.spent jobs stands tried looks
-    (each_counted jobs c.args.horizon c.args.ask.now c.args.now tried t has) opens in
+    let spent = c.starts.invariant.spent present stands tried looks
+    (each_counted present c.args.horizon c.args.ask.now c.args.now tried t has) opens in
     let all = before_all (λ u. (looks u + 1) * cost) t tried in
     omega (arith, spent, all)
 
 pub starts-init : goal.starts-init
 starts-init g c = record {
   later = omega arith;
-  before = λ jobs stands u lo hi. absurd (omega (arith, lo, hi));
-  point = λ jobs stands. inl refl;
+  before = λ present stands u lo hi. absurd (omega (arith, lo, hi));
+  point = λ present stands. inl refl;
   known = (let matcher = c.in_ok-matcher.matcher in knows_nothing matcher.graph.now.resources.vertices
       (g.F.FreeView.stands_for c.args.view.now) matcher.ask.now.barred matcher.ask.now.needs
       (window_of c.args.horizon c.args.ask.now c.args.now) c.nothing-known.result c.nothing-known.ensures.rows
       c.nothing-known.ensures.end);
-  spent = λ jobs stands tried looks has opens. omega arith;
+  spent = λ present stands tried looks has opens. omega arith;
 }
 
 pub over-requires-clause-known : goal.over-requires-clause-known

@@ -1,7 +1,7 @@
 use Rattle.std.proofs.Common.{◌-◌, ◌+◌, ◌*◌, ◌≤◌, ℕ, List}
-use Rattle.flux_defs.specs.declared.claims.Job.{Job}
 use Rattle.std.specs.Prelude.{Contains}
 use Rattle.flux_defs.specs.Asks.{CountsWithin, window_of}
+use Rattle.flux_defs.specs.Present.{InEach}
 use Rattle.dfu_match.specs.Pairs.{IsEnoughFor}
 use Rattle.dfu_match.specs.Rows.{Knows}
 use Rattle.earliest_search.specs.Tried.{IsNowOrPoint}
@@ -13,17 +13,18 @@ use Rattle.earliest_search.proofs.searching.earliest.Given as goal
 abbrev pub invariant-starts : goal.invariant-starts
 invariant-starts g l = record {
   later : l.now ≤ l.start;
-  before : (jobs : List Job) → g.F.FreeView.stands_for l.view jobs → NoStartBefore l.graph.resources.vertices jobs
-      l.horizon l.ask l.now l.start;
-  point : (jobs : List Job) → g.F.FreeView.stands_for l.view jobs → IsNowOrPoint jobs l.now l.start;
+  before : InEach (g.F.FreeView.stands_for l.view) (λ present. NoStartBefore l.graph.resources.vertices present
+      l.horizon l.ask l.now l.start);
+  point : InEach (g.F.FreeView.stands_for l.view) (λ present. IsNowOrPoint present l.now l.start);
   known : Knows l.matcher.graph.now.resources.vertices (g.F.FreeView.stands_for l.view) l.matcher.ask.now.barred
       l.matcher.ask.now.needs (window_of l.horizon l.ask l.start) l.known;
-  spent : (jobs : List Job) → g.F.FreeView.stands_for l.view jobs → (tried : List ℕ) → (looks : ℕ → ℕ) →
-      HasEachBefore jobs l.horizon l.ask l.now l.start tried →
+  spent : InEach (g.F.FreeView.stands_for l.view) (λ present. (tried : List ℕ) → (looks : ℕ → ℕ) →
+      HasEachBefore present l.horizon l.ask l.now l.start tried →
       ((t : ℕ) → Contains tried t → CountsWithin l.horizon l.ask t →
-      IsEnoughFor l.graph.resources.vertices jobs (window_of l.horizon l.ask t) (g.F.FreeView.keeps l.view) l.ask.needs
+      IsEnoughFor l.graph.resources.vertices present (window_of l.horizon l.ask t) (g.F.FreeView.keeps l.view)
+      l.ask.needs
       (looks t)) →
-      l.steps ≤ l.initial.steps + weight_before (λ t. (looks t + 1) * g.F.FreeView.cost l.view) l.start tried;
+      l.steps ≤ l.initial.steps + weight_before (λ t. (looks t + 1) * g.F.FreeView.cost l.view) l.start tried);
 }
 
 abbrev pub decreases-starts : goal.decreases-starts

@@ -27,7 +27,8 @@ loop-demand-preserved g c =
     let v = c.args.view.now in
     record {
       none = λ present stands. none_next
-          (λ d. IsBelow (g.F.FreeView.graph v) present c.args.window (g.F.FreeView.keeps v) c.args.vertex d.kind d.amount)
+          (λ d. IsBelow (g.F.FreeView.graph v) present c.args.window (g.F.FreeView.keeps v) c.args.vertex d.kind
+          d.amount)
           c.items-demand-items.result.now c.loop-demand.demand-index _
           (λ below. c.in_default.ensures.answer present stands below.0 below.1) c.loop-demand-test.true
           (c.loop-demand.invariant.none present stands);
@@ -39,7 +40,8 @@ returns g c =
     let v = c.args.view.now in
     record {
       answer = λ present stands. rw (← c.items-demand-items.ensures) (none_at_all
-          (λ d. IsBelow (g.F.FreeView.graph v) present c.args.window (g.F.FreeView.keeps v) c.args.vertex d.kind d.amount)
+          (λ d. IsBelow (g.F.FreeView.graph v) present c.args.window (g.F.FreeView.keeps v) c.args.vertex d.kind
+          d.amount)
           c.items-demand-items.result.now c.loop-demand.demand-index c.loop-demand-test.false
           (c.loop-demand.invariant.none present stands));
       within = tt;

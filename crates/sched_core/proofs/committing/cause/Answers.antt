@@ -1,6 +1,6 @@
 use Rattle.std.proofs.Common.{refl, sym, ◌∙◌, ap, subst}
 use Rattle.flux_defs.specs.Histories.{state_at}
-use Rattle.flux_defs.specs.Scheduler.{State}
+use Rattle.flux_defs.specs.Scheduler.{State, present_of}
 use Rattle.resource_graph.specs.NamedGraph.{NamedGraph}
 use Rattle.book_state.specs.Books.{StandsFor}
 use Rattle.overtaken_check.specs.Scans.{MayBeFound}
@@ -16,9 +16,10 @@ overtaken-requires g c =
     let j = journal_in kept in
     record {
       over = ap (λ n. n.resources.vertices) (core.graph-is ∙ sym c.deref.ensures);
-      jobs = subst (λ (s : State). StandsFor kept.book s.jobs) (sym (now_left j)) core.book-of.jobs;
+      jobs = (subst (λ (s : State). StandsFor kept.book s.jobs) (sym (now_left j)) core.book-of.jobs, refl);
       moment = c.requires.moment;
-      found = subst (λ (n : NamedGraph). MayBeFound n.resources.vertices site.horizon (state_at j c.args.place).jobs
+      found = subst (λ (n : NamedGraph). MayBeFound n.resources.vertices site.horizon
+          (present_of (state_at j c.args.place))
           c.args.verdict.now c.args.command.now) (sym c.deref.ensures)
           (may_be_found (setting_in site kept) (state_at j c.args.place) c.args.verdict.now c.args.command.now
           c.requires.found);

@@ -1,6 +1,7 @@
 use Rattle.std.proofs.Common.{◌↔◌, IsTrue, arith}
 use Rattle.flux_defs.specs.Closed.{IsClosedOver}
-use Rattle.book_state.proofs.ViewLaws.{graph_at, answer_at, inside_at, work_at}
+use Rattle.flux_defs.specs.Present.{up_with}
+use Rattle.book_state.proofs.ViewLaws.{graph_at, present_at, inside_at, work_at}
 use Rattle.book_state.proofs.view.BookStateFreeView.closed_over.Goals as goal
 
 pub closed_over-requires-clause-graph : goal.closed_over-requires-clause-graph
@@ -9,12 +10,13 @@ closed_over-requires-clause-graph g c = graph_at c.graph-graph.result.now c.acco
 
 pub closed_over-requires-clause-inside : goal.closed_over-requires-clause-inside
 closed_over-requires-clause-inside g c = inside_at c.graph-graph.result.now c.accounts-accounts.result.now
-    c.args.self.now c.graph-graph.ensures.value c.accounts-accounts.ensures.value c.args.vertex c.requires.vertex
+    c.args.self.now c.graph-graph.ensures.value c.accounts-accounts.ensures.value c.args.vertex c.requires.asked.within
 
 pub returns-clause-answer : goal.returns-clause-answer
-returns-clause-answer g c = answer_at c.graph-graph.result.now
+returns-clause-answer g c = present_at c.graph-graph.result.now
     c.accounts-accounts.result.now c.args.self.now c.graph-graph.ensures.value c.accounts-accounts.ensures.value
-    (λ vs js. IsTrue c.closed_over.result ↔ IsClosedOver vs js c.args.window c.args.vertex) c.closed_over.ensures.answer
+    (λ vs present. IsTrue c.closed_over.result ↔ IsClosedOver vs present c.args.window c.args.vertex)
+    c.closed_over.ensures.answer
 
 pub returns-clause-work : goal.returns-clause-work
 returns-clause-work g c =

@@ -1,7 +1,8 @@
 use Rattle.std.proofs.Common.{◌≤◌, IfSome, IsTrue, arith}
 use Rattle.flux_defs.specs.Closed.{no_bars, is_closed, IsClosedOver}
 use Rattle.flux_defs.specs.Later.{IsSoUntil}
-use Rattle.book_state.proofs.ViewLaws.{graph_at, answer_at, any_at, inside_at, work_at, so_until, until_within}
+use Rattle.flux_defs.specs.Present.{up_with}
+use Rattle.book_state.proofs.ViewLaws.{graph_at, present_at, any_at, inside_at, work_at, so_until, until_within}
 use Rattle.book_state.proofs.view.BookStateFreeView.closed_until.Goals as goal
 
 pub closed_until-requires-clause-graph : goal.closed_until-requires-clause-graph
@@ -10,15 +11,15 @@ closed_until-requires-clause-graph g c = graph_at c.graph-graph.result.now c.acc
 
 pub closed_until-requires-clause-inside : goal.closed_until-requires-clause-inside
 closed_until-requires-clause-inside g c = inside_at c.graph-graph.result.now c.accounts-accounts.result.now
-    c.args.self.now c.graph-graph.ensures.value c.accounts-accounts.ensures.value c.args.vertex c.requires.vertex
+    c.args.self.now c.graph-graph.ensures.value c.accounts-accounts.ensures.value c.args.vertex c.requires.asked.within
 
 pub returns-clause-answer : goal.returns-clause-answer
 returns-clause-answer g c =
     let vertices = c.graph-graph.result.now.resources.vertices in
-    answer_at c.graph-graph.result.now
+    present_at c.graph-graph.result.now
     c.accounts-accounts.result.now c.args.self.now c.graph-graph.ensures.value c.accounts-accounts.ensures.value
-    (λ vs js. IsSoUntil (λ w. IsClosedOver vs js w c.args.vertex) c.args.window c.closed_until.result)
-    (λ js are. so_until c.args.window (λ m. IsTrue (is_closed (no_bars vertices js) m c.args.vertex))
+    (λ vs present. IsSoUntil (λ w. IsClosedOver vs present w c.args.vertex) c.args.window c.closed_until.result)
+    (λ js are. so_until c.args.window (λ m. IsTrue (is_closed (no_bars vertices (up_with js)) m c.args.vertex))
     c.closed_until.result (c.closed_until.ensures.answer js are))
 
 pub returns-clause-within : goal.returns-clause-within
@@ -27,7 +28,7 @@ returns-clause-within g c =
     any_at c.graph-graph.result.now
     c.accounts-accounts.result.now c.args.self.now c.graph-graph.ensures.value c.accounts-accounts.ensures.value
     c.accounts-accounts.ensures.book (IfSome c.closed_until.result (λ m. c.args.window.from ≤ m))
-    (λ js are. until_within c.args.window (λ m. IsTrue (is_closed (no_bars vertices js) m c.args.vertex))
+    (λ js are. until_within c.args.window (λ m. IsTrue (is_closed (no_bars vertices (up_with js)) m c.args.vertex))
     c.closed_until.result (c.closed_until.ensures.answer js are))
 
 pub returns-clause-work : goal.returns-clause-work

@@ -12,8 +12,8 @@ returns-clause-later g c =
     )
 
 pub returns-clause-answer : goal.returns-clause-answer
-returns-clause-answer g c = λ jobs x. c.next_point.ensures.answer (vertices_of c.args.self.now) jobs
-    (accounts_in c.accounts-accounts.result.now c.args.self.now c.accounts-accounts.ensures.value jobs x)
+returns-clause-answer g c = λ present x. c.next_point.ensures.answer (vertices_of c.args.self.now) present.jobs
+    (accounts_in c.accounts-accounts.result.now c.args.self.now c.accounts-accounts.ensures.value present.jobs x.0)
 
 pub returns-clause-work : goal.returns-clause-work
 returns-clause-work g c = next_at c.accounts-accounts.result.now c.args.self.now c.accounts-accounts.ensures.value

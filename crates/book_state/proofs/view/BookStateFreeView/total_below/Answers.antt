@@ -1,8 +1,9 @@
 use Rattle.std.proofs.Common.{◌+◌, ◌*◌, arith}
 use Rattle.std.specs.FinMap.{len}
 use Rattle.flux_defs.proofs.DigitLaws.{some_dig}
+use Rattle.flux_defs.proofs.Presents.{as_up}
 use Rattle.book_state.specs.Books.{accounts_of, rows_of, vertices_of, IsTotalKept}
-use Rattle.book_state.proofs.ViewLaws.{graph_at, answer_at, inside_at, place_at, work_at, LittleOrNone}
+use Rattle.book_state.proofs.ViewLaws.{graph_at, answer_at, inside_at, place_at, work_at, LittleOrNone, LittleTold}
 use Rattle.book_state.proofs.ViewLaws.{if_some, little_told, little_within}
 use Rattle.book_state.proofs.view.BookStateFreeView.total_below.Goals as goal
 
@@ -25,18 +26,20 @@ total_below-requires-clause-place g c = (
 
 pub total_below-requires-clause-inside : goal.total_below-requires-clause-inside
 total_below-requires-clause-inside g c = inside_at c.graph-graph.result.now c.accounts-accounts.result.now
-    c.args.self.now c.graph-graph.ensures.value c.accounts-accounts.ensures.value c.args.vertex c.requires.vertex
+    c.args.self.now c.graph-graph.ensures.value c.accounts-accounts.ensures.value c.args.vertex c.requires.asked.within
 
 pub returns-clause-answer : goal.returns-clause-answer
-returns-clause-answer g c = λ jobs is.
+returns-clause-answer g c = λ present is.
     let accounts = c.accounts-accounts.result.now in
     let at = place_at c.graph-graph.result.now accounts c.args.self.now c.graph-graph.ensures.value
     c.accounts-accounts.ensures.value c.args.kind c.in-Some.place c.in-Some.ensures.place in
-    little_told c.args.window (vertices_of c.args.self.now) jobs c.args.vertex c.args.kind c.args.amount
+    as_up (LittleTold (vertices_of c.args.self.now) c.args.window c.args.vertex c.args.kind c.args.amount
+    (IsTotalKept c.args.self.now c.args.vertex c.args.kind) c.total_below.result) present is.1
+    (little_told c.args.window (vertices_of c.args.self.now) present.jobs c.args.vertex c.args.kind c.args.amount
     (IsTotalKept c.args.self.now c.args.vertex c.args.kind) c.total_below.result
     (answer_at c.graph-graph.result.now accounts c.args.self.now c.graph-graph.ensures.value
     c.accounts-accounts.ensures.value (λ vs js. LittleOrNone c.args.window vs js c.args.vertex c.args.kind c.args.amount
-    c.total_below.result) (λ js are. c.total_below.ensures.answer c.args.kind js at are) jobs is)
+    c.total_below.result) (λ js are. c.total_below.ensures.answer c.args.kind js at are) present.jobs is.0))
 
 pub returns-clause-within : goal.returns-clause-within
 returns-clause-within g c =

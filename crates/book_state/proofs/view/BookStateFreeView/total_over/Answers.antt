@@ -2,8 +2,9 @@ use Rattle.std.proofs.Common.{◌+◌, ◌*◌, arith}
 use Rattle.std.specs.FinMap.{len}
 use Rattle.flux_defs.specs.Free.{IsTotalOver}
 use Rattle.flux_defs.proofs.DigitLaws.{some_dig}
+use Rattle.flux_defs.specs.Present.{up_with}
 use Rattle.book_state.specs.Books.{accounts_of, rows_of}
-use Rattle.book_state.proofs.ViewLaws.{graph_at, answer_at, inside_at, place_at, work_at}
+use Rattle.book_state.proofs.ViewLaws.{graph_at, present_at, inside_at, place_at, work_at}
 use Rattle.book_state.proofs.view.BookStateFreeView.total_over.Goals as goal
 
 pub returns-in_default-clause-work : goal.returns-in_default-clause-work
@@ -25,16 +26,16 @@ total_over-requires-clause-place g c = (
 
 pub total_over-requires-clause-inside : goal.total_over-requires-clause-inside
 total_over-requires-clause-inside g c = inside_at c.graph-graph.result.now c.accounts-accounts.result.now
-    c.args.self.now c.graph-graph.ensures.value c.accounts-accounts.ensures.value c.args.vertex c.requires.vertex
+    c.args.self.now c.graph-graph.ensures.value c.accounts-accounts.ensures.value c.args.vertex c.requires.asked.within
 
 pub returns-clause-answer : goal.returns-clause-answer
 returns-clause-answer g c =
     let accounts = c.accounts-accounts.result.now in
     let at = place_at c.graph-graph.result.now accounts c.args.self.now c.graph-graph.ensures.value
     c.accounts-accounts.ensures.value c.args.kind c.in-Some.place c.in-Some.ensures.place in
-    answer_at c.graph-graph.result.now
+    present_at c.graph-graph.result.now
     accounts c.args.self.now c.graph-graph.ensures.value c.accounts-accounts.ensures.value
-    (λ vs js. IsTotalOver vs js c.args.window c.args.kind c.args.vertex c.total_over.result)
+    (λ vs present. IsTotalOver vs present c.args.window c.args.kind c.args.vertex c.total_over.result)
     (λ jobs is. c.total_over.ensures.answer c.args.kind jobs at is)
 
 pub returns-clause-work : goal.returns-clause-work

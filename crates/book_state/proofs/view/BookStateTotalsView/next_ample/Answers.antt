@@ -1,5 +1,5 @@
 use Rattle.prune_filters.specs.Amples.{IsNextAmpleOrNone}
-use Rattle.book_state.proofs.ViewLaws.{answer_at, ample_at, ample_later_at}
+use Rattle.book_state.proofs.ViewLaws.{present_at, ample_at, ample_later_at}
 use Rattle.book_state.proofs.view.BookStateTotalsView.next_ample.Goals as goal
 
 pub returns-clause-later : goal.returns-clause-later
@@ -10,9 +10,9 @@ returns-clause-later g c =
 
 pub returns-clause-answer : goal.returns-clause-answer
 returns-clause-answer g c =
-    answer_at c.graph-graph.result.now
+    present_at c.graph-graph.result.now
     c.accounts-accounts.result.now c.args.self.now c.graph-graph.ensures.value c.accounts-accounts.ensures.value
-    (λ vs js. IsNextAmpleOrNone vs js c.args.kind c.args.amount c.args.after c.next_ample.result)
+    (λ vs present. IsNextAmpleOrNone vs present c.args.kind c.args.amount c.args.after c.next_ample.result)
     c.next_ample.ensures.answer
 
 pub returns-clause-work : goal.returns-clause-work

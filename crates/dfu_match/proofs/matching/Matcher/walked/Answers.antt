@@ -25,7 +25,7 @@ invariant_of-search g c =
     }
 
 pub returns-in_err-write_top-clause-work : goal.returns-in_err-write_top-clause-work
-returns-in_err-write_top-clause-work g c = λ jobs stands pairs has.
+returns-in_err-write_top-clause-work g c = λ present stands pairs has.
     let matcher = c.args.self.now in
     let vs = matcher.graph.now.resources.vertices in
     let needs = matcher.ask.now.needs in
@@ -33,14 +33,14 @@ returns-in_err-write_top-clause-work g c = λ jobs stands pairs has.
     let keeps = g.F.FreeView.keeps c.args.view.now in
     let table = c.items.result.now in
     let work = looks_twice _ ((length all + 2) * g.F.FreeView.cost c.args.view.now) needs (length vs) pairs
-    (each_open vs jobs c.args.window keeps all table pairs (rw c.items.ensures matcher.all) has)
-    c.args.steps.now c.refuted_first.new.steps c.write_top.new.steps (c.refuted_first.ensures.work jobs stands)
-    (λ times looks. c.write_top.ensures.work jobs stands 0 0 (length vs) times (first_place needs)
-    (clear_everywhere vs jobs c.args.window (asked_totals table keeps) needs) (refl, refl) looks) in
+    (each_open vs present c.args.window keeps all table pairs (rw c.items.ensures matcher.all) has)
+    c.args.steps.now c.refuted_first.new.steps c.write_top.new.steps (c.refuted_first.ensures.work present stands)
+    (λ times looks. c.write_top.ensures.work present stands 0 0 (length vs) times (first_place needs)
+    (clear_everywhere vs present c.args.window (asked_totals table keeps) needs) (refl, refl) looks) in
     omega (arith, work)
 
 pub returns-then-not-branch-clause-work : goal.returns-then-not-branch-clause-work
-returns-then-not-branch-clause-work g c = λ jobs stands pairs has.
+returns-then-not-branch-clause-work g c = λ present stands pairs has.
     let matcher = c.args.self.now in
     let vs = matcher.graph.now.resources.vertices in
     let needs = matcher.ask.now.needs in
@@ -48,14 +48,14 @@ returns-then-not-branch-clause-work g c = λ jobs stands pairs has.
     let keeps = g.F.FreeView.keeps c.args.view.now in
     let table = c.items.result.now in
     let work = looks_twice _ ((length all + 2) * g.F.FreeView.cost c.args.view.now) needs (length vs) pairs
-    (each_open vs jobs c.args.window keeps all table pairs (rw c.items.ensures matcher.all) has)
-    c.args.steps.now c.refuted_first.new.steps c.write_top.new.steps (c.refuted_first.ensures.work jobs stands)
-    (λ times looks. c.write_top.ensures.work jobs stands 0 0 (length vs) times (first_place needs)
-    (clear_everywhere vs jobs c.args.window (asked_totals table keeps) needs) (refl, refl) looks) in
+    (each_open vs present c.args.window keeps all table pairs (rw c.items.ensures matcher.all) has)
+    c.args.steps.now c.refuted_first.new.steps c.write_top.new.steps (c.refuted_first.ensures.work present stands)
+    (λ times looks. c.write_top.ensures.work present stands 0 0 (length vs) times (first_place needs)
+    (clear_everywhere vs present c.args.window (asked_totals table keeps) needs) (refl, refl) looks) in
     omega (arith, work)
 
 pub returns-clause-work : goal.returns-clause-work
-returns-clause-work g c = λ jobs stands pairs has.
+returns-clause-work g c = λ present stands pairs has.
     let matcher = c.args.self.now in
     let vs = matcher.graph.now.resources.vertices in
     let needs = matcher.ask.now.needs in
@@ -63,14 +63,14 @@ returns-clause-work g c = λ jobs stands pairs has.
     let keeps = g.F.FreeView.keeps c.args.view.now in
     let table = c.items.result.now in
     let work = looks_twice _ ((length all + 2) * g.F.FreeView.cost c.args.view.now) needs (length vs) pairs
-    (each_open vs jobs c.args.window keeps all table pairs (rw c.items.ensures matcher.all) has)
-    c.args.steps.now c.refuted_first.new.steps c.write_top.new.steps (c.refuted_first.ensures.work jobs stands)
-    (λ times looks. c.write_top.ensures.work jobs stands 0 0 (length vs) times (first_place needs)
-    (clear_everywhere vs jobs c.args.window (asked_totals table keeps) needs) (refl, refl) looks) in
+    (each_open vs present c.args.window keeps all table pairs (rw c.items.ensures matcher.all) has)
+    c.args.steps.now c.refuted_first.new.steps c.write_top.new.steps (c.refuted_first.ensures.work present stands)
+    (λ times looks. c.write_top.ensures.work present stands 0 0 (length vs) times (first_place needs)
+    (clear_everywhere vs present c.args.window (asked_totals table keeps) needs) (refl, refl) looks) in
     omega (arith, work)
 
 pub returns-in-Some-clause-work : goal.returns-in-Some-clause-work
-returns-in-Some-clause-work g c = λ jobs stands pairs has.
+returns-in-Some-clause-work g c = λ present stands pairs has.
     let matcher = c.args.self.now in
     let vs = matcher.graph.now.resources.vertices in
     let needs = matcher.ask.now.needs in
@@ -78,29 +78,29 @@ returns-in-Some-clause-work g c = λ jobs stands pairs has.
     let keeps = g.F.FreeView.keeps c.args.view.now in
     let table = c.items.result.now in
     let work = looks_first _ ((length all + 2) * g.F.FreeView.cost c.args.view.now) needs (length vs) pairs
-    (each_open vs jobs c.args.window keeps all table pairs (rw c.items.ensures matcher.all) has)
-    c.args.steps.now c.refuted_first.new.steps (c.refuted_first.ensures.work jobs stands) in
+    (each_open vs present c.args.window keeps all table pairs (rw c.items.ensures matcher.all) has)
+    c.args.steps.now c.refuted_first.new.steps (c.refuted_first.ensures.work present stands) in
     omega (arith, work)
 
 -- none fit, as what is known tells, the root isn't short, and none fit over later windows either
 pub returns-in-Some-clause-matched : goal.returns-in-Some-clause-matched
-returns-in-Some-clause-matched g c = λ jobs stands.
+returns-in-Some-clause-matched g c = λ present stands.
     let w = c.args.window in (
-      c.in-Some.ensures.none jobs stands w (reach_all w c.in-Some.until c.in-Some.ensures.later c.requires.opens),
-      c.requires.enough jobs stands,
-      λ lt other reach. c.in-Some.ensures.none jobs stands other reach,
+      c.in-Some.ensures.none present stands w (reach_all w c.in-Some.until c.in-Some.ensures.later c.requires.opens),
+      c.requires.enough present stands,
+      λ lt other reach. c.in-Some.ensures.none present stands other reach,
     )
 
 -- none fit, the root isn't short, and none fit over later windows either, as far as what is known tells
 pub returns-then-not-branch-clause-matched : goal.returns-then-not-branch-clause-matched
-returns-then-not-branch-clause-matched g c = λ jobs stands.
+returns-then-not-branch-clause-matched g c = λ present stands.
     let matcher = c.args.self.now in
-    let never = rw c.if-not-branch.true at (c.in_ok-write_top.ensures.written.2 jobs stands) in (
+    let never = rw c.if-not-branch.true at (c.in_ok-write_top.ensures.written.2 present stands) in (
       never,
-      c.requires.enough jobs stands,
-      told_or (λ w. SomeFit matcher.graph.now.resources.vertices jobs matcher.ask.now w) c.args.window
+      c.requires.enough present stands,
+      told_or (λ w. SomeFit matcher.graph.now.resources.vertices present matcher.ask.now w) c.args.window
           c.refuted_known.result c.told_or-until.result c.told_or-until.ensures
-          (λ w. c.refuted_known.ensures.none jobs stands w),
+          (λ w. c.refuted_known.ensures.none present stands w),
     )
 
 pub returns-then-not-branch-clause-kept : goal.returns-then-not-branch-clause-kept

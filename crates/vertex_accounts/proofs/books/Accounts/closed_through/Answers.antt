@@ -1,5 +1,6 @@
 use Rattle.std.proofs.Common.{IsTrue}
 use Rattle.flux_defs.specs.Closed.{no_bars, is_closed}
+use Rattle.flux_defs.specs.Present.{up_with}
 use Rattle.vertex_planners.specs.Lists.{items_of}
 use Rattle.vertex_accounts.specs.declared.quantities.Quantity.TheVariants.{Holds}
 use Rattle.vertex_accounts.specs.Books.{counted_of}
@@ -16,7 +17,8 @@ pub returns-in-Some-clause-answer : goal.returns-in-Some-clause-answer
 returns-in-Some-clause-answer g c = λ jobs is.
     let vertices = c.args.graph.now.resources.vertices in
     let (from, to, closed) = c.in-Some.ensures.answer jobs is in
-    through_is c.args.window (λ m. IsTrue (is_closed (no_bars vertices jobs) m c.args.vertex)) c.in-Some.moment
+    through_is c.args.window (λ m. IsTrue (is_closed (no_bars vertices (up_with jobs)) m c.args.vertex))
+    c.in-Some.moment
     c.through.result from to c.through.ensures.later closed
     (λ u lo hi. less_closed vertices jobs c.args.vertex c.requires.inside u
     (c.through.ensures.less vertices jobs Holds is is.graph.counts.holds u lo hi))

@@ -1,5 +1,6 @@
 use Rattle.std.proofs.Common.{◌<◌, arith}
 use Rattle.flux_defs.specs.Free.{IsTooLittleAt}
+use Rattle.flux_defs.specs.Present.{up_with}
 use Rattle.planner_points.specs.Spans.{free_at, HasRoom, IsLastBelow}
 use Rattle.vertex_planners.specs.Lists.{items_of}
 use Rattle.vertex_accounts.specs.Books.{counted_of}
@@ -26,7 +27,8 @@ returns-in-Some-clause-answer g c = λ kind jobs at is.
     let (q, of, units) = c.requires.graph.counts.units kind c.args.place at in
     let below = units_as (λ total spans. IsLastBelow total spans c.args.window c.args.amount c.in-Some.moment)
     graph.vertices jobs kind c.args.vertex q units (c.in-Some.ensures.last graph.vertices jobs q is of) in
-    through_is c.args.window (IsTooLittleAt graph.vertices jobs c.args.vertex kind c.args.amount) c.in-Some.moment
+    through_is c.args.window (IsTooLittleAt graph.vertices (up_with jobs) c.args.vertex kind c.args.amount)
+    c.in-Some.moment
     c.through.result below.later below.sooner c.through.ensures.later
     (less_left graph c.is_valid.ensures.valid.preorder jobs is.fair kind c.args.vertex c.in-Some.moment c.args.amount
     below.less)

@@ -1,5 +1,6 @@
 use Rattle.std.proofs.Common.{IsTrue}
 use Rattle.flux_defs.specs.Closed.{no_bars, is_touched}
+use Rattle.flux_defs.specs.Present.{up_with}
 use Rattle.graph_laws.proofs.Preorder.{parents_first}
 use Rattle.vertex_planners.specs.Lists.{items_of}
 use Rattle.vertex_accounts.specs.declared.quantities.Quantity.TheVariants.{Holds, Claims}
@@ -33,7 +34,8 @@ returns-in-Some-clause-answer g c = λ jobs is.
     let graph = c.args.graph.now.resources in
     let first = parents_first graph c.is_valid.ensures.valid.preorder in
     let held = c.in-Some.ensures.last graph.vertices jobs Holds is is.graph.counts.holds in
-    through_is c.args.window (λ m. IsTrue (is_touched (no_bars graph.vertices jobs) m c.args.vertex)) c.in-Some.moment
+    through_is c.args.window (λ m. IsTrue (is_touched (no_bars graph.vertices (up_with jobs)) m c.args.vertex))
+    c.in-Some.moment
     c.through.result held.later held.sooner c.through.ensures.later
     (less_touched graph.vertices jobs c.args.vertex first c.requires.inside c.in-Some.moment held.less)
     (λ u lo hi. less_touched graph.vertices jobs c.args.vertex first c.requires.inside u
@@ -59,7 +61,7 @@ returns-in-Some-below_in-clause-answer g c = λ jobs is.
     let graph = c.args.graph.now.resources in
     let first = parents_first graph c.is_valid.ensures.valid.preorder in
     let claimed = c.in-Some-below_in.ensures.last graph.vertices jobs Claims is is.graph.counts.claims in
-    through_is c.args.window (λ m. IsTrue (is_touched (no_bars graph.vertices jobs) m c.args.vertex))
+    through_is c.args.window (λ m. IsTrue (is_touched (no_bars graph.vertices (up_with jobs)) m c.args.vertex))
     c.in-Some-below_in.moment c.through-in-Some-below_in.result claimed.later claimed.sooner
     c.through-in-Some-below_in.ensures.later
     (claimed_touched graph.vertices jobs c.args.vertex first c.requires.inside c.in-Some-below_in.moment claimed.less)
