@@ -2,7 +2,7 @@
 use Rattle.std.proofs.Common.{ℕ, ◌-◌, ◌<◌, ◌≤◌, nat_le, Bool, true, false, not, if◌then◌else◌, List, inl, inr, Some}
 use Rattle.std.proofs.Common.{sym, arith, IsTrue, true≢false}
 use Rattle.std.specs.List.{list_any}
-use Rattle.std.proofs.lemmas.Bool.{and_parts, or_right}
+use Rattle.std.proofs.lemmas.Bool.{and_parts, or_right, or_left}
 use Rattle.std.proofs.lemmas.Bool.Decides.{nat_tests}
 use Rattle.flux_defs.specs.declared.vertices.Vertex.{Vertex}
 use Rattle.flux_defs.specs.declared.requests.Need.{Vert', Pool, Spread'}
@@ -13,7 +13,7 @@ use Rattle.flux_defs.specs.Lowest.{CanServe}
 use Rattle.graph_laws.proofs.Containment.{not_to}
 use Rattle.dfu_match.specs.Bars.{BarsAll}
 use Rattle.dfu_match.proofs.ScopeLaws.{alike_node}
-use Rattle.std.proofs.lemmas.Bool.{cases_lt}
+use Rattle.std.proofs.lemmas.Bool.{cases_lt, or_left}
 use Rattle.flux_defs.specs.declared.claims.Claim.{Claim}
 use Rattle.flux_defs.specs.declared.claims.Window.{Window}
 use Rattle.flux_defs.specs.declared.requests.Need.{Need}
