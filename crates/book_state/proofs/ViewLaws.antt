@@ -11,6 +11,7 @@ use Rattle.flux_defs.specs.Digits.{dig}
 use Rattle.flux_defs.specs.Jobs.{SomeMoment}
 use Rattle.flux_defs.specs.Free.{IsTooLittle, IsTooLittleAt}
 use Rattle.flux_defs.specs.Later.{IsSoUntil, ReachesOver}
+use Rattle.flux_defs.specs.Views.{MayBeAsked}
 use Rattle.plain_jobs.proofs.Later.{so_through}
 use Rattle.resource_graph.specs.NamedGraph.{NamedGraph, IsWhole}
 use Rattle.prune_filters.specs.Filters.{IsKept}
@@ -70,8 +71,11 @@ module _ (g : NamedGraph) (a : Accounts Plan) (book : Kept) (eg : g ≡ graph_of
   pub place_at : (kind place : ℕ) → HasPlace (accounts_of book) kind place → HasPlace a kind place
   place_at kind place is = subst (λ (x : Accounts Plan). HasPlace x kind place) (sym ea) is
 
-  pub inside_at : (v : ℕ) → v < length (vertices_of book) → v < length g.resources.vertices
-  inside_at v lt = subst (λ (h : NamedGraph). v < length h.resources.vertices) (sym eg) lt
+  pub asked_at : (v : ℕ) (w : Window) → MayBeAsked (vertices_of book) v w → MayBeAsked g.resources.vertices v w
+  asked_at v w asked = record {
+    within = subst (λ (h : NamedGraph). v < length h.resources.vertices) (sym eg) asked.within;
+    opens = asked.opens;
+  }
 
   pub work_at : IsBook book → IsWhole g → (old new : ℕ) →
       ((n : ℕ) → CostWithin (λ (p : Plan). 16 * dig (length p.points + 2)) n (items_of a.planners) →

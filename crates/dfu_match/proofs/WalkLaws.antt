@@ -13,7 +13,7 @@ use Rattle.flux_defs.specs.Lowest.{CanServe}
 use Rattle.graph_laws.proofs.Containment.{not_to}
 use Rattle.dfu_match.specs.Bars.{BarsAll}
 use Rattle.dfu_match.proofs.ScopeLaws.{alike_node}
-use Rattle.std.proofs.lemmas.Bool.{cases_lt, or_left}
+use Rattle.std.proofs.lemmas.Bool.{cases_lt}
 use Rattle.flux_defs.specs.declared.claims.Claim.{Claim}
 use Rattle.flux_defs.specs.declared.claims.Window.{Window}
 use Rattle.flux_defs.specs.declared.requests.Need.{Need}

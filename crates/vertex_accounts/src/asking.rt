@@ -19,6 +19,8 @@ ghost use Rattle.vertex_accounts.specs.declared.quantities.Quantity.{Quantity};
 ghost use Rattle.vertex_accounts.specs.Quantities.{amount_in, total_in};
 ghost use Rattle.vertex_accounts.specs.Costs.{look_most, rest_most, closed_most};
 ghost use Rattle.vertex_accounts.specs.Moments.{IsMomentOrNone, IsThroughOrNone};
+ghost use Rattle.flux_defs.specs.Views.{MayBeAsked};
+ghost use Rattle.resource_graph.specs.NamedGraph.{vertices_of};
 
 use crate::books::Accounts;
 use crate::counted::{CLAIMS, HOLDS, TAKES};
@@ -42,17 +44,17 @@ impl<P: Planner + Drop> Accounts<P> {
         window: Window,
         steps: &mut Steps<L>,
     ) -> Option<u64>
-        requires graph { AreAccountsOf graph.now.resources.vertices self.now }
+        requires graph { AreAccountsOf (vertices_of graph.now) self.now }
         requires window { window.from < window.to }
-        requires inside { IfSome from (λ v. v < length graph.now.resources.vertices) }
+        requires inside { IfSome from (λ v. v < length (vertices_of graph.now)) }
         ensures answer { (jobs : List Job) →
-            AreAccounts P.total_of P.stands_for graph.now.resources.vertices jobs self.now →
+            AreAccounts P.total_of P.stands_for (vertices_of graph.now) jobs self.now →
             IsMomentOrNone window (λ m. IsTrue (some_live_claim jobs m
-            (holds_along (chain graph.now.resources.vertices most from)))) result }
+            (holds_along (chain (vertices_of graph.now) most from)))) result }
         ensures counted { steps.old ≤ steps.new }
         ensures work { (most_looks : ℕ) → CostWithin P.look_cost most_looks (items_of self.now.planners) →
-            steps.new ≤ steps.old + length (chain graph.now.resources.vertices most from)
-            * look_most (length graph.now.resources.vertices) most_looks }
+            steps.new ≤ steps.old + length (chain (vertices_of graph.now) most from)
+            * look_most (length (vertices_of graph.now)) most_looks }
     {
         graph.is_valid();
         let Some(vertex) = from else {
@@ -76,8 +78,8 @@ impl<P: Planner + Drop> Accounts<P> {
     /// Whether the vertex is wider than those that jobs hold, as is each above it then.
     #[inline(always)]
     fn is_wider(&self, graph: &Graph, vertex: u32) -> bool
-        requires { vertex < length graph.now.resources.vertices }
-        ensures { IsTrue result → IsWider graph.now.resources.vertices self.now.widest vertex }
+        requires { vertex < length (vertices_of graph.now) }
+        ensures { IsTrue result → IsWider (vertices_of graph.now) self.now.widest vertex }
     {
         graph.past(vertex) - vertex > self.widest
     }
@@ -85,8 +87,8 @@ impl<P: Planner + Drop> Accounts<P> {
     /// Whether the vertex is narrower than those at which claims of jobs count.
     #[inline(always)]
     fn is_narrower(&self, graph: &Graph, vertex: u32) -> bool
-        requires { vertex < length graph.now.resources.vertices }
-        ensures { IsTrue result → IsNarrower graph.now.resources.vertices self.now.narrowest vertex }
+        requires { vertex < length (vertices_of graph.now) }
+        ensures { IsTrue result → IsNarrower (vertices_of graph.now) self.now.narrowest vertex }
     {
         graph.past(vertex) - vertex < self.narrowest
     }
@@ -100,15 +102,14 @@ impl<P: Planner + Drop> Accounts<P> {
         window: Window,
         steps: &mut Steps<L>,
     ) -> Option<u64>
-        requires graph { AreAccountsOf graph.now.resources.vertices self.now }
-        requires window { window.from < window.to }
-        requires inside { vertex < length graph.now.resources.vertices }
+        requires graph { AreAccountsOf (vertices_of graph.now) self.now }
+        requires asked { MayBeAsked (vertices_of graph.now) vertex window }
         ensures answer { (jobs : List Job) →
-            AreAccounts P.total_of P.stands_for graph.now.resources.vertices jobs self.now →
+            AreAccounts P.total_of P.stands_for (vertices_of graph.now) jobs self.now →
             IsMomentOrNone window (λ m. IsTrue (some_live_claim jobs m (is_hold vertex))) result }
         ensures counted { steps.old ≤ steps.new }
         ensures work { (most_looks : ℕ) → CostWithin P.look_cost most_looks (items_of self.now.planners) →
-            steps.new ≤ steps.old + look_most (length graph.now.resources.vertices) most_looks }
+            steps.new ≤ steps.old + look_most (length (vertices_of graph.now)) most_looks }
     {
         let item = self.planners.at(vertex, steps);
         self.below_in(&item, vertex, HOLDS, window, u64::MAX, steps)
@@ -204,17 +205,16 @@ impl<P: Planner + Drop> Accounts<P> {
         window: Window,
         steps: &mut Steps<L>,
     ) -> Option<u64>
-        requires graph { AreAccountsOf graph.now.resources.vertices self.now }
+        requires graph { AreAccountsOf (vertices_of graph.now) self.now }
         requires item { slice_get (items_of self.now.planners) vertex ≡ Some item.now }
-        requires window { window.from < window.to }
-        requires inside { vertex < length graph.now.resources.vertices }
+        requires asked { MayBeAsked (vertices_of graph.now) vertex window }
         ensures answer { (jobs : List Job) →
-            AreAccounts P.total_of P.stands_for graph.now.resources.vertices jobs self.now →
+            AreAccounts P.total_of P.stands_for (vertices_of graph.now) jobs self.now →
             IsMomentOrNone window
-            (λ m. IsTrue (is_closed (no_bars graph.now.resources.vertices (up_with jobs)) m vertex)) result }
+            (λ m. IsTrue (is_closed (no_bars (vertices_of graph.now) (up_with jobs)) m vertex)) result }
         ensures counted { steps.old ≤ steps.new }
         ensures work { (most_looks : ℕ) → CostWithin P.look_cost most_looks (items_of self.now.planners) →
-            steps.new ≤ steps.old + rest_most (length graph.now.resources.vertices) most_looks }
+            steps.new ≤ steps.old + rest_most (length (vertices_of graph.now)) most_looks }
     {
         graph.is_valid();
         if self.is_wider(graph, vertex) {
@@ -239,15 +239,14 @@ impl<P: Planner + Drop> Accounts<P> {
         window: Window,
         steps: &mut Steps<L>,
     ) -> bool
-        requires graph { AreAccountsOf graph.now.resources.vertices self.now }
-        requires window { window.from < window.to }
-        requires inside { vertex < length graph.now.resources.vertices }
+        requires graph { AreAccountsOf (vertices_of graph.now) self.now }
+        requires asked { MayBeAsked (vertices_of graph.now) vertex window }
         ensures answer { (jobs : List Job) →
-            AreAccounts P.total_of P.stands_for graph.now.resources.vertices jobs self.now →
-            (IsTrue result ↔ IsClosedOver graph.now.resources.vertices (up_with jobs) window vertex) }
+            AreAccounts P.total_of P.stands_for (vertices_of graph.now) jobs self.now →
+            (IsTrue result ↔ IsClosedOver (vertices_of graph.now) (up_with jobs) window vertex) }
         ensures some_work { steps.old < steps.new }
         ensures work { (most_looks : ℕ) → CostWithin P.look_cost most_looks (items_of self.now.planners) →
-            steps.new ≤ steps.old + closed_most (length graph.now.resources.vertices) most_looks }
+            steps.new ≤ steps.old + closed_most (length (vertices_of graph.now)) most_looks }
     {
         let item = self.planners.at(vertex, steps);
         self.closed_moment(graph, &item, vertex, window, steps)
@@ -264,15 +263,14 @@ impl<P: Planner + Drop> Accounts<P> {
         window: Window,
         steps: &mut Steps<L>,
     ) -> bool
-        requires graph { AreAccountsOf graph.now.resources.vertices self.now }
-        requires window { window.from < window.to }
-        requires inside { vertex < length graph.now.resources.vertices }
+        requires graph { AreAccountsOf (vertices_of graph.now) self.now }
+        requires asked { MayBeAsked (vertices_of graph.now) vertex window }
         ensures answer { (jobs : List Job) →
-            AreAccounts P.total_of P.stands_for graph.now.resources.vertices jobs self.now →
-            (IsTrue result ↔ IsTouchedOver graph.now.resources.vertices (up_with jobs) window vertex) }
+            AreAccounts P.total_of P.stands_for (vertices_of graph.now) jobs self.now →
+            (IsTrue result ↔ IsTouchedOver (vertices_of graph.now) (up_with jobs) window vertex) }
         ensures some_work { steps.old < steps.new }
         ensures work { (most_looks : ℕ) → CostWithin P.look_cost most_looks (items_of self.now.planners) →
-            steps.new ≤ steps.old + (look_most (length graph.now.resources.vertices) most_looks + most_looks) }
+            steps.new ≤ steps.old + (look_most (length (vertices_of graph.now)) most_looks + most_looks) }
     {
         graph.is_valid();
         let item = self.planners.at(vertex, steps);
@@ -328,17 +326,16 @@ impl<P: Planner + Drop> Accounts<P> {
         window: Window,
         steps: &mut Steps<L>,
     ) -> Option<u64>
-        requires graph { AreAccountsOf graph.now.resources.vertices self.now }
+        requires graph { AreAccountsOf (vertices_of graph.now) self.now }
         requires item { slice_get (items_of self.now.planners) vertex ≡ Some item.now }
-        requires window { window.from < window.to }
-        requires inside { vertex < length graph.now.resources.vertices }
+        requires asked { MayBeAsked (vertices_of graph.now) vertex window }
         ensures answer { (jobs : List Job) →
-            AreAccounts P.total_of P.stands_for graph.now.resources.vertices jobs self.now →
+            AreAccounts P.total_of P.stands_for (vertices_of graph.now) jobs self.now →
             IsThroughOrNone window
-            (λ m. IsTrue (is_closed (no_bars graph.now.resources.vertices (up_with jobs)) m vertex)) result }
+            (λ m. IsTrue (is_closed (no_bars (vertices_of graph.now) (up_with jobs)) m vertex)) result }
         ensures counted { steps.old ≤ steps.new }
         ensures work { (most_looks : ℕ) → CostWithin P.look_cost most_looks (items_of self.now.planners) →
-            steps.new ≤ steps.old + (rest_most (length graph.now.resources.vertices) most_looks + most_looks) }
+            steps.new ≤ steps.old + (rest_most (length (vertices_of graph.now)) most_looks + most_looks) }
     {
         match self.closed_moment(graph, item, vertex, window, steps) {
             None => None,
@@ -363,16 +360,15 @@ impl<P: Planner + Drop> Accounts<P> {
         window: Window,
         steps: &mut Steps<L>,
     ) -> Option<u64>
-        requires graph { AreAccountsOf graph.now.resources.vertices self.now }
-        requires window { window.from < window.to }
-        requires inside { vertex < length graph.now.resources.vertices }
+        requires graph { AreAccountsOf (vertices_of graph.now) self.now }
+        requires asked { MayBeAsked (vertices_of graph.now) vertex window }
         ensures answer { (jobs : List Job) →
-            AreAccounts P.total_of P.stands_for graph.now.resources.vertices jobs self.now →
+            AreAccounts P.total_of P.stands_for (vertices_of graph.now) jobs self.now →
             IsThroughOrNone window
-            (λ m. IsTrue (is_closed (no_bars graph.now.resources.vertices (up_with jobs)) m vertex)) result }
+            (λ m. IsTrue (is_closed (no_bars (vertices_of graph.now) (up_with jobs)) m vertex)) result }
         ensures some_work { steps.old < steps.new }
         ensures work { (most_looks : ℕ) → CostWithin P.look_cost most_looks (items_of self.now.planners) →
-            steps.new ≤ steps.old + (closed_most (length graph.now.resources.vertices) most_looks + most_looks) }
+            steps.new ≤ steps.old + (closed_most (length (vertices_of graph.now)) most_looks + most_looks) }
     {
         graph.is_valid();
         let item = self.planners.at(vertex, steps);
@@ -389,16 +385,15 @@ impl<P: Planner + Drop> Accounts<P> {
         window: Window,
         steps: &mut Steps<L>,
     ) -> Option<u64>
-        requires graph { AreAccountsOf graph.now.resources.vertices self.now }
-        requires window { window.from < window.to }
-        requires inside { vertex < length graph.now.resources.vertices }
+        requires graph { AreAccountsOf (vertices_of graph.now) self.now }
+        requires asked { MayBeAsked (vertices_of graph.now) vertex window }
         ensures answer { (jobs : List Job) →
-            AreAccounts P.total_of P.stands_for graph.now.resources.vertices jobs self.now →
+            AreAccounts P.total_of P.stands_for (vertices_of graph.now) jobs self.now →
             IsThroughOrNone window
-            (λ m. IsTrue (is_touched (no_bars graph.now.resources.vertices (up_with jobs)) m vertex)) result }
+            (λ m. IsTrue (is_touched (no_bars (vertices_of graph.now) (up_with jobs)) m vertex)) result }
         ensures some_work { steps.old < steps.new }
         ensures work { (most_looks : ℕ) → CostWithin P.look_cost most_looks (items_of self.now.planners) →
-            steps.new ≤ steps.old + (closed_most (length graph.now.resources.vertices) most_looks + most_looks) }
+            steps.new ≤ steps.old + (closed_most (length (vertices_of graph.now)) most_looks + most_looks) }
     {
         graph.is_valid();
         let item = self.planners.at(vertex, steps);
@@ -430,15 +425,14 @@ impl<P: Planner + Drop> Accounts<P> {
         window: Window,
         steps: &mut Steps<L>,
     ) -> u64
-        requires graph { AreAccountsOf graph.now.resources.vertices self.now }
-        requires window { window.from < window.to }
-        requires inside { vertex < length graph.now.resources.vertices }
+        requires graph { AreAccountsOf (vertices_of graph.now) self.now }
+        requires asked { MayBeAsked (vertices_of graph.now) vertex window }
         ensures answer { (jobs : List Job) →
-            AreAccounts P.total_of P.stands_for graph.now.resources.vertices jobs self.now →
-            IsFreeOver graph.now.resources.vertices (up_with jobs) window vertex result }
+            AreAccounts P.total_of P.stands_for (vertices_of graph.now) jobs self.now →
+            IsFreeOver (vertices_of graph.now) (up_with jobs) window vertex result }
         ensures some_work { steps.old < steps.new }
         ensures work { (most_looks : ℕ) → CostWithin P.look_cost most_looks (items_of self.now.planners) →
-            steps.new ≤ steps.old + (closed_most (length graph.now.resources.vertices) most_looks + most_looks) }
+            steps.new ≤ steps.old + (closed_most (length (vertices_of graph.now)) most_looks + most_looks) }
     {
         let item = self.planners.at(vertex, steps);
         let closed = self
@@ -465,16 +459,15 @@ impl<P: Planner + Drop> Accounts<P> {
         window: Window,
         steps: &mut Steps<L>,
     ) -> Option<u64>
-        requires graph { AreAccountsOf graph.now.resources.vertices self.now }
+        requires graph { AreAccountsOf (vertices_of graph.now) self.now }
         requires place { (kind : ℕ) × HasPlace self.now kind place }
-        requires window { window.from < window.to }
-        requires inside { vertex < length graph.now.resources.vertices }
+        requires asked { MayBeAsked (vertices_of graph.now) vertex window }
         ensures answer { (kind : ℕ) (jobs : List Job) → HasPlace self.now kind place →
-            AreAccounts P.total_of P.stands_for graph.now.resources.vertices jobs self.now →
-            IsMomentOrNone window (IsTooLittleAt graph.now.resources.vertices (up_with jobs) vertex kind amount) result }
+            AreAccounts P.total_of P.stands_for (vertices_of graph.now) jobs self.now →
+            IsMomentOrNone window (IsTooLittleAt (vertices_of graph.now) (up_with jobs) vertex kind amount) result }
         ensures some_work { steps.old < steps.new }
         ensures work { (most_looks : ℕ) → CostWithin P.look_cost most_looks (items_of self.now.planners) →
-            steps.new ≤ steps.old + (closed_most (length graph.now.resources.vertices) most_looks + most_looks) }
+            steps.new ≤ steps.old + (closed_most (length (vertices_of graph.now)) most_looks + most_looks) }
     {
         graph.is_valid();
         let item = self.planners.at(vertex, steps);
@@ -498,17 +491,16 @@ impl<P: Planner + Drop> Accounts<P> {
         window: Window,
         steps: &mut Steps<L>,
     ) -> Option<u64>
-        requires graph { AreAccountsOf graph.now.resources.vertices self.now }
+        requires graph { AreAccountsOf (vertices_of graph.now) self.now }
         requires place { (kind : ℕ) × HasPlace self.now kind place }
-        requires window { window.from < window.to }
-        requires inside { vertex < length graph.now.resources.vertices }
+        requires asked { MayBeAsked (vertices_of graph.now) vertex window }
         ensures answer { (kind : ℕ) (jobs : List Job) → HasPlace self.now kind place →
-            AreAccounts P.total_of P.stands_for graph.now.resources.vertices jobs self.now →
-            IsThroughOrNone window (IsTooLittleAt graph.now.resources.vertices (up_with jobs) vertex kind amount)
+            AreAccounts P.total_of P.stands_for (vertices_of graph.now) jobs self.now →
+            IsThroughOrNone window (IsTooLittleAt (vertices_of graph.now) (up_with jobs) vertex kind amount)
             result }
         ensures some_work { steps.old < steps.new }
         ensures work { (most_looks : ℕ) → CostWithin P.look_cost most_looks (items_of self.now.planners) →
-            steps.new ≤ steps.old + (closed_most (length graph.now.resources.vertices) most_looks + 2 * most_looks) }
+            steps.new ≤ steps.old + (closed_most (length (vertices_of graph.now)) most_looks + 2 * most_looks) }
     {
         graph.is_valid();
         let item = self.planners.at(vertex, steps);
@@ -531,16 +523,15 @@ impl<P: Planner + Drop> Accounts<P> {
         window: Window,
         steps: &mut Steps<L>,
     ) -> u64
-        requires graph { AreAccountsOf graph.now.resources.vertices self.now }
+        requires graph { AreAccountsOf (vertices_of graph.now) self.now }
         requires place { (kind : ℕ) × HasPlace self.now kind place }
-        requires window { window.from < window.to }
-        requires inside { vertex < length graph.now.resources.vertices }
+        requires asked { MayBeAsked (vertices_of graph.now) vertex window }
         ensures answer { (kind : ℕ) (jobs : List Job) → HasPlace self.now kind place →
-            AreAccounts P.total_of P.stands_for graph.now.resources.vertices jobs self.now →
-            IsTotalOver graph.now.resources.vertices (up_with jobs) window kind vertex result }
+            AreAccounts P.total_of P.stands_for (vertices_of graph.now) jobs self.now →
+            IsTotalOver (vertices_of graph.now) (up_with jobs) window kind vertex result }
         ensures some_work { steps.old < steps.new }
         ensures work { (most_looks : ℕ) → CostWithin P.look_cost most_looks (items_of self.now.planners) →
-            steps.new ≤ steps.old + (closed_most (length graph.now.resources.vertices) most_looks + most_looks) }
+            steps.new ≤ steps.old + (closed_most (length (vertices_of graph.now)) most_looks + most_looks) }
     {
         graph.is_valid();
         let item = self.planners.at(vertex, steps);
@@ -581,15 +572,15 @@ impl<P: Planner + Drop> Accounts<P> {
         amount: u64,
         steps: &mut Steps<L>,
     ) -> Option<u64>
-        requires graph { AreAccountsOf graph.now.resources.vertices self.now }
+        requires graph { AreAccountsOf (vertices_of graph.now) self.now }
         requires kept { HasTotals self.now kind }
         ensures answer { (jobs : List Job) →
-            AreAccounts P.total_of P.stands_for graph.now.resources.vertices jobs self.now →
-            IsNextAmpleOrNone graph.now.resources.vertices (up_with jobs) kind amount after result }
+            AreAccounts P.total_of P.stands_for (vertices_of graph.now) jobs self.now →
+            IsNextAmpleOrNone (vertices_of graph.now) (up_with jobs) kind amount after result }
         ensures some_work { steps.old < steps.new }
         ensures work { (most_looks : ℕ) → CostWithin P.look_cost most_looks (items_of self.now.planners) →
             steps.new ≤ steps.old
-            + (P.look_cost self.now.times + 1 + look_most (length graph.now.resources.vertices) most_looks) }
+            + (P.look_cost self.now.times + 1 + look_most (length (vertices_of graph.now)) most_looks) }
     {
         let Some(next) = self.next_point(after, steps) else {
             return None;
@@ -605,7 +596,7 @@ impl<P: Planner + Drop> Accounts<P> {
 
 /// Whether the vertex is of a pool type.
 fn is_pool_vertex(graph: &Graph, vertex: u32) -> bool
-    ensures { result ≡ is_pool graph.now.resources.vertices vertex }
+    ensures { result ≡ is_pool (vertices_of graph.now) vertex }
 {
     match graph.vertices().get(vertex as usize) {
         Some(found) => return graph.is_pool(found.kind),
@@ -615,8 +606,8 @@ fn is_pool_vertex(graph: &Graph, vertex: u32) -> bool
 
 /// The vertex that contains this one, if one does.
 pub(crate) fn upper(graph: &Graph, vertex: u32) -> Option<u32>
-    ensures value { result ≡ parent_of graph.now.resources.vertices vertex }
-    ensures inside { IfSome result (λ v. v < length graph.now.resources.vertices) }
+    ensures value { result ≡ parent_of (vertices_of graph.now) vertex }
+    ensures inside { IfSome result (λ v. v < length (vertices_of graph.now)) }
 {
     parent_in(graph.vertices().items(), vertex)
 }

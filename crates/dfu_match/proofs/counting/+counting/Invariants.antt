@@ -1,4 +1,4 @@
-use Rattle.std.proofs.Common.{◌-◌, ◌+◌, ◌*◌, ◌<◌, ◌≤◌, List, ℕ, length, take, drop}
+use Rattle.std.proofs.Common.{◌-◌, ◌+◌, ◌*◌, ◌<◌, ◌≤◌, ℕ, length, take, drop}
 use Rattle.flux_defs.specs.Lowest.{CanServe}
 use Rattle.flux_defs.specs.Present.{InEach}
 use Rattle.match_laws.specs.Offers.{SomeFits}

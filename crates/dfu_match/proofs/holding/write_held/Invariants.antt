@@ -1,4 +1,4 @@
-use Rattle.std.proofs.Common.{◌≡◌, ◌-◌, ◌+◌, ◌*◌, ◌≤◌, ℕ, List, length}
+use Rattle.std.proofs.Common.{◌≡◌, ◌-◌, ◌+◌, ◌*◌, ◌≤◌, ℕ, length}
 use Rattle.flux_defs.specs.Lowest.{CanServe, LowestPiece}
 use Rattle.flux_defs.specs.Present.{InEach}
 use Rattle.match_laws.specs.Offers.{Extends}

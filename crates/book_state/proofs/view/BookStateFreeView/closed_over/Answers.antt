@@ -1,16 +1,17 @@
 use Rattle.std.proofs.Common.{◌↔◌, IsTrue, arith}
 use Rattle.flux_defs.specs.Closed.{IsClosedOver}
 use Rattle.flux_defs.specs.Present.{up_with}
-use Rattle.book_state.proofs.ViewLaws.{graph_at, present_at, inside_at, work_at}
+use Rattle.book_state.proofs.ViewLaws.{graph_at, present_at, asked_at, work_at}
 use Rattle.book_state.proofs.view.BookStateFreeView.closed_over.Goals as goal
 
 pub closed_over-requires-clause-graph : goal.closed_over-requires-clause-graph
 closed_over-requires-clause-graph g c = graph_at c.graph-graph.result.now c.accounts-accounts.result.now
     c.args.self.now c.graph-graph.ensures.value c.accounts-accounts.ensures.value c.accounts-accounts.ensures.book
 
-pub closed_over-requires-clause-inside : goal.closed_over-requires-clause-inside
-closed_over-requires-clause-inside g c = inside_at c.graph-graph.result.now c.accounts-accounts.result.now
-    c.args.self.now c.graph-graph.ensures.value c.accounts-accounts.ensures.value c.args.vertex c.requires.asked.within
+pub closed_over-requires-clause-asked : goal.closed_over-requires-clause-asked
+closed_over-requires-clause-asked g c = asked_at c.graph-graph.result.now c.accounts-accounts.result.now
+    c.args.self.now c.graph-graph.ensures.value c.accounts-accounts.ensures.value c.args.vertex
+    c.args.window c.requires.asked
 
 pub returns-clause-answer : goal.returns-clause-answer
 returns-clause-answer g c = present_at c.graph-graph.result.now

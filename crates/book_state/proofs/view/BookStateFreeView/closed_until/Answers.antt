@@ -2,16 +2,17 @@ use Rattle.std.proofs.Common.{◌≤◌, IfSome, IsTrue, arith}
 use Rattle.flux_defs.specs.Closed.{no_bars, is_closed, IsClosedOver}
 use Rattle.flux_defs.specs.Later.{IsSoUntil}
 use Rattle.flux_defs.specs.Present.{up_with}
-use Rattle.book_state.proofs.ViewLaws.{graph_at, present_at, any_at, inside_at, work_at, so_until, until_within}
+use Rattle.book_state.proofs.ViewLaws.{graph_at, present_at, any_at, asked_at, work_at, so_until, until_within}
 use Rattle.book_state.proofs.view.BookStateFreeView.closed_until.Goals as goal
 
 pub closed_until-requires-clause-graph : goal.closed_until-requires-clause-graph
 closed_until-requires-clause-graph g c = graph_at c.graph-graph.result.now c.accounts-accounts.result.now
     c.args.self.now c.graph-graph.ensures.value c.accounts-accounts.ensures.value c.accounts-accounts.ensures.book
 
-pub closed_until-requires-clause-inside : goal.closed_until-requires-clause-inside
-closed_until-requires-clause-inside g c = inside_at c.graph-graph.result.now c.accounts-accounts.result.now
-    c.args.self.now c.graph-graph.ensures.value c.accounts-accounts.ensures.value c.args.vertex c.requires.asked.within
+pub closed_until-requires-clause-asked : goal.closed_until-requires-clause-asked
+closed_until-requires-clause-asked g c = asked_at c.graph-graph.result.now c.accounts-accounts.result.now
+    c.args.self.now c.graph-graph.ensures.value c.accounts-accounts.ensures.value c.args.vertex
+    c.args.window c.requires.asked
 
 pub returns-clause-answer : goal.returns-clause-answer
 returns-clause-answer g c =

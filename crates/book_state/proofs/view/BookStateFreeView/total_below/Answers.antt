@@ -3,7 +3,7 @@ use Rattle.std.specs.FinMap.{len}
 use Rattle.flux_defs.proofs.DigitLaws.{some_dig}
 use Rattle.flux_defs.proofs.Presents.{as_up}
 use Rattle.book_state.specs.Books.{accounts_of, rows_of, vertices_of, IsTotalKept}
-use Rattle.book_state.proofs.ViewLaws.{graph_at, answer_at, inside_at, place_at, work_at, LittleOrNone, LittleTold}
+use Rattle.book_state.proofs.ViewLaws.{graph_at, answer_at, asked_at, place_at, work_at, LittleOrNone, LittleTold}
 use Rattle.book_state.proofs.ViewLaws.{if_some, little_told, little_within}
 use Rattle.book_state.proofs.view.BookStateFreeView.total_below.Goals as goal
 
@@ -24,9 +24,10 @@ total_below-requires-clause-place g c = (
       c.accounts-accounts.ensures.value c.args.kind c.in-Some.place c.in-Some.ensures.place,
 )
 
-pub total_below-requires-clause-inside : goal.total_below-requires-clause-inside
-total_below-requires-clause-inside g c = inside_at c.graph-graph.result.now c.accounts-accounts.result.now
-    c.args.self.now c.graph-graph.ensures.value c.accounts-accounts.ensures.value c.args.vertex c.requires.asked.within
+pub total_below-requires-clause-asked : goal.total_below-requires-clause-asked
+total_below-requires-clause-asked g c = asked_at c.graph-graph.result.now c.accounts-accounts.result.now
+    c.args.self.now c.graph-graph.ensures.value c.accounts-accounts.ensures.value c.args.vertex
+    c.args.window c.requires.asked
 
 pub returns-clause-answer : goal.returns-clause-answer
 returns-clause-answer g c = λ present is.

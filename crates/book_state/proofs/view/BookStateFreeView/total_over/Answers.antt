@@ -4,7 +4,7 @@ use Rattle.flux_defs.specs.Free.{IsTotalOver}
 use Rattle.flux_defs.proofs.DigitLaws.{some_dig}
 use Rattle.flux_defs.specs.Present.{up_with}
 use Rattle.book_state.specs.Books.{accounts_of, rows_of}
-use Rattle.book_state.proofs.ViewLaws.{graph_at, present_at, inside_at, place_at, work_at}
+use Rattle.book_state.proofs.ViewLaws.{graph_at, present_at, asked_at, place_at, work_at}
 use Rattle.book_state.proofs.view.BookStateFreeView.total_over.Goals as goal
 
 pub returns-in_default-clause-work : goal.returns-in_default-clause-work
@@ -24,9 +24,10 @@ total_over-requires-clause-place g c = (
       c.accounts-accounts.ensures.value c.args.kind c.in-Some.place c.in-Some.ensures.place,
 )
 
-pub total_over-requires-clause-inside : goal.total_over-requires-clause-inside
-total_over-requires-clause-inside g c = inside_at c.graph-graph.result.now c.accounts-accounts.result.now
-    c.args.self.now c.graph-graph.ensures.value c.accounts-accounts.ensures.value c.args.vertex c.requires.asked.within
+pub total_over-requires-clause-asked : goal.total_over-requires-clause-asked
+total_over-requires-clause-asked g c = asked_at c.graph-graph.result.now c.accounts-accounts.result.now
+    c.args.self.now c.graph-graph.ensures.value c.accounts-accounts.ensures.value c.args.vertex
+    c.args.window c.requires.asked
 
 pub returns-clause-answer : goal.returns-clause-answer
 returns-clause-answer g c =

@@ -6,7 +6,7 @@ use Rattle.flux_defs.specs.Present.{up_with}
 use Rattle.flux_defs.proofs.Presents.{as_up}
 use Rattle.vertex_accounts.specs.Moments.{IsThroughOrNone}
 use Rattle.book_state.specs.Books.{accounts_of, rows_of, vertices_of, IsTotalKept}
-use Rattle.book_state.proofs.ViewLaws.{graph_at, answer_at, any_at, inside_at, place_at, work_at}
+use Rattle.book_state.proofs.ViewLaws.{graph_at, answer_at, any_at, asked_at, place_at, work_at}
 use Rattle.book_state.proofs.ViewLaws.{if_some, kept_until, until_within, LittleKept}
 use Rattle.book_state.proofs.view.BookStateFreeView.total_until.Goals as goal
 
@@ -27,9 +27,10 @@ total_until-requires-clause-place g c = (
       c.accounts-accounts.ensures.value c.args.kind c.in-Some.place c.in-Some.ensures.place,
 )
 
-pub total_until-requires-clause-inside : goal.total_until-requires-clause-inside
-total_until-requires-clause-inside g c = inside_at c.graph-graph.result.now c.accounts-accounts.result.now
-    c.args.self.now c.graph-graph.ensures.value c.accounts-accounts.ensures.value c.args.vertex c.requires.asked.within
+pub total_until-requires-clause-asked : goal.total_until-requires-clause-asked
+total_until-requires-clause-asked g c = asked_at c.graph-graph.result.now c.accounts-accounts.result.now
+    c.args.self.now c.graph-graph.ensures.value c.accounts-accounts.ensures.value c.args.vertex
+    c.args.window c.requires.asked
 
 pub returns-clause-answer : goal.returns-clause-answer
 returns-clause-answer g c = λ present is.

@@ -20,7 +20,7 @@ below_in-requires-clause-place g c =
 pub returns-in-Some-clause-answer : goal.returns-in-Some-clause-answer
 returns-in-Some-clause-answer g c = λ jobs is.
     let vertices = c.args.graph.now.resources.vertices in
-    let inside = c.requires.inside in
+    let inside = c.requires.asked.within in
     let held = held_moment vertices jobs c.args.window c.args.vertex (Some c.in-Some.moment)
     (c.in-Some.ensures.last vertices jobs Holds is is.graph.counts.holds) in
     closed_moment_is vertices jobs c.args.window c.args.vertex (Some c.in-Some.moment)
@@ -30,7 +30,7 @@ returns-in-Some-clause-answer g c = λ jobs is.
 pub returns-in-None-clause-answer : goal.returns-in-None-clause-answer
 returns-in-None-clause-answer g c = λ jobs is.
     let vertices = c.args.graph.now.resources.vertices in
-    let inside = c.requires.inside in
+    let inside = c.requires.asked.within in
     let never = held_moment vertices jobs c.args.window c.args.vertex None
     (c.in-None.ensures.last vertices jobs Holds is is.graph.counts.holds) in
     let most : c.saturating_sub-most.result ≡ length vertices - 1 =
@@ -53,8 +53,8 @@ returns-in-None-clause-work g c = λ n looks.
     omega (arith, less, all) in
     let along = subst (λ (k : ℕ). c.held_up.new.steps ≤ c.below_in.new.steps + length
     (chain vertices k c.upper-upper.result) * look_most (length vertices) n) most (c.held_up.ensures.work n looks) in
-    let (x, at) = get_some vertices c.args.vertex c.requires.inside in
-    closed_work vertices c.args.vertex n c.args.steps.now c.below_in.new.steps c.held_up.new.steps c.requires.inside
+    let (x, at) = get_some vertices c.args.vertex c.requires.asked.within in
+    closed_work vertices c.args.vertex n c.args.steps.now c.below_in.new.steps c.held_up.new.steps c.requires.asked.within
     (c.is_valid.ensures.valid.shallow c.args.vertex x at)
     (c.below_in.ensures.work n looks)
     (subst (λ (o : _). c.held_up.new.steps ≤ c.below_in.new.steps + length

@@ -20,5 +20,5 @@ returns-in-Some-clause-answer g c = λ jobs is.
     through_is c.args.window (λ m. IsTrue (is_closed (no_bars vertices (up_with jobs)) m c.args.vertex))
     c.in-Some.moment
     c.through.result from to c.through.ensures.later closed
-    (λ u lo hi. less_closed vertices jobs c.args.vertex c.requires.inside u
+    (λ u lo hi. less_closed vertices jobs c.args.vertex c.requires.asked.within u
     (c.through.ensures.less vertices jobs Holds is is.graph.counts.holds u lo hi))

@@ -49,7 +49,7 @@ returns-clause-answer g c = λ jobs is.
     free_plain vertices jobs c.args.window c.args.vertex
     (never_closed vertices jobs c.args.window c.args.vertex c.closed_moment.result c.is_some-closed.result
     c.is_some-closed.ensures c.if-closed.false (c.closed_moment.ensures.answer jobs is))
-    (sym c.is_pool_vertex.ensures ∙ c.if-is_pool_vertex.false) c.requires.window
+    (sym c.is_pool_vertex.ensures ∙ c.if-is_pool_vertex.false) c.requires.asked.opens
 
 pub returns-clause-work : goal.returns-clause-work
 returns-clause-work g c = λ n looks.

@@ -36,5 +36,5 @@ returns-clause-answer g c = λ kind jobs at is.
     c.args.vertex q units (c.in_default.ensures.last vertices jobs q is of) in
     let some : 0 < c.args.amount = (let ne = c.if-amount-eq0.false in omega (arith, ne)) in
     closed_or_enough c.args.graph.now.resources c.is_valid.ensures.valid.preorder jobs is.fair kind c.args.vertex
-    c.requires.inside c.args.window c.args.amount some room c.closed_moment.result
+    c.requires.asked.within c.args.window c.args.amount some room c.closed_moment.result
     (c.closed_moment.ensures.answer jobs is)

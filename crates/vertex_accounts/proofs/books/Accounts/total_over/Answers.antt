@@ -46,5 +46,5 @@ returns-clause-answer g c = λ kind jobs at is.
     left_in_total c.args.graph.now.resources c.is_valid.ensures.valid.preorder jobs c.args.window kind c.args.vertex
     c.least_in-least.result is.fair never
     (counts_all vertices (parents_first c.args.graph.now.resources c.is_valid.ensures.valid.preorder)
-    c.args.vertex c.requires.inside jobs c.args.window kind
+    c.args.vertex c.requires.asked.within jobs c.args.window kind
     (capacity vertices kind c.args.vertex) c.least_in-least.result never least)

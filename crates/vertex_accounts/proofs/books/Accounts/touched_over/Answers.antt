@@ -19,7 +19,7 @@ returns-then-not-room_in-clause-answer g c = λ jobs is.
     let no : c.room_in.result ≡ false = cc in
     let held = rw no at (c.room_in.ensures.room resources.vertices jobs Holds is is.graph.counts.holds) in
     let touched = less_touched resources.vertices jobs c.args.vertex
-    (parents_first resources c.is_valid.ensures.valid.preorder) c.requires.inside held.0 held.3 in
+    (parents_first resources c.is_valid.ensures.valid.preorder) c.requires.asked.within held.0 held.3 in
     (λ h. (held.0, held.1, held.2, touched), λ t. refl)
 
 pub returns-then-not-room_in-clause-work : goal.returns-then-not-room_in-clause-work
@@ -35,7 +35,7 @@ returns-then-is_narrower-clause-answer g c = λ jobs is.
     let yes : c.room_in.result ≡ true = cc in
     let unheld = rw yes at (c.room_in.ensures.room resources.vertices jobs Holds is is.graph.counts.holds) in
     touched_by resources.vertices jobs c.args.vertex (parents_first resources c.is_valid.ensures.valid.preorder)
-    c.requires.inside c.args.window unheld true
+    c.requires.asked.within c.args.window unheld true
     (narrow_room resources.vertices jobs c.args.vertex c.args.self.now.narrowest c.args.window is.counting
     (c.is_narrower.ensures c.if-is_narrower.true))
 
@@ -50,7 +50,7 @@ returns-clause-answer g c = λ jobs is.
     let yes : c.room_in.result ≡ true = cc in
     let unheld = rw yes at (c.room_in.ensures.room resources.vertices jobs Holds is is.graph.counts.holds) in
     touched_by resources.vertices jobs c.args.vertex (parents_first resources c.is_valid.ensures.valid.preorder)
-    c.requires.inside c.args.window unheld c.room_in-2.result
+    c.requires.asked.within c.args.window unheld c.room_in-2.result
     (c.room_in-2.ensures.room resources.vertices jobs Claims is is.graph.counts.claims)
 
 pub returns-clause-work : goal.returns-clause-work

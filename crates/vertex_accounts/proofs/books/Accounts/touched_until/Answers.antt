@@ -37,15 +37,15 @@ returns-in-Some-clause-answer g c = λ jobs is.
     through_is c.args.window (λ m. IsTrue (is_touched (no_bars graph.vertices (up_with jobs)) m c.args.vertex))
     c.in-Some.moment
     c.through.result held.later held.sooner c.through.ensures.later
-    (less_touched graph.vertices jobs c.args.vertex first c.requires.inside c.in-Some.moment held.less)
-    (λ u lo hi. less_touched graph.vertices jobs c.args.vertex first c.requires.inside u
+    (less_touched graph.vertices jobs c.args.vertex first c.requires.asked.within c.in-Some.moment held.less)
+    (λ u lo hi. less_touched graph.vertices jobs c.args.vertex first c.requires.asked.within u
     (c.through.ensures.less graph.vertices jobs Holds is is.graph.counts.holds u lo hi))
 
 pub returns-then-is_narrower-clause-answer : goal.returns-then-is_narrower-clause-answer
 returns-then-is_narrower-clause-answer g c = λ jobs is.
     let graph = c.args.graph.now.resources in
     never_touched graph.vertices jobs c.args.vertex (parents_first graph c.is_valid.ensures.valid.preorder)
-    c.requires.inside c.args.window (c.in_default.ensures.last graph.vertices jobs Holds is is.graph.counts.holds)
+    c.requires.asked.within c.args.window (c.in_default.ensures.last graph.vertices jobs Holds is is.graph.counts.holds)
     (narrow_room graph.vertices jobs c.args.vertex c.args.self.now.narrowest c.args.window is.counting
     (c.is_narrower.ensures c.if-is_narrower.true))
 
@@ -53,7 +53,7 @@ pub returns-in-None-clause-answer : goal.returns-in-None-clause-answer
 returns-in-None-clause-answer g c = λ jobs is.
     let graph = c.args.graph.now.resources in
     never_touched graph.vertices jobs c.args.vertex (parents_first graph c.is_valid.ensures.valid.preorder)
-    c.requires.inside c.args.window (c.in_default.ensures.last graph.vertices jobs Holds is is.graph.counts.holds)
+    c.requires.asked.within c.args.window (c.in_default.ensures.last graph.vertices jobs Holds is is.graph.counts.holds)
     (c.in-None.ensures.last graph.vertices jobs Claims is is.graph.counts.claims)
 
 pub returns-in-Some-below_in-clause-answer : goal.returns-in-Some-below_in-clause-answer
@@ -64,6 +64,6 @@ returns-in-Some-below_in-clause-answer g c = λ jobs is.
     through_is c.args.window (λ m. IsTrue (is_touched (no_bars graph.vertices (up_with jobs)) m c.args.vertex))
     c.in-Some-below_in.moment c.through-in-Some-below_in.result claimed.later claimed.sooner
     c.through-in-Some-below_in.ensures.later
-    (claimed_touched graph.vertices jobs c.args.vertex first c.requires.inside c.in-Some-below_in.moment claimed.less)
-    (λ u lo hi. claimed_touched graph.vertices jobs c.args.vertex first c.requires.inside u
+    (claimed_touched graph.vertices jobs c.args.vertex first c.requires.asked.within c.in-Some-below_in.moment claimed.less)
+    (λ u lo hi. claimed_touched graph.vertices jobs c.args.vertex first c.requires.asked.within u
     (c.through-in-Some-below_in.ensures.less graph.vertices jobs Claims is is.graph.counts.claims u lo hi))
