@@ -134,7 +134,8 @@ module _ (vertices : List Vertex)
               (some_live_claim present.jobs m (holds_over vertices v)) (is_withheld scene v)
               (λ held. same_one (live_either (holds_over vertices p) (holds_over vertices v) (holds_over vertices v)
               (λ c t. inl (holds_down c t)) present.jobs m held))
-              (or_along (list_any (is_at_or_below vertices p) barred) (list_any (is_at_or_below vertices p) present.down)
+              (or_along (list_any (is_at_or_below vertices p) barred)
+              (list_any (is_at_or_below vertices p) present.down)
               (list_any (is_at_or_below vertices v) barred) (list_any (is_at_or_below vertices v) present.down)
               (withheld_down barred) (withheld_down present.down)) h,
         )
@@ -174,7 +175,8 @@ module _ (vertices : List Vertex)
         let on = some_live_claim present.jobs m (is_on_or_below vertices v) in
         elim (or_cases (some_live_claim present.jobs m (holds_over vertices v)) (is_withheld scene v) h) [
           | inl held ↦ elim (live_either
-              (holds_over vertices v) (holds_over vertices p) (is_on_or_below vertices v) own_hold present.jobs m held) [
+              (holds_over vertices v) (holds_over vertices p) (is_on_or_below vertices v) own_hold present.jobs m
+              held) [
                 | inl a ↦ inl (m, lo, hi, or_left over (is_withheld scene p) a)
                 | inr b ↦ inr (m, lo, hi, or_left on (has_withheld scene v) b)
               ]
@@ -222,7 +224,8 @@ module _ (vertices : List Vertex)
               (some_live_claim present.jobs m (is_on_or_below vertices v)) (has_withheld scene v)
               (λ held. same_one (live_either (holds_over vertices v)
               (is_on_or_below vertices v) (is_on_or_below vertices v) (λ c t. inl (root_hold c t)) present.jobs m held))
-              (or_along (list_any (is_at_or_below vertices v) barred) (list_any (is_at_or_below vertices v) present.down)
+              (or_along (list_any (is_at_or_below vertices v) barred)
+              (list_any (is_at_or_below vertices v) present.down)
               (list_any (λ u. is_at_or_below vertices u v) barred)
               (list_any (λ u. is_at_or_below vertices u v) present.down)
               (withheld_root barred) (withheld_root present.down)) h,

@@ -107,7 +107,8 @@ pub(crate) fn free<F: FreeView, L: Ledger>(s: &Search<F>, vertex: u32, steps: &m
     requires { vertex < length (vertices_of s.now.graph.now) }
     ensures work { steps.new ≤ steps.old + F.cost s.now.view.now }
     ensures answer { InEach (F.stands_for s.now.view.now)
-        (λ present. IsFreeIn (meets (vertices_of s.now.graph.now) present s.now.barred.now) s.now.window vertex result) }
+        (λ present. IsFreeIn (meets (vertices_of s.now.graph.now) present s.now.barred.now) s.now.window vertex
+        result) }
 {
     if bars_over(s, vertex) {
         return 0;
@@ -237,7 +238,8 @@ fn touched_until<F: FreeView, L: Ledger>(
         IsTouchedIn (meets (vertices_of s.now.graph.now) present s.now.barred.now) w vertex) }
     ensures untouched { result ≡ false →
         InEach (F.stands_for s.now.view.now)
-        (λ present. IsTouchedIn (meets (vertices_of s.now.graph.now) present s.now.barred.now) s.now.window vertex → ⊥) }
+        (λ present. IsTouchedIn (meets (vertices_of s.now.graph.now) present s.now.barred.now) s.now.window vertex →
+        ⊥) }
     ensures falls { FallsWithin s.now.window until.old until.new }
     ensures work { steps.new ≤ steps.old + F.cost s.now.view.now }
 {

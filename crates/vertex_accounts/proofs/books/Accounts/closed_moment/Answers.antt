@@ -54,7 +54,8 @@ returns-in-None-clause-work g c = λ n looks.
     let along = subst (λ (k : ℕ). c.held_up.new.steps ≤ c.below_in.new.steps + length
     (chain vertices k c.upper-upper.result) * look_most (length vertices) n) most (c.held_up.ensures.work n looks) in
     let (x, at) = get_some vertices c.args.vertex c.requires.asked.within in
-    closed_work vertices c.args.vertex n c.args.steps.now c.below_in.new.steps c.held_up.new.steps c.requires.asked.within
+    closed_work vertices c.args.vertex n c.args.steps.now c.below_in.new.steps c.held_up.new.steps
+    c.requires.asked.within
     (c.is_valid.ensures.valid.shallow c.args.vertex x at)
     (c.below_in.ensures.work n looks)
     (subst (λ (o : _). c.held_up.new.steps ≤ c.below_in.new.steps + length

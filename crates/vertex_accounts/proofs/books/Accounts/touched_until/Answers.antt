@@ -64,6 +64,7 @@ returns-in-Some-below_in-clause-answer g c = λ jobs is.
     through_is c.args.window (λ m. IsTrue (is_touched (no_bars graph.vertices (up_with jobs)) m c.args.vertex))
     c.in-Some-below_in.moment c.through-in-Some-below_in.result claimed.later claimed.sooner
     c.through-in-Some-below_in.ensures.later
-    (claimed_touched graph.vertices jobs c.args.vertex first c.requires.asked.within c.in-Some-below_in.moment claimed.less)
+    (claimed_touched graph.vertices jobs c.args.vertex first c.requires.asked.within c.in-Some-below_in.moment
+    claimed.less)
     (λ u lo hi. claimed_touched graph.vertices jobs c.args.vertex first c.requires.asked.within u
     (c.through-in-Some-below_in.ensures.less graph.vertices jobs Claims is is.graph.counts.claims u lo hi))
