@@ -16,10 +16,10 @@ use Rattle.flux_defs.specs.Free.{taken_at}
 use Rattle.flux_defs.specs.Available.{is_available_at, IsAvailable}
 use Rattle.flux_defs.specs.Overtaken.{conflicts}
 use Rattle.flux_defs.specs.Present.{up_with}
-use Rattle.commit_laws.proofs.MoreJobs.{with_bars, or_along, had_along, Eases, eased, lives_with}
+use Rattle.commit_laws.proofs.MoreJobs.{with_bars, had_along, Eases, eased, lives_with}
 use Rattle.commit_laws.proofs.MoreJobs.{live_append, taken_append, none_taken}
 use Rattle.list_laws.proofs.Lists.{any_along}
-use Rattle.list_laws.proofs.Tests.{not_along}
+use Rattle.list_laws.proofs.Tests.{not_along, or_along}
 
 -- bars close what they closed before: a is closed by jobs now, c by jobs before, b by bars
 barred_take : (a b c : Bool) (q x y : ℕ) → IsTrue (nat_le q (if a || false then 0 else x)) →

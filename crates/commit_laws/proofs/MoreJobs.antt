@@ -22,14 +22,11 @@ use Rattle.graph_laws.proofs.Containment.{ParentsFirst, not_to, up, up-None, ste
 use Rattle.graph_laws.proofs.Containment.{above_is_chain}
 use Rattle.graph_laws.proofs.Preorder.{has_parent}
 use Rattle.flux_laws.proofs.Live.{live_either}
-use Rattle.list_laws.proofs.Tests.{not_along}
+use Rattle.list_laws.proofs.Tests.{not_along, or_along}
 
 -- what the ask meets with these jobs
 abbrev pub with_bars : List Vertex → List Job → List ℕ → Scene
 with_bars vertices jobs barred = record { vertices = vertices; present = up_with jobs; barred = barred }
-
-pub or_along : (a b c d : Bool) → (IsTrue a → IsTrue c) → (IsTrue b → IsTrue d) → IsTrue (a || b) → IsTrue (c || d)
-or_along a b c d f g h = elim (or_cases a b h) [ inl x ↦ or_left c d (f x) | inr y ↦ or_right c d (g y) ]
 
 -- so much can be had where no more is closed and no more is taken
 pub had_along : (q : ℕ) (a b pool : Bool) (size x y : ℕ) → (IsTrue a → IsTrue b) → x ≤ y →

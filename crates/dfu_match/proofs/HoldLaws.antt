@@ -15,16 +15,13 @@ use Rattle.flux_defs.specs.Closed.{IsClosedOver, IsTouchedOver}
 use Rattle.flux_defs.specs.Available.{IsAvailable}
 use Rattle.flux_defs.specs.Present.{Present}
 use Rattle.list_laws.proofs.Lists.{any_either}
+use Rattle.list_laws.proofs.Tests.{or_along}
 use Rattle.flux_laws.proofs.Live.{live_either}
 use Rattle.graph_laws.proofs.Containment.{ParentsFirst, up, up-None, steps_of, at_or_below, below_self, below_parent}
 use Rattle.graph_laws.proofs.Containment.{below_trans, not_to}
 use Rattle.graph_laws.proofs.Preorder.{has_parent}
 use Rattle.match_laws.proofs.ViewLaws.{available_hold, admits_none, admits_pass, closed_unbarred, touched_unbarred}
 use Rattle.dfu_match.specs.Searches.{meets, claim_on}
-
--- where each of two facts gives another one, one of them gives one of the others
-or_along : (a b c d : Bool) → (IsTrue a → IsTrue c) → (IsTrue b → IsTrue d) → IsTrue (a || b) → IsTrue (c || d)
-or_along a b c d f g h = elim (or_cases a b h) [ inl x ↦ or_left c d (f x) | inr y ↦ or_right c d (g y) ]
 
 -- what stands closes and touches what is closed and touched where an ask bars some too
 module _ (vertices : List Vertex) (present : Present) (barred : List ℕ) (w : Window) (v : ℕ) where
