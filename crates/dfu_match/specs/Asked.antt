@@ -12,7 +12,7 @@ use Rattle.dfu_match.specs.Walks.{ServesNone}
 use Rattle.dfu_match.specs.Tables.{all_of}
 use Rattle.dfu_match.specs.Pairs.{HasEachOpen, IsClearBefore, TakesEach}
 
--- they serve nothing over each window that reaches over w from their moment on, whatever jobs the view stands for
+-- they serve nothing over each window that reaches over w from their moment on, whatever the view stands for
 abbrev pub AreDead : List Vertex → (Present → Type 0) → List ℕ → Window → Need → Dead → Type 0
 AreDead vertices stands barred w need dead = InEach stands (λ present. (other : Window) →
     ReachesOver w dead.moment other → ServesNone vertices (open_to vertices present barred other) need dead.top

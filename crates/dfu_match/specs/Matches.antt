@@ -12,9 +12,9 @@ use Rattle.dfu_match.specs.Reaches.{NoneUntil}
 use Rattle.dfu_match.specs.declared.matching.Matched.{Matched}
 use Rattle.dfu_match.specs.declared.matching.Matched.TheVariants.{Fits, Short, NoFit}
 
--- Over these vertices, jobs and kept totals the match of the ask comes to the lowest-first claims; or none fit, and the
--- root's total of a kind is below what the needs demand of it in full, at a moment of the window; or none fit, and no
--- kept total there is, nor do any fit over windows that reach over this one from a moment on.
+-- Over these vertices, what stands and kept totals the match of the ask comes to the lowest-first claims; or none fit,
+-- and the root's total of a kind is below what the needs demand of it in full, at a moment of the window; or none fit,
+-- and no kept total there is, nor do any fit over windows that reach over this one from a moment on.
 abbrev pub IsMatched : List Vertex → Present → (ℕ → ℕ → Type 0) → Ask → Window → Matched → Type 0
 IsMatched vertices present keeps ask w (Fits claims) = IsLowestFirst vertices present ask w claims
 IsMatched vertices present keeps ask w (Short s) =

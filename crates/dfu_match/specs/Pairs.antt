@@ -31,7 +31,7 @@ IsPlaceOfAll all place needs = (more : List Need) × (drop place all ≡ needs_a
 abbrev pub AsksWithin : Need → Type 0
 AsksWithin need = 2 ≤ length (all_of need)
 
--- over the vertices, the jobs, a window, and the totals that are kept (of a kind, the second number, at a vertex)
+-- over the vertices, what stands, a window, and the totals that are kept (of a kind, the second number, at a vertex)
 module _ (vertices : List Vertex) (present : Present) (w : Window) (keeps : ℕ → ℕ → Type 0) where
   -- no vertex above v is short for the need
   abbrev pub IsOpenFor : Need → ℕ → Type 0

@@ -18,7 +18,7 @@ FallsWithin w old new = (new ≤ old) × (w.from ≤ old → w.from ≤ new)
 abbrev pub ServesAtMost : List Vertex → (Claim → Type 0) → Need → ℕ → ℕ → Type 0
 ServesAtMost vertices ok need v n = (scope : Scope) (q : ℕ) → n < q → CanServe vertices ok scope need v q → ⊥
 
--- so much of the need the vertex serves at most over each window that reaches over w from a moment on, whatever jobs
+-- so much of the need the vertex serves at most over each window that reaches over w from a moment on, whatever
 -- the view stands for
 abbrev pub AreMostServed : List Vertex → (Present → Type 0) → List ℕ → Window → ℕ → Need → ℕ → Option ℕ → Type 0
 AreMostServed vertices stands barred w until need v most =

@@ -30,7 +30,7 @@ StandFrom vertices need low (row ∷ rows) to =
     NoneOfNeed vertices need low row.vertex × StandFrom vertices need (row.vertex + 1) rows to
 
 -- The row is of a vertex of the need. Unless it says all that is ever asked of one vertex, this one serves no more than
--- so much over each window that reaches over w from the row's moment on, whatever jobs the view stands for.
+-- so much over each window that reaches over w from the row's moment on, whatever the view stands for.
 pub record IsRowOf (vertices : List Vertex) (stands : Present → Type 0) (barred : List ℕ) (w : Window) (need : Need)
     (row : Row) : Type 0 where
   pub of_need : IsOfNeed vertices need row.vertex

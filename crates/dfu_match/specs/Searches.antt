@@ -30,7 +30,7 @@ meets vertices present barred = record { vertices = vertices; present = present;
 abbrev pub open_to : List Vertex → Present → List ℕ → Window → Claim → Type 0
 open_to vertices present barred w = IsAvailable (meets vertices present barred) w
 
--- the vertex, where there is one, isn't closed over the window, whatever jobs the view stands for
+-- the vertex, where there is one, isn't closed over the window, whatever the view stands for
 abbrev pub IsOpenScope : List Vertex → (Present → Type 0) → List ℕ → Window → Option ℕ → Type 0
 IsOpenScope vertices stands barred w scope = MatchOption scope (Unit {0})
     (λ u. InEach stands (λ present. IsClosedIn (meets vertices present barred) w u → ⊥))

@@ -13,7 +13,7 @@ use crate::search::Search;
 use flux_defs::{FreeView, Need};
 
 /// Whether it is known that each vertex of the need serves exactly 1: nothing is asked within it, no node is barred,
-/// and there are no jobs.
+/// and the view knows that there are no jobs and no down vertices.
 pub(crate) fn serves_one_each<F: FreeView>(s: &Search<F>, need: &Need) -> bool
     ensures { IsTrue result → InEach (F.stands_for s.now.view.now)
         (λ present. let vs : List Vertex = vertices_of s.now.graph.now in

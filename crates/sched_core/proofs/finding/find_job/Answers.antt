@@ -24,42 +24,42 @@ returns-clause-found g c =
     (found rules limit journal of (c.now-moment.ensures ∙ of.moment))) c.find_at.ensures.found
 
 pub returns-then-is_used-clause-work : goal.returns-then-is_used-clause-work
-returns-then-is_used-clause-work g c = λ jobs stands.
+returns-then-is_used-clause-work g c = λ present stands.
     let ask = c.args.ask.now in
     let vs = c.args.graph.now.resources.vertices in
     let book = c.args.book.now in
     let most = c.args.steps.now + 16 * dig (len (rows_of book) + 2) + satisfy_most vs ask in
-    search_none vs jobs c.args.horizon (moment_of book) (IsTotalKept book) (cost_of book) c.args.starts ask
+    search_none vs present c.args.horizon (moment_of book) (IsTotalKept book) (cost_of book) c.args.starts ask
     c.args.horizon
     most c.is_used.new.steps (omega (arith, c.is_used.ensures.work))
 
 pub returns-then-not-is_satisfiable-clause-work : goal.returns-then-not-is_satisfiable-clause-work
-returns-then-not-is_satisfiable-clause-work g c = λ jobs stands.
+returns-then-not-is_satisfiable-clause-work g c = λ present stands.
     let ask = c.args.ask.now in
     let vs = c.args.graph.now.resources.vertices in
     let book = c.args.book.now in
     let most = c.args.steps.now + 16 * dig (len (rows_of book) + 2) + satisfy_most vs ask in
-    search_none vs jobs c.args.horizon (moment_of book) (IsTotalKept book) (cost_of book) c.args.starts ask
+    search_none vs present c.args.horizon (moment_of book) (IsTotalKept book) (cost_of book) c.args.starts ask
     c.args.horizon
     most c.is_satisfiable.new.steps (omega (arith, c.is_used.ensures.work, c.is_satisfiable.ensures.work))
 
 pub returns-then-not-counts-clause-work : goal.returns-then-not-counts-clause-work
-returns-then-not-counts-clause-work g c = λ jobs stands.
+returns-then-not-counts-clause-work g c = λ present stands.
     let ask = c.args.ask.now in
     let vs = c.args.graph.now.resources.vertices in
     let book = c.args.book.now in
     let most = c.args.steps.now + 16 * dig (len (rows_of book) + 2) + satisfy_most vs ask in
-    search_none vs jobs c.args.horizon (moment_of book) (IsTotalKept book) (cost_of book) c.args.starts ask
+    search_none vs present c.args.horizon (moment_of book) (IsTotalKept book) (cost_of book) c.args.starts ask
     c.args.horizon
     most c.is_satisfiable.new.steps (omega (arith, c.is_used.ensures.work, c.is_satisfiable.ensures.work))
 
 pub returns-clause-work : goal.returns-clause-work
-returns-clause-work g c = λ jobs stands.
+returns-clause-work g c = λ present stands.
     let ask = c.args.ask.now in
     let vs = c.args.graph.now.resources.vertices in
     let book = c.args.book.now in
     let most = c.args.steps.now + 16 * dig (len (rows_of book) + 2) + satisfy_most vs ask in
-    search_later vs jobs c.args.horizon (moment_of book) (IsTotalKept book) (cost_of book) c.args.starts ask
+    search_later vs present c.args.horizon (moment_of book) (IsTotalKept book) (cost_of book) c.args.starts ask
     (last_in c.args.horizon c.find_at.result) most c.is_satisfiable.new.steps c.find_at.new.steps
     (omega (arith, c.is_used.ensures.work, c.is_satisfiable.ensures.work))
-    (rw c.now-moment.ensures at (c.find_at.ensures.work jobs stands))
+    (rw c.now-moment.ensures at (c.find_at.ensures.work present stands))

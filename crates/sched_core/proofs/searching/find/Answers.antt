@@ -33,27 +33,27 @@ returns-in-Satisfy-clause-found g c =
     (sym c.in-Satisfy.is) (c.satisfy_verdict.ensures.found kept (left_by (journal_in kept)))
 
 pub returns-in-Allocate-clause-work : goal.returns-in-Allocate-clause-work
-returns-in-Allocate-clause-work g c = λ jobs stands.
+returns-in-Allocate-clause-work g c = λ present stands.
     let site = c.args.site.now in
     let book = c.args.kept.now.book in
-    subst (λ (x : Command). CommandTakes (vertices_at site) jobs (IsTotalKept book) (cost_of book) site.horizon
+    subst (λ (x : Command). CommandTakes (vertices_at site) present (IsTotalKept book) (cost_of book) site.horizon
     (moment_of book) (16 * dig (len (rows_of book) + 2)) x (last_in site.horizon c.job_verdict.result) c.args.steps.now
-    c.job_verdict.new.steps) (sym c.in-Allocate.is) (c.job_verdict.ensures.work jobs stands)
+    c.job_verdict.new.steps) (sym c.in-Allocate.is) (c.job_verdict.ensures.work present stands)
 
 pub returns-in-Reserve-clause-work : goal.returns-in-Reserve-clause-work
-returns-in-Reserve-clause-work g c = λ jobs stands.
+returns-in-Reserve-clause-work g c = λ present stands.
     let site = c.args.site.now in
     let book = c.args.kept.now.book in
-    subst (λ (x : Command). CommandTakes (vertices_at site) jobs (IsTotalKept book) (cost_of book) site.horizon
+    subst (λ (x : Command). CommandTakes (vertices_at site) present (IsTotalKept book) (cost_of book) site.horizon
     (moment_of book) (16 * dig (len (rows_of book) + 2)) x (last_in site.horizon c.job_verdict-in-Reserve.result)
     c.args.steps.now
-    c.job_verdict-in-Reserve.new.steps) (sym c.in-Reserve.is) (c.job_verdict-in-Reserve.ensures.work jobs stands)
+    c.job_verdict-in-Reserve.new.steps) (sym c.in-Reserve.is) (c.job_verdict-in-Reserve.ensures.work present stands)
 
 pub returns-in-Satisfy-clause-work : goal.returns-in-Satisfy-clause-work
-returns-in-Satisfy-clause-work g c = λ jobs stands.
+returns-in-Satisfy-clause-work g c = λ present stands.
     let site = c.args.site.now in
     let book = c.args.kept.now.book in
-    subst (λ (x : Command). CommandTakes (vertices_at site) jobs (IsTotalKept book) (cost_of book) site.horizon
+    subst (λ (x : Command). CommandTakes (vertices_at site) present (IsTotalKept book) (cost_of book) site.horizon
     (moment_of book) (16 * dig (len (rows_of book) + 2)) x (last_of site.horizon c.satisfy_verdict.result)
     c.args.steps.now
     c.satisfy_verdict.new.steps) (sym c.in-Satisfy.is) c.satisfy_verdict.ensures.work
