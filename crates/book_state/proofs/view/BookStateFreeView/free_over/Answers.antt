@@ -1,6 +1,5 @@
 use Rattle.std.proofs.Common.{arith}
 use Rattle.flux_defs.specs.Free.{IsFreeOver}
-use Rattle.flux_defs.specs.Present.{up_with}
 use Rattle.book_state.proofs.ViewLaws.{graph_at, present_at, asked_at, work_at}
 use Rattle.book_state.proofs.view.BookStateFreeView.free_over.Goals as goal
 

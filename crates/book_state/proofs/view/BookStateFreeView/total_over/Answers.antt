@@ -2,7 +2,6 @@ use Rattle.std.proofs.Common.{◌+◌, ◌*◌, arith}
 use Rattle.std.specs.FinMap.{len}
 use Rattle.flux_defs.specs.Free.{IsTotalOver}
 use Rattle.flux_defs.proofs.DigitLaws.{some_dig}
-use Rattle.flux_defs.specs.Present.{up_with}
 use Rattle.book_state.specs.Books.{accounts_of, rows_of}
 use Rattle.book_state.proofs.ViewLaws.{graph_at, present_at, asked_at, place_at, work_at}
 use Rattle.book_state.proofs.view.BookStateFreeView.total_over.Goals as goal

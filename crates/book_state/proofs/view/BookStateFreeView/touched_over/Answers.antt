@@ -1,6 +1,5 @@
 use Rattle.std.proofs.Common.{◌↔◌, IsTrue, arith}
 use Rattle.flux_defs.specs.Closed.{IsTouchedOver}
-use Rattle.flux_defs.specs.Present.{up_with}
 use Rattle.book_state.proofs.ViewLaws.{graph_at, present_at, asked_at, work_at}
 use Rattle.book_state.proofs.view.BookStateFreeView.touched_over.Goals as goal
 
