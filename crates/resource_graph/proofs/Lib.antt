@@ -6,3 +6,5 @@ pub mod ChainLaws
 pub mod TableLaws
 pub mod PastLaws
 pub mod MarkLaws
+pub mod PathLaws
+pub mod PathsApart

@@ -2,6 +2,7 @@
 use Rattle.std.specs.Prelude.{length}
 use Rattle.resource_graph.specs.NamedGraph.{NamedGraph, IsWhole}
 use Rattle.resource_graph.specs.Holds.{HasPasts, HasNodes, HasLists, HasRanked, HasPools, HasNested}
+use Rattle.resource_graph.specs.Paths.{HasPlaces}
 use Rattle.resource_graph.specs.declared.graph.Graph.TheInside.{Inside}
 
 -- the graph that contracts see
@@ -23,3 +24,4 @@ pub record HasTables (a : Inside) : Type 0 where
   pub ranked : HasRanked a.vertices a.ranked
   pub pools : HasPools a.vertices a.pools.items
   pub nested : HasNested a.vertices (length a.kinds) a.nested.items
+  pub places : HasPlaces a.vertices a.names a.places.last.items a.places.earlier.items

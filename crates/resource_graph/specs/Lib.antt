@@ -6,3 +6,4 @@ pub mod Holds
 pub mod HasTables
 pub mod Made
 pub mod Finds
+pub mod Paths

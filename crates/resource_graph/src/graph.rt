@@ -1,10 +1,12 @@
 //! The graph and its queries.
-ghost use Rattle.std.specs.Prelude.{◌≡◌, ℕ, ◌<◌, ◌≤◌, ◌↔◌, IsTrue, IfOk, length, min, reverse, slice_get, MatchOption};
+ghost use Rattle.std.specs.Prelude.{◌≡◌, ◌≢◌, ℕ, ◌<◌, ◌≤◌, ◌↔◌, IsTrue, IfOk, length, min, reverse, slice_get};
+ghost use Rattle.std.specs.Prelude.{MatchOption};
 ghost use Rattle.std.specs.Option.{option_copied};
 ghost use Rattle.std.specs.List.{flat_map};
 ghost use Rattle.flux_defs.specs.Graph.{HasKind, is_below, is_pool_kind};
 ghost use Rattle.resource_graph.specs.Chains.{AllBelow};
-ghost use Rattle.resource_graph.specs.NamedGraph.{IsWhole, name_step, path_text};
+ghost use Rattle.resource_graph.specs.NamedGraph.{IsWhole, name_step, path_text, vertices_of};
+ghost use Rattle.resource_graph.specs.Paths.{PathsDiffer};
 ghost use Rattle.resource_graph.specs.Made.{named_graph};
 ghost use Rattle.resource_graph.specs.Tables.{IsPast, IsNodeOf, IsRanked, IsNamedKind, contains_kind, IsNextOfKind};
 ghost use Rattle.resource_graph.specs.Tables.{HasNoneOfKind, IsNextIn, HasNoneIn, IsFirstIndex, rank_at, name_at};
@@ -12,6 +14,7 @@ ghost use Rattle.resource_graph.specs.Tables.{kind_count, IsCountIn, IsRunOfKind
 ghost use Rattle.std.specs.List.Sorted.{IsStrictlyIncreasing};
 
 use crate::chains::chain_up;
+use crate::paths::{Places, place_of, place_table};
 use crate::tables::{list_table, nested_table, node_table, past_table, pool_table, rank_table};
 use flux_defs::{List, Text, Vertex};
 use std::alloc::{AllocError, Global};
@@ -38,6 +41,7 @@ pub struct Graph {
     ranked: BTreeMap<u32, u32>,
     pools: Vec<bool>,
     nested: Vec<bool>,
+    places: Places,
 }
 
 impl Model for Graph {
@@ -79,6 +83,7 @@ impl Graph {
         let ranked = rank_table(alloc, vertices.items())?;
         let pools = pool_table(alloc, vertices.items(), kinds.len())?;
         let nested = nested_table(alloc, vertices.items(), kinds.len())?;
+        let places = place_table(alloc, vertices.items(), texts.names.items())?;
         let Texts {
             names,
             bases,
@@ -98,6 +103,7 @@ impl Graph {
             ranked,
             pools,
             nested,
+            places,
         })
     }
 
@@ -321,6 +327,29 @@ impl Graph {
     {
         let chain = chain_up(alloc, self.vertices.items(), vertex)?;
         path_along(alloc, self.names.items(), chain.as_slice())
+    }
+
+    /// The vertex with this path, and `None` exactly where no vertex has it; of several any one, which there are only
+    /// where names have slashes. It takes no memory. It looks at the vertices whose paths' hashes fall into one bucket
+    /// of as many as there are vertices, each in the time of reading the path at most.
+    pub fn vertex_at(&self, path: &[u8]) -> Option<u32>
+        ensures { MatchOption result ((v : ℕ) → v < length (vertices_of self.now) → path.now ≢ path_text self.now v)
+            (λ v. (v < length (vertices_of self.now)) × (path.now ≡ path_text self.now v)) }
+    {
+        place_of(
+            self.vertices.items(),
+            self.names.items(),
+            self.places.last.as_slice(),
+            self.places.earlier.as_slice(),
+            path,
+        )
+    }
+
+    /// A law: where no name has a slash, the paths of different vertices differ. It does nothing.
+    pub fn paths_differ(&self)
+        ensures { PathsDiffer self.now }
+    {
+        let _ = &self.vertices;
     }
 }
 

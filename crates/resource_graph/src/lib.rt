@@ -3,6 +3,7 @@
 
 pub mod chains;
 pub mod graph;
+mod paths;
 pub mod tables;
 
 pub use graph::{Graph, Texts};

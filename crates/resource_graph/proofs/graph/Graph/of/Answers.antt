@@ -9,3 +9,6 @@ node_table-requires-clause-order c = in_preorder _ _ c.items-2.ensures c.require
 
 pub nested_table-requires-clause-order : goal.nested_table-requires-clause-order
 nested_table-requires-clause-order c = in_preorder _ _ c.items-6.ensures c.requires.valid.preorder
+
+pub place_table-requires-clause-order : goal.place_table-requires-clause-order
+place_table-requires-clause-order c = in_preorder _ _ c.items-7.ensures c.requires.valid.preorder
