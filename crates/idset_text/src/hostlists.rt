@@ -53,8 +53,8 @@ fn is_host_name(bytes: &[u8]) -> bool
     is_name(bytes, MOST_NAME_BYTES)
 }
 
-/// The number that 1 to 9 digits write.
-fn number_of_host(digits: &[u8]) -> Option<u32>
+/// The number that 1 to 9 digits write; `None` for other bytes and for other numbers of digits.
+pub fn number_of_host(digits: &[u8]) -> Option<u32>
     ensures value { result ≡ host_number digits.now }
     ensures short { IfSome result (λ _. length digits.now ≤ 9) }
 {
@@ -314,7 +314,7 @@ fn place_of_digits(name: &[u8]) -> usize
 }
 
 /// A name's prefix and its longest end of digits.
-fn parts(name: &[u8]) -> (&[u8], &[u8])
+pub fn parts(name: &[u8]) -> (&[u8], &[u8])
     ensures prefix { result.0.now ≡ prefix_of name.now }
     ensures digits { result.1.now ≡ digits_of name.now }
 {

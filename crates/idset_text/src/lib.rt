@@ -8,6 +8,8 @@ mod items;
 mod numbers;
 
 pub use faults::TextFault;
-pub use hostlists::{Hosts, has_host, is_wide, read_hostlist, write_hostlist};
+pub use hostlists::{
+    Hosts, has_host, is_wide, number_of_host, parts, read_hostlist, write_hostlist,
+};
 pub use idsets::{Range, has_id, read_idset, write_idset};
 pub use numbers::number;

@@ -15,3 +15,4 @@ pub mod OneSet
 pub mod FileBack
 pub mod Members
 pub mod SaidLaws
+pub mod SetFacts

@@ -83,7 +83,7 @@ fn host_count(hosts: &[Hosts]) -> u128
     count
 }
 
-/// How many ranks a range has.
+/// How many ids a range has.
 fn span_of(range: &Range) -> u64
     ensures value { result ≡ length (ids_between range.now) }
     ensures small { result ≤ 2 ^ 32 }
@@ -91,8 +91,8 @@ fn span_of(range: &Range) -> u64
     (u64::from(range.hi) + 1).saturating_sub(u64::from(range.lo))
 }
 
-/// How many ranks the ranges have in all.
-pub(crate) fn rank_count(ranges: &[Range]) -> u128
+/// How many ids the ranges have in all, an id counted as often as ranges have it. No range is expanded.
+pub fn id_count(ranges: &[Range]) -> u128
     ensures { result ≡ length (ids_of ranges.now) }
 {
     let mut count = 0;

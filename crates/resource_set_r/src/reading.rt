@@ -1,8 +1,9 @@
 //! A resource set from the bytes of R.
-ghost use Rattle.std.specs.Prelude.{◌≡◌, ℕ, List, Ok, length, IfOk, IfErr, IsSome, MatchResult};
+ghost use Rattle.std.specs.Prelude.{◌≡◌, ℕ, List, Ok, Some, length, IfOk, IfErr, IsSome, MatchResult};
 ghost use Rattle.serde_json.specs.Data.{Data};
 ghost use Rattle.serde_json.specs.Find.{as_object};
 ghost use Rattle.json_whole.specs.Values.{view};
+ghost use Rattle.json_whole.specs.Whole.{value_of};
 ghost use Rattle.flux_defs.specs.declared.claims.Job.{Job};
 ghost use Rattle.idset_text.specs.Idsets.{ids_of};
 ghost use Rattle.resource_graph.specs.NamedGraph.{NamedGraph};
@@ -14,7 +15,7 @@ ghost use Rattle.resource_set_r.specs.ReadR.{seconds_of, set_with, IsSetOf, IsEr
 
 use crate::faults::{FieldPath, Misread, RFault, ReadError};
 use crate::fields::{execution_of, field_path, second_or_zero};
-use crate::hosts::{hosts_in, rank_count};
+use crate::hosts::{hosts_in, id_count};
 use crate::ranks::{ranges_in, repeated_rank, rows_in};
 use crate::sets_read::{RRow, RSet};
 use flux_defs::List;
@@ -73,7 +74,7 @@ fn set_in(alloc: Global, execution: &Value) -> Result<RSet, ReadError>
         Ok(ranges) => ranges,
         Err(_) => return Err(ReadError::Memory),
     };
-    let ranks = rank_count(ranges.as_slice());
+    let ranks = id_count(ranges.as_slice());
     match repeated_rank(&mut ranges) {
         Some(rank) => Err(ReadError::Misread(Misread::RepeatedRank { rank })),
         None => set_with(alloc, rows, ranks, execution),
@@ -110,6 +111,19 @@ fn fault_of(alloc: Global, misread: Misread) -> RFault
     }
 }
 
+/// The resource set that a value is, as `read_r` reads it of the bytes of such a value.
+pub fn read_r_value(alloc: Global, value: &Value) -> Result<RSet, RFault>
+    ensures set { IfOk result (IsSetOf (view value.now)) }
+    ensures fault { IfErr result (λ fault. (bytes : List ℕ) → value_of bytes ≡ Some (view value.now) →
+        IsFirstFault bytes fault) }
+{
+    match set_of(alloc, value) {
+        Ok(set) => Ok(set),
+        Err(ReadError::Misread(misread)) => Err(fault_of(alloc, misread)),
+        Err(ReadError::Memory) => Err(RFault::Memory),
+    }
+}
+
 /// What the bytes are read as.
 fn read(alloc: Global, bytes: &[u8]) -> Result<RSet, RFault>
     ensures set { IfOk result (IsRText bytes.now) }
@@ -117,11 +131,7 @@ fn read(alloc: Global, bytes: &[u8]) -> Result<RSet, RFault>
 {
     let mut room = Room::new(alloc);
     match read_bytes(alloc, bytes, &mut room) {
-        Ok(value) => match set_of(alloc, &value) {
-            Ok(set) => Ok(set),
-            Err(ReadError::Misread(misread)) => Err(fault_of(alloc, misread)),
-            Err(ReadError::Memory) => Err(RFault::Memory),
-        },
+        Ok(value) => read_r_value(alloc, &value),
         Err(ValueFault::NotJson) => Err(RFault::NotJson),
         Err(ValueFault::Memory) => Err(RFault::Memory),
     }

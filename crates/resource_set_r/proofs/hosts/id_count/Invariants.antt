@@ -1,6 +1,6 @@
 use Rattle.std.proofs.Common.{◌≡◌, ◌+◌, ◌*◌, ◌^◌, ◌≤◌, length, drop}
 use Rattle.idset_text.specs.Idsets.{ids_of}
-use Rattle.resource_set_r.proofs.hosts.rank_count.Given as goal
+use Rattle.resource_set_r.proofs.hosts.id_count.Given as goal
 
 abbrev pub invariant-spans : goal.invariant-spans
 invariant-spans l = record {
