@@ -1,5 +1,5 @@
 -- What is at or above a vertex: itself, and what is at or above its parent.
-use Rattle.std.proofs.Common.{◌≡◌, ◌≢◌, ℕ, ◌+◌, ◌<◌, ◌≤◌, Bool, true, false, ◌||◌, nat_eq, List, [], ◌∷◌, length, Some, None}
+use Rattle.std.proofs.Common.{◌≡◌, ◌≢◌, ℕ, suc, ◌+◌, ◌<◌, ◌≤◌, Bool, true, false, ◌||◌, nat_eq, List, [], ◌∷◌, length, Some, None}
 use Rattle.std.proofs.Common.{refl, sym, ◌∙◌, ap, subst, arith, inl, inr, IsTrue}
 use Rattle.std.specs.List.{list_any}
 use Rattle.std.proofs.lemmas.Bool.{cases_eq, eq-eqb, eqb-true, or_left, or_right, or_cases}
@@ -7,6 +7,8 @@ use Rattle.list_laws.proofs.Tests.{same_tests}
 use Rattle.flux_defs.specs.declared.vertices.Vertex.{Vertex}
 use Rattle.flux_defs.specs.Graph.{parent_of, is_at_or_below}
 use Rattle.graph_laws.proofs.Containment.{ParentsFirst, below_self, below_parent, below_trans, below_from, parent_below}
+use Rattle.resource_graph.specs.Chains.{chain_of}
+use Rattle.resource_graph.proofs.PathLaws.{chain_below}
 use Rattle.vertex_marks.specs.Down.{is_among, is_shut}
 
 module _ (vertices : List Vertex) (first : ParentsFirst vertices) where
@@ -39,6 +41,10 @@ module _ (vertices : List Vertex) (first : ParentsFirst vertices) where
             (below_self vertices first v lt)
         | inr up ↦ below_trans vertices first v p u lt (below_parent vertices first v p lt parent) up
       ])
+
+  pub chain_long : (v p : ℕ) → v < length vertices → parent_of vertices v ≡ Some p →
+      length (chain_of vertices v) ≡ suc (length (chain_of vertices p))
+  chain_long v p lt parent = ap length (chain_below vertices first (length vertices) v p refl lt parent)
 
 -- the order of what is compared doesn't count
 pub eq_turned : (a b : ℕ) → nat_eq a b ≡ nat_eq b a
@@ -74,3 +80,17 @@ module _ (vertices : List Vertex) (first : ParentsFirst vertices) (down : List �
       is_shut vertices down v ≡ (is_among down v || is_shut vertices down p)
   shut_below v p lt parent = any_split (is_at_or_below vertices v) (nat_eq v) (is_at_or_below vertices p)
       (λ u. above_below vertices first v p u lt parent ∙ ap (λ t. t || is_at_or_below vertices p u) (eq_turned u v)) down
+
+  -- what is down itself is shut
+  pub shut_here : (v : ℕ) → v < length vertices → true ≡ is_among down v → true ≡ is_shut vertices down v
+  shut_here v lt among = sym (any_more down (sym among))
+    where
+      any_more : (us : List ℕ) → list_any (nat_eq v) us ≡ true → list_any (is_at_or_below vertices v) us ≡ true
+      any_more [] h = h
+      any_more (u ∷ us) h = elim (or_cases (nat_eq v u) (list_any (nat_eq v) us) h) [
+        | inl here ↦ or_left (is_at_or_below vertices v u) (list_any (is_at_or_below vertices v) us)
+            (subst (λ (w : ℕ). IsTrue (is_at_or_below vertices v w)) (eqb-true v u here)
+            (below_self vertices first v lt))
+        | inr later ↦ or_right (is_at_or_below vertices v u) (list_any (is_at_or_below vertices v) us)
+            (any_more us later)
+      ]

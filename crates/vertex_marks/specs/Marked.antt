@@ -16,6 +16,11 @@ pub record HaveMarks (vertices : List Vertex) (down : List ℕ) (marks : List Ma
   pub as_many : length marks ≡ length vertices
   pub each : (v : ℕ) (mark : Mark) → slice_get marks v ≡ Some mark → IsMarkOf vertices down v mark
 
+-- these marks, or none yet and each vertex up
+pub record MayMark (vertices : List Vertex) (down : List ℕ) (marks : List Mark) : Type 0 where
+  pub bare : length marks ≡ 0 → down ≡ []
+  pub made : 0 < length marks → HaveMarks vertices down marks
+
 -- The marks stand for this list of down vertices: there are none before the first vertex goes down.
 pub record AreMarks (vertices : List Vertex) (down : List ℕ) (marks : Marks) : Type 0 where
   pub fair : AreDown vertices down

@@ -1,7 +1,8 @@
 //! Changes of marks.
-ghost use Rattle.std.specs.Prelude.{◌≡◌, ℕ, ◌+◌, ◌*◌, ◌<◌, ◌≤◌, [], length, IfOk, OnOk};
+ghost use Rattle.std.specs.Prelude.{◌≡◌, ℕ, ◌+◌, ◌-◌, ◌<◌, not, if◌then◌else◌, List, [], length, IfOk, OnOk};
 ghost use Rattle.resource_graph.specs.Preorder.{InPreorder};
-ghost use Rattle.vertex_marks.specs.Marked.{AreShifted, HaveMarks, IsShiftedAt, IsToldAt};
+ghost use Rattle.vertex_marks.specs.Marked.{AreShifted, HaveMarks, IsShiftedAt, IsToldAt, MayMark};
+ghost use Rattle.vertex_marks.specs.Down.{is_among, marked, AreDown};
 
 use crate::marks::Mark;
 use flux_defs::{Steps, Vertex};
@@ -18,7 +19,7 @@ pub(crate) fn all_up<L: Ledger>(
     ensures { IfOk result (HaveMarks vertices.now []) }
 {
     let mut pages = Pages::empty();
-    for _vertex in vertices {
+    'making: while pages.len() < vertices.len() as u64 {
         let up = Mark {
             down: false,
             within: 0,
@@ -110,4 +111,54 @@ pub(crate) fn shift<L: Ledger>(
         Some(parent) => shift(alloc, pages, vertices, parent, down, steps),
         None => Ok(()),
     }
+}
+
+/// The marks of a graph's vertices: these, or where there are none yet, marks that tell of each that it is up.
+fn made_for<L: Ledger>(
+    alloc: Global,
+    pages: Pages<Mark>,
+    vertices: &[Vertex],
+    steps: &mut Steps<L>,
+) -> Result<Pages<Mark>, AllocError>
+    requires { 0 < length vertices.now }
+    ensures whole { IfOk result (λ made. length made ≡ length vertices.now) }
+    ensures kept { (down : List ℕ) → MayMark vertices.now down pages → IfOk result (HaveMarks vertices.now down) }
+{
+    if pages.len() == vertices.len() as u64 {
+        return Ok(pages);
+    }
+    all_up(alloc, vertices, steps)
+}
+
+/// The marks of the list that is changed at the vertex, from those of the list or from none.
+pub(crate) fn written<L: Ledger>(
+    alloc: Global,
+    pages: Pages<Mark>,
+    vertices: &[Vertex],
+    vertex: u32,
+    down: bool,
+    steps: &mut Steps<L>,
+) -> Result<Pages<Mark>, AllocError>
+    requires order { InPreorder vertices.now }
+    requires within { vertex < length vertices.now }
+    ensures { (old : List ℕ) → MayMark vertices.now old pages → AreDown vertices.now old →
+        is_among old vertex ≡ not down → IfOk result (HaveMarks vertices.now (marked old vertex down)) }
+{
+    let mut made = made_for(alloc, pages, vertices, steps)?;
+    shift(alloc, &mut made, vertices, vertex, down, steps)?;
+    tell(alloc, &mut made, vertex, down, steps)?;
+    Ok(made)
+}
+
+/// One more, or one fewer. A count of 2^64 - 1 isn't raised: that is answered as want of memory.
+pub(crate) fn counted(count: u64, down: bool) -> Result<u64, AllocError>
+    ensures { IfOk result (λ n. n ≡ (if down then count + 1 else count - 1)) }
+{
+    if count == u64::MAX {
+        return Err(AllocError);
+    }
+    if down {
+        return Ok(count + 1);
+    }
+    Ok(count.saturating_sub(1))
 }

@@ -8,7 +8,7 @@ ghost use Rattle.resource_graph.specs.Preorder.{InPreorder};
 ghost use Rattle.vertex_marks.specs.Down.{is_among, is_shut, has_shut, marked};
 ghost use Rattle.vertex_marks.specs.Marked.{AreMarks};
 
-//use crate::changing::{all_up, shift, tell};
+use crate::changing::{counted, written};
 use flux_defs::{Steps, Vertex};
 use node_store::Share;
 use resource_graph::Graph;
@@ -57,6 +57,33 @@ impl Marks {
             count: self.count,
             pages,
         })
+    }
+
+    /// The marks in which the vertex's status is changed: it is put at the end of the list, or taken out. What no others
+    /// share is written in place, at the vertex and at those above it. Where no memory is left there are no marks.
+    pub fn into_marked<L: Ledger>(
+        self,
+        alloc: Global,
+        graph: &Graph,
+        vertex: u32,
+        down: bool,
+        steps: &mut Steps<L>,
+    ) -> Result<Marks, AllocError>
+        requires { vertex < length (vertices_of graph.now) }
+        ensures { (old : List ℕ) → AreMarks (vertices_of graph.now) old self → is_among old vertex ≡ not down →
+            IfOk result (AreMarks (vertices_of graph.now) (marked old vertex down)) }
+    {
+        let Marks { count, pages } = self;
+        let count = counted(count, down)?;
+        let pages = written(
+            alloc,
+            pages,
+            graph.vertices().items(),
+            vertex,
+            down,
+            steps,
+        )?;
+        Ok(Marks { count, pages })
     }
 
     /// Whether the vertex itself is down. It takes no memory.
