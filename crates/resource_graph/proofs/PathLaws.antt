@@ -50,7 +50,7 @@ module _ (vertices : List Vertex) (first : ParentsFirst vertices) where
   chain_falls (suc most) v = chain_step most v (chain_falls most) (parent_of vertices v) refl
 
   -- the chain of a vertex is that vertex and the chain of its parent
-  chain_below : (n v p : ℕ) → n ≡ length vertices → v < n → parent_of vertices v ≡ Some p →
+  pub chain_below : (n v p : ℕ) → n ≡ length vertices → v < n → parent_of vertices v ≡ Some p →
       chain vertices n (Some v) ≡ v ∷ chain vertices n (Some p)
   chain_below zero v p e lt parent = absurd (omega arith)
   chain_below (suc m) v p e lt parent =
@@ -60,7 +60,7 @@ module _ (vertices : List Vertex) (first : ParentsFirst vertices) where
       ap (λ o. v ∷ chain vertices m o) parent
       ∙ ap (λ l. v ∷ l) (chains_agree vertices m (suc m) (Some p) (omega arith) (omega arith))
 
-  chain_root : (n v : ℕ) → v < n → parent_of vertices v ≡ None → chain vertices n (Some v) ≡ v ∷ []
+  pub chain_root : (n v : ℕ) → v < n → parent_of vertices v ≡ None → chain vertices n (Some v) ≡ v ∷ []
   chain_root zero v lt root = absurd (omega arith)
   chain_root (suc m) v lt root = ap (λ o. v ∷ chain vertices m o) root ∙ ap (λ l. v ∷ l) (chain-None vertices m)
 

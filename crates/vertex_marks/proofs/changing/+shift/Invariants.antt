@@ -1,0 +1,4 @@
+use Rattle.vertex_marks.proofs.changing.+shift.Given as goal
+
+abbrev pub decreases-shift : goal.decreases-shift
+decreases-shift g l = l.vertex
