@@ -2,7 +2,7 @@
 """Compares the texts of ids and hosts with ClusterShell's RangeSet and NodeSet.
 
 clustershell_cases.py make SEED > CASES       writes cases, one a line
-clustershell_cases.py compare CASES ANSWERS   compares the answers of the program in docs/MEASUREMENTS.md with ClusterShell's
+clustershell_cases.py compare CASES ANSWERS   compares the answers of tools/programs/text_cases with ClusterShell's
 
 A case is `i TEXT` (an idset is read), `h TEXT` (a hostlist is read), `x IDS` (an idset is written) or `w NAMES` (a
 hostlist is written). Needs Debian's clustershell.
