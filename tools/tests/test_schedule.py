@@ -1,4 +1,4 @@
-"""Pictures of journals: what README says of examples/lines.txt, and journals that are written here by hand."""
+"""Pictures of journals: what docs/TOOLS.md says of examples/lines.txt, and journals that are written here by hand."""
 import json
 import re
 import tempfile
