@@ -1,6 +1,6 @@
 -- Marks as they are read and changed.
 use Rattle.std.proofs.Common.{◌≡◌, ◌≢◌, ℕ, zero, suc, ◌+◌, ◌-◌, ◌<◌, ◌≤◌, Bool, true, false, cond, not, ◌==◌, ◌||◌, nat_eq}
-use Rattle.std.proofs.Common.{List, [], ◌∷◌, ◌++◌, length, Some, None, refl, sym, ◌∙◌, ap, subst, arith, inl, inr, IsTrue}
+use Rattle.std.proofs.Common.{List, [], ◌∷◌, ◌++◌, length, Some, None, refl, sym, ◌∙◌, ap, subst, arith, inl, inr}
 use Rattle.std.specs.Prelude.{slice_get, slice_set, count_by, if◌then◌else◌, filter}
 use Rattle.std.specs.List.{list_any}
 use Rattle.std.proofs.lemmas.Bool.{cases_lt, cases_eq, eq-eqb, ne_eqb, eqb-true, false_from_ne_true}
@@ -9,7 +9,7 @@ use Rattle.std.proofs.lemmas.Option.{slice_get_within}
 use Rattle.list_laws.proofs.Lists.{get_some, get_set, get_beside, set_length, last_or}
 use Rattle.flux_defs.specs.declared.vertices.Vertex.{Vertex}
 use Rattle.flux_defs.specs.Graph.{parent_of, is_at_or_below}
-use Rattle.graph_laws.proofs.Containment.{ParentsFirst, below_le, below_self}
+use Rattle.graph_laws.proofs.Containment.{ParentsFirst, below_le}
 use Rattle.vertex_marks.specs.declared.marks.Mark.{Mark}
 use Rattle.vertex_marks.specs.declared.marks.Marks.{Marks}
 use Rattle.vertex_marks.specs.Down.{is_among, has_shut, down_within, marked, AreDown}

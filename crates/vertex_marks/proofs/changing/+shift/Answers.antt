@@ -15,9 +15,16 @@ shift-requires g t c κs within =
     (sym (parent_at c.args.vertices.now c.args.vertex no_vertex c.requires.within) ∙ c.in-Some.is) in
     let long : length c.shift_at.new.pages ≡ length c.args.pages.now =
     shifted_length c.args.vertex c.args.down c.args.pages.now c.shift_at.new.pages
-    (omega (arith, c.requires.within, c.requires.whole)) c.in-Ok.ensures in
-    (omega (arith, less, c.decreases), (search rules, (c.requires.order,
-    (omega (arith, less, c.requires.within), long ∙ c.requires.whole))))
+    (omega (arith, c.requires.within, c.requires.whole)) c.in-Ok.ensures in (
+      omega (arith, less, c.decreases),
+      (
+        search rules,
+        (
+          c.requires.order,
+          (omega (arith, less, c.requires.within), long ∙ c.requires.whole),
+        ),
+      ),
+    )
 
 pub returns-in-Some : goal.returns-in-Some
 returns-in-Some g t c =
