@@ -79,7 +79,8 @@ module _ (vertices : List Vertex) (first : ParentsFirst vertices) (down : List �
   pub shut_below : (v p : ℕ) → v < length vertices → parent_of vertices v ≡ Some p →
       is_shut vertices down v ≡ (is_among down v || is_shut vertices down p)
   shut_below v p lt parent = any_split (is_at_or_below vertices v) (nat_eq v) (is_at_or_below vertices p)
-      (λ u. above_below vertices first v p u lt parent ∙ ap (λ t. t || is_at_or_below vertices p u) (eq_turned u v)) down
+      (λ u. above_below vertices first v p u lt parent ∙ ap (λ t. t || is_at_or_below vertices p u) (eq_turned u v))
+      down
 
   -- what is down itself is shut
   pub shut_here : (v : ℕ) → v < length vertices → true ≡ is_among down v → true ≡ is_shut vertices down v

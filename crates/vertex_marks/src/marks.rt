@@ -59,8 +59,9 @@ impl Marks {
         })
     }
 
-    /// The marks in which the vertex's status is changed: it is put at the end of the list, or taken out. What no others
-    /// share is written in place, at the vertex and at those above it. Where no memory is left there are no marks.
+    /// The marks in which the vertex's status is changed: it is put at the end of the list, or taken out. What no
+    /// others share is written in place, at the vertex and at those above it. Where no memory is left there are no
+    /// marks.
     pub fn into_marked<L: Ledger>(
         self,
         alloc: Global,
