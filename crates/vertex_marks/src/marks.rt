@@ -71,7 +71,9 @@ impl Marks {
         steps: &mut Steps<L>,
     ) -> Result<Marks, AllocError>
         requires { vertex < length (vertices_of graph.now) }
-        ensures { (old : List ℕ) → AreMarks (vertices_of graph.now) old self → is_among old vertex ≡ not down →
+        ensures work { length self.pages ≡ length (vertices_of graph.now) →
+            steps.new ≤ steps.old + 68 * dig (length (vertices_of graph.now) + 1) }
+        ensures marks { (old : List ℕ) → AreMarks (vertices_of graph.now) old self → is_among old vertex ≡ not down →
             IfOk result (AreMarks (vertices_of graph.now) (marked old vertex down)) }
     {
         let Marks { count, pages } = self;
@@ -90,7 +92,9 @@ impl Marks {
         steps: &mut Steps<L>,
     ) -> Result<Marks, AllocError>
         requires { vertex < length (vertices_of graph.now) }
-        ensures { (old : List ℕ) → AreMarks (vertices_of graph.now) old self.now → is_among old vertex ≡ not down →
+        ensures work { length self.now.pages ≡ length (vertices_of graph.now) →
+            steps.new ≤ steps.old + 68 * dig (length (vertices_of graph.now) + 1) }
+        ensures marks { (old : List ℕ) → AreMarks (vertices_of graph.now) old self.now → is_among old vertex ≡ not down →
             IfOk result (AreMarks (vertices_of graph.now) (marked old vertex down)) }
     {
         let same = self.share()?;
