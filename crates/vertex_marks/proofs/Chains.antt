@@ -1,5 +1,6 @@
 -- What is at or above a vertex: itself, and what is at or above its parent.
-use Rattle.std.proofs.Common.{◌≡◌, ℕ, zero, suc, ◌<◌, Bool, true, false, ◌||◌, nat_eq, List, [], ◌∷◌, length, Some, None}
+use Rattle.std.proofs.Common.{◌≡◌, ℕ, zero, suc, ◌<◌, Bool, true, false}
+use Rattle.std.proofs.Common.{◌||◌, nat_eq, List, [], ◌∷◌, length, Some, None}
 use Rattle.std.proofs.Common.{refl, sym, ◌∙◌, ap, subst, inl, inr, IsTrue}
 use Rattle.std.proofs.Common.{◌≤◌, arith}
 use Rattle.std.specs.List.{list_any}

@@ -94,7 +94,8 @@ impl Marks {
         requires { vertex < length (vertices_of graph.now) }
         ensures work { length self.now.pages ≡ length (vertices_of graph.now) →
             steps.new ≤ steps.old + 68 * dig (length (vertices_of graph.now) + 1) }
-        ensures marks { (old : List ℕ) → AreMarks (vertices_of graph.now) old self.now → is_among old vertex ≡ not down →
+        ensures marks { (old : List ℕ) →
+            AreMarks (vertices_of graph.now) old self.now → is_among old vertex ≡ not down →
             IfOk result (AreMarks (vertices_of graph.now) (marked old vertex down)) }
     {
         let same = self.share()?;
