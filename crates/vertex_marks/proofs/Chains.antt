@@ -1,11 +1,13 @@
 -- What is at or above a vertex: itself, and what is at or above its parent.
-use Rattle.std.proofs.Common.{◌≡◌, ◌≢◌, ℕ, suc, ◌+◌, ◌<◌, ◌≤◌, Bool, true, false, ◌||◌, nat_eq, List, [], ◌∷◌, length, Some, None}
-use Rattle.std.proofs.Common.{refl, sym, ◌∙◌, ap, subst, arith, inl, inr, IsTrue}
+use Rattle.std.proofs.Common.{◌≡◌, ℕ, zero, suc, ◌<◌, Bool, true, false}
+use Rattle.std.proofs.Common.{◌||◌, nat_eq, List, [], ◌∷◌, length, Some, None}
+use Rattle.std.proofs.Common.{refl, sym, ◌∙◌, ap, subst, inl, inr, IsTrue}
+use Rattle.std.proofs.Common.{◌≤◌, arith}
 use Rattle.std.specs.List.{list_any}
 use Rattle.std.proofs.lemmas.Bool.{cases_eq, eq-eqb, eqb-true, or_left, or_right, or_cases}
 use Rattle.list_laws.proofs.Tests.{same_tests}
 use Rattle.flux_defs.specs.declared.vertices.Vertex.{Vertex}
-use Rattle.flux_defs.specs.Graph.{parent_of, is_at_or_below}
+use Rattle.flux_defs.specs.Graph.{parent_of, chain, is_at_or_below}
 use Rattle.graph_laws.proofs.Containment.{ParentsFirst, below_self, below_parent, below_trans, below_from, parent_below}
 use Rattle.resource_graph.specs.Chains.{chain_of}
 use Rattle.resource_graph.proofs.PathLaws.{chain_below}
@@ -41,6 +43,13 @@ module _ (vertices : List Vertex) (first : ParentsFirst vertices) where
             (below_self vertices first v lt)
         | inr up ↦ below_trans vertices first v p u lt (below_parent vertices first v p lt parent) up
       ])
+
+  pub chain_some : (v : ℕ) → v < length vertices → 1 ≤ length (chain_of vertices v)
+  chain_some v = long (length vertices)
+    where
+      long : (n : ℕ) → v < n → 1 ≤ length (chain vertices n (Some v))
+      long zero lt = absurd (omega arith)
+      long (suc m) lt = omega arith
 
   pub chain_long : (v p : ℕ) → v < length vertices → parent_of vertices v ≡ Some p →
       length (chain_of vertices v) ≡ suc (length (chain_of vertices p))
@@ -79,7 +88,8 @@ module _ (vertices : List Vertex) (first : ParentsFirst vertices) (down : List �
   pub shut_below : (v p : ℕ) → v < length vertices → parent_of vertices v ≡ Some p →
       is_shut vertices down v ≡ (is_among down v || is_shut vertices down p)
   shut_below v p lt parent = any_split (is_at_or_below vertices v) (nat_eq v) (is_at_or_below vertices p)
-      (λ u. above_below vertices first v p u lt parent ∙ ap (λ t. t || is_at_or_below vertices p u) (eq_turned u v)) down
+      (λ u. above_below vertices first v p u lt parent ∙ ap (λ t. t || is_at_or_below vertices p u) (eq_turned u v))
+      down
 
   -- what is down itself is shut
   pub shut_here : (v : ℕ) → v < length vertices → true ≡ is_among down v → true ≡ is_shut vertices down v

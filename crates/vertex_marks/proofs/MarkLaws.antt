@@ -1,6 +1,7 @@
 -- Marks as they are read and changed.
-use Rattle.std.proofs.Common.{◌≡◌, ◌≢◌, ℕ, zero, suc, ◌+◌, ◌-◌, ◌<◌, ◌≤◌, Bool, true, false, cond, not, ◌==◌, ◌||◌, nat_eq}
-use Rattle.std.proofs.Common.{List, [], ◌∷◌, ◌++◌, length, Some, None, refl, sym, ◌∙◌, ap, subst, arith, inl, inr, IsTrue}
+use Rattle.std.proofs.Common.{◌≡◌, ◌≢◌, ℕ, zero, suc, ◌+◌, ◌-◌, ◌<◌}
+use Rattle.std.proofs.Common.{◌≤◌, Bool, true, false, cond, not, ◌==◌, ◌||◌, nat_eq}
+use Rattle.std.proofs.Common.{List, [], ◌∷◌, ◌++◌, length, Some, None, refl, sym, ◌∙◌, ap, subst, arith, inl, inr}
 use Rattle.std.specs.Prelude.{slice_get, slice_set, count_by, if◌then◌else◌, filter}
 use Rattle.std.specs.List.{list_any}
 use Rattle.std.proofs.lemmas.Bool.{cases_lt, cases_eq, eq-eqb, ne_eqb, eqb-true, false_from_ne_true}
@@ -9,11 +10,12 @@ use Rattle.std.proofs.lemmas.Option.{slice_get_within}
 use Rattle.list_laws.proofs.Lists.{get_some, get_set, get_beside, set_length, last_or}
 use Rattle.flux_defs.specs.declared.vertices.Vertex.{Vertex}
 use Rattle.flux_defs.specs.Graph.{parent_of, is_at_or_below}
-use Rattle.graph_laws.proofs.Containment.{ParentsFirst, below_le, below_self}
+use Rattle.graph_laws.proofs.Containment.{ParentsFirst, below_le}
 use Rattle.vertex_marks.specs.declared.marks.Mark.{Mark}
 use Rattle.vertex_marks.specs.declared.marks.Marks.{Marks}
 use Rattle.vertex_marks.specs.Down.{is_among, has_shut, down_within, marked, AreDown}
-use Rattle.vertex_marks.specs.Marked.{IsMarkOf, HaveMarks, AreMarks, shifted, AreShifted, IsShiftedAt, IsToldAt, MayMark}
+use Rattle.vertex_marks.specs.Marked.{IsMarkOf, HaveMarks, AreMarks, shifted}
+use Rattle.vertex_marks.specs.Marked.{AreShifted, IsShiftedAt, IsToldAt, MayMark}
 use Rattle.vertex_marks.proofs.Chains.{above_root, above_below}
 
 -- one element more is counted
@@ -152,7 +154,8 @@ count_without p v [] = at (p v)
     at false = refl
 count_without p v (u ∷ us) =
     let a : count_by p (u ∷ us) ≡ cond (p u) 1 0 + count_by p us = count_cons p u us in
-    let b : count_by (nat_eq v) (u ∷ us) ≡ cond (nat_eq v u) 1 0 + count_by (nat_eq v) us = count_cons (nat_eq v) u us in
+    let b : count_by (nat_eq v) (u ∷ us) ≡ cond (nat_eq v u) 1 0 + count_by (nat_eq v) us =
+    count_cons (nat_eq v) u us in
     let rest : count_by p us ≡ count_by p (without v us) + cond (p v) (count_by (nat_eq v) us) 0 =
     count_without p v us in
     a ∙ (step (nat_eq v u) (p u) (p v) refl refl refl rest ∙ ap (λ n. count_by p (without v (u ∷ us)) + cond (p v) n 0)

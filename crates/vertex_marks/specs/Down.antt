@@ -1,5 +1,5 @@
 -- Lists of down vertices.
-use Rattle.std.specs.Prelude.{◌≡◌, ℕ, ◌<◌, ◌≤◌, Bool, not, nat_eq, if◌then◌else◌, List, [], ◌∷◌, ◌++◌, length, filter}
+use Rattle.std.specs.Prelude.{ℕ, ◌<◌, ◌≤◌, Bool, not, nat_eq, if◌then◌else◌, List, [], ◌∷◌, ◌++◌, length, filter}
 use Rattle.std.specs.Prelude.{count_by, IsTrue}
 use Rattle.std.specs.List.{list_any}
 use Rattle.flux_defs.specs.declared.vertices.Vertex.{Vertex}

@@ -1,5 +1,7 @@
 //! Changes of marks.
-ghost use Rattle.std.specs.Prelude.{◌≡◌, ℕ, ◌+◌, ◌-◌, ◌<◌, not, if◌then◌else◌, List, [], length, IfOk, OnOk};
+ghost use Rattle.std.specs.Prelude.{◌≡◌, ℕ, ◌+◌, ◌-◌, ◌*◌, ◌<◌, ◌≤◌, not, if◌then◌else◌, List, [], length, IfOk, OnOk};
+ghost use Rattle.flux_defs.specs.Digits.{dig};
+ghost use Rattle.resource_graph.specs.Chains.{chain_of};
 ghost use Rattle.resource_graph.specs.Preorder.{InPreorder};
 ghost use Rattle.vertex_marks.specs.Marked.{AreShifted, HaveMarks, IsShiftedAt, IsToldAt, MayMark};
 ghost use Rattle.vertex_marks.specs.Down.{is_among, marked, AreDown};
@@ -42,7 +44,8 @@ fn shift_at<L: Ledger>(
     steps: &mut Steps<L>,
 ) -> Result<(), AllocError>
     requires { vertex < length pages.old }
-    ensures { OnOk result (IsShiftedAt vertex down pages.old pages.new) }
+    ensures shifted { OnOk result (IsShiftedAt vertex down pages.old pages.new) }
+    ensures work { steps.new ≤ steps.old + 4 * dig (length pages.old + 1) }
 {
     let Some(mark) = pages.get(u64::from(vertex), steps) else {
         unreachable!()
@@ -74,7 +77,8 @@ pub(crate) fn tell<L: Ledger>(
     steps: &mut Steps<L>,
 ) -> Result<(), AllocError>
     requires { vertex < length pages.old }
-    ensures { OnOk result (IsToldAt vertex down pages.old pages.new) }
+    ensures told { OnOk result (IsToldAt vertex down pages.old pages.new) }
+    ensures work { steps.new ≤ steps.old + 4 * dig (length pages.old + 1) }
 {
     let Some(mark) = pages.get(u64::from(vertex), steps) else {
         unreachable!()
@@ -101,7 +105,9 @@ pub(crate) fn shift<L: Ledger>(
     requires order { InPreorder vertices.now }
     requires within { vertex < length vertices.now }
     requires whole { length pages.old ≡ length vertices.now }
-    ensures { OnOk result (AreShifted vertices.now vertex down pages.old pages.new) }
+    ensures shifted { OnOk result (AreShifted vertices.now vertex down pages.old pages.new) }
+    ensures work { steps.new ≤ steps.old
+        + length (chain_of vertices.now vertex) * (4 * dig (length vertices.now + 1)) }
 {
     match shift_at(alloc, pages, vertex, down, steps) {
         Ok(()) => {}
@@ -122,6 +128,7 @@ fn made_for<L: Ledger>(
 ) -> Result<Pages<Mark>, AllocError>
     requires { 0 < length vertices.now }
     ensures whole { IfOk result (λ made. length made ≡ length vertices.now) }
+    ensures ready { length pages ≡ length vertices.now → steps.new ≡ steps.old }
     ensures kept { (down : List ℕ) → MayMark vertices.now down pages → IfOk result (HaveMarks vertices.now down) }
 {
     if pages.len() == vertices.len() as u64 {
@@ -141,7 +148,9 @@ pub(crate) fn written<L: Ledger>(
 ) -> Result<Pages<Mark>, AllocError>
     requires order { InPreorder vertices.now }
     requires within { vertex < length vertices.now }
-    ensures { (old : List ℕ) → MayMark vertices.now old pages → AreDown vertices.now old →
+    ensures work { length pages ≡ length vertices.now → steps.new ≤ steps.old
+        + (length (chain_of vertices.now vertex) + 1) * (4 * dig (length vertices.now + 1)) }
+    ensures have { (old : List ℕ) → MayMark vertices.now old pages → AreDown vertices.now old →
         is_among old vertex ≡ not down → IfOk result (HaveMarks vertices.now (marked old vertex down)) }
 {
     let mut made = made_for(alloc, pages, vertices, steps)?;

@@ -59,8 +59,9 @@ impl Marks {
         })
     }
 
-    /// The marks in which the vertex's status is changed: it is put at the end of the list, or taken out. What no others
-    /// share is written in place, at the vertex and at those above it. Where no memory is left there are no marks.
+    /// The marks in which the vertex's status is changed: it is put at the end of the list, or taken out. What no
+    /// others share is written in place, at the vertex and at those above it. Where no memory is left there are no
+    /// marks.
     pub fn into_marked<L: Ledger>(
         self,
         alloc: Global,
@@ -70,20 +71,35 @@ impl Marks {
         steps: &mut Steps<L>,
     ) -> Result<Marks, AllocError>
         requires { vertex < length (vertices_of graph.now) }
-        ensures { (old : List ℕ) → AreMarks (vertices_of graph.now) old self → is_among old vertex ≡ not down →
+        ensures work { length self.pages ≡ length (vertices_of graph.now) →
+            steps.new ≤ steps.old + 68 * dig (length (vertices_of graph.now) + 1) }
+        ensures marks { (old : List ℕ) → AreMarks (vertices_of graph.now) old self → is_among old vertex ≡ not down →
             IfOk result (AreMarks (vertices_of graph.now) (marked old vertex down)) }
     {
         let Marks { count, pages } = self;
         let count = counted(count, down)?;
-        let pages = written(
-            alloc,
-            pages,
-            graph.vertices().items(),
-            vertex,
-            down,
-            steps,
-        )?;
+        let pages = written(alloc, pages, graph.vertices().items(), vertex, down, steps)?;
         Ok(Marks { count, pages })
+    }
+
+    /// The marks in which the vertex's status is changed, made as by `into_marked`, beside these.
+    pub fn with_marked<L: Ledger>(
+        &self,
+        alloc: Global,
+        graph: &Graph,
+        vertex: u32,
+        down: bool,
+        steps: &mut Steps<L>,
+    ) -> Result<Marks, AllocError>
+        requires { vertex < length (vertices_of graph.now) }
+        ensures work { length self.now.pages ≡ length (vertices_of graph.now) →
+            steps.new ≤ steps.old + 68 * dig (length (vertices_of graph.now) + 1) }
+        ensures marks { (old : List ℕ) →
+            AreMarks (vertices_of graph.now) old self.now → is_among old vertex ≡ not down →
+            IfOk result (AreMarks (vertices_of graph.now) (marked old vertex down)) }
+    {
+        let same = self.share()?;
+        same.into_marked(alloc, graph, vertex, down, steps)
     }
 
     /// Whether the vertex itself is down. It takes no memory.
@@ -132,12 +148,7 @@ impl Marks {
     }
 
     /// The same, from a vertex up.
-    fn shut_from<L: Ledger>(
-        &self,
-        vertices: &[Vertex],
-        vertex: u32,
-        steps: &mut Steps<L>,
-    ) -> bool
+    fn shut_from<L: Ledger>(&self, vertices: &[Vertex], vertex: u32, steps: &mut Steps<L>) -> bool
         requires order { InPreorder vertices.now }
         requires within { vertex < length vertices.now }
         ensures value { (down : List ℕ) → AreMarks vertices.now down self.now →

@@ -1,4 +1,4 @@
-use Rattle.std.proofs.Common.{◌≡◌, ◌<◌, ◌+◌, ◌*◌, ◌||◌, length, sym, ◌∙◌, ap, arith, rules, Some, None, refl, true, false}
+use Rattle.std.proofs.Common.{◌≡◌, ◌<◌, ◌+◌, ◌*◌, ◌||◌, length, sym, ◌∙◌, ap, arith, rules, Some, None}
 use Rattle.flux_defs.specs.Graph.{parent_of}
 use Rattle.flux_defs.specs.Digits.{dig}
 use Rattle.graph_laws.proofs.Preorder.{parents_first}

@@ -1,4 +1,4 @@
-use Rattle.std.proofs.Common.{◌≡◌, ℕ, List, [], None, rules, sym, ◌∙◌, ap, Some}
+use Rattle.std.proofs.Common.{ℕ, List, rules, sym, ap}
 use Rattle.vertex_marks.specs.Down.{has_shut}
 use Rattle.vertex_marks.proofs.MarkLaws.{within_read, none_marked}
 use Rattle.vertex_marks.proofs.marks.Marks.has_shut.Goals as goal

@@ -1,9 +1,8 @@
-use Rattle.std.proofs.Common.{◌≡◌, ◌≤◌, ◌<◌, ◌+◌, ◌*◌, List, length, sym, ◌∙◌, subst, arith}
+use Rattle.std.proofs.Common.{◌≤◌, ◌+◌, ◌*◌, List, length, sym, ◌∙◌, subst, arith}
 use Rattle.std.proofs.Math.Nat.{mul-le-mul_right}
 use Rattle.flux_defs.specs.Digits.{dig}
 use Rattle.flux_defs.specs.declared.vertices.Vertex.{Vertex}
 use Rattle.resource_graph.specs.Chains.{chain_of}
-use Rattle.resource_graph.specs.NamedGraph.{vertices_of}
 use Rattle.resource_graph.proofs.Queries.{in_preorder, chains_short}
 use Rattle.vertex_marks.proofs.marks.Marks.shuts.Goals as goal
 
