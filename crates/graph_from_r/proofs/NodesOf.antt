@@ -27,7 +27,8 @@ pub permuted : {X : Type 0} (P : X → Type 0) (xs ys : List X) → IsPermutatio
     AllByRecursion P ys
 permuted P xs ys same all =
     let each = All-permutation P xs ys same (All-from_recursion P xs all) in
-    all_from P ys (λ i y there. subst P (get_or_from_slice_get ys i y y there) (each i y (slice_get_within ys i y there)))
+    all_from P ys (λ i y there. subst P (get_or_from_slice_get ys i y y there)
+    (each i y (slice_get_within ys i y there)))
 
 names_len : (ranks : List ℕ) (hosts : List (List ℕ)) → (hosts ≡ []) ⊎ (length hosts ≡ length ranks) →
     length (names_for ranks hosts) ≡ length ranks
@@ -73,7 +74,8 @@ module _ (set : RSet) (places : List Place) (same : IsPermutation (places_from 0
               (IsPermutation-sym (ids_of (ranges_in set.rows)) (map (λ (p : Place). p.rank) places) same_ranks)
               (subst (λ (rs : List ℕ). Contains rs rank) ranks has),
           λ has. subst (λ (rs : List ℕ). Contains rs rank) (sym ranks)
-              (Contains-permutation (ids_of (ranges_in set.rows)) (map (λ (p : Place). p.rank) places) rank same_ranks has),
+              (Contains-permutation (ids_of (ranges_in set.rows)) (map (λ (p : Place). p.rank) places) rank same_ranks
+              has),
         );
         names = node_names set.rows properties places names long
             ∙ (named ∙ ap (λ rs. names_for rs (names_of set.hosts)) (sym ranks));
@@ -89,7 +91,8 @@ module _ (set : RSet) (places : List Place) (same : IsPermutation (places_from 0
       let whole = vertices_long nodes in
       let own = nodes_long set.rows properties 1 places names long have in
       let sum = sum_by-IsPermutation (place_size set.rows) (places_from 0 set.rows) places same in
-      let all = size_from set.rows 0 set.rows (λ k row there. subst (λ n. slice_get set.rows n ≡ Some row) (omega arith) there) in
+      let all = size_from set.rows 0 set.rows (λ k row there. subst (λ n. slice_get set.rows n ≡ Some row)
+      (omega arith) there) in
       record {
         few = (let most = size.few in omega (arith, whole, own, sum, all, most));
         ranks = subst IsStrictlyIncreasing (sym ranks) rise;

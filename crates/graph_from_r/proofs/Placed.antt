@@ -38,7 +38,8 @@ ranks_placed at (rank ∷ ranks) = ap (λ rs. rank ∷ rs) (ranks_placed at rank
 ids_joined : (xs ys : List Range) → ids_of (xs ++ ys) ≡ ids_of xs ++ ids_of ys
 ids_joined xs ys = flat_map-append ids_between xs ys
 
-pub ranks_from : (at : ℕ) (rows : List RRow) → map (λ (p : Place). p.rank) (places_from at rows) ≡ ids_of (ranges_in rows)
+pub ranks_from : (at : ℕ) (rows : List RRow) → map (λ (p : Place). p.rank) (places_from at rows) ≡ ids_of
+    (ranges_in rows)
 ranks_from at [] = refl
 ranks_from at (row ∷ rows) =
     map-append (λ (p : Place). p.rank) (places_of at row.ranks) (places_from (suc at) rows)
@@ -89,14 +90,16 @@ place_size rows p = option_map_or (λ row. 1 + length (ids_of row.cores) + lengt
     (slice_get rows p.row) 0
 
 own_size : (all : List RRow) (at : ℕ) (row : RRow) (ranks : List ℕ) → slice_get all at ≡ Some row →
-    sum_by (place_size all) (placed at ranks) ≡ length ranks * (1 + length (ids_of row.cores) + length (ids_of row.gpus))
+    sum_by (place_size all) (placed at ranks) ≡ length ranks *
+    (1 + length (ids_of row.cores) + length (ids_of row.gpus))
 unfolding place_size
 own_size all at row [] there = omega arith
 own_size all at row (rank ∷ ranks) there =
     let one = length (ids_of row.cores) in
     let two = length (ids_of row.gpus) in
     let here : place_size all (record { rank = rank; row = at }) ≡ 1 + one + two =
-    ap (λ (o : Option RRow). option_map_or (λ row. 1 + length (ids_of row.cores) + length (ids_of row.gpus)) o 0) there in
+    ap (λ (o : Option RRow). option_map_or (λ row. 1 + length (ids_of row.cores) + length (ids_of row.gpus)) o 0) there
+    in
     let step = sum_by-cons (place_size all) (record { rank = rank; row = at }) (placed at ranks) in
     let rest = own_size all at row ranks there in
     let more : suc (length ranks) * (1 + one + two) ≡ (1 + one + two) + length ranks * (1 + one + two) = grind arith in
@@ -240,7 +243,8 @@ module _ (rows : List RRow) (properties : List Property) where
       let cores = ap length (cores_are p.row row have.0.there) in
       let gpus = ap length (gpus_are p.row row have.0.there) in
       let whole = length-append (own_devices at node) (devices_of (suc at) others) in
-      let both = length-append (map (device 2 (codes "core") at) node.cores) (map (device 3 (codes "gpu") at) node.gpus) in
+      let both = length-append (map (device 2 (codes "core") at) node.cores)
+      (map (device 3 (codes "gpu") at) node.gpus) in
       let one = length-map node.cores (device 2 (codes "core") at) in
       let two = length-map node.gpus (device 3 (codes "gpu") at) in
       omega (arith, rest, step, here, cores, gpus, whole, both, one, two)

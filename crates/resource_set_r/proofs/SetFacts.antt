@@ -1,7 +1,7 @@
 -- What is known of a set that is read.
 use Rattle.std.proofs.Common.{◌≡◌, ◌⊎◌, ℕ, zero, suc, ◌+◌, ◌-◌, ◌<◌, ◌≤◌, ◌==◌, Bool, true, false, cond, List, [], ◌∷◌}
-use Rattle.std.proofs.Common.{◌++◌, length, Option, Some, None, Result, Ok, Err, inl, inr, refl, sym, ◌∙◌, ap, subst, arith}
-use Rattle.std.proofs.Common.{codes, true≢false}
+use Rattle.std.proofs.Common.{◌++◌, length, Option, Some, None, Result, Ok, Err, inl, inr, refl, sym, ◌∙◌, ap, subst}
+use Rattle.std.proofs.Common.{arith, codes, true≢false}
 use Rattle.std.specs.List.{AllByRecursion}
 use Rattle.std.specs.Result.{result_map_both}
 use Rattle.std.proofs.lemmas.Bool.{eqb-true, cases_Bool}
@@ -24,8 +24,8 @@ use Rattle.resource_set_r.specs.declared.sets_read.RSet.{RSet}
 use Rattle.resource_set_r.specs.Misreads.{at_field}
 use Rattle.resource_set_r.specs.ReadRows.{idset_read, idset_text_at, idset_or_none, idset_field, row_with, row_in}
 use Rattle.resource_set_r.specs.ReadRows.{row_of, rows_from, rows_in, ranges_in, IsRepeatedRank}
-use Rattle.resource_set_r.specs.ReadR.{hosts_from, hosts_fit, hosts_for, hosts_in, nodelist_or_none, seconds_of, set_with}
-use Rattle.resource_set_r.specs.ReadR.{IsSetOf}
+use Rattle.resource_set_r.specs.ReadR.{hosts_from, hosts_fit, hosts_for, hosts_in, nodelist_or_none, seconds_of}
+use Rattle.resource_set_r.specs.ReadR.{set_with, IsSetOf}
 
 -- ---- elements
 
@@ -33,7 +33,8 @@ use Rattle.resource_set_r.specs.ReadR.{IsSetOf}
 abbrev pub DoRise : List RRow → Type 0
 DoRise rows = AllByRecursion (λ row. Rises 0 row.cores × Rises 0 row.gpus) rows
 
-read_is : (at : FieldPath) (o : Result (List Range) ℕ) (ranges : List Range) → idset_read at o ≡ Ok ranges → o ≡ Ok ranges
+read_is : (at : FieldPath) (o : Result (List Range) ℕ) (ranges : List Range) → idset_read at o ≡ Ok ranges →
+    o ≡ Ok ranges
 read_is at (Ok xs) ranges e = let same : xs ≡ ranges = cc in ap Ok same
 read_is at (Err k) ranges e = absurd (cc)
 

@@ -46,7 +46,8 @@ nodes-preserved c =
     ap (λ (n : List ℕ). position (bytes_eq n) c.nodes.seen) (sym name) ∙ (sym c.number_of.ensures.value
     ∙ nowhere c.number_of.result (sym c.is_some.ensures ∙ c.if-is_some.false)) in
     record {
-      seen = c.in_ok-add.ensures.ok ∙ (ap (λ (n : List ℕ). with_text c.nodes.seen n) name ∙ seen_more nodes k node c.nodes.seen at
+      seen = c.in_ok-add.ensures.ok ∙ (ap (λ (n : List ℕ). with_text c.nodes.seen n) name ∙ seen_more nodes k node
+          c.nodes.seen at
           c.nodes.invariant.seen none);
       apart = λ j lt has. elim (cases_lt j k) [
         | inl before ↦ c.nodes.invariant.apart j before has

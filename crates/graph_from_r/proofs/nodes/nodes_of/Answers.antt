@@ -27,11 +27,13 @@ nodes_at-requires c =
     let named : c.in_ok-names.names ≡ names_for (map rank places) (names_of set.hosts) =
     c.in_ok-names.ensures ∙ ap (λ (ps : List Place). names_for (map rank ps) (names_of set.hosts))
     c.as_slice.ensures.value in
-    let long : length c.in_ok-names.names ≡ length places = ap length named ∙ names_long set places same c.requires.hosts in
+    let long : length c.in_ok-names.names ≡ length places = ap length named ∙ names_long set places same
+    c.requires.hosts in
     record {
       rows = subst (λ (rs : List RRow). AllByRecursion (λ p. p.row < length rs) c.as_slice-2.result.now)
           (sym c.items-2.ensures)
-          (subst (λ (ps : List Place). AllByRecursion (λ p. p.row < length set.rows) ps) (sym c.as_slice-2.ensures.value)
+          (subst (λ (ps : List Place). AllByRecursion (λ p. p.row < length set.rows) ps)
+          (sym c.as_slice-2.ensures.value)
           (rows_there set places same));
       names = ap length c.items-3.ensures ∙ (long ∙ ap length (sym c.as_slice-2.ensures.value));
     }
