@@ -6,3 +6,5 @@ pub mod NodesOf
 pub mod Rise
 pub mod Repeats
 pub mod Steps
+pub mod OneNodes
+pub mod OneOf

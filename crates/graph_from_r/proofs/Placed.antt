@@ -35,7 +35,7 @@ ranks_placed : (at : ℕ) (ranks : List ℕ) → map (λ (p : Place). p.rank) (p
 ranks_placed at [] = refl
 ranks_placed at (rank ∷ ranks) = ap (λ rs. rank ∷ rs) (ranks_placed at ranks)
 
-ids_joined : (xs ys : List Range) → ids_of (xs ++ ys) ≡ ids_of xs ++ ids_of ys
+pub ids_joined : (xs ys : List Range) → ids_of (xs ++ ys) ≡ ids_of xs ++ ids_of ys
 ids_joined xs ys = flat_map-append ids_between xs ys
 
 pub ranks_from : (at : ℕ) (rows : List RRow) → map (λ (p : Place). p.rank) (places_from at rows) ≡ ids_of
@@ -55,7 +55,7 @@ pub record HasPlace (rows : List RRow) (p : Place) : Type 0 where
   pub there : slice_get rows p.row ≡ Some row
   pub has_rank : Contains (ids_of row.ranks) p.rank
 
-contains_first : {X : Type 0} (x : X) (xs : List X) → Contains (x ∷ xs) x
+pub contains_first : {X : Type 0} (x : X) (xs : List X) → Contains (x ∷ xs) x
 contains_first x xs = (0, omega arith, refl)
 
 contains_all : (xs : List ℕ) → AllByRecursion (λ x. Contains xs x) xs

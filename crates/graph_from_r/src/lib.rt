@@ -4,6 +4,7 @@
 pub mod faults;
 mod hosts;
 mod ids;
+pub mod laws;
 pub mod names;
 pub mod nodes;
 mod places;
@@ -13,4 +14,5 @@ mod sizes;
 mod vertices;
 
 pub use faults::LoadFault;
+pub use laws::a_resource_set_has_one_graph;
 pub use reading::graph_of_r;
