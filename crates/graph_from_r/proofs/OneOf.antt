@@ -1,5 +1,6 @@
 -- Bytes of a resource set have one graph, and no fault is told of them.
-use Rattle.std.proofs.Common.{◌≡◌, ◌≢◌, ◌⊎◌, ℕ, ◌<◌, ◌≤◌, List, [], length, Option, Some, None, inl, inr, refl, sym, ◌∙◌}
+use Rattle.std.proofs.Common.{◌≡◌, ◌≢◌, ◌⊎◌, ℕ, ◌<◌, ◌≤◌, List, [], length, Option, Some, None, inl, inr, refl, sym}
+use Rattle.std.proofs.Common.{◌∙◌}
 use Rattle.std.proofs.Common.{ap, subst, arith}
 use Rattle.serde_json.specs.Data.{Data}
 use Rattle.json_whole.specs.Whole.{value_of}
@@ -56,7 +57,8 @@ not_repeated nodes rank none some = none some.0 some.1.0
 -- bytes have one graph
 pub one_graph_of_r : (bytes : List ℕ) (g h : NamedGraph) → IsGraphOfR bytes g → IsGraphOfR bytes h → g ≡ h
 one_graph_of_r bytes g h (d, value, a) (e, other, b) =
-    let set : b.set ≡ a.set = same_set bytes d value a.set a.is_set e b.set (record { value = other; is_set = b.is_set }) in
+    let set : b.set ≡ a.set =
+    same_set bytes d value a.set a.is_set e b.set (record { value = other; is_set = b.is_set }) in
     let given : b.properties ≡ a.properties =
     same_given bytes d value a.set a.is_set e a.properties b.properties other a.given b.given in
     let with_set = subst (λ (s : RSet). AreNodesOf s b.properties b.graph.nodes) set b.graph.are in
