@@ -1,15 +1,20 @@
 //! Whether a job may be added to a book: what an addition asks for, found out beforehand.
-ghost use Rattle.std.specs.Prelude.{◌≡◌, ◌≢◌, ℕ, ◌<◌, IsTrue, List, length};
+ghost use Rattle.std.specs.Prelude.{◌≡◌, ◌≢◌, ℕ, ◌<◌, IsTrue, List, length, All, MatchOption};
 ghost use Rattle.std.specs.List.{AllByRecursion};
 ghost use Rattle.flux_defs.specs.Graph.{is_pool};
 ghost use Rattle.flux_defs.specs.Jobs.{vertex_of, holds_over};
 ghost use Rattle.flux_defs.specs.Sound.{AreSeparate, AreAllSeparate};
 ghost use Rattle.book_laws.specs.Amounts.{TakesFromPool};
-ghost use Rattle.book_state.specs.Books.{graph_of, horizon_of, MayAdd};
+ghost use Rattle.flux_defs.specs.declared.claims.Job.{Job};
+ghost use Rattle.flux_defs.specs.Present.{up_with};
+ghost use Rattle.flux_defs.specs.Closed.{no_bars};
+ghost use Rattle.flux_defs.specs.Available.{IsAvailable};
+ghost use Rattle.candidate_check.specs.Taken.{IsFirstGone};
+ghost use Rattle.book_state.specs.Books.{graph_of, vertices_of, horizon_of, StandsFor, MayAdd};
 
 use book_state::BookState;
 use candidate_check::still_free;
-use flux_defs::{Claim, Job, Steps, Window};
+use flux_defs::{Claim, Job, List, Steps, Window};
 use plain_jobs::containment::is_at_or_below;
 use resource_graph::Graph;
 use std::sync::ledger::Ledger;
@@ -96,6 +101,22 @@ fn fit_together(graph: &Graph, claims: &[Claim]) -> bool
     }
 }
 
+/// The first claim that isn't available over the window beside the jobs of the book; none exactly where all are.
+fn first_gone<L: Ledger>(
+    book: &BookState,
+    claims: &List<Claim>,
+    window: Window,
+    steps: &mut Steps<L>,
+) -> Option<usize>
+    requires vertices { All (λ c. vertex_of c < length (vertices_of book.now)) claims.now }
+    requires window { window.from < window.to }
+    ensures { (jobs : List Job) → StandsFor book.now jobs →
+        MatchOption result (All (IsAvailable (no_bars (vertices_of book.now) (up_with jobs)) window) claims.now)
+        (IsFirstGone (vertices_of book.now) (up_with jobs) window claims.now) }
+{
+    still_free(book, claims, window, steps)
+}
+
 /// Whether the job may be added to a book over the graph with this horizon.
 pub fn may_add<L: Ledger>(
     book: &BookState,
@@ -121,5 +142,5 @@ pub fn may_add<L: Ledger>(
         from: job.start,
         to: job.end,
     };
-    still_free(book, &job.claims, window, steps).is_none()
+    first_gone(book, &job.claims, window, steps).is_none()
 }
